@@ -25,15 +25,18 @@ pub record Placed : Type 0 where
 abbrev pub placed_behind : Lists → List Entry → List Entry → List Placed
 placed_behind lists before [] = []
 placed_behind lists before (entry ∷ entries) =
-    record { entry = entry; place = count_by (λ b. same_list lists b entry) before } ∷ placed_behind lists (before ++ entry ∷ []) entries
+    record { entry = entry; place = count_by (λ b. same_list lists b entry) before } ∷
+    placed_behind lists (before ++ entry ∷ []) entries
 
 -- two deliveries stand at the same place of lists of segments of one name
 abbrev pub same_place : Lists → Placed → Placed → Bool
-same_place lists a b = same_name a.entry.segment.name b.entry.segment.name && (same_source lists a.entry b.entry && a.place == b.place)
+same_place lists a b = same_name a.entry.segment.name b.entry.segment.name &&
+    (same_source lists a.entry b.entry && a.place == b.place)
 
 -- two members have another delivery at the same place
 abbrev pub clashes : Lists → Placed → Placed → Bool
-clashes lists b a = same_place lists a b && (not (a.entry.member == b.entry.member) && not (same_content a.entry b.entry))
+clashes lists b a = same_place lists a b &&
+    (not (a.entry.member == b.entry.member) && not (same_content a.entry b.entry))
 
 -- the lines of two deliveries, the smaller number first
 abbrev pub lines_at : Placed → Placed → ℕ × ℕ

@@ -1,11 +1,14 @@
 -- Where members that leave a view together have not delivered the same in it.
-use Rattle.std.specs.Prelude.{ℕ, ◌==◌, ◌&&◌, not, Bool, List, [], ◌∷◌, ◌++◌, map, filter, count_by, Option, None, option_map}
+use Rattle.std.specs.Prelude.{ℕ, ◌==◌, ◌&&◌, not, Bool, List, [], ◌∷◌, ◌++◌, map, filter, count_by, Option, None}
+use Rattle.std.specs.Prelude.{option_map}
 use Rattle.std.specs.List.{flat_map}
 use Rattle.std.specs.Option.{option_to_list}
 use Rattle.audit_mean.specs.Line.{view}
-use Rattle.audit_mean.specs.Segment.{Name, in_view, Segment, Numbered, Entry, same_name, same_content, segment_behind, entries_of}
+use Rattle.audit_mean.specs.Segment.{Name, in_view, Segment, Numbered, Entry, same_name, same_content, segment_behind}
+use Rattle.audit_mean.specs.Segment.{entries_of}
 
--- a segment that a member ended by the `view` line of this number, the view that is next, and what the member delivered in it
+-- a segment that a member ended by the `view` line of this number, the view that is next, and what the member delivered
+-- in it
 pub record Ended : Type 0 where
   pub line : ℕ
   pub member : ℕ
@@ -21,7 +24,14 @@ is_in member segment entry = entry.member == member && entry.segment.began == se
 abbrev pub ended_by : List Numbered → Numbered → Option Ended
 ended_by before (number, view member ltime mask) =
     option_map
-    (λ segment. record { line = number; member = member; name = segment.name; next = in_view ltime mask; entries = filter (is_in member segment) (entries_of before) })
+    (λ segment. record {
+      line = number;
+      member = member;
+      name = segment.name;
+      next = in_view ltime mask;
+      entries =
+          filter (is_in member segment) (entries_of before);
+    })
     (segment_behind member before)
 ended_by before (number, _) = None
 
@@ -32,15 +42,18 @@ ended_behind before (line ∷ lines) = option_to_list (ended_by before line) ++ 
 
 -- two members went from segments of one name to the same view
 abbrev pub goes_along : Ended → Ended → Bool
-goes_along one other = (same_name one.name other.name && same_name one.next other.next) && not (one.member == other.member)
+goes_along one other = (same_name one.name other.name && same_name one.next other.next) &&
+    not (one.member == other.member)
 
 -- the first deliveries, of those behind others, that have as many of their kind in front as the one segment has in all
 abbrev pub surplus_behind : List Entry → List Entry → List Entry → List Entry
 surplus_behind all before [] = []
 surplus_behind all before (entry ∷ entries) =
-    filter (λ e. count_by (same_content e) before == count_by (same_content e) all) (entry ∷ []) ++ surplus_behind all (before ++ entry ∷ []) entries
+    filter (λ e. count_by (same_content e) before == count_by (same_content e) all) (entry ∷ []) ++
+    surplus_behind all (before ++ entry ∷ []) entries
 
--- what the one segment lacks of the other: the line of the other's first delivery too many of each kind, and the line that ended the one
+-- what the one segment lacks of the other: the line of the other's first delivery too many of each kind, and the line
+-- that ended the one
 abbrev pub lacks : Ended → Ended → List (ℕ × ℕ)
 lacks one other = map (λ entry. (entry.line, one.line)) (surplus_behind one.entries [] other.entries)
 

@@ -34,8 +34,8 @@ at_end running number = Err number
 at_end ended number = Ok []
 at_end closed number = Ok []
 
--- what the lines from this number on say, or the number of the first that is out of form or out of place; where `end` is missing that is
--- one past the last
+-- what the lines from this number on say, or the number of the first that is out of form or out of place; where `end`
+-- is missing that is one past the last
 abbrev pub report_from : Stage → ℕ → List (List ℕ) → Result (List ReportLine) ℕ
 report_from stage number [] = at_end stage number
 report_from stage number (line ∷ lines) = do

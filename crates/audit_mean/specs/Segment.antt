@@ -1,5 +1,6 @@
 -- The segments of a member's lines, and the deliveries in them.
-use Rattle.std.specs.Prelude.{ℕ, ◌==◌, ◌&&◌, Bool, true, false, List, [], ◌∷◌, ◌++◌, fold, Option, Some, None, option_map, bytes_eq, if◌then◌else◌}
+use Rattle.std.specs.Prelude.{ℕ, ◌==◌, ◌&&◌, Bool, true, false, List, [], ◌∷◌, ◌++◌, fold, Option, Some, None}
+use Rattle.std.specs.Prelude.{option_map, bytes_eq, if◌then◌else◌}
 use Rattle.std.specs.Option.{option_to_list}
 use Rattle.script_mean.specs.Words.{Word}
 use Rattle.audit_mean.specs.Line.{ReportLine, deliver, view, out}
@@ -52,7 +53,8 @@ same_content a b = a.peer == b.peer && bytes_eq a.body b.body
 -- the delivery of a line, if it is one of a member in a segment
 abbrev pub entry_in : (ℕ → Option Segment) → Numbered → Option Entry
 entry_in segments (number, deliver member peer body) =
-    option_map (λ segment. record { line = number; member = member; segment = segment; peer = peer; body = body }) (segments member)
+    option_map (λ segment. record { line = number; member = member; segment = segment; peer = peer; body = body })
+    (segments member)
 entry_in segments (number, _) = None
 
 -- the delivery of a line behind these
@@ -62,7 +64,8 @@ entry_behind before line = entry_in (λ member. segment_behind member before) li
 -- the deliveries of lines that stand behind others, in order
 abbrev pub entries_behind : List Numbered → List Numbered → List Entry
 entries_behind before [] = []
-entries_behind before (line ∷ lines) = option_to_list (entry_behind before line) ++ entries_behind (before ++ line ∷ []) lines
+entries_behind before (line ∷ lines) = option_to_list (entry_behind before line) ++
+    entries_behind (before ++ line ∷ []) lines
 
 -- the deliveries of a report
 abbrev pub entries_of : List Numbered → List Entry

@@ -1,5 +1,6 @@
 -- What is due of a stack is what is due of that which is made of its entries.
-use Rattle.std.proofs.Common.{◌≡◌, ℕ, suc, Bool, true, false, nat_le, List, [], ◌∷◌, ◌++◌, map, option_to_list, Option, Some, None, option_map, Result, Ok, Err, refl, ◌∙◌}
+use Rattle.std.proofs.Common.{◌≡◌, ℕ, suc, Bool, true, false, nat_le, List, [], ◌∷◌, ◌++◌, map, option_to_list, Option}
+use Rattle.std.proofs.Common.{Some, None, option_map, Result, Ok, Err, refl, ◌∙◌}
 use Rattle.std.specs.Prelude.{if◌then◌else◌}
 use Rattle.std.proofs.lemmas.List.{map-append}
 use Rattle.layer_mean.specs.declared.run.Case.{Case}
@@ -24,10 +25,12 @@ due_with n e case own = record { entry = n; case = case; fields = entry_varying 
 
 -- of a case
 one_due : (n : ℕ) (e : Entry) (case : Case) (s : Result Shape NoShape) (r : Result (List Operation) NoShape) →
-    option_to_list (option_map (due_with n e case) (within_limit s r)) ≡ made_due n (entry_varying e) case (made_with simplest (lack_of s) r)
+    option_to_list (option_map (due_with n e case) (within_limit s r)) ≡
+    made_due n (entry_varying e) case (made_with simplest (lack_of s) r)
 one_due n e case (Err reason) r = refl
 one_due n e case (Ok s) (Err reason) = go (nat_le s.length longest_shape) where
-  go : (b : Bool) → [] ≡ made_due n (entry_varying e) case (made_with simplest (if b then None else Some no_shape.long) (Err reason))
+  go : (b : Bool) → [] ≡
+      made_due n (entry_varying e) case (made_with simplest (if b then None else Some no_shape.long) (Err reason))
   go true = refl
   go false = refl
 one_due n e case (Ok s) (Ok own) = go (nat_le s.length longest_shape) where
@@ -44,11 +47,13 @@ module _ (stack : List LayerTree) where
       second_due n (entry_varying e) (if b then Some (made_with simplest
       (lack_of (if b then drawn_shape stack e.known Second else Err no_shape.same))
       (if b then made_trace stack e.known e.fields Second else Err no_shape.same)) else None)
-  second_is_due n e true = one_due n e Second (drawn_shape stack e.known Second) (made_trace stack e.known e.fields Second)
+  second_is_due n e true = one_due n e Second (drawn_shape stack e.known Second)
+      (made_trace stack e.known e.fields Second)
   second_is_due n e false = refl
 
   -- of entries
-  pub due_are : (n : ℕ) (es : List Entry) → due_from stack n es ≡ all_due n (map entry_varying es) (map (cases_of stack) es)
+  pub due_are : (n : ℕ) (es : List Entry) →
+      due_from stack n es ≡ all_due n (map entry_varying es) (map (cases_of stack) es)
   due_are n [] = refl
   due_are n (e ∷ es) =
       let first : due_in stack n e First ≡ made_due n (entry_varying e) First (cases_of stack e).first =
@@ -71,7 +76,8 @@ cases_own n fields c =
     map-append owned (made_due n fields First c.first) (second_due n fields c.second)
     ∙ (λ i. made_own n fields First c.first i ++ second_own n fields c.second i)
 
-pub all_own : {E : Type 0} (v : E → ℕ) (f : E → MadeCases) (n : ℕ) (es : List E) → map owned (all_due n (map v es) (map f es)) ≡ all_owned n (map f es)
+pub all_own : {E : Type 0} (v : E → ℕ) (f : E → MadeCases) (n : ℕ) (es : List E) →
+    map owned (all_due n (map v es) (map f es)) ≡ all_owned n (map f es)
 all_own v f n [] = refl
 all_own v f n (e ∷ es) =
     map-append owned (cases_due n (v e) (f e)) (all_due (suc n) (map v es) (map f es))

@@ -21,23 +21,29 @@ use Rattle.bypass_file.proofs.Walk.{Traces}
 use Rattle.bypass_file.proofs.Whole.{of_file, other_of_file, of_stack}
 
 -- one whose traces are read
-pub judged : (stack : List LayerTree) (own : Bypasses) → bypasses_tree own ≡ bypasses_of simplest stack → (text : List ℕ) →
-    length text ≤ longest_file → (ts : Traces) → traces_in stack text ≡ Ok ts → (now : Traces) (b : Bypasses) (r : Result (Unit {0}) BypassError) →
-    Fills (all_owned 0 (all_cases own)) (all_filled (all_cases own) ts) ts now (all_cases b) r → JudgesInto stack text b r
+pub judged : (stack : List LayerTree) (own : Bypasses) → bypasses_tree own ≡ bypasses_of simplest stack →
+    (text : List ℕ) →
+    length text ≤ longest_file → (ts : Traces) → traces_in stack text ≡ Ok ts →
+    (now : Traces) (b : Bypasses) (r : Result (Unit {0}) BypassError) →
+    Fills (all_owned 0 (all_cases own)) (all_filled (all_cases own) ts) ts now (all_cases b) r →
+    JudgesInto stack text b r
 judged stack own own_is text short ts is now b (Ok done) h = of_file stack own own_is text short ts is b now h
-judged stack own own_is text short ts is now b (Err (Differs entry case act)) h = other_of_file stack own own_is text short ts is entry case act h
+judged stack own own_is text short ts is now b (Err (Differs entry case act)) h =
+    other_of_file stack own own_is text short ts is entry case act h
 judged stack own own_is text short ts is now b (Err Memory) h = tt
 judged stack own own_is text short ts is now b (Err TooLarge) h = absurd h
 judged stack own own_is text short ts is now b (Err (Line line)) h = absurd h
 
 -- one that isn't read
-pub unreadable : (stack : List LayerTree) (text : List ℕ) (b : Bypasses) → length text ≤ longest_file → (e : ReadError) →
+pub unreadable : (stack : List LayerTree) (text : List ℕ) (b : Bypasses) → length text ≤ longest_file →
+    (e : ReadError) →
     Reads (traces_in stack text) (Err e) → JudgesInto stack text b (Err (unread e))
 unreadable stack text b short (read.Line n) h = (short, h)
 unreadable stack text b short read.Memory h = tt
 
 -- of a sound stack
-pub sound_judged : (stack : List LayerTree) (text : List ℕ) (r : Result Bypasses BypassError) → IsSound stack → Judges stack text r →
+pub sound_judged : (stack : List LayerTree) (text : List ℕ) (r : Result Bypasses BypassError) → IsSound stack →
+    Judges stack text r →
     IfOk r (λ b. AreOfStack stack (bypasses_tree b))
 sound_judged stack text (Ok b) sound h = of_stack stack text (bypasses_tree b) sound h
 sound_judged stack text (Err e) sound h = tt

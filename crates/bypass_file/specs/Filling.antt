@@ -71,15 +71,18 @@ all_filled (c ∷ cs) traces =
     let more = all_filled cs one.1 in
     (one.0 ∷ more.0, more.1)
 
--- This was made of cases with these own traces, and these of a file's traces are left; those that were taken do the same.
-pub record Filled {A : Type 0} (owns : List Owned) (whole : A × List (List Operation)) (old : List (List Operation)) (made : A)
+-- This was made of cases with these own traces, and these of a file's traces are left; those that were taken do the
+-- same.
+pub record Filled {A : Type 0} (owns : List Owned) (whole : A × List (List Operation)) (old : List (List Operation))
+    (made : A)
     (new : List (List Operation)) : Type 0 where
   pub made_is : whole.0 ≡ made
   pub left_is : whole.1 ≡ new
   pub same : AreSame owns old
 
 -- It was made, or the first trace that does something else was found, or memory ran out.
-abbrev pub Fills : {A : Type 0} → List Owned → A × List (List Operation) → (old new : List (List Operation)) → A → Result (Unit {0}) BypassError →
+abbrev pub Fills : {A : Type 0} → List Owned → A × List (List Operation) → (old new : List (List Operation)) → A →
+    Result (Unit {0}) BypassError →
     Type 0
 Fills owns whole old new made (Ok done) = Filled owns whole old made new
 Fills owns whole old new made (Err (Differs entry case act)) = FirstOther owns old entry case act
@@ -89,18 +92,21 @@ Fills owns whole old new made (Err _) = ⊥
 -- A trace does what the own one does; or it differs, in this case of this entry.
 abbrev pub Agrees : ℕ → Case → (trace own : List Operation) → Result (Unit {0}) BypassError → Type 0
 Agrees n case trace own (Ok same) = symbolic trace ≡ symbolic own
-Agrees n case trace own (Err (Differs entry at act)) = IsOther (record { entry = n; case = case; own = own }) trace entry at act
+Agrees n case trace own (Err (Differs entry at act)) = IsOther (record { entry = n; case = case; own = own }) trace
+    entry at act
 Agrees n case trace own (Err Memory) = Unit {0}
 Agrees n case trace own (Err _) = ⊥
 
 -- A trace that does the same is in place of the own one, where it joins no more.
 pub record IsReplaced (own trace : List Operation) (b : Bypass) : Type 0 where
-  pub made : fused (trace_tree b.trace) (guarded_tree b.guarded) ≡ fused (chosen own trace) (simplest (chosen own trace))
+  pub made : fused (trace_tree b.trace) (guarded_tree b.guarded) ≡
+      fused (chosen own trace) (simplest (chosen own trace))
   pub same : symbolic trace ≡ symbolic own
 
 abbrev pub Replaces : ℕ → Case → (trace own : List Operation) → Bypass → Result (Unit {0}) BypassError → Type 0
 Replaces n case trace own b (Ok done) = IsReplaced own trace b
-Replaces n case trace own b (Err (Differs entry at act)) = IsOther (record { entry = n; case = case; own = own }) trace entry at act
+Replaces n case trace own b (Err (Differs entry at act)) = IsOther (record { entry = n; case = case; own = own }) trace
+    entry at act
 Replaces n case trace own b (Err Memory) = Unit {0}
 Replaces n case trace own b (Err _) = ⊥
 

@@ -9,7 +9,8 @@ ghost use Rattle.synth.specs.Cases.{cases_tree};
 ghost use Rattle.trace_core.specs.Bypasses.{made_tree};
 ghost use Rattle.trace_core.specs.Trees.{trace_tree};
 ghost use Rattle.bypass_file.specs.Due.{all_cases, plans_cases};
-ghost use Rattle.bypass_file.specs.Filling.{AreSimple, Fills, IsSimple, SecondIsSimple, all_filled, all_owned, cases_filled, cases_owned, made_owned, second_owned};
+ghost use Rattle.bypass_file.specs.Filling.{AreSimple, Fills, IsSimple, SecondIsSimple, all_filled, all_owned};
+ghost use Rattle.bypass_file.specs.Filling.{cases_filled, cases_owned, made_owned, second_owned};
 
 use crate::due::FIRST_PLAN;
 use crate::error::BypassError;
@@ -28,7 +29,8 @@ fn fill(
     traces: &mut VecDeque<Trace>,
 ) -> Result<(), BypassError>
     requires { IsSimple (made_tree own.old) }
-    ensures { Fills (made_owned entry case (made_tree own.old)) (filled (made_tree own.old) (map trace_tree traces.old.items))
+    ensures { Fills (made_owned entry case (made_tree own.old))
+        (filled (made_tree own.old) (map trace_tree traces.old.items))
         (map trace_tree traces.old.items) (map trace_tree traces.new.items) (made_tree own.new) result }
 {
     match own {
@@ -51,7 +53,8 @@ fn fill_second(
     traces: &mut VecDeque<Trace>,
 ) -> Result<(), BypassError>
     requires { SecondIsSimple (option_map made_tree own.old) }
-    ensures { Fills (second_owned entry (option_map made_tree own.old)) (second_filled (option_map made_tree own.old) (map trace_tree traces.old.items))
+    ensures { Fills (second_owned entry (option_map made_tree own.old))
+        (second_filled (option_map made_tree own.old) (map trace_tree traces.old.items))
         (map trace_tree traces.old.items) (map trace_tree traces.new.items) (option_map made_tree own.new) result }
 {
     match own {
@@ -71,7 +74,8 @@ fn fill_cases(
     traces: &mut VecDeque<Trace>,
 ) -> Result<(), BypassError>
     requires { AreSimple (cases_tree own.old) }
-    ensures { Fills (cases_owned entry (cases_tree own.old)) (cases_filled (cases_tree own.old) (map trace_tree traces.old.items))
+    ensures { Fills (cases_owned entry (cases_tree own.old))
+        (cases_filled (cases_tree own.old) (map trace_tree traces.old.items))
         (map trace_tree traces.old.items) (map trace_tree traces.new.items) (cases_tree own.new) result }
 {
     fill(alloc, entry, Case::First, &mut own.first, traces)?;
@@ -87,7 +91,8 @@ fn fill_plans(
 ) -> Result<(), BypassError>
     requires few { length own.old.items ≤ MOST_PLANS }
     requires simple { AllByRecursion AreSimple (plans_cases own.old) }
-    ensures { Fills (all_owned 2 (plans_cases own.old)) (all_filled (plans_cases own.old) (map trace_tree traces.old.items))
+    ensures { Fills (all_owned 2 (plans_cases own.old))
+        (all_filled (plans_cases own.old) (map trace_tree traces.old.items))
         (map trace_tree traces.old.items) (map trace_tree traces.new.items) (plans_cases own.new) result }
 {
     for number in 0..own.len() {

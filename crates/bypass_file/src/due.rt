@@ -5,7 +5,8 @@ ghost use Rattle.stack_shapes.specs.declared.types.TheConstants.{MOST_PLANS};
 ghost use Rattle.synth.specs.Cases.{cases_tree};
 ghost use Rattle.trace_core.specs.Bypasses.{made_tree};
 ghost use Rattle.trace_file.specs.View.{bare, due_tree};
-ghost use Rattle.bypass_file.specs.Due.{all_cases, all_due, cases_due, count_varying, made_due, plan_varying, second_due};
+ghost use Rattle.bypass_file.specs.Due.{all_cases, all_due, cases_due, count_varying, made_due, plan_varying};
+ghost use Rattle.bypass_file.specs.Due.{second_due};
 
 use layer_mean::Case;
 use stack_shapes::Plan;
@@ -35,7 +36,9 @@ fn made_due(
     case: Case,
     own: &Made,
 ) -> Result<(), AllocError>
-    ensures { OnOk result (map due_tree due.new.items ≡ map due_tree due.old.items ++ map bare (made_due entry fields case (made_tree own.now))) }
+    ensures { OnOk result
+        (map due_tree due.new.items ≡ map due_tree due.old.items ++
+        map bare (made_due entry fields case (made_tree own.now))) }
 {
     match own {
         Made::Fused(_) => {
@@ -71,7 +74,9 @@ fn second_due(
 
 /// The cases of an entry that are due.
 fn cases_due(due: &mut Vec<Due>, entry: u32, fields: u32, own: &Cases) -> Result<(), AllocError>
-    ensures { OnOk result (map due_tree due.new.items ≡ map due_tree due.old.items ++ map bare (cases_due entry fields (cases_tree own.now))) }
+    ensures { OnOk result
+        (map due_tree due.new.items ≡ map due_tree due.old.items ++
+        map bare (cases_due entry fields (cases_tree own.now))) }
 {
     made_due(due, entry, fields, Case::First, &own.first)?;
     second_due(due, entry, fields, &own.second)?;
@@ -96,7 +101,8 @@ fn plans_due(due: &mut Vec<Due>, plans: &[Plan], own: &[Cases]) -> Result<(), Al
 pub(crate) fn all_due(alloc: Global, plans: &[Plan], own: &Bypasses) -> Result<Vec<Due>, AllocError>
     requires few { length plans.now ≤ MOST_PLANS }
     requires each { length own.now.plans.items ≡ length plans.now }
-    ensures { IfOk result (λ due. map due_tree due.items ≡ map bare (all_due 0 (0 ∷ 0 ∷ map plan_varying plans.now) (all_cases own.now))) }
+    ensures { IfOk result
+        (λ due. map due_tree due.items ≡ map bare (all_due 0 (0 ∷ 0 ∷ map plan_varying plans.now) (all_cases own.now))) }
 {
     let mut due = Vec::new(alloc);
     cases_due(&mut due, 0, 0, &own.cast)?;

@@ -18,8 +18,8 @@ pub enum BypassError {
     /// The line of that number, counted from 1, is out of form.
     #[error("line {0} is out of form")]
     Line(u32),
-    /// The trace of a case does something else than the stack's own, from that act on. The entry is counted: 0 is the application's own cast, 1
-    /// its send, and 2 and the number of a plan that plan's packet.
+    /// The trace of a case does something else than the stack's own, from that act on. The entry is counted: 0 is the
+    /// application's own cast, 1 its send, and 2 and the number of a plan that plan's packet.
     #[error("the trace of a case does something else")]
     Differs { entry: u32, case: Case, act: u32 },
     #[error("no memory")]

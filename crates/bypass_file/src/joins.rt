@@ -31,7 +31,8 @@ fn message_joins(nodes: &Arena, message: u32) -> u32
 /// Those of an operation: of what it notes.
 fn note_joins(trace: &Trace, operation: &Operation) -> u32
     requires { IsPart (terms trace.now.nodes) (chains trace.now.links) operation.now }
-    ensures { result ≡ min (note_joins (operation_in (terms trace.now.nodes) (chains trace.now.links) operation.now)) 4294967295 }
+    ensures { result ≡ min (note_joins (operation_in (terms trace.now.nodes) (chains trace.now.links) operation.now))
+        4294967295 }
 {
     match operation {
         Operation::Note(message) => message_joins(&trace.nodes, *message),

@@ -18,7 +18,8 @@ use Rattle.bypass_jobs.specs.declared.printing.Printing.TheVariants.{Handlers, T
 use Rattle.bypass_jobs.specs.Printing.{job_of, own_lines, printing}
 
 -- What is printed of simplest bypasses over a stack's own plans is what is printed of it.
-pub printed_is : (what : Printing) (stack : List LayerTree) (plans : List Plan) (b : Bypasses) → plans ≡ plans_of stack →
+pub printed_is : (what : Printing) (stack : List LayerTree) (plans : List Plan) (b : Bypasses) →
+    plans ≡ plans_of stack →
     b ≡ bypasses_of simplest stack → printing what stack plans b ≡ own_lines what stack
 printed_is what stack plans b plans_are made k = printing what stack (plans_are k) (made k)
 
@@ -61,14 +62,17 @@ module _ (name : Text) (a : Around) (stack : List LayerTree) (f : IsStack name a
   }
 
 -- A job whose stack was read and whose text was written or begun.
-pub print_comes : (what : Printing) (name : Text) (a : Around) (stack : List LayerTree) (f : IsStack name a.told a.reads a.reads_after stack)
+pub print_comes : (what : Printing) (name : Text) (a : Around) (stack : List LayerTree)
+    (f : IsStack name a.told a.reads a.reads_after stack)
     (end : Ended) → Writes (own_lines what stack) done a.output a.output_after end → Comes (job_of what name) a end
 unfolding good
-print_comes Handlers name a stack f end w = written (job_of Handlers name) a (good name a stack f Handlers) end f.sound w
+print_comes Handlers name a stack f end w = written (job_of Handlers name) a (good name a stack f Handlers) end f.sound
+    w
 print_comes Traces name a stack f end w = written (job_of Traces name) a (good name a stack f Traces) end f.sound w
 
 -- A job whose stack wasn't read.
-pub print_stops : (what : Printing) (name : Text) (a : Around) (end : Ended) → StopsAt name a.told a.reads a.reads_after end →
+pub print_stops : (what : Printing) (name : Text) (a : Around) (end : Ended) →
+    StopsAt name a.told a.reads a.reads_after end →
     a.output_after ≡ a.output → Comes (job_of what name) a end
 print_stops Handlers name a end s same = stops (job_of Handlers name) a end tt s same
 print_stops Traces name a end s same = stops (job_of Traces name) a end tt s same

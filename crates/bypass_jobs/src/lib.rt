@@ -1,4 +1,5 @@
-//! The jobs `synth` and `pack`: the bypasses of a stack file's stack as text, to be read, and their traces as a file, to be run.
+//! The jobs `synth` and `pack`: the bypasses of a stack file's stack as text, to be read, and their traces as a file,
+//! to be run.
 #![tactic(auto)]
 
 mod printing;

@@ -6,7 +6,8 @@ use Rattle.layer_mean.specs.State.{State}
 use Rattle.layer_mean.specs.Tree.{LayerTree}
 use Rattle.trace_mean.specs.Trace.{Guarded, Operation, bind, note, check, set, set_square, push, take, output}
 use Rattle.trace_mean.specs.Worth.{Input}
-use Rattle.trace_mean.specs.Follow.{Followed, on, stopped_at, before, answer_of, follow, follows, perform, is_done, unchecked}
+use Rattle.trace_mean.specs.Follow.{Followed, on, stopped_at, before, answer_of, follow, follows, perform, is_done}
+use Rattle.trace_mean.specs.Follow.{unchecked}
 use Rattle.trace_laws.specs.Right.{Enters}
 use Rattle.trace_laws.specs.Safe.{SafeTrace}
 use Rattle.trace_laws.proofs.Unchecked.{checks_can_go}
@@ -39,7 +40,8 @@ no_checks (push p c e numbers message ∷ os) = no_checks os
 no_checks (take p c e ∷ os) = no_checks os
 no_checks (output dir kind numbers message ∷ os) = no_checks os
 
-still_closed : (stack : List LayerTree) (os : List Operation) (r : Reach) → Closed stack r os → Closed stack r (unchecked os)
+still_closed : (stack : List LayerTree) (os : List Operation) (r : Reach) → Closed stack r os →
+    Closed stack r (unchecked os)
 still_closed stack [] r h = tt
 still_closed stack (bind e ∷ os) r h = (h.0, still_closed stack os _ h.1)
 still_closed stack (note m ∷ os) r h = (h.0, still_closed stack os _ h.1)
@@ -74,7 +76,8 @@ followed_safe stack i os states b x same held safe =
       go (stopped_at n) is reaches = absurd (cc reaches)
 
 -- hoisting gives a guarded handler of any trace that is well formed
-pub hoisted_guards : (stack : List LayerTree) (e : Entry) (trace : List Operation) → IsWellFormed stack e.known e.fields trace →
+pub hoisted_guards : (stack : List LayerTree) (e : Entry) (trace : List Operation) →
+    IsWellFormed stack e.known e.fields trace →
     IsGuard stack e trace (hoist trace)
 hoisted_guards stack e trace formed =
     let same : (i : Input) (states : List State) → Enters stack e.known e.fields i states →
@@ -88,13 +91,15 @@ hoisted_guards stack e trace formed =
       closed = still_closed stack trace (entry_reach e.fields) formed.closed;
       there = still_there stack trace formed.there;
       safe = λ i states enters held. followed_safe stack i trace states (holds i (hoist trace) states)
-          (end_of (perform i (hoist trace).operations states)) (same i states enters) held (formed.safe i states enters);
+          (end_of (perform i (hoist trace).operations states)) (same i states enters) held
+          (formed.safe i states enters);
       joins = omega (arith, many.joins);
       outputs = omega (arith, many.outputs);
     }
 
 -- and simplifying one of any that has one
-pub simplified_guards : (stack : List LayerTree) (e : Entry) (trace : List Operation) (g : Guarded) → IsGuard stack e trace g →
+pub simplified_guards : (stack : List LayerTree) (e : Entry) (trace : List Operation) (g : Guarded) →
+    IsGuard stack e trace g →
     IsGuard stack e trace (simplified g)
 simplified_guards stack e trace g is =
     let stays = simplified_stays_formed stack g in
@@ -116,4 +121,5 @@ hoisting_guards stack named case e trace made =
     hoisted_guards stack e trace (traces_are_well_formed case stack e.known e.fields trace named made)
 
 pub simplifying_guards : SimplifyingGuards
-simplifying_guards guard stack guards case e trace made = simplified_guards stack e trace (guard trace) (guards case e trace made)
+simplifying_guards guard stack guards case e trace made =
+    simplified_guards stack e trace (guard trace) (guards case e trace made)

@@ -1,5 +1,6 @@
 -- What is made of the traces of a stack's entries is the stack's.
-use Rattle.std.proofs.Common.{◌≡◌, ◌≤◌, Bool, true, false, List, [], ◌∷◌, map, length, Option, Some, None, refl, sym, ap, ◌∙◌, subst, arith}
+use Rattle.std.proofs.Common.{◌≡◌, ◌≤◌, Bool, true, false, List, [], ◌∷◌, map, length, Option, Some, None, refl, sym}
+use Rattle.std.proofs.Common.{ap, ◌∙◌, subst, arith}
 use Rattle.std.specs.Prelude.{if◌then◌else◌, nat_le, Result, Ok, Err}
 use Rattle.std.specs.List.{AllByRecursion, AllZip}
 use Rattle.std.proofs.lemmas.Bool.{leb-true}
@@ -29,7 +30,8 @@ use Rattle.trace_form_laws.proofs.Plans.{plans_are_entries}
 use Rattle.trace_form_laws.proofs.WellFormed.{traces_are_well_formed}
 use Rattle.bypass_mean.specs.Bypasses.{Entry, cast_entry, send_entry, plan_entry}
 use Rattle.bypass_laws.specs.Stack.{lack_of, a_write, trace_writes, HasOutputs, IsTrace, IsMade, IsSecond}
-use Rattle.bypass_laws.specs.Making.{made_with, made_of, second_of, Guards, Reduces, IsSound, simplest, MadeAreOfStack, SimplestAreOfStack}
+use Rattle.bypass_laws.specs.Making.{made_with, made_of, second_of, Guards, Reduces, IsSound, simplest, MadeAreOfStack}
+use Rattle.bypass_laws.specs.Making.{SimplestAreOfStack}
 use Rattle.guard_mean.specs.Prune.{hoist}
 use Rattle.guard_laws.proofs.NoSimpler.{simplified_is_reduced}
 use Rattle.bypass_laws.proofs.Guards.{hoisting_guards, simplifying_guards}
@@ -55,9 +57,12 @@ writes_count (o ∷ os) = omega (arith, sum_by-cons a_write o os, sum_by-cons co
   one (take p c e) = omega arith
   one (output dir kind numbers message) = omega arith
 
-module _ (stack : List LayerTree) (sound : IsSound stack) (guard : List Operation → Guarded) (guards : Guards guard stack) (reduces : Reduces guard) where
-  trace_is : (case : Case) (e : Entry) (s : Shape) (trace : List Operation) → IsEntry stack e.known → shape stack e.known case ≡ Ok s →
-      trace_of case stack e.known e.fields ≡ Ok trace → nat_le s.length longest_shape ≡ true → told_by_shape s ≡ told_by_trace trace →
+module _ (stack : List LayerTree) (sound : IsSound stack) (guard : List Operation → Guarded)
+    (guards : Guards guard stack) (reduces : Reduces guard) where
+  trace_is : (case : Case) (e : Entry) (s : Shape) (trace : List Operation) → IsEntry stack e.known →
+      shape stack e.known case ≡ Ok s →
+      trace_of case stack e.known e.fields ≡ Ok trace → nat_le s.length longest_shape ≡ true →
+      told_by_shape s ≡ told_by_trace trace →
       IsTrace case stack e trace
   trace_is case e s trace entry drawn made within told = record {
     formed = traces_are_well_formed case stack e.known e.fields trace sound.named made;
@@ -65,7 +70,8 @@ module _ (stack : List LayerTree) (sound : IsSound stack) (guard : List Operatio
     writes = omega (arith, writes_count trace, ap (λ t. t.length) told, leb-true s.length longest_shape within);
     outputs = subst (HasOutputs (trace_outputs trace)) (sym drawn)
         (sym (outputs_are_told trace) ∙ ap (λ t. length t.outlets) (sym told) ∙ length-map s.outs shape_outlet);
-    joins = traces_join_less case stack e.known e.fields trace (typed_is_orderly stack sound.typed) (off_cycles stack sound.accepts) entry made;
+    joins = traces_join_less case stack e.known e.fields trace (typed_is_orderly stack sound.typed)
+        (off_cycles stack sound.accepts) entry made;
   }
 
   made_is : (case : Case) (e : Entry) → IsEntry stack e.known → IsMade case stack e (made_of guard case stack e)
@@ -73,7 +79,8 @@ module _ (stack : List LayerTree) (sound : IsSound stack) (guard : List Operatio
       (traces_stand_for_shapes case stack e.known e.fields) where
         short : (s : Shape) → shape stack e.known case ≡ Ok s → (b : Bool) → nat_le s.length longest_shape ≡ b →
             (r : Result (List Operation) NoShape) → trace_of case stack e.known e.fields ≡ r →
-            ◌≡◌ {A = Result Told NoShape} (Ok (told_by_shape s)) (drawn_from (λ operations. Ok (told_by_trace operations)) r) →
+            ◌≡◌ {A = Result Told NoShape} (Ok (told_by_shape s))
+            (drawn_from (λ operations. Ok (told_by_trace operations)) r) →
             IsMade case stack e (made_with guard (if b then None else Some long) r)
         short s drawn false is r made told = ap lack_of drawn ∙ ap (λ c. if c then None else Some long) is
         short s drawn true is (Err reason) made told = absurd (cc told)
@@ -85,7 +92,8 @@ module _ (stack : List LayerTree) (sound : IsSound stack) (guard : List Operatio
               reduced = reduces trace;
             }
 
-        go : (x : Result Shape NoShape) (r : Result (List Operation) NoShape) → shape stack e.known case ≡ x → trace_of case stack e.known e.fields ≡ r →
+        go : (x : Result Shape NoShape) (r : Result (List Operation) NoShape) → shape stack e.known case ≡ x →
+            trace_of case stack e.known e.fields ≡ r →
             drawn_from (λ s. Ok (told_by_shape s)) x ≡ drawn_from (λ operations. Ok (told_by_trace operations)) r →
             IsMade case stack e (made_with guard (lack_of x) r)
         go (Err reason) r drawn made told = ap lack_of drawn
@@ -93,7 +101,8 @@ module _ (stack : List LayerTree) (sound : IsSound stack) (guard : List Operatio
 
   second_is : (e : Entry) → IsEntry stack e.known → IsSecond stack e (second_of guard stack e)
   second_is e entry = go (has_second_case stack e.known) refl where
-    go : (b : Bool) → has_second_case stack e.known ≡ b → IsSecond stack e (if b then Some (made_of guard Second stack e) else None)
+    go : (b : Bool) → has_second_case stack e.known ≡ b →
+        IsSecond stack e (if b then Some (made_of guard Second stack e) else None)
     go true is = (is, made_is Second e entry)
     go false is = is
 
@@ -112,11 +121,17 @@ made_are_of_stack guard stack sound guards reduces =
     let plans = plans_are_entries stack (typed_is_orderly stack sound.typed) in record {
       made = (
         made_is stack sound guard guards reduces First cast_entry (record { carried = refl; tags = tt }),
-        (made_is stack sound guard guards reduces First send_entry (record { carried = refl; tags = tt }), plans_made stack sound guard guards reduces (plans_of stack) plans),
+        (
+          made_is stack sound guard guards reduces First send_entry (record { carried = refl; tags = tt }),
+          plans_made stack sound guard guards reduces (plans_of stack) plans,
+        ),
       );
       second = (
         second_is stack sound guard guards reduces cast_entry (record { carried = refl; tags = tt }),
-        (second_is stack sound guard guards reduces send_entry (record { carried = refl; tags = tt }), plans_second stack sound guard guards reduces (plans_of stack) plans),
+        (
+          second_is stack sound guard guards reduces send_entry (record { carried = refl; tags = tt }),
+          plans_second stack sound guard guards reduces (plans_of stack) plans,
+        ),
       );
     }
 

@@ -36,7 +36,8 @@ bypasses_of guard stack = record {
 
 -- A way of guarding that gives a guarded handler of each trace of a stack.
 abbrev pub Guards : (List Operation → Guarded) → List LayerTree → Type 0
-Guards guard stack = (case : Case) (e : Entry) (trace : List Operation) → trace_of case stack e.known e.fields ≡ Ok trace →
+Guards guard stack = (case : Case) (e : Entry) (trace : List Operation) → trace_of case stack e.known e.fields ≡
+    Ok trace →
     IsGuard stack e trace (guard trace)
 
 -- A way of guarding that leaves nothing to make simpler.
@@ -51,7 +52,8 @@ pub record IsSound (stack : List LayerTree) : Type 0 where
 
 -- So what is made of it is its own.
 abbrev pub MadeAreOfStack : Type 0
-MadeAreOfStack = (guard : List Operation → Guarded) (stack : List LayerTree) → IsSound stack → Guards guard stack → Reduces guard →
+MadeAreOfStack = (guard : List Operation → Guarded) (stack : List LayerTree) → IsSound stack → Guards guard stack →
+    Reduces guard →
     AreOfStack stack (bypasses_of guard stack)
 
 -- Hoisting is such a way, and what is simplified behind such a way is one, too.

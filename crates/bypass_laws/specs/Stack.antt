@@ -1,5 +1,6 @@
 -- When bypasses are a stack's.
-use Rattle.std.specs.Prelude.{◌≡◌, ℕ, ◌≤◌, true, false, nat_le, if◌then◌else◌, List, length, Option, Some, None, Result, Ok, Err}
+use Rattle.std.specs.Prelude.{◌≡◌, ℕ, ◌≤◌, true, false, nat_le, if◌then◌else◌, List, length, Option, Some, None, Result}
+use Rattle.std.specs.Prelude.{Ok, Err}
 use Rattle.std.specs.List.{AllZip, list_all, sum_by}
 use Rattle.layer_mean.specs.declared.run.Case.{Case}
 use Rattle.layer_mean.specs.declared.run.Case.TheVariants.{First, Second}
@@ -45,17 +46,19 @@ abbrev pub HasOutputs : ℕ → Result Shape NoShape → Type 0
 HasOutputs n (Ok s) = n ≡ length s.outs
 HasOutputs n (Err reason) = Unit {0}
 
--- A trace of an entry in a case: it is well formed and right, it has few writes, as many outputs as the shape, and no more joins than
--- acceptance counts for the entry.
+-- A trace of an entry in a case: it is well formed and right, it has few writes, as many outputs as the shape, and no
+-- more joins than acceptance counts for the entry.
 pub record IsTrace (case : Case) (stack : List LayerTree) (e : Entry) (trace : List Operation) : Type 0 where
   pub formed : IsWellFormed stack e.known e.fields trace
-  pub right : (i : Input) (states : List State) → Enters stack e.known e.fields i states → IsRight case stack e.known e.fields trace i states
+  pub right : (i : Input) (states : List State) → Enters stack e.known e.fields i states →
+      IsRight case stack e.known e.fields trace i states
   pub writes : trace_writes trace ≤ longest_shape
   pub outputs : HasOutputs (trace_outputs trace) (shape stack e.known case)
   pub joins : trace_joins trace ≤ most_joins stack (entry_node stack e.known)
 
--- A guarded handler of a trace: where its guard holds its operations do what following the trace does, and elsewhere following stops; it
--- has no checks, its entry values use earlier ones alone, its operations are well formed, and it joins and puts out no more.
+-- A guarded handler of a trace: where its guard holds its operations do what following the trace does, and elsewhere
+-- following stops; it has no checks, its entry values use earlier ones alone, its operations are well formed, and it
+-- joins and puts out no more.
 pub record IsGuard (stack : List LayerTree) (e : Entry) (trace : List Operation) (guarded : Guarded) : Type 0 where
   pub same : (i : Input) (states : List State) → Enters stack e.known e.fields i states →
       performed i guarded states ≡ ended (follow i trace states)
@@ -63,14 +66,16 @@ pub record IsGuard (stack : List LayerTree) (e : Entry) (trace : List Operation)
   pub values : is_closed guarded ≡ true
   pub closed : Closed stack (entry_reach e.fields) guarded.operations
   pub there : AreThere stack guarded.operations
-  pub safe : (i : Input) (states : List State) → Enters stack e.known e.fields i states → holds i guarded states ≡ true →
+  pub safe : (i : Input) (states : List State) → Enters stack e.known e.fields i states →
+      holds i guarded states ≡ true →
       SafeTrace stack i guarded.operations (on (before states))
   pub joins : trace_joins guarded.operations ≤ trace_joins trace
   pub outputs : trace_outputs guarded.operations ≤ trace_outputs trace
 
--- What is made of an entry in a case: a trace and a guarded handler of it, which can't be made simpler, exactly where its shape is within the limit,
--- and else the reason.
-pub record IsFused (case : Case) (stack : List LayerTree) (e : Entry) (trace : List Operation) (guarded : Guarded) : Type 0 where
+-- What is made of an entry in a case: a trace and a guarded handler of it, which can't be made simpler, exactly where
+-- its shape is within the limit, and else the reason.
+pub record IsFused (case : Case) (stack : List LayerTree) (e : Entry) (trace : List Operation) (guarded : Guarded) :
+    Type 0 where
   pub within : lack_of (shape stack e.known case) ≡ None
   pub trace_is : IsTrace case stack e trace
   pub guard_is : IsGuard stack e trace guarded

@@ -1,4 +1,5 @@
-//! When bypasses are a stack's, and that those which are made of the definition's traces are: the contracts of functions that do nothing.
+//! When bypasses are a stack's, and that those which are made of the definition's traces are: the contracts of
+//! functions that do nothing.
 #![tactic(auto)]
 
 ghost use Rattle.bypass_laws.specs.Making.{HoistingGuards, MadeAreOfStack, SimplestAreOfStack, SimplifyingGuards};

@@ -1,4 +1,5 @@
--- How bypasses are written: with their guarded handlers, to be read; and with the notes of their traces, to be loaded again.
+-- How bypasses are written: with their guarded handlers, to be read; and with the notes of their traces, to be loaded
+-- again.
 use Rattle.std.specs.Prelude.{ℕ, suc, ◌+◌, true, false, List, [], ◌∷◌, ◌++◌, map, slice_get, codes, option_to_list}
 use Rattle.std.specs.Fmt.{decimal}
 use Rattle.std.specs.List.{flat_map, sum_by}
@@ -28,7 +29,8 @@ done_line line = codes "do " ++ line
 
 abbrev pub guarded_lines : List LayerTree → Guarded → List (List ℕ)
 guarded_lines stack g =
-    value_lines stack 0 g.values ++ map (conjunct_line stack) g.conjuncts ++ map done_line (operation_lines false stack g.operations)
+    value_lines stack 0 g.values ++ map (conjunct_line stack) g.conjuncts ++
+    map done_line (operation_lines false stack g.operations)
 
 -- Why there is no trace.
 abbrev pub reason_text : NoShape → List ℕ
@@ -88,12 +90,14 @@ abbrev pub all_made : Bypasses → List Made
 all_made b = b.made ++ flat_map option_to_list b.second
 
 abbrev pub end_line : Bypasses → List ℕ
-end_line b = codes "end " ++ decimal (sum_by a_fused (all_made b)) ++ codes " fused " ++ decimal (sum_by an_absent (all_made b))
+end_line b = codes "end " ++ decimal (sum_by a_fused (all_made b)) ++ codes " fused " ++
+    decimal (sum_by an_absent (all_made b))
     ++ codes " absent"
 
 -- The text of bypasses.
 abbrev pub bypass_lines : List LayerTree → List Plan → Bypasses → List (List ℕ)
-bypass_lines stack plans b = entry_lines stack b 0 (codes "cast") ++ entry_lines stack b 1 (codes "send") ++ plans_lines stack b 0 plans
+bypass_lines stack plans b = entry_lines stack b 0 (codes "cast") ++ entry_lines stack b 1 (codes "send") ++
+    plans_lines stack b 0 plans
     ++ end_line b ∷ []
 
 -- The same as it is printed, each line with its end.
@@ -117,5 +121,6 @@ plans_traces stack b k [] = []
 plans_traces stack b k (plan ∷ plans) = entry_traces stack b (k + 2) (plan_name k) ++ plans_traces stack b (suc k) plans
 
 abbrev pub file_lines : List LayerTree → List Plan → Bypasses → List (List ℕ)
-file_lines stack plans b = codes "bypasses 1" ∷ entry_traces stack b 0 (codes "cast") ++ entry_traces stack b 1 (codes "send")
+file_lines stack plans b = codes "bypasses 1" ∷ entry_traces stack b 0 (codes "cast") ++
+    entry_traces stack b 1 (codes "send")
     ++ plans_traces stack b 0 plans ++ codes "end" ∷ []

@@ -1,5 +1,6 @@
 -- Bypasses of small stacks, written out.
-use Rattle.std.specs.Prelude.{◌≡◌, ℕ, Bool, true, false, List, [], ◌∷◌, map, length, take, codes, Option, Some, None, Result, Ok, Err}
+use Rattle.std.specs.Prelude.{◌≡◌, ℕ, Bool, true, false, List, [], ◌∷◌, map, length, take, codes, Option, Some, None}
+use Rattle.std.specs.Prelude.{Result, Ok, Err}
 use Rattle.layer_ast.specs.declared.syntax.Operator.TheVariants.{Add, Equal}
 use Rattle.layer_mean.specs.declared.run.Case.TheVariants.{First, Second}
 use Rattle.layer_mean.specs.Tree.{LayerTree}
@@ -63,7 +64,8 @@ GuardText = made_lines (counter ∷ []) (codes "entry plan 0") due ≡
 -- A layer with two cases, whose packets of casts have no handler.
 abbrev pub FlipText : Type 0
 FlipText = written (flip ∷ []) ≡
-    codes "entry cast fused" ∷ codes "do set 0.k = (0.k + 1)" ∷ codes "do check ((0.k & 1) == 1)" ∷ codes "do bind t.0 = peer" ∷
+    codes "entry cast fused" ∷ codes "do set 0.k = (0.k + 1)" ∷ codes "do check ((0.k & 1) == 1)" ∷
+    codes "do bind t.0 = peer" ∷
     codes "do bind t.1 = 0.k" ∷ codes "do out down Cast(t.0,body) flip.a(t.1)" ∷
     codes "entry cast second fused" ∷ codes "do set 0.k = (0.k + 1)" ∷ codes "do check (((0.k & 1) == 1) == 0)" ∷
     codes "do bind t.0 = peer" ∷ codes "do bind t.1 = 0.k" ∷ codes "do out down Cast(t.0,body) flip.b(t.1)" ∷
@@ -80,15 +82,19 @@ lines_of noting (Err reason) = []
 
 abbrev pub JoinedText : Type 0
 JoinedText =
-    (lines_of false joined ≡ codes "check (len(0.q) < 4)" ∷ codes "push 0.q (7,cut(body,0,2))" ∷ codes "check (len(0.q) > 0)" ∷
-    codes "take 0.q row.0" ∷ codes "bind t.0 = row.0.x" ∷ codes "out down Cast(t.0,join(row.0,body)) joiner.none()" ∷ []) ×
+    (lines_of false joined ≡ codes "check (len(0.q) < 4)" ∷ codes "push 0.q (7,cut(body,0,2))" ∷
+    codes "check (len(0.q) > 0)" ∷
+    codes "take 0.q row.0" ∷ codes "bind t.0 = row.0.x" ∷ codes "out down Cast(t.0,join(row.0,body)) joiner.none()" ∷
+    []) ×
     (lines_of true joined ≡ codes "check (len(0.q) < 4)" ∷ codes "note m.0 = cut(body,0,2)" ∷ codes "push 0.q (7,m.0)" ∷
-    codes "check (len(0.q) > 0)" ∷ codes "take 0.q row.0" ∷ codes "bind t.0 = row.0.x" ∷ codes "note m.1 = join(row.0,body)" ∷
+    codes "check (len(0.q) > 0)" ∷ codes "take 0.q row.0" ∷ codes "bind t.0 = row.0.x" ∷
+    codes "note m.1 = join(row.0,body)" ∷
     codes "out down Cast(t.0,m.1) joiner.none()" ∷ [])
 
 -- A queue for each member is written with its index.
 abbrev pub KeeperText : Type 0
-KeeperText = operation_lines false (keeper ∷ []) (push 0 0 (atom peer) (atom peer ∷ []) None ∷ trace.take 0 0 (atom (number 0)) ∷ []) ≡
+KeeperText = operation_lines false (keeper ∷ [])
+    (push 0 0 (atom peer) (atom peer ∷ []) None ∷ trace.take 0 0 (atom (number 0)) ∷ []) ≡
     codes "push 0.from[peer] (peer)" ∷ codes "take 0.from[0] row.0" ∷ []
 
 -- The traces of the counter as a file.
@@ -97,5 +103,6 @@ counter_file = file_lines (counter ∷ []) (plans_of (counter ∷ [])) (all_ungu
 
 abbrev pub FileText : Type 0
 FileText = (length counter_file ≡ 16) × (take 6 counter_file ≡
-    codes "bypasses 1" ∷ codes "entry cast case 1" ∷ codes "bind t.0 = peer" ∷ codes "bind t.1 = 0.k" ∷ codes "set 0.k = (0.k + 1)" ∷
+    codes "bypasses 1" ∷ codes "entry cast case 1" ∷ codes "bind t.0 = peer" ∷ codes "bind t.1 = 0.k" ∷
+    codes "set 0.k = (0.k + 1)" ∷
     codes "out down Cast(t.0,body) cnt.num(t.1)" ∷ [])

@@ -1,5 +1,6 @@
 -- How the operations of traces are written, each on a line of its own.
-use Rattle.std.specs.Prelude.{ℕ, ◌+◌, Bool, true, false, List, [], ◌∷◌, ◌++◌, map, length, find, slice_get, slice_index_or, codes, Option, Some, option_to_list}
+use Rattle.std.specs.Prelude.{ℕ, ◌+◌, Bool, true, false, List, [], ◌∷◌, ◌++◌, map, length, find, slice_get}
+use Rattle.std.specs.Prelude.{slice_index_or, codes, Option, Some, option_to_list}
 use Rattle.std.specs.Fmt.{decimal}
 use Rattle.std.specs.List.{fold, join_by}
 use Rattle.std.specs.Option.{option_map_or}
@@ -12,7 +13,10 @@ use Rattle.layer_ast.specs.Spelling.{reserved, symbols}
 use Rattle.layer_mean.specs.Headers.{declared}
 use Rattle.layer_mean.specs.Tree.{Form, numbers, queue, queues, CellTree, LayerTree, no_layer}
 use Rattle.layer_ast.specs.Spelling.{kind_word}
-use Rattle.trace_mean.specs.Trace.{Atom, number, peer, field, bound, taken_number, value, Core, body, noted, taken_message, nothing, TraceNumber, atom, me, count, ltime, element, square, rows, item, size, binary, apply, pick, TraceMessage, core, held, cut, tail, join, Link, Chained, Operation, bind, note, check, set, set_square, push, take, output}
+use Rattle.trace_mean.specs.Trace.{Atom, number, peer, field, bound, taken_number, value, Core, body, noted}
+use Rattle.trace_mean.specs.Trace.{taken_message, nothing, TraceNumber, atom, me, count, ltime, element, square, rows}
+use Rattle.trace_mean.specs.Trace.{item, size, binary, apply, pick, TraceMessage, core, held, cut, tail, join, Link}
+use Rattle.trace_mean.specs.Trace.{Chained, Operation, bind, note, check, set, set_square, push, take, output}
 use Rattle.trace_mean.specs.Fuse.{form_at}
 
 -- The word or symbol of a sign, as files have it.
@@ -26,8 +30,8 @@ listed parts = codes "(" ++ join_by (λ part. part) (codes ",") parts ++ codes "
 abbrev pub indexed : List ℕ → List ℕ
 indexed index = codes "[" ++ index ++ codes "]"
 
--- What an operation may name, and the lines so far: how many numbers were bound, of each taken row how its numbers are called, and of
--- each noted message how it is written.
+-- What an operation may name, and the lines so far: how many numbers were bound, of each taken row how its numbers are
+-- called, and of each noted message how it is written.
 pub record Written : Type 0 where
   pub binds : ℕ
   pub rows : List (List (List ℕ))
@@ -64,7 +68,8 @@ atom_text w (number n) = decimal n
 atom_text w peer = codes "peer"
 atom_text w (field n) = codes "in." ++ decimal n
 atom_text w (bound n) = codes "t." ++ decimal n
-atom_text w (taken_number row n) = codes "row." ++ decimal row ++ codes "." ++ slice_index_or (slice_index_or w.rows row []) n []
+atom_text w (taken_number row n) = codes "row." ++ decimal row ++ codes "." ++
+    slice_index_or (slice_index_or w.rows row []) n []
 atom_text w (value n) = codes "v." ++ decimal n
 
 abbrev pub core_text : Written → Core → List ℕ
@@ -87,7 +92,8 @@ abbrev mutual
       codes "at" ++ listed (cell_text stack p c (number_text stack w e) ∷ number_text stack w row ∷ []) ++ codes "."
       ++ slice_index_or (numbers_called (form_at (layer_of stack p) c)) n []
   number_text stack w (size m) = codes "size" ++ listed (message_text stack w m ∷ [])
-  number_text stack w (binary operator a b) = codes "(" ++ number_text stack w a ++ codes " " ++ sign_text (operator_sign operator)
+  number_text stack w (binary operator a b) = codes "(" ++ number_text stack w a ++ codes " " ++
+      sign_text (operator_sign operator)
       ++ codes " " ++ number_text stack w b ++ codes ")"
   number_text stack w (apply function a) = sign_text (function_sign function) ++ listed (number_text stack w a ∷ [])
   number_text stack w (pick c a b) =
@@ -100,12 +106,14 @@ abbrev mutual
   message_text stack w (cut m from n) =
       codes "cut" ++ listed (message_text stack w m ∷ number_text stack w from ∷ number_text stack w n ∷ [])
   message_text stack w (tail m from) = codes "tail" ++ listed (message_text stack w m ∷ number_text stack w from ∷ [])
-  message_text stack w (join first m) = codes "join" ++ listed (message_text stack w first ∷ message_text stack w m ∷ [])
+  message_text stack w (join first m) = codes "join" ++
+      listed (message_text stack w first ∷ message_text stack w m ∷ [])
 
 -- Known headers, the lowest place's first, with `/` between: LAYER.HEADER(F,F).
 abbrev pub link_text : List LayerTree → (Atom → List ℕ) → Link → List ℕ
 link_text stack shown l =
-    (layer_of stack l.place).name ++ codes "." ++ option_map_or (λ h. h.name) (declared (layer_of stack l.place) l.tag) []
+    (layer_of stack l.place).name ++ codes "." ++ option_map_or (λ h. h.name) (declared (layer_of stack l.place) l.tag)
+    []
     ++ listed (map shown l.fields)
 
 abbrev pub chain_text : List LayerTree → (Atom → List ℕ) → List Link → List ℕ
@@ -124,14 +132,16 @@ abbrev pub line_of : List LayerTree → Written → Operation → List ℕ
 line_of stack w (bind e) = codes "bind t." ++ decimal w.binds ++ codes " = " ++ number_text stack w e
 line_of stack w (note m) = []
 line_of stack w (check e) = codes "check " ++ number_text stack w e
-line_of stack w (set p c e x) = codes "set " ++ cell_text stack p c (number_text stack w e) ++ codes " = " ++ number_text stack w x
+line_of stack w (set p c e x) = codes "set " ++ cell_text stack p c (number_text stack w e) ++ codes " = " ++
+    number_text stack w x
 line_of stack w (set_square p c row column x) =
     codes "set " ++ number_text stack w (square p c row column) ++ codes " = " ++ number_text stack w x
 line_of stack w (push p c e row message) = codes "push " ++ cell_text stack p c (number_text stack w e) ++ codes " "
     ++ listed (map (number_text stack w) row ++ map (pushed_text stack w) (option_to_list message))
 line_of stack w (take p c e) =
     codes "take " ++ cell_text stack p c (number_text stack w e) ++ codes " row." ++ decimal (length w.rows)
-line_of stack w (output dir kind arguments message) = codes "out " ++ sign_text (direction_sign dir) ++ codes " " ++ kind_word kind
+line_of stack w (output dir kind arguments message) = codes "out " ++ sign_text (direction_sign dir) ++ codes " " ++
+    kind_word kind
     ++ listed (map (atom_text w) arguments ++ map (λ (m : Chained). core_text w m.core) (option_to_list message))
     ++ option_map_or (λ (m : Chained). behind stack w m.chain) message []
 

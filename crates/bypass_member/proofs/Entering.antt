@@ -36,23 +36,29 @@ abbrev pub of_peer : Kind → ℕ → Envelope
 of_peer kind peer = record { kind = kind; peer = peer; a = 0; b = 0 }
 
 abbrev pub from_top : List LayerTree → Content → Envelope → Task Event
-from_top stack content envelope = carrying_task (record { at = length stack; direction = dir.Down; envelope = envelope }) content
+from_top stack content envelope =
+    carrying_task (record { at = length stack; direction = dir.Down; envelope = envelope }) content
 
 -- behind none it is the only one
-pub only_task : (old new : Buffer PoolTask) (task : PoolTask) → old.items ≡ [] → new ≡ buffer (old.items ++ task ∷ []) old.capacity →
+pub only_task : (old new : Buffer PoolTask) (task : PoolTask) → old.items ≡ [] →
+    new ≡ buffer (old.items ++ task ∷ []) old.capacity →
     new ≡ buffer (task ∷ []) old.capacity
 only_task old new task none last = last ∙ ap (λ ts. buffer (ts ++ task ∷ []) old.capacity) none
 
-pub only_first : (old new : Buffer PoolTask) (task : PoolTask) → old.items ≡ [] → new ≡ buffer (old.items ++ task ∷ []) old.capacity →
+pub only_first : (old new : Buffer PoolTask) (task : PoolTask) → old.items ≡ [] →
+    new ≡ buffer (old.items ++ task ∷ []) old.capacity →
     new ≡ buffer (first_task new.items ∷ []) old.capacity
 only_first old new task none last =
     let only = only_task old new task none last in
     only ∙ ap (λ t. buffer (t ∷ []) old.capacity) (sym (ap (λ (b : Buffer PoolTask). first_task b.items) only))
 
-module _ (stack : List LayerTree) (me : ℕ) (what : Entered) (p q : List Held) (old new : Buffer PoolTask) (none : old.items ≡ []) where
+module _ (stack : List LayerTree) (me : ℕ) (what : Entered) (p q : List Held) (old new : Buffer PoolTask)
+    (none : old.items ≡ []) where
   brings : (task : PoolTask) → new ≡ buffer (old.items ++ task ∷ []) old.capacity → Brings stack me p q what task →
       Brings stack me p q what (first_task new.items)
-  brings task last is = subst (Brings stack me p q what) (sym (ap (λ (b : Buffer PoolTask). first_task b.items) (only_task old new task none last))) is
+  brings task last is =
+      subst (Brings stack me p q what)
+      (sym (ap (λ (b : Buffer PoolTask). first_task b.items) (only_task old new task none last))) is
 
   -- one with a message
   pub brings_carried : (shown : Task Event) → PutLast p old shown q new → shown ≡ member.first_task stack me what →
@@ -65,8 +71,10 @@ module _ (stack : List LayerTree) (me : ℕ) (what : Entered) (p q : List Held) 
   }
 
 -- and one without
-pub brings_bare : (stack : List LayerTree) (me : ℕ) (what : Entered) (p : List Held) (old new : Buffer PoolTask) (task : PoolTask) →
-    old.items ≡ [] → new ≡ buffer (old.items ++ task ∷ []) old.capacity → task.event.message ≡ None → task_seen p task ≡ member.first_task stack me what →
+pub brings_bare : (stack : List LayerTree) (me : ℕ) (what : Entered) (p : List Held) (old new : Buffer PoolTask)
+    (task : PoolTask) →
+    old.items ≡ [] → new ≡ buffer (old.items ++ task ∷ []) old.capacity → task.event.message ≡ None →
+    task_seen p task ≡ member.first_task stack me what →
     Brings stack me p p what (first_task new.items)
 brings_bare stack me what p old new task none last bare is = brings stack me what p p old new none task last record {
   seen = is;
@@ -77,10 +85,12 @@ brings_bare stack me what p old new task none last bare is = brings stack me wha
 
 -- the task of a packet that came is told by its destination
 pub packet_task : (stack : List LayerTree) (me : ℕ) (packet : Packet) →
-    carrying_task (record { at = 1; direction = dir.Up; envelope = of_peer (kind_of packet.dest) packet.sender }) packet.message
+    carrying_task (record { at = 1; direction = dir.Up; envelope = of_peer (kind_of packet.dest) packet.sender })
+    packet.message
     ≡ member.first_task stack me (from_peer packet)
 packet_task stack me packet = go packet.dest where
-  go : (d : Dest) → carrying_task (record { at = 1; direction = dir.Up; envelope = of_peer (kind_of d) packet.sender }) packet.message
+  go : (d : Dest) → carrying_task (record { at = 1; direction = dir.Up; envelope = of_peer (kind_of d) packet.sender })
+      packet.message
       ≡ record { at = 1; dir = dir.Up; event = event_of (kind_of d) (packet.sender ∷ []) (Some packet.message) }
   go dest.All = refl
   go (dest.Rank r) = refl

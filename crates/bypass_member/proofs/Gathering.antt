@@ -1,5 +1,6 @@
 -- Events leave a stack one by one.
-use Rattle.std.proofs.Common.{◌≡◌, ◌∙◌, suc, ◌+◌, ◌≤◌, List, [], ◌∷◌, ◌++◌, map, drop, length, Some, None, slice_get, refl, sym, ap, subst, arith, append_assoc, length-append}
+use Rattle.std.proofs.Common.{◌≡◌, ◌∙◌, suc, ◌+◌, ◌≤◌, List, [], ◌∷◌, ◌++◌, map, drop, length, Some, None, slice_get}
+use Rattle.std.proofs.Common.{refl, sym, ap, subst, arith, append_assoc, length-append}
 use Rattle.std.specs.List.{AllByRecursion}
 use Rattle.std.proofs.lemmas.List.{append-nil}
 use Rattle.slot_pool.specs.Held.{Held}
@@ -17,7 +18,8 @@ use Rattle.step_outputs.specs.Gathered.{Gathered, full_output}
 use Rattle.bypass_member.specs.Gathering.{BringsAsKind, IsGathering}
 use Rattle.bypass_member.specs.Working.{outputs_in}
 
-pub gathering_begins : (p : List Held) (all : List (Dir × PoolEvent)) (out : Gathered) → SentLie p all → Covers p (sent_refs all) →
+pub gathering_begins : (p : List Held) (all : List (Dir × PoolEvent)) (out : Gathered) → SentLie p all →
+    Covers p (sent_refs all) →
     AllByRecursion BringsAsKind all → length out.outputs + length all ≤ out.places → IsGathering p all out p all out
 gathering_begins p all out lie covers bring room = record {
   lie = lie;
@@ -42,12 +44,15 @@ behind_lies : (p q : List Held) (e : PoolEvent) (rest : List (Dir × PoolEvent))
     Covers p (event_refs e ++ sent_refs rest) → SentLie p rest → SentLie q rest × (sent_seen q rest ≡ sent_seen p rest)
 behind_lies p q e rest moved covers lie =
     each_stays (λ (x : Dir × PoolEvent). event_refs x.1) (λ x. EventLies p x.1) (λ x. EventLies q x.1)
-    (λ (x : Dir × PoolEvent). (x.0, event_seen p x.1)) (λ (x : Dir × PoolEvent). (x.0, event_seen q x.1)) p (event_refs e)
-    (λ x there lies. let stays = event_stays p q (event_refs e) [] moved x.1 there lies in (stays.0, ap (λ (s : Event). (x.0, s)) stays.1))
+    (λ (x : Dir × PoolEvent). (x.0, event_seen p x.1)) (λ (x : Dir × PoolEvent). (x.0, event_seen q x.1)) p
+    (event_refs e)
+    (λ x there lies. let stays = event_stays p q (event_refs e) [] moved x.1 there lies in
+    (stays.0, ap (λ (s : Event). (x.0, s)) stays.1))
     rest covers lie
 
 module _ (start : List Held) (all : List (Dir × PoolEvent)) (first : Gathered) (p : List Held) where
-  pub leaving : (left : List (Dir × PoolEvent)) (now : Gathered) (dir : Dir) (event : PoolEvent) → IsGathering start all first p left now →
+  pub leaving : (left : List (Dir × PoolEvent)) (now : Gathered) (dir : Dir) (event : PoolEvent) →
+      IsGathering start all first p left now →
       slice_get left 0 ≡ Some (dir, event) → Leaving p event dir now
   leaving [] now dir event is at = absurd (cc)
   leaving (x ∷ rest) now dir event is at =
@@ -60,8 +65,10 @@ module _ (start : List Held) (all : List (Dir × PoolEvent)) (first : Gathered) 
       }
 
   pub gathered_one : (q : List Held) (left : List (Dir × PoolEvent)) (now : Gathered) (dir : Dir) (event : PoolEvent) →
-      IsGathering start all first p left now → slice_get left 0 ≡ Some (dir, event) → Returned p q (event_refs (first_sent left).1) →
-      IsGathering start all first q (drop 1 left) (record now { outputs = now.outputs ++ full_output now.here (dir, event_seen p event) ∷ [] })
+      IsGathering start all first p left now → slice_get left 0 ≡ Some (dir, event) →
+      Returned p q (event_refs (first_sent left).1) →
+      IsGathering start all first q (drop 1 left)
+      (record now { outputs = now.outputs ++ full_output now.here (dir, event_seen p event) ∷ [] })
   gathered_one q [] now dir event is at returned = absurd (cc)
   gathered_one q (x ∷ rest) now dir event is at returned =
       let same : (dir, event) ≡ x = cc in
@@ -78,21 +85,26 @@ module _ (start : List Held) (all : List (Dir × PoolEvent)) (first : Gathered) 
         bring = is.bring.1;
         room =
             let room = is.room in
-            let more : length (now.outputs ++ full_output now.here (x.0, event_seen p x.1) ∷ []) ≡ length now.outputs + 1 =
+            let more : length (now.outputs ++ full_output now.here (x.0, event_seen p x.1) ∷ []) ≡
+            length now.outputs + 1 =
             length-append now.outputs (full_output now.here (x.0, event_seen p x.1) ∷ []) in omega arith;
-        moved = moved_rest (λ (y : Dir × PoolEvent). event_refs y.1) start p q (sent_refs all) (x ∷ rest) x refl is.moved returned.moved;
+        moved = moved_rest (λ (y : Dir × PoolEvent). event_refs y.1) start p q (sent_refs all) (x ∷ rest) x refl
+            is.moved returned.moved;
         slots = let one = is.slots in let two = returned.slots in omega arith;
         outputs =
             append_assoc now.outputs (full_output now.here (x.0, event_seen p x.1) ∷ []) (outputs_in now.here q rest)
-            ∙ ap (λ (seen : List (Dir × Event)). now.outputs ++ (full_output now.here (x.0, event_seen p x.1) ∷ map (full_output now.here) seen))
+            ∙ ap (λ (seen : List (Dir × Event)). now.outputs ++
+            (full_output now.here (x.0, event_seen p x.1) ∷ map (full_output now.here) seen))
             stays.1
             ∙ is.outputs;
         here = is.here;
         places = is.places;
       }
 
-  pub gathered_all : (left : List (Dir × PoolEvent)) (now : Gathered) → IsGathering start all first p left now → slice_get left 0 ≡ None →
-      (left ≡ []) × Returned start p (sent_refs all) × (now ≡ record first { outputs = first.outputs ++ outputs_in first.here start all })
+  pub gathered_all : (left : List (Dir × PoolEvent)) (now : Gathered) → IsGathering start all first p left now →
+      slice_get left 0 ≡ None →
+      (left ≡ []) × Returned start p (sent_refs all) ×
+      (now ≡ record first { outputs = first.outputs ++ outputs_in first.here start all })
   gathered_all (x ∷ left) now is at = absurd (cc)
   gathered_all [] now is at = (
     refl,

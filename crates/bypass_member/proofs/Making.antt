@@ -1,5 +1,6 @@
 -- Layers are made one by one, and end one by one.
-use Rattle.std.proofs.Common.{◌≡◌, ◌∙◌, ℕ, zero, suc, Some, replicate, ◌+◌, ◌<◌, ◌≤◌, List, [], ◌∷◌, ◌++◌, map, take, length, flat_map, sym, ap, subst, arith, length-append}
+use Rattle.std.proofs.Common.{◌≡◌, ◌∙◌, ℕ, zero, suc, Some, replicate, ◌+◌, ◌<◌, ◌≤◌, List, [], ◌∷◌, ◌++◌, map, take}
+use Rattle.std.proofs.Common.{length, flat_map, sym, ap, subst, arith, length-append}
 use Rattle.std.specs.Prelude.{slice_index_or}
 use Rattle.std.specs.List.{AllByRecursion, range_with_len}
 use Rattle.std.proofs.lemmas.Grind.{flat_map-append}
@@ -31,24 +32,28 @@ use Rattle.bypass_member.proofs.Viewing.{opened_is, fresh_own}
 
 -- one more
 
-flat_append : {A : Type 0} (f : A → List ℕ) (xs : List A) (y : A) → flat_map f xs ≡ [] → f y ≡ [] → flat_map f (xs ++ y ∷ []) ≡ []
+flat_append : {A : Type 0} (f : A → List ℕ) (xs : List A) (y : A) → flat_map f xs ≡ [] → f y ≡ [] →
+    flat_map f (xs ++ y ∷ []) ≡ []
 flat_append f xs y none one = flat_map-append f xs (y ∷ []) ∙ (λ i. none i ++ (one i ++ []))
 
 range_more : (from n : ℕ) → range_with_len from (suc n) ≡ range_with_len from n ++ (from + n) ∷ []
 range_more from zero = let same : from ≡ from + 0 = omega arith in ap (λ (n : ℕ). n ∷ []) same
 range_more from (suc n) =
     let same : (from + 1) + n ≡ from + suc n = omega arith in
-    ap (λ (xs : List ℕ). from ∷ xs) (range_more (from + 1) n ∙ ap (λ (m : ℕ). range_with_len (from + 1) n ++ m ∷ []) same)
+    ap (λ (xs : List ℕ). from ∷ xs)
+    (range_more (from + 1) n ∙ ap (λ (m : ℕ). range_with_len (from + 1) n ++ m ∷ []) same)
 
 module _ (me count ltime : ℕ) where
-  pub fresh_more : (trees : List LayerTree) (layers : List FileLayer) (stack : List LayerTree) (s : FileLayer) → AreFresh me count ltime trees
+  pub fresh_more : (trees : List LayerTree) (layers : List FileLayer) (stack : List LayerTree) (s : FileLayer) →
+      AreFresh me count ltime trees
       layers →
       IsBegun stack (length trees) me count ltime s →
       AreFresh me count ltime (trees ++ slice_index_or stack (length trees) no_layer ∷ []) (layers ++ s ∷ [])
   fresh_more trees layers stack s are one =
       let last : LayerTree = slice_index_or stack (length trees) no_layer in record {
         places =
-            let more : suc (length trees) ≡ length (trees ++ last ∷ []) = omega (arith, length-append trees (last ∷ [])) in
+            let more : suc (length trees) ≡ length (trees ++ last ∷ []) =
+            omega (arith, length-append trees (last ∷ [])) in
             let from : length trees ≡ 0 + length trees = omega arith in
             map-append place_of layers (s ∷ [])
             ∙ (λ i. are.places i ++ one.place i ∷ [])
@@ -65,18 +70,22 @@ module _ (me count ltime : ℕ) where
       }
 
   pub fresh_at : (stack : List LayerTree) (k : ℕ) (layers : List FileLayer) (s : FileLayer) → k < length stack →
-      AreFresh me count ltime (take k stack) layers → IsBegun stack k me count ltime s → AreFresh me count ltime (take (suc k) stack) (layers ++ s
+      AreFresh me count ltime (take k stack) layers → IsBegun stack k me count ltime s →
+      AreFresh me count ltime (take (suc k) stack) (layers ++ s
       ∷ [])
   fresh_at stack k layers s within are one =
       let count_is : length (take k stack) ≡ k = length-take-le k stack (omega arith) in
-      let begun : IsBegun stack (length (take k stack)) me count ltime s = subst (λ (n : ℕ). IsBegun stack n me count ltime s) (sym count_is) one in
+      let begun : IsBegun stack (length (take k stack)) me count ltime s =
+      subst (λ (n : ℕ). IsBegun stack n me count ltime s) (sym count_is) one in
       subst (λ (trees : List LayerTree). AreFresh me count ltime trees (layers ++ s ∷ []))
-      (ap (λ (n : ℕ). take k stack ++ slice_index_or stack n no_layer ∷ []) count_is ∙ sym (take-suc stack k no_layer within))
+      (ap (λ (n : ℕ). take k stack ++ slice_index_or stack n no_layer ∷ []) count_is ∙
+      sym (take-suc stack k no_layer within))
       (fresh_more (take k stack) layers stack s are begun)
 
 -- the last one ends
 
-each_last : (P : FileLayer → Type 0) (xs : List FileLayer) (s : FileLayer) → AllByRecursion P (xs ++ s ∷ []) → AllByRecursion P xs × P s
+each_last : (P : FileLayer → Type 0) (xs : List FileLayer) (s : FileLayer) → AllByRecursion P (xs ++ s ∷ []) →
+    AllByRecursion P xs × P s
 each_last P [] s h = (tt, h.0)
 each_last P (x ∷ xs) s h = let rest = each_last P xs s h.1 in ((h.0, rest.0), rest.1)
 
@@ -88,23 +97,34 @@ pub record Left (p : List Held) (layers : List FileLayer) : Type 0 where
   pub order : AllByRecursion (IsInOrder p) layers
   pub covers : Covers p (flat_map refs_of layers)
 
-pub last_is : (p : List Held) (layers xs : List FileLayer) (s : FileLayer) → layers ≡ xs ++ s ∷ [] → Left p layers → Last p s
+pub last_is : (p : List Held) (layers xs : List FileLayer) (s : FileLayer) → layers ≡ xs ++ s ∷ [] → Left p layers →
+    Last p s
 last_is p layers xs s is left =
-    let order = each_last (IsInOrder p) xs s (subst (λ (ys : List FileLayer). AllByRecursion (IsInOrder p) ys) is left.order) in
-    let all : flat_map refs_of layers ≡ flat_map refs_of xs ++ (refs_of s ++ []) = ap (flat_map refs_of) is ∙ flat_map-append refs_of xs (s ∷ [])
+    let order = each_last (IsInOrder p) xs s
+    (subst (λ (ys : List FileLayer). AllByRecursion (IsInOrder p) ys) is left.order) in
+    let all : flat_map refs_of layers ≡ flat_map refs_of xs ++ (refs_of s ++ []) = ap (flat_map refs_of) is ∙
+    flat_map-append refs_of xs (s ∷ [])
     in record {
       order = order.1;
       covers = record {
         covers = λ i. let there = left.covers.covers i in
-            omega (arith, ap (times i) all, times-append i (flat_map refs_of xs) (refs_of s ++ []), times-append i (refs_of s) []);
+            omega (
+              arith,
+              ap (times i) all,
+              times-append i (flat_map refs_of xs) (refs_of s ++ []),
+              times-append i (refs_of s) [],
+            );
       };
     }
 
-pub left_behind : (p q : List Held) (layers xs : List FileLayer) (s : FileLayer) → layers ≡ xs ++ s ∷ [] → Left p layers → Returned p q (refs_of
+pub left_behind : (p q : List Held) (layers xs : List FileLayer) (s : FileLayer) → layers ≡ xs ++ s ∷ [] →
+    Left p layers → Returned p q (refs_of
     s) → Left q xs
 left_behind p q layers xs s is left returned =
-    let order = each_last (IsInOrder p) xs s (subst (λ (ys : List FileLayer). AllByRecursion (IsInOrder p) ys) is left.order) in
-    let all : flat_map refs_of layers ≡ flat_map refs_of xs ++ (refs_of s ++ []) = ap (flat_map refs_of) is ∙ flat_map-append refs_of xs (s ∷ []) in
+    let order = each_last (IsInOrder p) xs s
+    (subst (λ (ys : List FileLayer). AllByRecursion (IsInOrder p) ys) is left.order) in
+    let all : flat_map refs_of layers ≡ flat_map refs_of xs ++ (refs_of s ++ []) = ap (flat_map refs_of) is ∙
+    flat_map-append refs_of xs (s ∷ []) in
     let both : Covers p (refs_of s ++ flat_map refs_of xs) = record {
       covers = λ i. let there = left.covers.covers i in
           omega (
@@ -126,20 +146,25 @@ left_behind p q layers xs s is left returned =
 
 -- a member opens in its first view, over a pool without a body
 
-pub opening : (stack : List LayerTree) (view : View) (id me count rows : ℕ) (old new : Making) (w : Works) → rank view id ≡ Some me → count ≡
+pub opening : (stack : List LayerTree) (view : View) (id me count rows : ℕ) (old new : Making) (w : Works) →
+    rank view id ≡ Some me → count ≡
     member_count view →
-    rows ≡ rows_of stack (member_count view) → rows ≤ most_rows → old.stack ≡ stack → w.pool ≡ replicate (rows + slots_beyond) unused →
+    rows ≡ rows_of stack (member_count view) → rows ≤ most_rows → old.stack ≡ stack →
+    w.pool ≡ replicate (rows + slots_beyond) unused →
     AllMade me count view.ltime old new w.layers.items → IsQuiet stack w → IsOpening stack view id old new w
 opening stack view id me count rows old new w at same rows_are few stack_is pool all quiet =
     let fresh_is : AreFresh me (member_count view) view.ltime stack w.layers.items =
     subst (λ (n : ℕ). AreFresh me n view.ltime stack w.layers.items) same
     (subst (λ (trees : List LayerTree). AreFresh me count view.ltime trees w.layers.items) stack_is all.fresh_are) in
-    let size : length w.pool ≡ rows + slots_beyond = ap (λ (p : List Held). length p) pool ∙ length-replicate (rows + slots_beyond) unused in
-    let states : states_in w ≡ map (λ (layer : LayerTree). fresh layer me (member_count view) view.ltime) stack = fresh_is.states w.pool in record {
+    let size : length w.pool ≡ rows + slots_beyond = ap (λ (p : List Held). length p) pool ∙
+    length-replicate (rows + slots_beyond) unused in
+    let states : states_in w ≡ map (λ (layer : LayerTree). fresh layer me (member_count view) view.ltime) stack =
+    fresh_is.states w.pool in record {
       ready = record {
         stand = record { places = fresh_is.places; layers = fresh_is.trees_are; ready = fresh_is.order w.pool };
         exact = subst (λ (p : List Held). Exact p (refs_in w)) (sym pool)
-            (subst (λ (xs : List ℕ). Exact (replicate (rows + slots_beyond) unused) xs) (sym fresh_is.refs) (exact-fresh (rows + slots_beyond)));
+            (subst (λ (xs : List ℕ). Exact (replicate (rows + slots_beyond) unused) xs) (sym fresh_is.refs)
+            (exact-fresh (rows + slots_beyond)));
         quiet = quiet;
         slots = size ∙ ap (λ (n : ℕ). n + slots_beyond) rows_are;
         few = subst (λ (n : ℕ). n ≤ most_rows) rows_are few;

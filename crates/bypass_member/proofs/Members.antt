@@ -16,12 +16,14 @@ counts_are i [] (s ∷ states) are = absurd are
 counts_are i (layer ∷ stack) [] are = absurd are
 
 -- fresh ones are so
-pub fresh_are_of : (i : Input) (stack : List LayerTree) → AreOf i stack (map (λ (layer : LayerTree). fresh layer i.me i.count i.ltime) stack)
+pub fresh_are_of : (i : Input) (stack : List LayerTree) →
+    AreOf i stack (map (λ (layer : LayerTree). fresh layer i.me i.count i.ltime) stack)
 fresh_are_of i [] = tt
 fresh_are_of i (layer ∷ stack) = (record { me = refl; count = refl; ltime = refl }, fresh_are_of i stack)
 
 -- and so they are at each other input that is for the same member
-pub are_also : (i j : Input) → i.me ≡ j.me → i.count ≡ j.count → i.ltime ≡ j.ltime → (stack : List LayerTree) (states : List State) →
+pub are_also : (i j : Input) → i.me ≡ j.me → i.count ≡ j.count → i.ltime ≡ j.ltime →
+    (stack : List LayerTree) (states : List State) →
     AreOf i stack states → AreOf j stack states
 are_also i j me count ltime [] [] are = tt
 are_also i j me count ltime (layer ∷ stack) (s ∷ states) are = (

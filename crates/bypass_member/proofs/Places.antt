@@ -1,5 +1,6 @@
 -- How many fields plans have at most, one by one.
-use Rattle.std.proofs.Common.{◌≡◌, ◌∙◌, ℕ, ◌+◌, ◌<◌, ◌≤◌, length, take, get_or, add-one, take-suc, List, Option, [], ◌∷◌, ◌++◌, map, sym, ap, subst, arith}
+use Rattle.std.proofs.Common.{◌≡◌, ◌∙◌, ℕ, ◌+◌, ◌<◌, ◌≤◌, length, take, get_or, add-one, take-suc, List, Option, []}
+use Rattle.std.proofs.Common.{◌∷◌, ◌++◌, map, sym, ap, subst, arith}
 use Rattle.std.specs.List.{AllByRecursion}
 use Rattle.std.specs.Prelude.{vec_capacity}
 use Rattle.std.proofs.lemmas.List.{map-append}
@@ -20,16 +21,20 @@ one_more plans i plan within is =
     ∙ ap (map plan_tree) (take-suc plans i plan within ∙ ap (λ (p : Plan). take i plans ++ p ∷ []) (sym is))
     ∙ map-append plan_tree (take i plans) (plan ∷ [])
 
-pub fields_step : (plans : List Plan) (i : ℕ) (plan : Plan) (most next : ℕ) → i < length plans → plan ≡ get_or plans i plan →
-    AllByRecursion (HasAtMost most) (map plan_tree (take i plans)) → most ≤ next → length (plan_tree plan).fields ≤ next →
+pub fields_step : (plans : List Plan) (i : ℕ) (plan : Plan) (most next : ℕ) → i < length plans →
+    plan ≡ get_or plans i plan →
+    AllByRecursion (HasAtMost most) (map plan_tree (take i plans)) → most ≤ next →
+    length (plan_tree plan).fields ≤ next →
     AllByRecursion (HasAtMost next) (map plan_tree (take (i + 1) plans))
 fields_step plans i plan most next within is so_far larger fits =
     subst (λ (all : List mean.Plan). AllByRecursion (HasAtMost next) all) (sym (one_more plans i plan within is))
     (each_append (HasAtMost next) (map plan_tree (take i plans)) (plan_tree plan ∷ [])
-    (each_so (HasAtMost most) (HasAtMost next) (λ p few. omega (arith, few, larger)) (map plan_tree (take i plans)) so_far) (fits, tt))
+    (each_so (HasAtMost most) (HasAtMost next) (λ p few. omega (arith, few, larger)) (map plan_tree (take i plans))
+    so_far) (fits, tt))
 
 -- there is room for a run while the fields of a packet are kept
-pub spare_on : (codes : Option CodesTree) (plans : List mean.Plan) (s s' : Scratch) → s'.values ≡ s.values → vec_capacity s'.fields ≡ vec_capacity s.fields →
+pub spare_on : (codes : Option CodesTree) (plans : List mean.Plan) (s s' : Scratch) → s'.values ≡ s.values →
+    vec_capacity s'.fields ≡ vec_capacity s.fields →
     IsSpare codes plans s → IsSpare codes plans s'
 spare_on codes plans s s' same room spare = record {
   values = subst (λ (v : Values). Serves codes v) (sym same) spare.values;

@@ -28,11 +28,17 @@ event_few e = message_few e.message
 module _ (p q : List Held) (xs ys : List ℕ) where
   -- some are made
   pub exact_more : Exact p xs → Moved p q [] ys → Exact q (xs ++ ys)
-  exact_more e m = record { exact = λ i. let was = e.exact i in let counts = m.counts i in omega (arith, times-append i xs ys) }
+  exact_more e m = record {
+    exact = λ i. let was = e.exact i in let counts = m.counts i in
+        omega (arith, times-append i xs ys);
+  }
 
   -- some end
   pub exact_less : Exact p (xs ++ ys) → Moved p q ys [] → Exact q xs
-  exact_less e m = record { exact = λ i. let was = e.exact i in let counts = m.counts i in omega (arith, times-append i xs ys) }
+  exact_less e m = record {
+    exact = λ i. let was = e.exact i in let counts = m.counts i in
+        omega (arith, times-append i xs ys);
+  }
 
   -- all become others
   pub exact_run : (news : List ℕ) → Exact p (xs ++ ys) → Moved p q (xs ++ (ys ++ [])) news → Exact q news
@@ -48,19 +54,22 @@ pub covers_back : (p : List Held) (xs ys : List ℕ) → Exact p (xs ++ ys) → 
 covers_back p xs ys e = record { covers = λ i. let is = e.exact i in omega (arith, times-append i xs ys) }
 
 pub covers_turned : (p : List Held) (xs ys : List ℕ) → Exact p (xs ++ ys) → Covers p (ys ++ xs)
-covers_turned p xs ys e = record { covers = λ i. let is = e.exact i in omega (arith, times-append i xs ys, times-append i ys xs) }
+covers_turned p xs ys e =
+    record { covers = λ i. let is = e.exact i in omega (arith, times-append i xs ys, times-append i ys xs) }
 
 -- behind a first reference of an event there is room for the joins of a run
 pub record Room (q : List Held) : Type 0 where
   pub joins : joins_limit ≤ spare q
   pub counts : CountsWithin most_at_first q
 
-pub room_left : (rows : ℕ) (p q : List Held) (xs : List ℕ) (event : PoolEvent) → IsPoolFor rows p xs → Exact q (xs ++ event_refs event) →
+pub room_left : (rows : ℕ) (p q : List Held) (xs : List ℕ) (event : PoolEvent) → IsPoolFor rows p xs →
+    Exact q (xs ++ event_refs event) →
     spare p ≤ spare q + 1 → Room q
 room_left rows p q xs event is e slots =
     let few = is.few in let size = is.slots in let within = is.within in let one = event_few event in
     let shared = slots-shared p xs is.exact in
-    let more : length (xs ++ event_refs event) ≡ length xs + length (event_refs event) = length-append xs (event_refs event) in record {
+    let more : length (xs ++ event_refs event) ≡ length xs + length (event_refs event) =
+    length-append xs (event_refs event) in record {
       joins = omega arith;
       counts = record { within = λ i. let most = count-most q (xs ++ event_refs event) i e in omega arith };
     }

@@ -1,5 +1,6 @@
 -- What entered is tried as a common step, and what its step lacks that isn't one.
-use Rattle.std.proofs.Common.{◌≡◌, ◌∙◌, ℕ, ◌≤◌, Bool, true, false, List, [], Option, Some, None, is_some, length, option_map, refl, sym, ap, subst, arith}
+use Rattle.std.proofs.Common.{◌≡◌, ◌∙◌, ℕ, ◌≤◌, Bool, true, false, List, [], Option, Some, None, is_some, length}
+use Rattle.std.proofs.Common.{option_map, refl, sym, ap, subst, arith}
 use Rattle.std.specs.Prelude.{if◌then◌else◌}
 use Rattle.std.specs.Option.{option_map_or}
 use Rattle.run_mean.specs.Mode.{Mode, bypass}
@@ -51,7 +52,8 @@ module _ (stack : List LayerTree) (plans : List Plan) (s : Step) (un : case_of s
   untold : is_some (entry_named plans s.entered) ≡ false → miss_of stack plans s ≡ None
   unfolding miss_of
   untold none =
-      ap (λ (b : Bool). if b then None else option_map (miss_by stack s (entry_of plans s.entered)) (entry_named plans s.entered)) not_common
+      ap (λ (b : Bool). if b then None else option_map (miss_by stack s (entry_of plans s.entered))
+      (entry_named plans s.entered)) not_common
       ∙ ap (option_map (miss_by stack s (entry_of plans s.entered))) (none_of (entry_named plans s.entered) none)
 
 -- what has an entry is told by it
@@ -67,7 +69,8 @@ named plans (from_peer p) is = ap (λ (e : lack.Entry). Some e) (go (least_fit p
   go (Some number) = refl
 
 -- in bypass mode a step that isn't made by code is common in no case
-pub in_no_case : (mode : Mode) (g : Ground) (states : List State) (what : Entered) → mode ≡ bypass → IsUncommon mode g states what →
+pub in_no_case : (mode : Mode) (g : Ground) (states : List State) (what : Entered) → mode ≡ bypass →
+    IsUncommon mode g states what →
     case_of (stack_of g) (plans_in g) (step_over g states what) ≡ None
 in_no_case mode g states what is un = subst (λ (m : Mode). IsUncommon m g states what) is un
 
@@ -80,9 +83,12 @@ module _ (g : Ground) (w : Works) (what : Entered)
     lacked = untold (stack_of g) (plans_in g) (step_over g (states_in w) what) un none;
   }
 
-  pub lacks_some : IsGround g → IsIn (stack_of g) g.most g.here.now.view g.id (states_in w) → IsSound (stack_of g) → (all : AllAsked) →
-      AreChecksOf (stack_of g) all → IsEntered (stack_of g) what → MissesAreTold → is_some (entry_named (plans_in g) what) ≡ true → (e : EntryOf) →
-      e ≡ entry_for (plans_in g) what → (i : Input) → i ≡ step_input (plans_in g) g.here.now what → (states : List State) → states ≡ states_in w →
+  pub lacks_some : IsGround g → IsIn (stack_of g) g.most g.here.now.view g.id (states_in w) → IsSound (stack_of g) →
+      (all : AllAsked) →
+      AreChecksOf (stack_of g) all → IsEntered (stack_of g) what → MissesAreTold →
+      is_some (entry_named (plans_in g) what) ≡ true → (e : EntryOf) →
+      e ≡ entry_for (plans_in g) what → (i : Input) → i ≡ step_input (plans_in g) g.here.now what →
+      (states : List State) → states ≡ states_in w →
       (miss : Miss) → miss_meant miss ≡ miss_asked all (entry_meant e) i states →
       Lacks (stack_of g) (plans_in g) (step_over g (states_in w) what) (Some miss)
   lacks_some ground is_in sound all checks is_entered law some e entry i input states are miss told = record {
@@ -91,28 +97,34 @@ module _ (g : Ground) (w : Works) (what : Entered)
         law (stack_of g) (plans_in g) all g.here.now g.id (states_in w) what sound ground.plans checks
         (record { typed = ground.typed; at = ground.here; states_are = is_in.inside_is.states_are; input = is_entered })
         (own g w what ground is_in) un
-        ∙ ap (option_map (λ (x : lack.Entry). miss_asked all x (step_input (plans_in g) g.here.now what) (states_in w))) (named (plans_in g) what some)
+        ∙ ap (option_map (λ (x : lack.Entry). miss_asked all x (step_input (plans_in g) g.here.now what) (states_in w)))
+        (named (plans_in g) what some)
         ∙ (λ k. Some (miss_asked all (entry_meant (sym entry k)) (sym input k) (sym are k)))
         ∙ ap (λ (m : lack.Miss). Some m) (sym told);
   }
 
 -- where nothing had changed before it was asked what the step lacks
 module _ (g : Ground) (old new : Works) (what : Entered) (same : AreSame old new) where
-  at_same : IsIn (stack_of g) g.most g.here.now.view g.id (states_in old) → IsIn (stack_of g) g.most g.here.now.view g.id (states_in new)
+  at_same : IsIn (stack_of g) g.most g.here.now.view g.id (states_in old) →
+      IsIn (stack_of g) g.most g.here.now.view g.id (states_in new)
   at_same is_in = subst (IsIn (stack_of g) g.most g.here.now.view g.id) (sym (same_states old new same)) is_in
 
-  pub not_made : IsReady (stack_of g) g.most old → IsIn (stack_of g) g.most g.here.now.view g.id (states_in old) → (out : Gathered) → out.outputs ≡ [] →
-      (miss : Option Miss) → Lacks (stack_of g) (plans_in g) (step_over g (states_in new) what) miss → IsNotMade g old what new out miss
+  pub not_made : IsReady (stack_of g) g.most old → IsIn (stack_of g) g.most g.here.now.view g.id (states_in old) →
+      (out : Gathered) → out.outputs ≡ [] →
+      (miss : Option Miss) → Lacks (stack_of g) (plans_in g) (step_over g (states_in new) what) miss →
+      IsNotMade g old what new out miss
   not_made ready is_in out none miss lacks = record {
     same = same;
     ready = same_ready (stack_of g) g.most old new same ready;
     at = at_same is_in;
     none = none;
-    lacks = subst (λ (states : List State). Lacks (stack_of g) (plans_in g) (step_over g states what) miss) (same_states old new same) lacks;
+    lacks = subst (λ (states : List State). Lacks (stack_of g) (plans_in g) (step_over g states what) miss)
+        (same_states old new same) lacks;
   }
 
 -- what entered has no longer body than one may be
-pub body_short : (stack : List LayerTree) (here : Here) (entry : Entry) → IsEntered stack (judged_meant here entry) → length (body_of entry) ≤ longest_body
+pub body_short : (stack : List LayerTree) (here : Here) (entry : Entry) → IsEntered stack (judged_meant here entry) →
+    length (body_of entry) ≤ longest_body
 body_short stack here (Cast body) is = is.within
 body_short stack here (Send to body) is = is.1.within
 body_short stack here Leave is = omega arith

@@ -15,10 +15,12 @@ same_states old new same = λ i. map (state_in (same.pool i)) (same.layers i)
 pub same_taken : (old new : Works) → AreSame old new → taken_in new ≡ taken_in old
 same_taken old new same = ap (map taken_by) same.layers
 
-pub same_ready : (stack : List LayerTree) (most : ℕ) (old new : Works) → AreSame old new → IsReady stack most old → IsReady stack most new
+pub same_ready : (stack : List LayerTree) (most : ℕ) (old new : Works) → AreSame old new → IsReady stack most old →
+    IsReady stack most new
 same_ready stack most old new same ready = record {
   stand = subst (λ (layers : List FileLayer). Stand place_of tree_of IsInOrder stack new.pool layers) (sym same.layers)
-      (subst (λ (p : List Held). Stand place_of tree_of IsInOrder stack p old.layers.items) (sym same.pool) ready.stand);
+      (subst (λ (p : List Held). Stand place_of tree_of IsInOrder stack p old.layers.items) (sym same.pool)
+      ready.stand);
   exact = subst (λ (layers : List FileLayer). Exact new.pool (flat_map refs_of layers)) (sym same.layers)
       (subst (λ (p : List Held). Exact p (flat_map refs_of old.layers.items)) (sym same.pool) ready.exact);
   quiet = record { tasks = same.tasks ∙ ready.quiet.tasks; outs = same.outs ∙ ready.quiet.outs };

@@ -13,6 +13,7 @@ pub stand_stays : (stack : List LayerTree) (p q : List Held) (a b : List ℕ) (l
     Covers p (a ++ flat_map refs_of layers) → Stand place_of tree_of IsInOrder stack p layers →
     Stand place_of tree_of IsInOrder stack q layers × (map (state_in q) layers ≡ map (state_in p) layers)
 stand_stays stack p q a b layers moved covers stand =
-    let stays = each_stays refs_of (IsInOrder p) (IsInOrder q) (state_in p) (state_in q) p a (λ s. layer_stays p q a b s moved) layers covers
+    let stays = each_stays refs_of (IsInOrder p) (IsInOrder q) (state_in p) (state_in q) p a
+    (λ s. layer_stays p q a b s moved) layers covers
     stand.ready in
     (record { places = stand.places; layers = stand.layers; ready = stays.0 }, stays.1)

@@ -1,5 +1,6 @@
 -- A step is tried by its code.
-use Rattle.std.proofs.Common.{◌≡◌, ◌∙◌, ℕ, ◌≤◌, Bool, true, false, List, ◌++◌, map, length, Option, Some, Ok, refl, sym, ap, subst, arith}
+use Rattle.std.proofs.Common.{◌≡◌, ◌∙◌, ℕ, ◌≤◌, Bool, true, false, List, ◌++◌, map, length, Option, Some, Ok, refl, sym}
+use Rattle.std.proofs.Common.{ap, subst, arith}
 use Rattle.std.proofs.lemmas.List.{length-map}
 use Rattle.slot_pool.specs.Held.{Held}
 use Rattle.slot_pool.proofs.References.{slots-shared}
@@ -71,24 +72,30 @@ module _ (plans : List Plan) (here : Here) where
   its_ltime (from_peer p) = refl
 
 -- so the code of an entry handles its step
-module _ (g : Ground) (w : Works) (what : Entered) (ground : IsGround g) (is_in : IsIn (stack_of g) g.most g.here.now.view g.id (states_in w)) where
+module _ (g : Ground) (w : Works) (what : Entered) (ground : IsGround g)
+    (is_in : IsIn (stack_of g) g.most g.here.now.view g.id (states_in w)) where
   pub own : AreOf (step_input (plans_in g) g.here.now what) (stack_of g) (states_in w)
   own = are_also (input_at g.here.now.view g.id) (step_input (plans_in g) g.here.now what)
       (sym ground.rank ∙ sym (its_rank (plans_in g) g.here.now what))
       (sym (its_count (plans_in g) g.here.now what))
       (sym (its_ltime (plans_in g) g.here.now what)) (stack_of g) (states_in w) is_in.members.own
 
-  pub handles : StepsAreHandled → accepted (stack_of g) ≡ Ok (stack_of g) → IsEntered (stack_of g) what → (codes : CodesTree) →
+  pub handles : StepsAreHandled → accepted (stack_of g) ≡ Ok (stack_of g) → IsEntered (stack_of g) what →
+      (codes : CodesTree) →
       codes_in g ≡ Some codes → (case : Case) → Handles g (states_in w) what codes case
   handles law accepts is_entered codes is case =
-      let of : AreCodesOf (stack_of g) codes = subst (λ (c : Option CodesTree). AreCodes (stack_of g) c) is ground.codes in
+      let of : AreCodesOf (stack_of g) codes = subst (λ (c : Option CodesTree). AreCodes (stack_of g) c) is ground.codes
+      in
       subst (λ (c : CodesTree). IsHandled case (stack_of g) (plans_in g) g.here.now g.id (states_in w) what
       (code_at c (entry_for (plans_in g) what) case)) (sym of.is)
-      (law case (stack_of g) (plans_in g) of.bypasses g.here.now g.id (states_in w) what ground.typed accepts ground.plans of.of
-      (record { typed = ground.typed; at = ground.here; states_are = is_in.inside_is.states_are; input = is_entered }) own)
+      (law case (stack_of g) (plans_in g) of.bypasses g.here.now g.id (states_in w) what ground.typed accepts
+      ground.plans of.of
+      (record { typed = ground.typed; at = ground.here; states_are = is_in.inside_is.states_are; input = is_entered })
+      own)
 
 -- places stay
-pub serves_on : (codes : CodesTree) (v v' : Values) → ServesAll codes v → IsEmpty v' → SamePlaces v v' → ServesAll codes v'
+pub serves_on : (codes : CodesTree) (v v' : Values) → ServesAll codes v → IsEmpty v' → SamePlaces v v' →
+    ServesAll codes v'
 serves_on codes v v' serves empty same = record {
   empty = empty;
   each = λ e case c at. let room = serves.each e case c at in record {
@@ -102,22 +109,32 @@ serves_on codes v v' serves empty same = record {
   };
 }
 
-module _ (case : Case) (g : Ground) (old : Works) (what : Entered) (code : Code) (i : Input) (same : i ≡ step_input (plans_in g) g.here.now what)
+module _ (case : Case) (g : Ground) (old : Works) (what : Entered) (code : Code) (i : Input)
+    (same : i ≡ step_input (plans_in g) g.here.now what)
     (ready : IsReady (stack_of g) g.most old)
-    (handled : HandlesStep case (stack_of g) (plans_in g) g.here.now g.id (states_in old) what code) (out : Gathered) (begun : IsBegun g out) where
+    (handled : HandlesStep case (stack_of g) (plans_in g) g.here.now g.id (states_in old) what code) (out : Gathered)
+    (begun : IsBegun g out) where
   trees : map tree_of old.layers.items ≡ stack_of g
   trees = ready.stand.layers
 
   -- code can be performed
-  pub can_perform : (v : Values) → IsIn (stack_of g) g.most g.here.now.view g.id (states_in old) → length (stack_of g) ≤ most_places →
-      i.count ≤ most_members → length i.body ≤ longest_body → HasRoom v code → IsEmpty v → CanPerform code i old.pool old.layers.items v out
+  pub can_perform : (v : Values) → IsIn (stack_of g) g.most g.here.now.view g.id (states_in old) →
+      length (stack_of g) ≤ most_places →
+      i.count ≤ most_members → length i.body ≤ longest_body → HasRoom v code → IsEmpty v →
+      CanPerform code i old.pool old.layers.items v out
   can_perform v is_in short members body room empty =
       let pool = own_pool (stack_of g) g.most g.id g.here.now.view old ready is_in in
       let rows_few = pool.few in let rows_within = pool.within in let size = pool.slots in
       let shared = slots-shared old.pool (refs_in old) pool.exact in
       let joins = handled.joins in let none = begun.none in let places = begun.places in record {
-        stand = subst (λ (stack : List LayerTree). Stand place_of tree_of IsInOrder stack old.pool old.layers.items) (sym trees) ready.stand;
-        few = omega (arith, length-map old.layers.items tree_of, ap (λ (stack : List LayerTree). length stack) trees, short);
+        stand = subst (λ (stack : List LayerTree). Stand place_of tree_of IsInOrder stack old.pool old.layers.items)
+            (sym trees) ready.stand;
+        few = omega (
+          arith,
+          length-map old.layers.items tree_of,
+          ap (λ (stack : List LayerTree). length stack) trees,
+          short,
+        );
         exact = ready.exact;
         counts = (room_at_first (rows_of (stack_of g) g.most) old.pool (refs_in old) pool).counts;
         slots = omega (arith, rows_few, rows_within, size, shared, joins);
@@ -125,23 +142,27 @@ module _ (case : Case) (g : Ground) (old : Works) (what : Entered) (code : Code)
         body = body;
         safe = λ passes.
             subst (λ (stack : List LayerTree). SafeCode stack i code (states_in old)) (sym trees)
-            (subst (λ (j : Input). (tested j code.tests (states_in old)).passes ≡ true → SafeCode (stack_of g) j code (states_in old)) (sym same)
+            (subst (λ (j : Input). (tested j code.tests (states_in old)).passes ≡ true →
+            SafeCode (stack_of g) j code (states_in old)) (sym same)
             handled.safe passes);
         steps = room.few;
         places = room.places;
         empty = empty;
         outs = λ passes.
-            let few = subst (λ (j : Input). (tested j code.tests (states_in old)).passes ≡ true → code_outputs code ≤ largest_weight (stack_of g))
+            let few = subst (λ (j : Input). (tested j code.tests (states_in old)).passes ≡ true →
+            code_outputs code ≤ largest_weight (stack_of g))
             (sym same) handled.outputs passes in
             omega (arith, few, ap (λ (os : List (Output × Option ℕ)). length os) none, places);
       }
 
-  ends : (e : End) → run_code i code (states_in old) ≡ Some e → EndsAs case (stack_of g) (plans_in g) (step_over g (states_in old) what) e
+  ends : (e : End) → run_code i code (states_in old) ≡ Some e →
+      EndsAs case (stack_of g) (plans_in g) (step_over g (states_in old) what) e
   ends e is = handled.passes e (ap (λ (j : Input). run_code j code (states_in old)) (sym same) ∙ is)
 
   -- what it comes to
   made : (v v' : Values) (new : Works) (last : Gathered) → new.tasks ≡ old.tasks → new.outs ≡ old.outs →
-      HasPerformed code i old.pool old.layers.items v out new.pool new.layers.items v' last → HasPassed case g old what new last
+      HasPerformed code i old.pool old.layers.items v out new.pool new.layers.items v' last →
+      HasPassed case g old what new last
   made v v' new last tasks outs did =
       let end = ends did.end did.is in record {
         common = end.common;
@@ -165,8 +186,10 @@ module _ (case : Case) (g : Ground) (old : Works) (what : Entered) (code : Code)
         };
       }
 
-  pub tried : (v v' : Values) (new : Works) (last : Gathered) → new.tasks ≡ old.tasks → new.outs ≡ old.outs → (passed : Bool) →
-      Performs code i old.pool old.layers.items v out new.pool new.layers.items v' last passed → Tries case g old what out new last passed
+  pub tried : (v v' : Values) (new : Works) (last : Gathered) → new.tasks ≡ old.tasks → new.outs ≡ old.outs →
+      (passed : Bool) →
+      Performs code i old.pool old.layers.items v out new.pool new.layers.items v' last passed →
+      Tries case g old what out new last passed
   tried v v' new last tasks outs true did = made v v' new last tasks outs did
   tried v v' new last tasks outs false did = record {
     uncommon = handled.misses (ap (λ (j : Input). run_code j code (states_in old)) (sym same) ∙ did.is);
@@ -175,20 +198,23 @@ module _ (case : Case) (g : Ground) (old : Works) (what : Entered) (code : Code)
   }
 
 -- what was kept is nothing again
-pub kept_nothing : (code : Code) (i : Input) (p : List Held) (layers : List FileLayer) (v : Values) (out : Gathered) (q : List Held)
+pub kept_nothing : (code : Code) (i : Input) (p : List Held) (layers : List FileLayer) (v : Values) (out : Gathered)
+    (q : List Held)
     (layers' : List FileLayer) (v' : Values) (out' : Gathered) (passed : Bool) →
     Performs code i p layers v out q layers' v' out' passed → IsEmpty v' × SamePlaces v v'
 kept_nothing code i p layers v out q layers' v' out' true did = (did.empty, did.room)
 kept_nothing code i p layers v out q layers' v' out' false did = (did.empty, did.room)
 
-pub places_same : (code : Code) (i : Input) (p : List Held) (layers : List FileLayer) (v : Values) (out : Gathered) (q : List Held)
+pub places_same : (code : Code) (i : Input) (p : List Held) (layers : List FileLayer) (v : Values) (out : Gathered)
+    (q : List Held)
     (layers' : List FileLayer) (v' : Values) (out' : Gathered) (passed : Bool) →
     Performs code i p layers v out q layers' v' out' passed → out'.places ≡ out.places
 places_same code i p layers v out q layers' v' out' true did = did.places
 places_same code i p layers v out q layers' v' out' false did = ap (λ (o : Gathered). o.places) did.out
 
 -- the code that is asked for is that of the entry
-pub handled_at : (case : Case) (g : Ground) (states : List State) (what : Entered) (t : Tried) (r : Option Code) → IsTried g what t →
+pub handled_at : (case : Case) (g : Ground) (states : List State) (what : Entered) (t : Tried) (r : Option Code) →
+    IsTried g what t →
     Handles g states what t.codes.now case → r ≡ code_at t.codes.now t.entry case →
     IsHandled case (stack_of g) (plans_in g) g.here.now g.id states what r
 handled_at case g states what t r tried handles at =
@@ -196,8 +222,10 @@ handled_at case g states what t r tried handles at =
     (sym (at ∙ ap (λ (e : EntryOf). code_at t.codes.now e case) tried.entry)) handles
 
 -- the layers are performed on as they are lent
-pub performs_at : (code : Code) (i : Input) (p : List Held) (v : Values) (out : Gathered) (q : List Held) (v' : Values) (last : Gathered)
-    (passed : Bool) (lent olds news those : List FileLayer) → lent ≡ olds → news ≡ those → Performs code i p lent v out q news v' last passed →
+pub performs_at : (code : Code) (i : Input) (p : List Held) (v : Values) (out : Gathered) (q : List Held) (v' : Values)
+    (last : Gathered)
+    (passed : Bool) (lent olds news those : List FileLayer) → lent ≡ olds → news ≡ those →
+    Performs code i p lent v out q news v' last passed →
     Performs code i p olds v out q those v' last passed
 performs_at code i p v out q v' last passed lent olds news those same also did =
     subst (λ (xs : List FileLayer). Performs code i p xs v out q those v' last passed) same

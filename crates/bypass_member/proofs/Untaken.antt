@@ -34,7 +34,8 @@ refused_is_not p input new outs reason why same none = record {
 }
 
 -- a member whose layers and pool are the same is placed the same
-pub same_placed : (m m' : Inside) → m' ≡ record m { scan = m'.scan; works = m'.works; scratch = m'.scratch } → AreSame m.works m'.works →
+pub same_placed : (m m' : Inside) → m' ≡ record m { scan = m'.scan; works = m'.works; scratch = m'.scratch } →
+    AreSame m.works m'.works →
     placed m' ≡ placed m
 same_placed m m' is same = ap placed is ∙ (λ i. record {
   stack = stack_tree (rc_value m.stack);
@@ -51,9 +52,11 @@ same_placed m m' is same = ap placed is ∙ (λ i. record {
 })
 
 module _ (p : Placed) (view : View) (states : List State) (input : Input) (is : p.member ≡ inside view states) where
-  pub left : (g : Ground) (what : Entered) (old works : Works) (gathered : Gathered) (miss : Option Miss) (new : Placed) →
+  pub left : (g : Ground) (what : Entered) (old works : Works) (gathered : Gathered) (miss : Option Miss)
+      (new : Placed) →
       stack_of g ≡ p.stack → plans_in g ≡ p.plans → g.here.now ≡ here_in p view → g.id ≡ p.id →
-      entered p.stack p.plans (here_in p view) input ≡ Ok what → states_in old ≡ states → IsNotMade g old what works gathered miss → new ≡ p →
+      entered p.stack p.plans (here_in p view) input ≡ Ok what → states_in old ≡ states →
+      IsNotMade g old what works gathered miss → new ≡ p →
       IsNotTaken p input new gathered.outputs miss
   left g what old works gathered miss new stack plans here id enters are not same =
       let its : step_over g (states_in old) what ≡ step_from p.stack (here_in p view) p.id states what =
@@ -61,8 +64,10 @@ module _ (p : Placed) (view : View) (states : List State) (input : Input) (is : 
       let lacks : Lacks p.stack p.plans (step_from p.stack (here_in p view) p.id states what) miss =
       subst (λ (s : Step). Lacks p.stack p.plans s miss) its
       (subst (λ (plans : List Plan). Lacks p.stack plans (step_over g (states_in old) what) miss) plans
-      (subst (λ (stack : List LayerTree). Lacks stack (plans_in g) (step_over g (states_in old) what) miss) stack not.lacks)) in record {
+      (subst (λ (stack : List LayerTree). Lacks stack (plans_in g) (step_over g (states_in old) what) miss) stack
+      not.lacks)) in record {
         same = same;
         none = not.none;
-        lacks = subst (λ (r : Result Step Refusal). InputLacks p.stack p.plans r miss) (sym (steps_in p view states input is what enters)) lacks;
+        lacks = subst (λ (r : Result Step Refusal). InputLacks p.stack p.plans r miss)
+            (sym (steps_in p view states input is what enters)) lacks;
       }

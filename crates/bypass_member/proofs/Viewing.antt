@@ -1,5 +1,6 @@
 -- A member comes into the view behind its own.
-use Rattle.std.proofs.Common.{◌≡◌, ◌∙◌, ℕ, ◌<◌, ◌≤◌, Bool, true, false, nat_lt, ltb-true, List, [], map, length, Option, Some, None, position, refl, sym, ap, subst, arith}
+use Rattle.std.proofs.Common.{◌≡◌, ◌∙◌, ℕ, ◌<◌, ◌≤◌, Bool, true, false, nat_lt, ltb-true, List, [], map, length, Option}
+use Rattle.std.proofs.Common.{Some, None, position, refl, sym, ap, subst, arith}
 use Rattle.std.specs.Prelude.{◌==◌, if◌then◌else◌}
 use Rattle.std.specs.List.{AllByRecursion, position_or_len}
 use Rattle.std.specs.Option.{option_map_or}
@@ -25,7 +26,8 @@ use Rattle.bypass_member.proofs.Members.{fresh_are_of}
 
 position_below : {A : Type 0} (p : A → Bool) (xs : List A) (k : ℕ) → position p xs ≡ Some k → k < length xs
 position_below p xs k is = go (nat_lt (position_or_len p xs) (length xs)) refl is where
-  go : (b : Bool) → nat_lt (position_or_len p xs) (length xs) ≡ b → (if b then Some (position_or_len p xs) else None) ≡ Some k → k < length xs
+  go : (b : Bool) → nat_lt (position_or_len p xs) (length xs) ≡ b → (if b then Some (position_or_len p xs) else None) ≡
+      Some k → k < length xs
   go true below is =
       let e : position_or_len p xs ≡ k = cc is in
       omega (arith, e, ltb-true (position_or_len p xs) (length xs) below)
@@ -36,39 +38,50 @@ rank_below view id me is = position_below (λ other. other == id) (ids view) me 
 
 -- what was enough for a view is so for the one behind it
 
-pub fewer_now : (view next : View) (ranks count : ℕ) (states : List State) → next_view view ranks ≡ Some next → count ≡ member_count next →
-    AllByRecursion (λ (s : State). s.count ≡ member_count view) states → AllByRecursion (λ (s : State). count ≤ s.count) states
+pub fewer_now : (view next : View) (ranks count : ℕ) (states : List State) → next_view view ranks ≡ Some next →
+    count ≡ member_count next →
+    AllByRecursion (λ (s : State). s.count ≡ member_count view) states →
+    AllByRecursion (λ (s : State). count ≤ s.count) states
 fewer_now view next ranks count states is same are =
     let less = views_shrink view next ranks is in
-    each_so (λ (s : State). s.count ≡ member_count view) (λ (s : State). count ≤ s.count) (λ s at. omega (arith, at, less, same)) states are
+    each_so (λ (s : State). s.count ≡ member_count view) (λ (s : State). count ≤ s.count)
+    (λ s at. omega (arith, at, less, same)) states are
 
 -- states are fresh as those of their member, by its rank
 pub fresh_own : (view : View) (id me : ℕ) (stack : List LayerTree) (states : List State) → rank view id ≡ Some me →
-    states ≡ map (λ (layer : LayerTree). fresh layer me (member_count view) view.ltime) stack → AreOf (input_at view id) stack states
+    states ≡ map (λ (layer : LayerTree). fresh layer me (member_count view) view.ltime) stack →
+    AreOf (input_at view id) stack states
 fresh_own view id me stack states at fresh_are =
     let its : me ≡ rank_of view id = ap (λ (r : Option ℕ). option_map_or (λ (r : ℕ). r) r 0) (sym at) in
     subst (λ (all : List State). AreOf (input_at view id) stack all)
-    (sym (fresh_are ∙ ap (λ (n : ℕ). map (λ (layer : LayerTree). fresh layer n (member_count view) view.ltime) stack) its))
+    (sym (fresh_are ∙ ap (λ (n : ℕ). map (λ (layer : LayerTree). fresh layer n (member_count view) view.ltime) stack)
+    its))
     (fresh_are_of (input_at view id) stack)
 
 pub opened_is : (stack : List LayerTree) (view : View) (id me : ℕ) → rank view id ≡ Some me →
-    opened stack view id ≡ inside view (map (λ (layer : LayerTree). fresh layer me (member_count view) view.ltime) stack)
+    opened stack view id ≡
+    inside view (map (λ (layer : LayerTree). fresh layer me (member_count view) view.ltime) stack)
 opened_is stack view id me at =
-    ap (λ (o : Option ℕ). option_map_or (λ me. inside view (map (λ (layer : LayerTree). fresh layer me (member_count view) view.ltime) stack)) o
+    ap (λ (o : Option ℕ).
+    option_map_or (λ me. inside view
+    (map (λ (layer : LayerTree). fresh layer me (member_count view) view.ltime) stack)) o
     out) at
 
 module _ (stack : List LayerTree) (most : ℕ) (view next : View) (id ranks me : ℕ) where
-  pub comes_into : (count : ℕ) (old new : Works) → next_view view ranks ≡ Some next → rank next id ≡ Some me → count ≡ member_count next →
+  pub comes_into : (count : ℕ) (old new : Works) → next_view view ranks ≡ Some next → rank next id ≡ Some me →
+      count ≡ member_count next →
       IsReady stack most old → HasMembers stack most view id (states_in old) →
       Anew me count next.ltime old.pool new.pool old.layers.items new.layers.items →
       new.tasks ≡ old.tasks → new.outs ≡ old.outs → ComesInto stack most view id ranks next old new
   comes_into count old new behind at same ready members anew tasks outs =
       let states : states_in new ≡ map (λ (layer : LayerTree). fresh layer me (member_count next) next.ltime) stack =
       anew.states new.pool
-      ∙ ap (λ (layers : List LayerTree). map (λ (layer : LayerTree). fresh layer me count next.ltime) layers) ready.stand.layers
+      ∙ ap (λ (layers : List LayerTree). map (λ (layer : LayerTree). fresh layer me count next.ltime) layers)
+      ready.stand.layers
       ∙ ap (λ (n : ℕ). map (λ (layer : LayerTree). fresh layer me n next.ltime) stack) same in
       let less = views_shrink view next ranks behind in let few = members.few in record {
-        member = ap (λ (o : Option View). option_map_or (λ n. opened stack n id) o out) behind ∙ opened_is stack next id me at ∙ ap (inside next)
+        member = ap (λ (o : Option View). option_map_or (λ n. opened stack n id) o out) behind ∙
+            opened_is stack next id me at ∙ ap (inside next)
             (sym states);
         members = record {
           few = omega arith;
@@ -81,7 +94,8 @@ module _ (stack : List LayerTree) (most : ℕ) (view next : View) (id ranks me :
             layers = anew.trees ∙ ready.stand.layers;
             ready = anew.order new.pool;
           };
-          exact = subst (λ (xs : List ℕ). Exact new.pool xs) (sym anew.refs) (exact-moved old.pool new.pool (refs_in old) [] ready.exact anew.moved);
+          exact = subst (λ (xs : List ℕ). Exact new.pool xs) (sym anew.refs)
+              (exact-moved old.pool new.pool (refs_in old) [] ready.exact anew.moved);
           quiet = record { tasks = tasks ∙ ready.quiet.tasks; outs = outs ∙ ready.quiet.outs };
           slots = anew.moved.slots ∙ ready.slots;
           few = ready.few;

@@ -13,7 +13,8 @@ use Rattle.bypass_member.specs.declared.probes.Attempt.TheVariants.{Made, Left}
 use Rattle.bypass_member.specs.declared.works.Works.{Works}
 
 -- The step isn't common: nothing has changed, and nothing came out.
-pub record IsNotMade (g : Ground) (old : Works) (what : Entered) (new : Works) (out : Gathered) (miss : Option Miss) : Type 0 where
+pub record IsNotMade (g : Ground) (old : Works) (what : Entered) (new : Works) (out : Gathered) (miss : Option Miss) :
+    Type 0 where
   pub same : AreSame old new
   pub ready : IsReady (stack_of g) g.most new
   pub at : IsIn (stack_of g) g.most g.here.now.view g.id (states_in new)

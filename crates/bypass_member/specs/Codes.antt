@@ -14,14 +14,23 @@ use Rattle.bypass_member.specs.Modes.{mode_code}
 use Rattle.bypass_member.specs.Placed.{Placed}
 
 abbrev plan_code : Coded Plan
-plan_code = code_by (Kind × (List ℕ × List (Option ℕ))) (coded× kind.the_row.coded (coded× (coded_list coded_ℕ) (coded_list (coded_option coded_ℕ))))
+plan_code = code_by (Kind × (List ℕ × List (Option ℕ)))
+    (coded× kind.the_row.coded (coded× (coded_list coded_ℕ) (coded_list (coded_option coded_ℕ))))
     (λ p. (p.kind, (p.tags, p.fields))) (λ q. record { kind = q.0; tags = q.1.0; fields = q.1.1 }) (λ _. refl)
 
 abbrev pub placed_code : Coded Placed
-placed_code = code_by (List LayerTree × (List Plan × (Mode × (ℕ × (ℕ × (ℕ × (ℕ × (Member × (List Held × (List ℕ × List ℕ))))))))))
-    (coded× stack_code (coded× (coded_list plan_code) (coded× mode_code (coded× coded_ℕ (coded× coded_ℕ (coded× coded_ℕ (coded× coded_ℕ
+placed_code = code_by
+    (List LayerTree × (List Plan × (Mode × (ℕ × (ℕ × (ℕ × (ℕ × (Member × (List Held × (List ℕ × List ℕ))))))))))
+    (coded× stack_code (coded×
+    (coded_list plan_code) (coded× mode_code (coded× coded_ℕ (coded× coded_ℕ (coded× coded_ℕ (coded× coded_ℕ
     (coded× member_code (coded× held_code (coded× (coded_list coded_ℕ) (coded_list coded_ℕ)))))))))))
-    (λ p. (p.stack, (p.plans, (p.mode, (p.group, (p.stamp, (p.id, (p.most, (p.member, (p.pool, (p.refs, p.taken)))))))))))
+    (λ p. (
+      p.stack,
+      (
+        p.plans,
+        (p.mode, (p.group, (p.stamp, (p.id, (p.most, (p.member, (p.pool, (p.refs, p.taken)))))))),
+      ),
+    ))
     (λ q. record {
       stack = q.0;
       plans = q.1.0;

@@ -52,10 +52,12 @@ pub record IsOpening (stack : List LayerTree) (view : View) (id : ℕ) (old new 
   pub members : HasMembers stack (member_count view) view id (states_in w)
   pub making : Made (length stack) old new
 
-abbrev pub OpensWorks : (stack : List LayerTree) (view : View) (id : ℕ) (old new : Making) → Result Works AllocError → Type 0
+abbrev pub OpensWorks : (stack : List LayerTree) (view : View) (id : ℕ) (old new : Making) → Result Works AllocError →
+    Type 0
 OpensWorks stack view id old new (Ok w) = IsOpening stack view id old new w
 OpensWorks stack view id old new (Err e) = MadeAtMost (length stack) old new
 
-abbrev pub OpensKit : (stack : List LayerTree) (view : View) (id : ℕ) (old new : Making) → Result Kit AllocError → Type 0
+abbrev pub OpensKit : (stack : List LayerTree) (view : View) (id : ℕ) (old new : Making) → Result Kit AllocError →
+    Type 0
 OpensKit stack view id old new (Ok kit) = IsOpening stack view id old new kit.works
 OpensKit stack view id old new (Err e) = MadeAtMost (length stack) old new

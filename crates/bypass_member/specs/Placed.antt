@@ -9,7 +9,8 @@ use Rattle.packet_mean.specs.declared.here.Here.{Here}
 use Rattle.run_mean.specs.Mode.{Mode}
 use Rattle.run_mean.specs.Common.{is_common, as_sent}
 use Rattle.run_mean.specs.Report.{counted}
-use Rattle.run_mean.specs.Member.{Member, inside, out, Input, Refusal, is_out, Entered, entered, first_task, Output, Step, step_from, member_behind}
+use Rattle.run_mean.specs.Member.{Member, inside, out, Input, Refusal, is_out, Entered, entered, first_task, Output}
+use Rattle.run_mean.specs.Member.{Step, step_from, member_behind}
 use Rattle.stack_queue.specs.Taken.{taken_behind}
 use Rattle.view_core.specs.Refusals.{refusal_meant}
 use Rattle.view_core.specs.Steps.{changed}
@@ -20,9 +21,9 @@ use Rattle.view_core.specs.declared.step.Stepped.TheVariants.{Taken, Refused}
 use Rattle.bypass_member.specs.Behind.{rank_of}
 use Rattle.bypass_member.specs.Modes.{IsTakenSo}
 
--- A member of a group: its stack with the plans of it, the mode in which it runs, its group and stamp, its id, how many members its first
--- view had, and where it is; then the pool of its bodies, the slots to which the states of its layers refer, and how many events each layer
--- took.
+-- A member of a group: its stack with the plans of it, the mode in which it runs, its group and stamp, its id, how many
+-- members its first view had, and where it is; then the pool of its bodies, the slots to which the states of its layers
+-- refer, and how many events each layer took.
 pub record Placed : Type 0 where
   pub stack : List LayerTree
   pub plans : List Plan
@@ -61,7 +62,8 @@ member_after (inside view states) s = member_behind view s
 -- How many events each layer has taken behind the run of what entered, of a member that is here.
 abbrev pub taken_at : Placed → Member → Entered → List ℕ
 taken_at p out what = p.taken
-taken_at p (inside view states) what = taken_behind p.stack states (first_task p.stack (here_in p view).rank what) p.taken
+taken_at p (inside view states) what = taken_behind p.stack states (first_task p.stack (here_in p view).rank what)
+    p.taken
 
 -- All but where a member is, and what lies in its pool, stays.
 pub record SamePlace (old new : Placed) : Type 0 where
@@ -81,10 +83,12 @@ pub record Refuses (old : Placed) (input : Input) (new : Placed) (outs : List (O
   pub none : outs ≡ []
   pub visits : after ≡ before
 
--- An input was taken: the member is behind the step, the outputs are those that the step sends in the member's mode, and so many visits
--- more were made as it counts for in it. It is told whether the step was a common one, and where the member is now, if it installed
--- something. In bypass mode a common step was no event to any layer; in any other each has taken what the run of the step comes to.
-pub record Takes (old : Placed) (input : Input) (new : Placed) (outs : List (Output × Option ℕ)) (before after : ℕ) (common : Bool)
+-- An input was taken: the member is behind the step, the outputs are those that the step sends in the member's mode,
+-- and so many visits more were made as it counts for in it. It is told whether the step was a common one, and where the
+-- member is now, if it installed something. In bypass mode a common step was no event to any layer; in any other each
+-- has taken what the run of the step comes to.
+pub record Takes (old : Placed) (input : Input) (new : Placed) (outs : List (Output × Option ℕ)) (before after : ℕ)
+    (common : Bool)
     (change : Option Change) : Type 0 where
   pub step : Step
   pub is : step_of old input ≡ Ok step
@@ -93,11 +97,12 @@ pub record Takes (old : Placed) (input : Input) (new : Placed) (outs : List (Out
   pub common_is : common ≡ is_common old.stack old.plans step
   pub change_is : change ≡ changed step.installs
   pub visits : after ≡ before + counted old.mode old.stack old.plans step
-  pub taken_is : IsTakenSo old.mode (is_common old.stack old.plans step) old.taken (taken_at old old.member step.entered) new.taken
+  pub taken_is : IsTakenSo old.mode (is_common old.stack old.plans step) old.taken
+      (taken_at old old.member step.entered) new.taken
   pub place : SamePlace old new
 
--- What a step of a member comes to: its outputs, each with the plan under which it is sent short, if it is, and how many visits there
--- were before it and after it.
+-- What a step of a member comes to: its outputs, each with the plan under which it is sent short, if it is, and how
+-- many visits there were before it and after it.
 abbrev pub Steps : Placed → Input → Placed → List (Output × Option ℕ) → (before after : ℕ) → Stepped → Type 0
 Steps old input new outs before after (Taken common change) = Takes old input new outs before after common change
 Steps old input new outs before after (Refused reason) = Refuses old input new outs before after reason

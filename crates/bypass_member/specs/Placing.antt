@@ -43,8 +43,9 @@ abbrev pub IsRankIn : Option View → ℕ → ℕ → Type 0
 IsRankIn None id r = Unit {0}
 IsRankIn (Some view) id r = (r ≡ rank_of view id) × (r < most_members)
 
--- Its stack is typed, the plans, the entries, the numbers of their first plans and the code are the stack's, its rank is that in its view,
--- its bare headers are none, and it is between two steps, in a view with chained states that are its own, or in none.
+-- Its stack is typed, the plans, the entries, the numbers of their first plans and the code are the stack's, its rank
+-- is that in its view, its bare headers are none, and it is between two steps, in a view with chained states that are
+-- its own, or in none.
 pub record IsMember (m : Inside) : Type 0 where
   pub typed : TypedStack (stack_tree (rc_value m.stack))
   pub plans_are : plans_tree (rc_value m.plans) ≡ plans_of (stack_tree (rc_value m.stack))

@@ -14,9 +14,10 @@ use Rattle.view_core.specs.declared.step.Change.{Change}
 use Rattle.bypass_member.specs.Placed.{Placed, step_of, StandsIn, Takes}
 
 -- It is a common step, and was made: the member is behind it, and what came out is told. No visit is counted.
-pub record IsTakenAsCommon (old : Placed) (input : Input) (new : Placed) (outs : List (Output × Option ℕ)) : Type 0 where
-  pub change : Option Change
-  pub takes : Takes old input new outs 0 0 true change
+pub record IsTakenAsCommon (old : Placed) (input : Input) (new : Placed) (outs : List (Output × Option ℕ)) : Type 0
+  where
+    pub change : Option Change
+    pub takes : Takes old input new outs 0 0 true change
 
 -- A step isn't common, and lacks this, or nothing that is told.
 pub record Lacks (stack : List LayerTree) (plans : List Plan) (s : Step) (miss : Option Miss) : Type 0 where
@@ -29,7 +30,8 @@ InputLacks stack plans (Ok s) miss = Lacks stack plans s miss
 InputLacks stack plans (Err reason) miss = miss ≡ None
 
 -- It isn't one: nothing changed, and nothing came out.
-pub record IsNotTaken (old : Placed) (input : Input) (new : Placed) (outs : List (Output × Option ℕ)) (miss : Option Miss) : Type 0 where
+pub record IsNotTaken (old : Placed) (input : Input) (new : Placed) (outs : List (Output × Option ℕ))
+    (miss : Option Miss) : Type 0 where
   pub same : new ≡ old
   pub none : outs ≡ []
   pub lacks : InputLacks old.stack old.plans (step_of old input) miss

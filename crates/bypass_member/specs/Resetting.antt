@@ -9,12 +9,14 @@ use Rattle.file_layer.specs.declared.layer.FileLayer.{FileLayer}
 -- Each of these layers is the one before, begun again.
 abbrev pub AreAgain : (me count ltime : ℕ) → List FileLayer → List FileLayer → Type 0
 AreAgain me count ltime [] [] = Unit {0}
-AreAgain me count ltime (old ∷ olds) (new ∷ news) = BeginsAgain me count ltime old new × AreAgain me count ltime olds news
+AreAgain me count ltime (old ∷ olds) (new ∷ news) = BeginsAgain me count ltime old new × AreAgain
+    me count ltime olds news
 AreAgain me count ltime _ _ = ⊥
 
--- The first `k` layers have begun again; the others are as they were in the first pool, and what they refer to is all that is left of what was
--- referred to.
-pub record IsResetting (me count ltime k : ℕ) (start : List Held) (olds : List FileLayer) (p : List Held) (news : List FileLayer) : Type 0 where
+-- The first `k` layers have begun again; the others are as they were in the first pool, and what they refer to is all
+-- that is left of what was referred to.
+pub record IsResetting (me count ltime k : ℕ) (start : List Held) (olds : List FileLayer) (p : List Held)
+    (news : List FileLayer) : Type 0 where
   pub again : AreAgain me count ltime (take k olds) (take k news)
   pub behind : drop k news ≡ drop k olds
   pub size : length news ≡ length olds

@@ -45,8 +45,8 @@ codes_in g = option_map (λ codes. codes.now) g.codes
 abbrev pub mode_of : Ground → Mode
 mode_of g = mode_with (codes_in g)
 
--- The stack is typed, the plans, the entries, the numbers of their first plans and the code are the stack's, the bare headers are none, and it
--- stands in a view, at its rank.
+-- The stack is typed, the plans, the entries, the numbers of their first plans and the code are the stack's, the bare
+-- headers are none, and it stands in a view, at its rank.
 pub record IsGround (g : Ground) : Type 0 where
   pub typed : TypedStack (stack_of g)
   pub plans : plans_in g ≡ plans_of (stack_of g)
@@ -69,8 +69,10 @@ taken_over g states what taken = taken_behind (stack_of g) states (first_task (s
 abbrev pub in_full : Output → Output × Option ℕ
 in_full o = (o, None)
 
--- The run of a step was made, and what came out of it is gathered: the member is between two steps, with the states that its layers came to.
-pub record HasPlayed (g : Ground) (states : List State) (counts : List ℕ) (what : Entered) (new : Works) (out : Gathered) (before after : ℕ)
+-- The run of a step was made, and what came out of it is gathered: the member is between two steps, with the states
+-- that its layers came to.
+pub record HasPlayed (g : Ground) (states : List State) (counts : List ℕ) (what : Entered) (new : Works)
+    (out : Gathered) (before after : ℕ)
     (result : Predicted) : Type 0 where
   pub ready : IsReady (stack_of g) g.most new
   pub states_are : states_in new ≡ (step_over g states what).work.states
@@ -82,7 +84,8 @@ pub record HasPlayed (g : Ground) (states : List State) (counts : List ℕ) (wha
   pub taken : taken_in new ≡ taken_over g states what counts
 
 -- The step was made, by code or by its run, and the member is between two steps, in the same view as before.
-pub record HasGone (g : Ground) (old : Works) (what : Entered) (new : Works) (out : Gathered) (before after : ℕ) (result : Bool) : Type 0 where
+pub record HasGone (g : Ground) (old : Works) (what : Entered) (new : Works) (out : Gathered) (before after : ℕ)
+    (result : Bool) : Type 0 where
   pub ready : IsReady (stack_of g) g.most new
   pub states_are : states_in new ≡ (step_over g (states_in old) what).work.states
   pub members : HasMembers (stack_of g) g.most g.here.now.view g.id (states_in new)
@@ -90,18 +93,22 @@ pub record HasGone (g : Ground) (old : Works) (what : Entered) (new : Works) (ou
   pub here : out.here ≡ g.here.now
   pub common : result ≡ is_common (stack_of g) (plans_in g) (step_over g (states_in old) what)
   pub visits : after ≡ before + counted (mode_of g) (stack_of g) (plans_in g) (step_over g (states_in old) what)
-  pub taken : IsTakenSo (mode_of g) (is_common (stack_of g) (plans_in g) (step_over g (states_in old) what)) (taken_in old)
+  pub taken : IsTakenSo (mode_of g) (is_common (stack_of g) (plans_in g) (step_over g (states_in old) what))
+      (taken_in old)
       (taken_over g (states_in old) what (taken_in old)) (taken_in new)
 
 -- The step was taken.
-pub record HasTaken (g : Ground) (old : Works) (what : Entered) (new : Works) (out : Gathered) (before after : ℕ) (result : Took) : Type 0 where
+pub record HasTaken (g : Ground) (old : Works) (what : Entered) (new : Works) (out : Gathered) (before after : ℕ)
+    (result : Took) : Type 0 where
   pub ready : IsReady (stack_of g) g.most new
   pub at : IsAt (stack_of g) g.most g.id (view_behind g.here.now.view result.change) (states_in new)
-  pub member : member_in (view_behind g.here.now.view result.change) (states_in new) ≡ member_behind g.here.now.view (step_over g (states_in old) what)
+  pub member : member_in (view_behind g.here.now.view result.change) (states_in new) ≡
+      member_behind g.here.now.view (step_over g (states_in old) what)
   pub outputs : out.outputs ≡ as_sent (mode_of g) (stack_of g) (plans_in g) (step_over g (states_in old) what)
   pub here : out.here ≡ g.here.now
   pub common : result.common ≡ is_common (stack_of g) (plans_in g) (step_over g (states_in old) what)
   pub change : result.change ≡ changed (step_over g (states_in old) what).installs
   pub visits : after ≡ before + counted (mode_of g) (stack_of g) (plans_in g) (step_over g (states_in old) what)
-  pub taken : IsTakenSo (mode_of g) (is_common (stack_of g) (plans_in g) (step_over g (states_in old) what)) (taken_in old)
+  pub taken : IsTakenSo (mode_of g) (is_common (stack_of g) (plans_in g) (step_over g (states_in old) what))
+      (taken_in old)
       (taken_over g (states_in old) what (taken_in old)) (taken_in new)

@@ -52,9 +52,11 @@ pub record IsBegun (g : Ground) (out : Gathered) : Type 0 where
 -- The code in a case does what the step does.
 abbrev pub Handles : Ground → List State → Entered → CodesTree → Case → Type 0
 Handles g states what codes case =
-    IsHandled case (stack_of g) (plans_in g) g.here.now g.id states what (code_at codes (entry_for (plans_in g) what) case)
+    IsHandled case (stack_of g) (plans_in g) g.here.now g.id states what
+    (code_at codes (entry_for (plans_in g) what) case)
 
--- The step was made by its code: the member is between two steps, its states and what came out are those of the step, and no layer took an event.
+-- The step was made by its code: the member is between two steps, its states and what came out are those of the step,
+-- and no layer took an event.
 pub record IsMade (g : Ground) (old : Works) (what : Entered) (new : Works) (out : Gathered) : Type 0 where
   pub ready : IsReady (stack_of g) g.most new
   pub states_are : states_in new ≡ (step_over g (states_in old) what).work.states
@@ -63,11 +65,13 @@ pub record IsMade (g : Ground) (old : Works) (what : Entered) (new : Works) (out
   pub taken : taken_in new ≡ taken_in old
 
 -- Of a case: its code passed, and the step is common in the case and was made; or it isn't, and nothing has changed.
-pub record HasPassed (case : Case) (g : Ground) (old : Works) (what : Entered) (new : Works) (out : Gathered) : Type 0 where
-  pub common : is_common_in (stack_of g) (plans_in g) (step_over g (states_in old) what) case ≡ true
-  pub made : IsMade g old what new out
+pub record HasPassed (case : Case) (g : Ground) (old : Works) (what : Entered) (new : Works) (out : Gathered) : Type 0
+  where
+    pub common : is_common_in (stack_of g) (plans_in g) (step_over g (states_in old) what) case ≡ true
+    pub made : IsMade g old what new out
 
-pub record HasMissed (case : Case) (g : Ground) (old : Works) (what : Entered) (first : Gathered) (new : Works) (out : Gathered) : Type 0 where
+pub record HasMissed (case : Case) (g : Ground) (old : Works) (what : Entered) (first : Gathered) (new : Works)
+    (out : Gathered) : Type 0 where
   pub uncommon : is_common_in (stack_of g) (plans_in g) (step_over g (states_in old) what) case ≡ false
   pub same : AreSame old new
   pub outs : out ≡ first
@@ -76,12 +80,13 @@ abbrev pub Tries : Case → Ground → Works → Entered → Gathered → Works 
 Tries case g old what first new out true = HasPassed case g old what new out
 Tries case g old what first new out false = HasMissed case g old what first new out
 
--- Of both cases: the step was made in the first in which it is common; or it is common in none, as far as there is code, and nothing has
--- changed.
-pub record IsMadeIn (case : Case) (g : Ground) (old : Works) (what : Entered) (new : Works) (out : Gathered) : Type 0 where
-  pub mode : mode_of g ≡ bypass
-  pub case_is : case_of (stack_of g) (plans_in g) (step_over g (states_in old) what) ≡ Some case
-  pub made : IsMade g old what new out
+-- Of both cases: the step was made in the first in which it is common; or it is common in none, as far as there is
+-- code, and nothing has changed.
+pub record IsMadeIn (case : Case) (g : Ground) (old : Works) (what : Entered) (new : Works) (out : Gathered) : Type 0
+  where
+    pub mode : mode_of g ≡ bypass
+    pub case_is : case_of (stack_of g) (plans_in g) (step_over g (states_in old) what) ≡ Some case
+    pub made : IsMade g old what new out
 
 abbrev pub IsUncommon : Mode → Ground → List State → Entered → Type 0
 IsUncommon bypass g states what = case_of (stack_of g) (plans_in g) (step_over g states what) ≡ None

@@ -22,7 +22,15 @@ use Rattle.bypass_member.specs.declared.works.Works.{Works}
 
 -- What each input tells the member of this id in a view.
 abbrev pub input_at : View → ℕ → Input
-input_at view id = record { me = rank_of view id; count = member_count view; ltime = view.ltime; peer = 0; fields = []; body = [] }
+input_at view id = record {
+  me = rank_of view id;
+  count = member_count view;
+  ltime = view.ltime;
+  peer = 0;
+  fields =
+      [];
+  body = [];
+}
 
 -- The view of a member of a first view of so many members has no more, and the states are that member's in it.
 pub record HasMembers (stack : List LayerTree) (most : ℕ) (view : View) (id : ℕ) (states : List State) : Type 0 where
@@ -38,8 +46,8 @@ abbrev pub IsAt : List LayerTree → (most id : ℕ) → Option View → List St
 IsAt stack most id (Some view) states = IsIn stack most view id states
 IsAt stack most id None states = Unit {0}
 
--- Layers have begun again in a view: they are where they were, in order, refer to nothing, took as many events as before, and their states
--- are fresh.
+-- Layers have begun again in a view: they are where they were, in order, refer to nothing, took as many events as
+-- before, and their states are fresh.
 pub record Anew (me count ltime : ℕ) (p q : List Held) (old new : List FileLayer) : Type 0 where
   pub places : map place_of new ≡ map place_of old
   pub trees : map tree_of new ≡ map tree_of old
@@ -49,9 +57,10 @@ pub record Anew (me count ltime : ℕ) (p q : List Held) (old new : List FileLay
   pub taken : map taken_by new ≡ map taken_by old
   pub moved : Moved p q (flat_map refs_of old) []
 
--- A member comes into the view behind its own in which these ranks are, with fresh layers; or it is in none any more. Either way its layers
--- took as many events as before.
-pub record ComesInto (stack : List LayerTree) (most : ℕ) (view : View) (id ranks : ℕ) (next : View) (old w : Works) : Type 0 where
+-- A member comes into the view behind its own in which these ranks are, with fresh layers; or it is in none any more.
+-- Either way its layers took as many events as before.
+pub record ComesInto (stack : List LayerTree) (most : ℕ) (view : View) (id ranks : ℕ) (next : View) (old w : Works) :
+    Type 0 where
   pub member : installed stack view id ranks ≡ inside next (states_in w)
   pub members : HasMembers stack most next id (states_in w)
   pub ready : IsReady stack most w
@@ -67,7 +76,8 @@ Installs stack most view id ranks old w (Into next) = ComesInto stack most view 
 Installs stack most view id ranks old w Out = Leaves stack most view id ranks old w
 
 -- The first view that was announced is installed, if one was; else nothing changes.
-abbrev pub Changes : (stack : List LayerTree) (most : ℕ) (view : View) (id : ℕ) → Option ℕ → Works → Works → Option Change → Type 0
+abbrev pub Changes : (stack : List LayerTree) (most : ℕ) (view : View) (id : ℕ) → Option ℕ → Works → Works →
+    Option Change → Type 0
 Changes stack most view id (Some ranks) old new (Some change) = Installs stack most view id ranks old new change
 Changes stack most view id None old new None = new ≡ old
 Changes stack most view id _ old new _ = ⊥

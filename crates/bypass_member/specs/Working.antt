@@ -54,8 +54,8 @@ pub record IsQuiet (stack : List LayerTree) (w : Works) : Type 0 where
   pub tasks : w.tasks ≡ buffer [] (largest_weight stack)
   pub outs : w.outs ≡ buffer [] (largest_weight stack)
 
--- A member of a first view of so many members, between two steps: what its layers refer to is all that its pool counts, which has a slot
--- for each row with a message that they may keep, and those that a run asks for.
+-- A member of a first view of so many members, between two steps: what its layers refer to is all that its pool counts,
+-- which has a slot for each row with a message that they may keep, and those that a run asks for.
 pub record IsReady (stack : List LayerTree) (most : ℕ) (w : Works) : Type 0 where
   pub stand : AreStanding stack w
   pub exact : Exact w.pool (refs_in w)
@@ -80,10 +80,11 @@ pub record CanRun (stack : List LayerTree) (w : Works) (first : PoolTask) : Type
 abbrev pub work_of : List LayerTree → Works → PoolTask → Work
 work_of stack w first = (run most_turns stack (states_in w) (task_seen w.pool first)).world
 
--- The run was made: the states of the layers and what came out, in order, are those of its work, and so are the visits and whether they
--- went as predicted. Each layer has taken an event at each of its visits. What the layers and what came out refer to is all that the pool
--- counts. No task is left.
-pub record HasRun (stack : List LayerTree) (old : Works) (first : PoolTask) (before : ℕ) (new : Works) (after : ℕ) (result : Predicted) : Type 0 where
+-- The run was made: the states of the layers and what came out, in order, are those of its work, and so are the visits
+-- and whether they went as predicted. Each layer has taken an event at each of its visits. What the layers and what
+-- came out refer to is all that the pool counts. No task is left.
+pub record HasRun (stack : List LayerTree) (old : Works) (first : PoolTask) (before : ℕ) (new : Works) (after : ℕ)
+    (result : Predicted) : Type 0 where
   pub states : states_in new ≡ (work_of stack old first).states
   pub outs : sent_seen new.pool new.outs.items ≡ (work_of stack old first).outs
   pub predicted : result ≡ as_predicted (work_of stack old first).decided

@@ -44,13 +44,14 @@ pub(crate) struct Tried<'c, 'g> {
     pub(crate) given: Given<'g>,
 }
 
-/// The entry by which it is told whether a step is common. The fields of a packet that its plan leaves variable are kept;
-/// others than packets have none.
+/// The entry by which it is told whether a step is common. The fields of a packet that its plan leaves variable are
+/// kept; others than packets have none.
 #[inline(always)]
 pub(crate) fn keep_entry(plans: &Plans, entry: &Entry<'_>, fields: &mut Vec<u32>) -> EntryOf
     requires room { AllByRecursion (HasAtMost (vec_capacity fields.old)) (plans_tree plans.now) }
     ensures what { (here : stands.Here) → result ≡ entry_for (plans_tree plans.now) (entry_meant here entry.now) }
-    ensures fields { (here : stands.Here) → fields.new.items ≡ fields_given (plans_tree plans.now) (entry_meant here entry.now) }
+    ensures fields { (here : stands.Here) →
+        fields.new.items ≡ fields_given (plans_tree plans.now) (entry_meant here entry.now) }
     ensures capacity { vec_capacity fields.new ≡ vec_capacity fields.old }
 {
     fields.clear();
@@ -143,12 +144,15 @@ fn try_case(
     out: &mut Outputs,
 ) -> bool
     requires ready { IsReady (stack_of ground.now) ground.now.most works.old }
-    requires is_in { IsIn (stack_of ground.now) ground.now.most ground.now.here.now.view ground.now.id (states_in works.old) }
+    requires is_in { IsIn (stack_of ground.now) ground.now.most ground.now.here.now.view ground.now.id
+        (states_in works.old) }
     requires tried { IsTried ground.now (entry_meant ground.now.here.now _entry.now) tried.now }
-    requires handles { Handles ground.now (states_in works.old) (entry_meant ground.now.here.now _entry.now) tried.now.codes.now case }
+    requires handles { Handles ground.now (states_in works.old) (entry_meant ground.now.here.now _entry.now)
+        tried.now.codes.now case }
     requires serves { ServesAll tried.now.codes.now values.old }
     requires begun { IsBegun ground.now out.old }
-    ensures tries { Tries case ground.now works.old (entry_meant ground.now.here.now _entry.now) out.old works.new out.new result }
+    ensures tries { Tries case ground.now works.old (entry_meant ground.now.here.now _entry.now) out.old works.new
+        out.new result }
     ensures serves { ServesAll tried.now.codes.now values.new }
     ensures places { out.new.places ≡ out.old.places }
 {
@@ -171,10 +175,13 @@ fn try_cases(
     out: &mut Outputs,
 ) -> Option<Case>
     requires ready { IsReady (stack_of ground.now) ground.now.most works.old }
-    requires is_in { IsIn (stack_of ground.now) ground.now.most ground.now.here.now.view ground.now.id (states_in works.old) }
+    requires is_in { IsIn (stack_of ground.now) ground.now.most ground.now.here.now.view ground.now.id
+        (states_in works.old) }
     requires tried { IsTried ground.now (entry_meant ground.now.here.now entry.now) tried.now }
-    requires first { Handles ground.now (states_in works.old) (entry_meant ground.now.here.now entry.now) tried.now.codes.now cases.First }
-    requires second { Handles ground.now (states_in works.old) (entry_meant ground.now.here.now entry.now) tried.now.codes.now cases.Second }
+    requires first { Handles ground.now (states_in works.old) (entry_meant ground.now.here.now entry.now)
+        tried.now.codes.now cases.First }
+    requires second { Handles ground.now (states_in works.old) (entry_meant ground.now.here.now entry.now)
+        tried.now.codes.now cases.Second }
     requires serves { ServesAll tried.now.codes.now values.old }
     requires begun { IsBegun ground.now out.old }
     ensures made { MakesCommon ground.now works.old (entry_meant ground.now.here.now entry.now) works.new out.new result }
@@ -203,7 +210,8 @@ pub(crate) fn make_common<'x>(
     requires ground { IsGround ground.now }
     requires ready { IsReady (stack_of ground.now) ground.now.most works.old }
     requires spare { IsSpare (codes_in ground.now) (plans_in ground.now) scratch.old }
-    requires is_in { IsIn (stack_of ground.now) ground.now.most ground.now.here.now.view ground.now.id (states_in works.old) }
+    requires is_in { IsIn (stack_of ground.now) ground.now.most ground.now.here.now.view ground.now.id
+        (states_in works.old) }
     requires entered { IsEntered (stack_of ground.now) (entry_meant ground.now.here.now entry.now) }
     requires lies { LiesWithin entry.now }
     requires what { (here : stands.Here) → what ≡ entry_for (plans_in ground.now) (entry_meant here entry.now) }

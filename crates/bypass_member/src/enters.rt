@@ -30,7 +30,8 @@ fn carry(task: BareTask, headers: &Headers, body: &[u8], tasks: &mut Tasks, pool
     requires fits { length body.now ≤ longest_body }
     requires room { IsFull pool.old → ⊥ }
     requires places { length tasks.old.items < tasks.old.capacity }
-    ensures { PutLast pool.old tasks.old (carrying_task task (record { headers = headers.now; body = body.now })) pool.new tasks.new }
+    ensures { PutLast pool.old tasks.old (carrying_task task (record { headers = headers.now; body = body.now }))
+        pool.new tasks.new }
 {
     if !tasks.push_put(task, headers, body, pool) {
         unreachable!();
@@ -64,7 +65,8 @@ pub(crate) fn enter(
     requires bare { bare.now ≡ [] }
     requires none { tasks.old.items ≡ [] }
     requires places { 0 < tasks.old.capacity }
-    ensures brings { Brings (stack_tree stack.now) here.now.rank pool.old pool.new (entry_meant here.now entry.entry) (first_task tasks.new.items) }
+    ensures brings { Brings (stack_tree stack.now) here.now.rank pool.old pool.new (entry_meant here.now entry.entry)
+        (first_task tasks.new.items) }
     ensures only { tasks.new ≡ buffer (first_task tasks.new.items ∷ []) tasks.old.capacity }
 {
     match entry {
@@ -83,7 +85,12 @@ pub(crate) fn enter(
 
 /// The application's leave, at the top.
 fn leaving(stack: &Stack) -> BareTask
-    ensures { result ≡ record { at = length (stack_tree stack.now); direction = dir.Down; envelope = record { kind = kind.Leave; peer = 0; a = 0; b = 0 } } }
+    ensures { result ≡ record {
+      at = length (stack_tree stack.now);
+      direction = dir.Down;
+      envelope =
+          record { kind = kind.Leave; peer = 0; a = 0; b = 0 };
+    } }
 {
     BareTask {
         at: u16::from(stack.places()),
@@ -94,7 +101,8 @@ fn leaving(stack: &Stack) -> BareTask
 
 /// A tick of the clock at this moment, at the lowest place.
 fn ticking(moment: u32) -> BareTask
-    ensures { result ≡ record { at = 1; direction = dir.Up; envelope = record { kind = kind.Timer; peer = 0; a = moment; b = 0 } } }
+    ensures { result ≡ record
+        { at = 1; direction = dir.Up; envelope = record { kind = kind.Timer; peer = 0; a = moment; b = 0 } } }
 {
     BareTask {
         at: 1,
@@ -122,7 +130,8 @@ fn enter_above(
     requires bare { bare.now ≡ [] }
     requires room { IsFull pool.old → ⊥ }
     requires places { length tasks.old.items < tasks.old.capacity }
-    ensures { PutLast pool.old tasks.old (carrying_task (record { at = length (stack_tree stack.now); direction = dir.Down; envelope = envelope })
+    ensures { PutLast pool.old tasks.old
+        (carrying_task (record { at = length (stack_tree stack.now); direction = dir.Down; envelope = envelope })
         (record { headers = []; body = body.now })) pool.new tasks.new }
 {
     let task = BareTask {
@@ -140,7 +149,12 @@ fn enter_packet(scan: &Scan, bytes: &[u8], tasks: &mut Tasks, pool: &mut Pool)
     requires room { IsFull pool.old → ⊥ }
     requires places { length tasks.old.items < tasks.old.capacity }
     ensures { PutLast pool.old tasks.old (carrying_task
-        (record { at = 1; direction = dir.Up; envelope = record { kind = mean.kind_of scan.now.dest; peer = scan.now.sender; a = 0; b = 0 } })
+        (record {
+          at = 1;
+          direction = dir.Up;
+          envelope =
+              record { kind = mean.kind_of scan.now.dest; peer = scan.now.sender; a = 0; b = 0 };
+        })
         (record { headers = scan.now.headers; body = drop scan.now.body bytes.now })) pool.new tasks.new }
 {
     let task = BareTask {

@@ -49,7 +49,8 @@ fn read(
     bytes: &[u8],
     scan: &mut Scan,
 ) -> Result<(), Stray>
-    ensures read { Scans here.now bytes.now (received (stack_tree stack.now) (plans_tree plans.now) here.now bytes.now) result scan.new }
+    ensures read { Scans here.now bytes.now (received (stack_tree stack.now) (plans_tree plans.now) here.now bytes.now)
+        result scan.new }
     ensures within { IfOk result (λ _. scan.new.body ≤ length bytes.now) }
     ensures bytes { AreBytes bytes.now }
 {
@@ -65,7 +66,8 @@ pub(crate) fn judge<'b>(
     input: Input<'b>,
     scan: &'b mut Scan,
 ) -> Result<Entry<'b>, Refusal>
-    ensures judged { Judges here.now (entered (stack_tree stack.now) (plans_tree plans.now) here.now (input_meant input.entry)) result }
+    ensures judged { Judges here.now
+        (entered (stack_tree stack.now) (plans_tree plans.now) here.now (input_meant input.entry)) result }
     ensures lies { IfOk result LiesWithin }
     ensures input { IsInput (input_meant input.entry) }
 {

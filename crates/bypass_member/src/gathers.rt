@@ -21,7 +21,8 @@ pub(crate) fn gather(outs: &mut Events, pool: &mut Pool, out: &mut Outputs)
     requires room { length out.old.outputs + length outs.old.items ≤ out.old.places }
     ensures empty { outs.new ≡ buffer [] outs.old.capacity }
     ensures returned { Returned pool.old pool.new (sent_refs outs.old.items) }
-    ensures gathered { out.new ≡ record out.old { outputs = out.old.outputs ++ outputs_in out.old.here pool.old outs.old.items } }
+    ensures gathered { out.new ≡
+        record out.old { outputs = out.old.outputs ++ outputs_in out.old.here pool.old outs.old.items } }
 {
     while let Some((direction, event)) = outs.first() {
         out.put(direction, event, pool);

@@ -16,8 +16,8 @@ use stack_shapes::{EntryShapes, PlanStarts, Plans};
 use std::rc::Rc;
 use view_core::{Change, rank};
 
-/// What a member in a view works over: its stack with what is known of it, the code by which it runs, if it does, headers that are none, where
-/// it stands, its id, and how many members its first view had.
+/// What a member in a view works over: its stack with what is known of it, the code by which it runs, if it does,
+/// headers that are none, where it stands, its id, and how many members its first view had.
 #[derive(Drop)]
 pub(crate) struct Ground<'a> {
     pub(crate) stack: &'a Stack,

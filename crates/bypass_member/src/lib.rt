@@ -1,5 +1,5 @@
-//! A member of a group, run layer by layer or by the code of its bypasses: it takes its inputs, one step each, with its messages in a pool of its
-//! own. It takes memory only as it is opened.
+//! A member of a group, run layer by layer or by the code of its bypasses: it takes its inputs, one step each, with its
+//! messages in a pool of its own. It takes memory only as it is opened.
 #![tactic(auto)]
 
 mod commons;

@@ -28,8 +28,8 @@ use view_core::{Input, Refusal, Stepped};
 /// The most rows with messages that a member's layers may keep.
 const MOST_ROWS: u32 = 8192;
 
-/// A member of a group, run layer by layer, or by the code of its bypasses. It takes memory as it begins, and no more. It can't be let go: it is
-/// closed.
+/// A member of a group, run layer by layer, or by the code of its bypasses. It takes memory as it begins, and no more.
+/// It can't be let go: it is closed.
 pub struct Member {
     stack: Rc<Stack>,
     plans: Rc<Plans>,
@@ -86,9 +86,9 @@ impl Member {
     ghost use Rattle.bypass_member.specs.Placed.{Steps, StandsAt};
     ghost use Rattle.bypass_member.specs.Probing.{ProbesMember, StandsWhere};
 
-    /// The member of a group that has this id, in its first view, its layers made by the maker of the group's stack. It runs by the code of the
-    /// stack's bypasses, if the opening has it. All memory is taken here.
-    /// Err where its layers may keep more than 8,192 rows with messages, or where memory runs out.
+    /// The member of a group that has this id, in its first view, its layers made by the maker of the group's stack. It
+    /// runs by the code of the stack's bypasses, if the opening has it. All memory is taken here. Err where its layers
+    /// may keep more than 8,192 rows with messages, or where memory runs out.
     pub fn begin(
         alloc: Global,
         maker: &mut Maker,
@@ -130,7 +130,8 @@ impl Member {
         })
     }
 
-    /// Takes an input, one step, or refuses it, and then nothing has changed. Tells what came out by `out`, and adds the visits of the step.
+    /// Takes an input, one step, or refuses it, and then nothing has changed. Tells what came out by `out`, and adds
+    /// the visits of the step.
     pub fn step(&mut self, input: Input<'_>, out: &mut Outputs, visits: &mut u64) -> Stepped
         requires out { out.old.places ≡ largest_weight self.old.stack }
         requires visits { visits.old ≤ 2 ^ 63 }
@@ -176,8 +177,9 @@ impl Member {
         Stepped::Taken { common, change }
     }
 
-    /// Tries an input as a common step. If it is one, the step is made by its code, as `step` would make it, and what came out is told by `out`. Else
-    /// nothing changes, and of a cast, a send or a packet that would be taken it is told what each case of its entry lacks.
+    /// Tries an input as a common step. If it is one, the step is made by its code, as `step` would make it, and what
+    /// came out is told by `out`. Else nothing changes, and of a cast, a send or a packet that would be taken it is
+    /// told what each case of its entry lacks.
     pub fn probe(&mut self, checks: &mut StackChecks, input: Input<'_>, out: &mut Outputs) -> Probed
         requires mode { self.old.mode ≡ bypass }
         requires sound { IsSound self.old.stack }

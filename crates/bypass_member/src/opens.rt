@@ -28,8 +28,8 @@ use stack_queue::{Tasks, events_for};
 use std::alloc::Global;
 use view_core::rank;
 
-/// How many slots a member's pool has beyond one for each row with a message: one for the body of the event that begins a run, and one for
-/// each join of the run.
+/// How many slots a member's pool has beyond one for each row with a message: one for the body of the event that begins
+/// a run, and one for each join of the run.
 const SLOTS_BEYOND: u32 = 1025;
 
 /// The lists of a run, which are empty between two runs.

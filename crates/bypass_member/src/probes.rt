@@ -35,8 +35,8 @@ use step_misses::{Miss, Probed};
 use step_outputs::Outputs;
 use view_core::Change;
 
-/// What it comes to that what entered is tried as a common step: it was made, and where the member is behind it, if it installed something; or
-/// nothing has changed, and what the step lacks, if that is told of it.
+/// What it comes to that what entered is tried as a common step: it was made, and where the member is behind it, if it
+/// installed something; or nothing has changed, and what the step lacks, if that is told of it.
 #[derive(Clone, Copy)]
 pub(crate) enum Attempt {
     Made(Option<Change>),
@@ -45,7 +45,8 @@ pub(crate) enum Attempt {
 
 /// Whether it is told of what entered what its step lacks: a leave and a tick are never common.
 fn is_told(entry: &Entry<'_>) -> bool
-    ensures { (here : stands.Here) (plans : List mean.Plan) → result ≡ is_some (entry_named plans (entry_meant here entry.now)) }
+    ensures { (here : stands.Here) (plans : List mean.Plan) →
+        result ≡ is_some (entry_named plans (entry_meant here entry.now)) }
 {
     match entry {
         Entry::Cast(_) => true,
@@ -70,12 +71,14 @@ fn lacked<'x>(
     requires sound { IsSound (stack_of ground.now) }
     requires checks { AreChecksOf (stack_of ground.now) checks.old }
     requires ready { IsReady (stack_of ground.now) ground.now.most works.now }
-    requires is_in { IsIn (stack_of ground.now) ground.now.most ground.now.here.now.view ground.now.id (states_in works.now) }
+    requires is_in { IsIn (stack_of ground.now) ground.now.most ground.now.here.now.view ground.now.id
+        (states_in works.now) }
     requires entered { IsEntered (stack_of ground.now) (entry_meant ground.now.here.now entry.now) }
     requires lies { LiesWithin entry.now }
     requires what { (here : stands.Here) → what ≡ entry_for (plans_in ground.now) (entry_meant here entry.now) }
     requires fields { fields.now ≡ fields_given (plans_in ground.now) (entry_meant ground.now.here.now entry.now) }
-    requires uncommon { IsUncommon (mode_of ground.now) ground.now (states_in works.now) (entry_meant ground.now.here.now entry.now) }
+    requires uncommon { IsUncommon (mode_of ground.now) ground.now (states_in works.now)
+        (entry_meant ground.now.here.now entry.now) }
     ensures lacks { Lacks (stack_of ground.now) (plans_in ground.now)
         (step_over ground.now (states_in works.now) (entry_meant ground.now.here.now entry.now)) result }
     ensures checks { checks.new ≡ checks.old }
@@ -103,11 +106,13 @@ pub(crate) fn try_common(
     requires checks { AreChecksOf (stack_of ground.now) checks.old }
     requires ready { IsReady (stack_of ground.now) ground.now.most works.old }
     requires spare { IsSpare (codes_in ground.now) (plans_in ground.now) scratch.old }
-    requires is_in { IsIn (stack_of ground.now) ground.now.most ground.now.here.now.view ground.now.id (states_in works.old) }
+    requires is_in { IsIn (stack_of ground.now) ground.now.most ground.now.here.now.view ground.now.id
+        (states_in works.old) }
     requires entered { IsEntered (stack_of ground.now) (entry_meant ground.now.here.now entry.now) }
     requires lies { LiesWithin entry.now }
     requires out { out.old.places ≡ largest_weight (stack_of ground.now) }
-    ensures attempts { Attempts ground.now works.old (entry_meant ground.now.here.now entry.now) works.new out.new result }
+    ensures attempts { Attempts ground.now works.old (entry_meant ground.now.here.now entry.now) works.new out.new
+        result }
     ensures spare { IsSpare (codes_in ground.now) (plans_in ground.now) scratch.new }
     ensures checks { checks.new ≡ checks.old }
     ensures places { out.new.places ≡ out.old.places }

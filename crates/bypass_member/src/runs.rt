@@ -17,7 +17,8 @@ pub(crate) fn run_layers(works: &mut Works, stack: &Stack, visits: &mut u64) -> 
     requires typed { TypedStack (stack_tree stack.now) }
     requires can { CanRun (stack_tree stack.now) works.old (first_task works.old.tasks.items) }
     requires visits { visits.old ≤ 2 ^ 63 }
-    ensures { HasRun (stack_tree stack.now) works.old (first_task works.old.tasks.items) visits.old works.new visits.new result }
+    ensures { HasRun (stack_tree stack.now) works.old (first_task works.old.tasks.items) visits.old works.new visits.new
+        result }
 {
     entries_fit();
     accepted_is_light();

@@ -15,8 +15,8 @@ use std::alloc::Global;
 use std::rc::Rc;
 use trace_reads::{Needs, Values};
 
-/// What the code of a common step keeps while it runs, which is nothing between two runs; and the fields of a packet that its plan leaves
-/// variable, with a place for each field of each plan.
+/// What the code of a common step keeps while it runs, which is nothing between two runs; and the fields of a packet
+/// that its plan leaves variable, with a place for each field of each plan.
 pub struct Scratch {
     pub(crate) values: Values,
     pub(crate) fields: Vec<u32>,

@@ -9,7 +9,8 @@ ghost use Rattle.stack_mean.specs.Acceptance.{largest_weight};
 ghost use Rattle.stack_shapes.specs.Entries.{entry_for};
 ghost use Rattle.bypass_member.specs.Judged.{entry_meant, LiesWithin};
 ghost use Rattle.bypass_member.specs.Serving.{IsSpare};
-ghost use Rattle.bypass_member.specs.Stepping.{codes_in, in_full, plans_in, stack_of, IsGround, HasGone, HasPlayed, HasTaken};
+ghost use Rattle.bypass_member.specs.Stepping.{codes_in, in_full, plans_in, stack_of, IsGround, HasGone, HasPlayed};
+ghost use Rattle.bypass_member.specs.Stepping.{HasTaken};
 ghost use Rattle.bypass_member.specs.Trying.{AreGiven, MakesByCode};
 ghost use Rattle.bypass_member.specs.Viewing.{IsIn};
 ghost use Rattle.bypass_member.specs.Working.{states_in, taken_in, IsReady};
@@ -38,12 +39,14 @@ fn play(
 ) -> Predicted
     requires ground { IsGround ground.now }
     requires ready { IsReady (stack_of ground.now) ground.now.most works.old }
-    requires is_in { IsIn (stack_of ground.now) ground.now.most ground.now.here.now.view ground.now.id (states_in works.old) }
+    requires is_in { IsIn (stack_of ground.now) ground.now.most ground.now.here.now.view ground.now.id
+        (states_in works.old) }
     requires entered { IsEntered (stack_of ground.now) (entry_meant ground.now.here.now entry) }
     requires lies { LiesWithin entry }
     requires out { out.old.places ≡ largest_weight (stack_of ground.now) }
     requires visits { visits.old ≤ 2 ^ 63 }
-    ensures played { HasPlayed ground.now (states_in works.old) (taken_in works.old) (entry_meant ground.now.here.now entry.entry) works.new out.new
+    ensures played { HasPlayed ground.now (states_in works.old) (taken_in works.old)
+        (entry_meant ground.now.here.now entry.entry) works.new out.new
         visits.old visits.new result }
     ensures places { out.new.places ≡ out.old.places }
 {
@@ -62,19 +65,22 @@ fn play(
     predicted
 }
 
-/// Sends the outputs of a common step in a case short, from the first plan of its entry on, if it has one: an application's cast or send has.
+/// Sends the outputs of a common step in a case short, from the first plan of its entry on, if it has one: an
+/// application's cast or send has.
 fn send_short(ground: &Ground<'_>, what: EntryOf, case: Case, out: &mut Outputs)
     requires ground { IsGround ground.now }
-    ensures { (entered : Entered) (outs : List Output) → what ≡ entry_for (plans_in ground.now) entered → out.old.outputs ≡ map in_full outs →
-        out.new ≡ record out.old { outputs = with_plans (plans_in ground.now) (first_plan (stack_of ground.now) entered case) outs } }
+    ensures { (entered : Entered) (outs : List Output) → what ≡ entry_for (plans_in ground.now) entered →
+        out.old.outputs ≡ map in_full outs →
+        out.new ≡ record out.old
+        { outputs = with_plans (plans_in ground.now) (first_plan (stack_of ground.now) entered case) outs } }
 {
     if let Some(first) = ground.starts.of(what, case) {
         out.send_short(first, ground.plans.slice().len() as u32);
     }
 }
 
-/// Makes a common step by its code, its outputs sent short where they are, and tells whether it did; where there is no code, or none passes, nothing
-/// has changed.
+/// Makes a common step by its code, its outputs sent short where they are, and tells whether it did; where there is no
+/// code, or none passes, nothing has changed.
 #[inline(always)]
 pub(crate) fn make_by_code<'x>(
     works: &mut Works,
@@ -87,7 +93,8 @@ pub(crate) fn make_by_code<'x>(
     requires ground { IsGround ground.now }
     requires ready { IsReady (stack_of ground.now) ground.now.most works.old }
     requires spare { IsSpare (codes_in ground.now) (plans_in ground.now) scratch.old }
-    requires is_in { IsIn (stack_of ground.now) ground.now.most ground.now.here.now.view ground.now.id (states_in works.old) }
+    requires is_in { IsIn (stack_of ground.now) ground.now.most ground.now.here.now.view ground.now.id
+        (states_in works.old) }
     requires entered { IsEntered (stack_of ground.now) (entry_meant ground.now.here.now entry.now) }
     requires lies { LiesWithin entry.now }
     requires what { (here : stands.Here) → what ≡ entry_for (plans_in ground.now) (entry_meant here entry.now) }
@@ -107,8 +114,8 @@ pub(crate) fn make_by_code<'x>(
     }
 }
 
-/// Makes the step of what entered, and tells whether it was a common one: by its code, where there is some that passes, and else by the run of
-/// the layers.
+/// Makes the step of what entered, and tells whether it was a common one: by its code, where there is some that passes,
+/// and else by the run of the layers.
 fn make(
     works: &mut Works,
     scratch: &mut Scratch,
@@ -120,12 +127,14 @@ fn make(
     requires ground { IsGround ground.now }
     requires ready { IsReady (stack_of ground.now) ground.now.most works.old }
     requires spare { IsSpare (codes_in ground.now) (plans_in ground.now) scratch.old }
-    requires is_in { IsIn (stack_of ground.now) ground.now.most ground.now.here.now.view ground.now.id (states_in works.old) }
+    requires is_in { IsIn (stack_of ground.now) ground.now.most ground.now.here.now.view ground.now.id
+        (states_in works.old) }
     requires entered { IsEntered (stack_of ground.now) (entry_meant ground.now.here.now entry) }
     requires lies { LiesWithin entry }
     requires out { out.old.places ≡ largest_weight (stack_of ground.now) }
     requires visits { visits.old ≤ 2 ^ 63 }
-    ensures gone { HasGone ground.now works.old (entry_meant ground.now.here.now entry.entry) works.new out.new visits.old visits.new result }
+    ensures gone { HasGone ground.now works.old (entry_meant ground.now.here.now entry.entry) works.new out.new
+        visits.old visits.new result }
     ensures spare { IsSpare (codes_in ground.now) (plans_in ground.now) scratch.new }
     ensures places { out.new.places ≡ out.old.places }
 {
@@ -151,12 +160,14 @@ pub(crate) fn take(
     requires ground { IsGround ground.now }
     requires ready { IsReady (stack_of ground.now) ground.now.most works.old }
     requires spare { IsSpare (codes_in ground.now) (plans_in ground.now) scratch.old }
-    requires is_in { IsIn (stack_of ground.now) ground.now.most ground.now.here.now.view ground.now.id (states_in works.old) }
+    requires is_in { IsIn (stack_of ground.now) ground.now.most ground.now.here.now.view ground.now.id
+        (states_in works.old) }
     requires entered { IsEntered (stack_of ground.now) (entry_meant ground.now.here.now entry) }
     requires lies { LiesWithin entry }
     requires out { out.old.places ≡ largest_weight (stack_of ground.now) }
     requires visits { visits.old ≤ 2 ^ 63 }
-    ensures taken { HasTaken ground.now works.old (entry_meant ground.now.here.now entry.entry) works.new out.new visits.old visits.new result }
+    ensures taken { HasTaken ground.now works.old (entry_meant ground.now.here.now entry.entry) works.new out.new
+        visits.old visits.new result }
     ensures spare { IsSpare (codes_in ground.now) (plans_in ground.now) scratch.new }
     ensures places { out.new.places ≡ out.old.places }
 {

@@ -69,7 +69,8 @@ pub(crate) fn change_view(
 ) -> Option<Change>
     requires ready { IsReady (stack_tree _stack.now) _most works.old }
     requires members { HasMembers (stack_tree _stack.now) _most view id (states_in works.old) }
-    ensures { Changes (stack_tree _stack.now) _most view id (slice_get (filter_map announced (map (λ o. o.0) out.now.outputs)) 0)
+    ensures { Changes (stack_tree _stack.now) _most view id
+        (slice_get (filter_map announced (map (λ o. o.0) out.now.outputs)) 0)
         works.old works.new result }
 {
     match out.first_announced() {

@@ -1,14 +1,17 @@
 -- What is kept, as one of its cells changes.
-use Rattle.std.proofs.Common.{◌≡◌, ℕ, ◌≤◌, ◌<◌, true, ◌&&◌, nat_lt, List, [], map, length, take, drop, slice_get, slice_index_or, slice_set, Option, Some, None, refl, sym, ap, ◌∙◌, subst, arith}
+use Rattle.std.proofs.Common.{◌≡◌, ℕ, ◌≤◌, ◌<◌, true, ◌&&◌, nat_lt, List, [], map, length, take, drop, slice_get}
+use Rattle.std.proofs.Common.{slice_index_or, slice_set, Option, Some, None, refl, sym, ap, ◌∙◌, subst, arith}
 use Rattle.std.specs.List.{sum_by}
 use Rattle.cell_store.specs.declared.slot.Frame.{Frame}
 use Rattle.cell_store.specs.declared.slot.Frame.TheVariants.{Numbers, Queues}
 use Rattle.cell_store.specs.declared.slot.Slot.{Slot}
-use Rattle.cell_store.specs.Kept.{KeptCell, Kept, nothing_kept, queues_kept, capacity_of, kept_at, kept_rows, kept_capacity, keeps_room, rows_set, with_kept, with_kept_rows}
+use Rattle.cell_store.specs.Kept.{KeptCell, Kept, nothing_kept, queues_kept, capacity_of, kept_at, kept_rows}
+use Rattle.cell_store.specs.Kept.{kept_capacity, keeps_room, rows_set, with_kept, with_kept_rows}
 use Rattle.cell_store.specs.Frames.{numbers_for}
 use Rattle.cell_store.specs.Rings.{CellQueues}
 use Rattle.cell_store.specs.Slots.{framed, slot_kept, FitsFrame, AreLaid, AreSlots}
-use Rattle.cell_store.proofs.Laid.{lies, map_some, queues_read, nothing_read, within_some, no_room, with_rows, rows_written, laid_written, frames_written}
+use Rattle.cell_store.proofs.Laid.{lies, map_some, queues_read, nothing_read, within_some, no_room, with_rows}
+use Rattle.cell_store.proofs.Laid.{rows_written, laid_written, frames_written}
 
 module _ {R : Type 0} where
   -- the view of a state
@@ -29,7 +32,8 @@ module _ {R : Type 0} where
   unchanged me n ltime most c f cells p view is = sym view ∙ changed me n ltime most c f cells cells p view is
 
   -- rows of a queue
-  pub queue_read : (most end : ℕ) (block : List ℕ) (slots : List (Slot R)) (p : Kept R) (me n ltime most' c i : ℕ) (s : Slot R) →
+  pub queue_read : (most end : ℕ) (block : List ℕ) (slots : List (Slot R)) (p : Kept R) (me n ltime most' c i : ℕ)
+      (s : Slot R) →
       whole me n ltime most' (map (slot_kept block) slots) ≡ p → AreLaid most 0 end slots → slice_get slots c ≡ Some s →
       slice_index_or s.rings.rows i [] ≡ kept_rows p c i
   queue_read most end block slots p me n ltime most' c i s view laid is =
@@ -39,14 +43,16 @@ module _ {R : Type 0} where
   pub queue_changed : (block : List ℕ) (slots : List (Slot R)) (p : Kept R) (me n ltime most' c i : ℕ) (s : Slot R)
       (rings : CellQueues R) (rows rows' : List R) → whole me n ltime most' (map (slot_kept block) slots) ≡ p →
       slice_get slots c ≡ Some s → rings ≡ record s.rings { rows = slice_set s.rings.rows i rows } → rows ≡ rows' →
-      whole me n ltime most' (map (slot_kept block) (slice_set slots c (record s { rings = rings }))) ≡ with_kept_rows p c i rows'
+      whole me n ltime most' (map (slot_kept block) (slice_set slots c (record s { rings = rings }))) ≡
+      with_kept_rows p c i rows'
   queue_changed block slots p me n ltime most' c i s rings rows rows' view is new same =
       changed me n ltime most' c (rows_set i rows') (map (slot_kept block) slots) _ p view
       (ap (λ r. map (slot_kept block) (slice_set slots c (record s { rings = r }))) new
       ∙ ap (λ rows. map (slot_kept block) (slice_set slots c (with_rows i rows s))) same
       ∙ rows_written block slots c i rows' s is)
 
-  pub still_slots : (n most capacity : ℕ) (block : List ℕ) (slots : List (Slot R)) (c i : ℕ) (s : Slot R) (rings : CellQueues R)
+  pub still_slots : (n most capacity : ℕ) (block : List ℕ) (slots : List (Slot R)) (c i : ℕ) (s : Slot R)
+      (rings : CellQueues R)
       (rows : List R) → AreSlots n most capacity block slots → slice_get slots c ≡ Some s →
       rings ≡ record s.rings { rows = slice_set s.rings.rows i rows } →
       AreSlots n most capacity block (slice_set slots c (record s { rings = rings }))
@@ -55,12 +61,14 @@ module _ {R : Type 0} where
         few = are.few;
         most_few = are.most_few;
         laid = laid_written most 0 (length block) slots c i rows s are.laid is;
-        room = subst (λ frames. sum_by (numbers_for most) frames ≤ capacity) (sym (frames_written slots c i rows s is)) are.room;
+        room = subst (λ frames. sum_by (numbers_for most) frames ≤ capacity) (sym (frames_written slots c i rows s is))
+            are.room;
       }
 
   -- a queue with room is there
   pub room_there : (block : List ℕ) (slots : List (Slot R)) (p : Kept R) (me n ltime most' c i : ℕ) →
-      whole me n ltime most' (map (slot_kept block) slots) ≡ p → keeps_room p c i (kept_capacity p c) ≡ true → c < length slots
+      whole me n ltime most' (map (slot_kept block) slots) ≡ p → keeps_room p c i (kept_capacity p c) ≡ true →
+      c < length slots
   room_there block slots p me n ltime most' c i view room = go (slice_get slots c) refl
     where
       go : (o : Option (Slot R)) → slice_get slots c ≡ o → c < length slots
@@ -71,20 +79,24 @@ module _ {R : Type 0} where
           absurd (cc (no_room i (nat_lt 0 0), room_none))
       go (Some s) is = within_some slots c s is
 
-  row_framed : (most count i j : ℕ) (row : R) (frame : Frame) (ns : List ℕ) (qs : CellQueues R) → FitsFrame most frame count qs →
+  row_framed : (most count i j : ℕ) (row : R) (frame : Frame) (ns : List ℕ) (qs : CellQueues R) →
+      FitsFrame most frame count qs →
       slice_get (slice_index_or qs.rows i []) j ≡ Some row → capacity_of (framed frame ns qs) ≡ qs.capacity
   row_framed most count i j row (Numbers shape) ns qs fits is =
       absurd (cc (ap (λ (rows : List (List R)). slice_get (slice_index_or rows i []) j) fits.1, is))
   row_framed most count i j row (Queues shape) ns qs fits is = refl
 
   -- a queue that has a row has no more than its capacity
-  pub row_within : (most end : ℕ) (block : List ℕ) (slots : List (Slot R)) (p : Kept R) (me n ltime most' c i j : ℕ) (s : Slot R) (row : R) →
+  pub row_within : (most end : ℕ) (block : List ℕ) (slots : List (Slot R)) (p : Kept R) (me n ltime most' c i j : ℕ)
+      (s : Slot R) (row : R) →
       whole me n ltime most' (map (slot_kept block) slots) ≡ p → AreLaid most 0 end slots → slice_get slots c ≡ Some s →
       length (slice_index_or s.rings.rows i []) ≤ s.rings.capacity → slice_get (kept_rows p c i) j ≡ Some row →
       length (kept_rows p c i) ≤ kept_capacity p c
   row_within most end block slots p me n ltime most' c i j s row view laid is within has =
       let rows = queue_read most end block slots p me n ltime most' c i s view laid is in
-      let cell : kept_at p c ≡ slot_kept block s = ap (λ (k : Kept R). kept_at k c) (sym view) ∙ map_some (slot_kept block) slots c s nothing_kept is in
-      let same = row_framed most s.count i j row s.frame (take s.count (drop s.at block)) s.rings (lies most 0 end slots c s laid is).fits
+      let cell : kept_at p c ≡ slot_kept block s = ap (λ (k : Kept R). kept_at k c) (sym view) ∙
+      map_some (slot_kept block) slots c s nothing_kept is in
+      let same = row_framed most s.count i j row s.frame (take s.count (drop s.at block)) s.rings
+      (lies most 0 end slots c s laid is).fits
       (ap (λ q. slice_get q j) rows ∙ has) in
       omega (arith, ap length rows, within, ap capacity_of cell, same)

@@ -1,5 +1,6 @@
 -- How many numbers and queues a cell has.
-use Rattle.std.proofs.Common.{◌≡◌, ℕ, ◌≤◌, List, map, length, take, drop, slice_get, slice_index_or, Some, sym, ap, ◌∙◌, arith}
+use Rattle.std.proofs.Common.{◌≡◌, ℕ, ◌≤◌, List, map, length, take, drop, slice_get, slice_index_or, Some, sym, ap, ◌∙◌}
+use Rattle.std.proofs.Common.{arith}
 use Rattle.std.proofs.Math.Nat.{mul-le-mul}
 use Rattle.std.proofs.lemmas.List.{length-take, length-drop}
 use Rattle.layer_ast.specs.declared.syntax.Shape.{Shape}
@@ -20,25 +21,33 @@ few_of most Array few = omega arith
 few_of most Square few = let all = mul-le-mul few few in omega arith
 
 module _ {R : Type 0} where
-  numbers_few : (most count : ℕ) (frame : Frame) (qs : CellQueues R) → most ≤ most_members → FitsFrame most frame count qs → count ≤ 1024
-  numbers_few most count (Numbers shape) qs few fits = let most = few_of most shape few in let here = fits.0 in omega arith
+  numbers_few : (most count : ℕ) (frame : Frame) (qs : CellQueues R) → most ≤ most_members →
+      FitsFrame most frame count qs → count ≤ 1024
+  numbers_few most count (Numbers shape) qs few fits = let most = few_of most shape few in let here = fits.0 in
+      omega arith
   numbers_few most count (Queues shape) qs few fits = let none = fits.0 in omega arith
 
-  queues_few : (most count : ℕ) (frame : Frame) (qs : CellQueues R) → most ≤ most_members → FitsFrame most frame count qs → length qs.rows ≤ qs.most →
+  queues_few : (most count : ℕ) (frame : Frame) (qs : CellQueues R) → most ≤ most_members →
+      FitsFrame most frame count qs → length qs.rows ≤ qs.most →
       length qs.rows ≤ 1024
   queues_few most count (Numbers shape) qs few fits within = let none = ap length fits.1 in omega arith
-  queues_few most count (Queues shape) qs few fits within = let most = few_of most shape few in let here = fits.1 in omega arith
+  queues_few most count (Queues shape) qs few fits within = let most = few_of most shape few in let here = fits.1 in
+      omega arith
 
-  pub few_numbers : (most at end c : ℕ) (slots : List (Slot R)) (s : Slot R) → most ≤ most_members → AreLaid most at end slots → slice_get slots c ≡ Some s →
+  pub few_numbers : (most at end c : ℕ) (slots : List (Slot R)) (s : Slot R) → most ≤ most_members →
+      AreLaid most at end slots → slice_get slots c ≡ Some s →
       s.count ≤ 1024
-  few_numbers most at end c slots s few laid is = numbers_few most s.count s.frame s.rings few (lies most at end slots c s laid is).fits
+  few_numbers most at end c slots s few laid is =
+      numbers_few most s.count s.frame s.rings few (lies most at end slots c s laid is).fits
 
-  pub few_queues : (most at end c : ℕ) (slots : List (Slot R)) (s : Slot R) → most ≤ most_members → AreLaid most at end slots → slice_get slots c ≡ Some s →
+  pub few_queues : (most at end c : ℕ) (slots : List (Slot R)) (s : Slot R) → most ≤ most_members →
+      AreLaid most at end slots → slice_get slots c ≡ Some s →
       length s.rings.rows ≤ s.rings.most → length s.rings.rows ≤ 1024
   few_queues most at end c slots s few laid is within =
       queues_few most s.count s.frame s.rings few (lies most at end slots c s laid is).fits within
 
-  pub numbers_counted : (most : ℕ) (block : List ℕ) (slots : List (Slot R)) (cells : List (KeptCell R)) (c : ℕ) (s : Slot R) →
+  pub numbers_counted : (most : ℕ) (block : List ℕ) (slots : List (Slot R)) (cells : List (KeptCell R)) (c : ℕ)
+      (s : Slot R) →
       map (slot_kept block) slots ≡ cells → AreLaid most 0 (length block) slots → slice_get slots c ≡ Some s →
       s.count ≡ length (numbers_kept (slice_index_or cells c nothing_kept))
   numbers_counted most block slots cells c s view laid is =

@@ -1,5 +1,6 @@
 -- Queues without rows.
-use Rattle.std.proofs.Common.{◌≡◌, ℕ, zero, suc, ◌+◌, ◌-◌, ◌≤◌, List, [], ◌∷◌, ◌++◌, map, length, take, drop, replicate, slice_index_or, refl, sym, ap, ◌∙◌, arith}
+use Rattle.std.proofs.Common.{◌≡◌, ℕ, zero, suc, ◌+◌, ◌-◌, ◌≤◌, List, [], ◌∷◌, ◌++◌, map, length, take, drop, replicate}
+use Rattle.std.proofs.Common.{slice_index_or, refl, sym, ap, ◌∙◌, arith}
 use Rattle.std.proofs.lemmas.List.{map-append, replicate_more, same_from_push, length_push}
 use Rattle.std.specs.declared.alloc.Global.{Global}
 use Rattle.std.specs.declared.collections.VecDeque.{VecDeque}
@@ -29,7 +30,8 @@ module _ {R : Type 0} where
   empty_popped olds news ring split empty =
       let size : length olds ≡ length news + 1 = ap length split ∙ length_push news ring in
       same_from_push _ _ _ _
-      (sym (map-append deque_items news (ring ∷ [])) ∙ ap (map deque_items) (sym split) ∙ empty ∙ ap (λ n. replicate n []) size
+      (sym (map-append deque_items news (ring ∷ [])) ∙ ap (map deque_items) (sym split) ∙ empty ∙
+      ap (λ n. replicate n []) size
       ∙ sym (replicate_more (length news) []))
 
   -- rings that are empty in front of a place and from it on are empty
@@ -44,11 +46,14 @@ module _ {R : Type 0} where
   all_empty (suc n) ((row ∷ q) ∷ rows) within front back = absurd (cc front)
 
   -- one more queue without a row
-  none_next : (qs : List (List R)) (i : ℕ) → rows_of (take i qs) ≡ [] → slice_index_or qs i [] ≡ [] → rows_of (take (suc i) qs) ≡ []
+  none_next : (qs : List (List R)) (i : ℕ) → rows_of (take i qs) ≡ [] → slice_index_or qs i [] ≡ [] →
+      rows_of (take (suc i) qs) ≡ []
   none_next [] i none here = refl
   none_next (q ∷ qs) zero none here = ap (λ front. front ++ []) here
   none_next (q ∷ qs) (suc i) none here = let parts = none_of_append q (rows_of (take i qs)) none in
       ap (λ front. front ++ rows_of (take (suc i) qs)) parts.0 ∙ none_next qs i parts.1 here
 
-  pub none_more : (qs : List (List R)) (i : ℕ) → rows_of (take i qs) ≡ [] → slice_index_or qs i [] ≡ [] → rows_of (take (i + 1) qs) ≡ []
-  none_more qs i none here = let next : i + 1 ≡ suc i = omega arith in ap (λ n. rows_of (take n qs)) next ∙ none_next qs i none here
+  pub none_more : (qs : List (List R)) (i : ℕ) → rows_of (take i qs) ≡ [] → slice_index_or qs i [] ≡ [] →
+      rows_of (take (i + 1) qs) ≡ []
+  none_more qs i none here = let next : i + 1 ≡ suc i = omega arith in ap (λ n. rows_of (take n qs)) next ∙
+      none_next qs i none here

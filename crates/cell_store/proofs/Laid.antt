@@ -1,7 +1,10 @@
 -- Cells that lie one behind the other: what is read and written of one.
 use Rattle.std.proofs.lemmas.Bool.{le-ltb}
-use Rattle.std.proofs.Common.{◌≡◌, Bool, false, ◌&&◌, nat_lt, ℕ, zero, suc, ◌+◌, ◌-◌, ◌≤◌, ◌<◌, List, [], ◌∷◌, map, length, take, drop, slice_get, slice_index, slice_index_or, slice_set, Option, Some, None, refl, sym, ap, ap₂, ◌∙◌, subst, arith}
-use Rattle.std.proofs.lemmas.List.{map-set, length-map, length-take, drop-set-lt, drop-set-add, take-set-le, get_or-map, get_or-take, get_or-drop, get_or_past, set_past, set-get_or}
+use Rattle.std.proofs.Common.{◌≡◌, Bool, false, ◌&&◌, nat_lt, ℕ, zero, suc, ◌+◌, ◌-◌, ◌≤◌, ◌<◌, List, [], ◌∷◌, map}
+use Rattle.std.proofs.Common.{length, take, drop, slice_get, slice_index, slice_index_or, slice_set, Option, Some, None}
+use Rattle.std.proofs.Common.{refl, sym, ap, ap₂, ◌∙◌, subst, arith}
+use Rattle.std.proofs.lemmas.List.{map-set, length-map, length-take, drop-set-lt, drop-set-add, take-set-le, get_or-map}
+use Rattle.std.proofs.lemmas.List.{get_or-take, get_or-drop, get_or_past, set_past, set-get_or}
 use Rattle.cell_store.specs.declared.slot.Frame.{Frame}
 use Rattle.cell_store.specs.declared.slot.Frame.TheVariants.{Numbers, Queues}
 use Rattle.cell_store.specs.declared.slot.Slot.{Slot}
@@ -39,7 +42,8 @@ module _ {A : Type 0} where
   past_none (y ∷ xs) zero is = absurd (cc is)
   past_none (y ∷ xs) (suc i) is = let rest = past_none xs i is in omega (arith, rest)
 
-  pub map_some : {B : Type 0} (f : A → B) (xs : List A) (i : ℕ) (x : A) (d : B) → slice_get xs i ≡ Some x → slice_index_or (map f xs) i d ≡ f x
+  pub map_some : {B : Type 0} (f : A → B) (xs : List A) (i : ℕ) (x : A) (d : B) → slice_get xs i ≡ Some x →
+      slice_index_or (map f xs) i d ≡ f x
   map_some f xs i x d is = get_or-map f xs i x d (within_some xs i x is) ∙ ap f (at_some xs i x x is)
 
 part_untouched : (at count : ℕ) (block : List ℕ) (j v : ℕ) → at + count ≤ j →
@@ -61,7 +65,8 @@ module _ {R : Type 0} where
     pub fits : FitsFrame most s.frame s.count s.rings
     pub before : s.at + s.count ≤ end
 
-  pub lies : (most at end : ℕ) (slots : List (Slot R)) (c : ℕ) (s : Slot R) → AreLaid most at end slots → slice_get slots c ≡ Some s →
+  pub lies : (most at end : ℕ) (slots : List (Slot R)) (c : ℕ) (s : Slot R) → AreLaid most at end slots →
+      slice_get slots c ≡ Some s →
       Lies most at end s
   lies most at end [] c s laid is = absurd (cc is)
   lies most at end (t ∷ rest) zero s laid is = subst (Lies most at end) (cc is)
@@ -76,20 +81,23 @@ module _ {R : Type 0} where
   numbers_framed most count (Numbers shape) ns qs fits = refl
   numbers_framed most count (Queues shape) ns qs fits = ap (λ n. take n ns) (sym fits.0)
 
-  pub queues_framed : (most count : ℕ) (frame : Frame) (ns : List ℕ) (qs : CellQueues R) → FitsFrame most frame count qs →
+  pub queues_framed : (most count : ℕ) (frame : Frame) (ns : List ℕ) (qs : CellQueues R) →
+      FitsFrame most frame count qs →
       queues_kept (framed frame ns qs) ≡ qs.rows
   queues_framed most count (Numbers shape) ns qs fits = sym fits.1
   queues_framed most count (Queues shape) ns qs fits = refl
 
   -- the numbers of a cell
-  pub numbers_lie : (most end : ℕ) (block : List ℕ) (slots : List (Slot R)) (c : ℕ) (s : Slot R) → AreLaid most 0 end slots →
+  pub numbers_lie : (most end : ℕ) (block : List ℕ) (slots : List (Slot R)) (c : ℕ) (s : Slot R) →
+      AreLaid most 0 end slots →
       slice_get slots c ≡ Some s →
       numbers_kept (slice_index_or (map (slot_kept block) slots) c nothing_kept) ≡ take s.count (drop s.at block)
   numbers_lie most end block slots c s laid is =
       ap numbers_kept (map_some (slot_kept block) slots c s nothing_kept is)
       ∙ numbers_framed most s.count s.frame (drop s.at block) s.rings (lies most 0 end slots c s laid is).fits
 
-  pub number_read : (most end : ℕ) (block : List ℕ) (slots : List (Slot R)) (cells : List (KeptCell R)) (c i : ℕ) (s : Slot R) →
+  pub number_read : (most end : ℕ) (block : List ℕ) (slots : List (Slot R)) (cells : List (KeptCell R)) (c i : ℕ)
+      (s : Slot R) →
       map (slot_kept block) slots ≡ cells → AreLaid most 0 end slots → slice_get slots c ≡ Some s → i < s.count →
       slice_index block (s.at + i) ≡ slice_index (numbers_kept (slice_index_or cells c nothing_kept)) i
   number_read most end block slots cells c i s view laid is below =
@@ -97,7 +105,8 @@ module _ {R : Type 0} where
       ∙ ap (λ ns. slice_index ns i) (sym (numbers_lie most end block slots c s laid is))
       ∙ ap (λ cells. slice_index (numbers_kept (slice_index_or cells c nothing_kept)) i) view
 
-  pub number_outside : (most end : ℕ) (block : List ℕ) (slots : List (Slot R)) (cells : List (KeptCell R)) (c i : ℕ) (s : Slot R) →
+  pub number_outside : (most end : ℕ) (block : List ℕ) (slots : List (Slot R)) (cells : List (KeptCell R)) (c i : ℕ)
+      (s : Slot R) →
       map (slot_kept block) slots ≡ cells → AreLaid most 0 end slots → slice_get slots c ≡ Some s → s.count ≤ i →
       0 ≡ slice_index (numbers_kept (slice_index_or cells c nothing_kept)) i
   number_outside most end block slots cells c i s view laid is past =
@@ -106,23 +115,28 @@ module _ {R : Type 0} where
       ∙ ap (λ ns. slice_index ns i) (sym (numbers_lie most end block slots c s laid is))
       ∙ ap (λ cells. slice_index (numbers_kept (slice_index_or cells c nothing_kept)) i) view
 
-  pub queues_read : (most end : ℕ) (block : List ℕ) (slots : List (Slot R)) (cells : List (KeptCell R)) (c : ℕ) (s : Slot R) →
+  pub queues_read : (most end : ℕ) (block : List ℕ) (slots : List (Slot R)) (cells : List (KeptCell R)) (c : ℕ)
+      (s : Slot R) →
       map (slot_kept block) slots ≡ cells → AreLaid most 0 end slots → slice_get slots c ≡ Some s →
       s.rings.rows ≡ queues_kept (slice_index_or cells c nothing_kept)
   queues_read most end block slots cells c s view laid is =
-      sym (queues_framed most s.count s.frame (take s.count (drop s.at block)) s.rings (lies most 0 end slots c s laid is).fits)
+      sym (queues_framed most s.count s.frame (take s.count (drop s.at block)) s.rings
+      (lies most 0 end slots c s laid is).fits)
       ∙ ap queues_kept (sym (map_some (slot_kept block) slots c s nothing_kept is))
       ∙ ap (λ cells. queues_kept (slice_index_or cells c nothing_kept)) view
 
   -- where there is no cell
-  pub nothing_read : (block : List ℕ) (slots : List (Slot R)) (cells : List (KeptCell R)) (c : ℕ) → map (slot_kept block) slots ≡ cells →
+  pub nothing_read : (block : List ℕ) (slots : List (Slot R)) (cells : List (KeptCell R)) (c : ℕ) →
+      map (slot_kept block) slots ≡ cells →
       slice_get slots c ≡ None → nothing_kept ≡ slice_index_or cells c nothing_kept
   nothing_read block slots cells c view is =
-      sym (get_or_past (map (slot_kept block) slots) c nothing_kept (omega (arith, past_none slots c is, length-map slots (slot_kept block))))
+      sym (get_or_past (map (slot_kept block) slots) c nothing_kept
+      (omega (arith, past_none slots c is, length-map slots (slot_kept block))))
       ∙ ap (λ cells. slice_index_or cells c nothing_kept) view
 
   -- writing a number
-  untouched : (most at end : ℕ) (block : List ℕ) (slots : List (Slot R)) (j v : ℕ) → AreLaid most at end slots → j < at →
+  untouched : (most at end : ℕ) (block : List ℕ) (slots : List (Slot R)) (j v : ℕ) → AreLaid most at end slots →
+      j < at →
       map (slot_kept (slice_set block j v)) slots ≡ map (slot_kept block) slots
   untouched most at end block [] j v laid front = refl
   untouched most at end block (s ∷ rest) j v laid front = ap₂ (λ x xs. x ∷ xs)
@@ -142,45 +156,55 @@ module _ {R : Type 0} where
       go (Numbers shape) qs fits = ap (numbers shape) part
       go (Queues shape) qs fits = absurd (omega (arith, fits.0, below))
 
-  pub number_written : (most at end : ℕ) (block : List ℕ) (slots : List (Slot R)) (c i v : ℕ) (s : Slot R) → AreLaid most at end slots →
+  pub number_written : (most at end : ℕ) (block : List ℕ) (slots : List (Slot R)) (c i v : ℕ) (s : Slot R) →
+      AreLaid most at end slots →
       slice_get slots c ≡ Some s → i < s.count →
       map (slot_kept (slice_set block (s.at + i) v)) slots
-      ≡ slice_set (map (slot_kept block) slots) c (number_set i v (slice_index_or (map (slot_kept block) slots) c nothing_kept))
+      ≡ slice_set (map (slot_kept block) slots) c
+      (number_set i v (slice_index_or (map (slot_kept block) slots) c nothing_kept))
   number_written most at end block [] c i v s laid is below = absurd (cc is)
   number_written most at end block (t ∷ rest) zero i v s laid is below =
       let same : t ≡ s = cc is in
-      subst (λ s. map (slot_kept (slice_set block (s.at + i) v)) (t ∷ rest) ≡ number_set i v (slot_kept block t) ∷ map (slot_kept block) rest) same
-      (ap₂ (λ x xs. x ∷ xs) (number_framed most i v block t laid.1.0 (subst (λ (s : Slot R). i < s.count) (sym same) below))
+      subst (λ s. map (slot_kept (slice_set block (s.at + i) v)) (t ∷ rest) ≡ number_set i v (slot_kept block t) ∷
+      map (slot_kept block) rest) same
+      (ap₂ (λ x xs. x ∷ xs)
+      (number_framed most i v block t laid.1.0 (subst (λ (s : Slot R). i < s.count) (sym same) below))
       (untouched most (t.at + t.count) end block rest (t.at + i) v laid.1.1
       (omega (arith, subst (λ (s : Slot R). i < s.count) (sym same) below))))
   number_written most at end block (t ∷ rest) (suc c) i v s laid is below =
       let next = lies most (t.at + t.count) end rest c s laid.1.1 is in
       ap₂ (λ x xs. x ∷ xs)
-      (ap (λ ns. framed t.frame ns t.rings) (part_untouched t.at t.count block (s.at + i) v (omega (arith, next.behind))))
+      (ap (λ ns. framed t.frame ns t.rings)
+      (part_untouched t.at t.count block (s.at + i) v (omega (arith, next.behind))))
       (number_written most (t.at + t.count) end block rest c i v s laid.1.1 is below)
 
-  number_set_past : (most i v : ℕ) (block : List ℕ) (s : Slot R) → FitsFrame most s.frame s.count s.rings → s.count ≤ i →
+  number_set_past : (most i v : ℕ) (block : List ℕ) (s : Slot R) → FitsFrame most s.frame s.count s.rings →
+      s.count ≤ i →
       number_set i v (slot_kept block s) ≡ slot_kept block s
   number_set_past most i v block s fits past = go s.frame
     where
       ns : List ℕ
       ns = take s.count (drop s.at block)
 
-      go : (frame : Frame) → number_set i v (framed frame (take s.count (drop s.at block)) s.rings) ≡ framed frame (take s.count (drop s.at block)) s.rings
+      go : (frame : Frame) → number_set i v (framed frame (take s.count (drop s.at block)) s.rings) ≡
+          framed frame (take s.count (drop s.at block)) s.rings
       go (Numbers shape) = ap (numbers shape)
           (set_past (take s.count (drop s.at block)) i v (omega (arith, length-take s.count (drop s.at block), past)))
       go (Queues shape) = refl
 
   -- outside of a cell nothing is written
-  pub number_past : (most end : ℕ) (block : List ℕ) (slots : List (Slot R)) (c i v : ℕ) (s : Slot R) → AreLaid most 0 end slots →
+  pub number_past : (most end : ℕ) (block : List ℕ) (slots : List (Slot R)) (c i v : ℕ) (s : Slot R) →
+      AreLaid most 0 end slots →
       slice_get slots c ≡ Some s → s.count ≤ i →
       map (slot_kept block) slots
-      ≡ slice_set (map (slot_kept block) slots) c (number_set i v (slice_index_or (map (slot_kept block) slots) c nothing_kept))
+      ≡ slice_set (map (slot_kept block) slots) c
+      (number_set i v (slice_index_or (map (slot_kept block) slots) c nothing_kept))
   number_past most end block slots c i v s laid is past =
       let read = map_some (slot_kept block) slots c s nothing_kept is in
       sym (set-get_or (map (slot_kept block) slots) c nothing_kept)
       ∙ ap (slice_set (map (slot_kept block) slots) c)
-      (read ∙ sym (number_set_past most i v block s (lies most 0 end slots c s laid is).fits past) ∙ ap (number_set i v) (sym read))
+      (read ∙ sym (number_set_past most i v block s (lies most 0 end slots c s laid is).fits past) ∙
+      ap (number_set i v) (sym read))
 
   -- where there is no cell nothing is written
   pub cell_past : (block : List ℕ) (slots : List (Slot R)) (c : ℕ) (cell : KeptCell R) → length slots ≤ c →
@@ -197,21 +221,25 @@ module _ {R : Type 0} where
   rows_framed i rows (Numbers shape) ns qs = refl
   rows_framed i rows (Queues shape) ns qs = refl
 
-  pub rows_written : (block : List ℕ) (slots : List (Slot R)) (c i : ℕ) (rows : List R) (s : Slot R) → slice_get slots c ≡ Some s →
+  pub rows_written : (block : List ℕ) (slots : List (Slot R)) (c i : ℕ) (rows : List R) (s : Slot R) →
+      slice_get slots c ≡ Some s →
       map (slot_kept block) (slice_set slots c (with_rows i rows s))
-      ≡ slice_set (map (slot_kept block) slots) c (rows_set i rows (slice_index_or (map (slot_kept block) slots) c nothing_kept))
+      ≡ slice_set (map (slot_kept block) slots) c
+      (rows_set i rows (slice_index_or (map (slot_kept block) slots) c nothing_kept))
   rows_written block slots c i rows s is =
       map-set (slot_kept block) slots c (with_rows i rows s)
       ∙ ap (slice_set (map (slot_kept block) slots) c)
       (rows_framed i rows s.frame (take s.count (drop s.at block)) s.rings
       ∙ ap (rows_set i rows) (sym (map_some (slot_kept block) slots c s nothing_kept is)))
 
-  fits_written : (most i : ℕ) (rows : List R) (frame : Frame) (count : ℕ) (qs : CellQueues R) → FitsFrame most frame count qs →
+  fits_written : (most i : ℕ) (rows : List R) (frame : Frame) (count : ℕ) (qs : CellQueues R) →
+      FitsFrame most frame count qs →
       FitsFrame most frame count (record qs { rows = slice_set qs.rows i rows })
   fits_written most i rows (Numbers shape) count qs fits = (fits.0, ap (λ q. slice_set q i rows) fits.1)
   fits_written most i rows (Queues shape) count qs fits = fits
 
-  pub laid_written : (most at end : ℕ) (slots : List (Slot R)) (c i : ℕ) (rows : List R) (s : Slot R) → AreLaid most at end slots →
+  pub laid_written : (most at end : ℕ) (slots : List (Slot R)) (c i : ℕ) (rows : List R) (s : Slot R) →
+      AreLaid most at end slots →
       slice_get slots c ≡ Some s → AreLaid most at end (slice_set slots c (with_rows i rows s))
   laid_written most at end [] c i rows s laid is = laid
   laid_written most at end (t ∷ rest) zero i rows s laid is =

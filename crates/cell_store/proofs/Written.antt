@@ -1,6 +1,9 @@
 -- One ring of a cell becomes another.
-use Rattle.std.proofs.Common.{◌≡◌, ℕ, zero, suc, ◌+◌, ◌-◌, ◌≤◌, ◌<◌, List, [], ◌∷◌, ◌++◌, map, length, take, drop, replicate, slice_get, slice_index_or, slice_set, Option, Some, None, option_to_list, MatchOption, refl, sym, ap, ap₂, ◌∙◌, arith}
-use Rattle.std.proofs.lemmas.List.{map-set, length-set, length-take, length-map, length_push, drop-set-lt, drop-replicate, take-replicate, get_or-map, get_or-take, get_or-replicate}
+use Rattle.std.proofs.Common.{◌≡◌, ℕ, zero, suc, ◌+◌, ◌-◌, ◌≤◌, ◌<◌, List, [], ◌∷◌, ◌++◌, map, length, take, drop}
+use Rattle.std.proofs.Common.{replicate, slice_get, slice_index_or, slice_set, Option, Some, None, option_to_list}
+use Rattle.std.proofs.Common.{MatchOption, refl, sym, ap, ap₂, ◌∙◌, arith}
+use Rattle.std.proofs.lemmas.List.{map-set, length-set, length-take, length-map, length_push, drop-set-lt}
+use Rattle.std.proofs.lemmas.List.{drop-replicate, take-replicate, get_or-map, get_or-take, get_or-replicate}
 use Rattle.std.specs.declared.alloc.Global.{Global}
 use Rattle.std.specs.declared.collections.VecDeque.{VecDeque}
 use Rattle.std.specs.VecDeque.{deque_items, deque_capacity, deque_len}
@@ -27,7 +30,8 @@ module _ {R : Type 0} where
   viewed capacity shown rings = record { capacity = capacity; most = length rings; rows = shown_rows shown rings }
 
   -- a shown ring has the rows that are shown
-  pub shown_at : (shown : ℕ) (rings : List (VecDeque R Global)) (i : ℕ) (ring : VecDeque R Global) → i < shown → shown ≤ length rings →
+  pub shown_at : (shown : ℕ) (rings : List (VecDeque R Global)) (i : ℕ) (ring : VecDeque R Global) → i < shown →
+      shown ≤ length rings →
       ring ≡ slice_index_or rings i ring → slice_index_or (shown_rows shown rings) i [] ≡ deque_items ring
   shown_at shown rings i ring below within read =
       get_or-take shown (map deque_items rings) i [] below
@@ -45,27 +49,33 @@ module _ {R : Type 0} where
   pub within_shown : (capacity shown : ℕ) (rings : List (VecDeque R Global)) (p : CellQueues R) (i : ℕ) →
       viewed capacity shown rings ≡ p → i < length p.rows → i < shown
   within_shown capacity shown rings p i view below =
-      let size : length (take shown (map deque_items rings)) ≡ length p.rows = ap (λ (q : CellQueues R). length q.rows) view in
+      let size : length (take shown (map deque_items rings)) ≡ length p.rows =
+      ap (λ (q : CellQueues R). length q.rows) view in
       omega (arith, size, below, length-take shown (map deque_items rings))
 
-  pub rows_read : (capacity shown : ℕ) (rings : List (VecDeque R Global)) (p : CellQueues R) (i : ℕ) (ring : VecDeque R Global) →
+  pub rows_read : (capacity shown : ℕ) (rings : List (VecDeque R Global)) (p : CellQueues R) (i : ℕ)
+      (ring : VecDeque R Global) →
       viewed capacity shown rings ≡ p → AreRings capacity shown rings → i < shown → ring ≡ slice_index_or rings i ring →
       deque_items ring ≡ slice_index_or p.rows i []
   rows_read capacity shown rings p i ring view are below read =
-      sym (shown_at shown rings i ring below are.shown_there read) ∙ ap (λ (q : CellQueues R). slice_index_or q.rows i []) view
+      sym (shown_at shown rings i ring below are.shown_there read) ∙
+      ap (λ (q : CellQueues R). slice_index_or q.rows i []) view
 
   -- a ring whose rows are fewer than the capacity has room
-  pub has_room : (capacity shown : ℕ) (rings : List (VecDeque R Global)) (p : CellQueues R) (i : ℕ) (ring : VecDeque R Global) →
+  pub has_room : (capacity shown : ℕ) (rings : List (VecDeque R Global)) (p : CellQueues R) (i : ℕ)
+      (ring : VecDeque R Global) →
       viewed capacity shown rings ≡ p → AreRings capacity shown rings → i < shown → ring ≡ slice_index_or rings i ring →
       length (slice_index_or p.rows i []) < p.capacity → deque_len ring < deque_capacity ring
   has_room capacity shown rings p i ring view are below read room =
-      let rows : length (deque_items ring) ≡ length (slice_index_or p.rows i []) = ap length (rows_read capacity shown rings p i ring view are below read) in
+      let rows : length (deque_items ring) ≡ length (slice_index_or p.rows i []) =
+      ap length (rows_read capacity shown rings p i ring view are below read) in
       let kept = capacity_at capacity shown rings i ring are below read in
       let same : capacity ≡ p.capacity = ap (λ (q : CellQueues R). q.capacity) view in
       omega (arith, rows, kept, same, room, ring.ok.0)
 
   pub still_rings : (capacity shown : ℕ) (rings : List (VecDeque R Global)) (i : ℕ) (ring new : VecDeque R Global) →
-      AreRings capacity shown rings → i < shown → ring ≡ slice_index_or rings i ring → deque_capacity new ≡ deque_capacity ring →
+      AreRings capacity shown rings → i < shown → ring ≡ slice_index_or rings i ring →
+      deque_capacity new ≡ deque_capacity ring →
       AreRings capacity shown (slice_set rings i new)
   still_rings capacity shown rings i ring new are below read same = record {
     few = are.few;
@@ -74,11 +84,13 @@ module _ {R : Type 0} where
         ∙ ap (slice_set (map deque_capacity rings) i) (same ∙ capacity_at capacity shown rings i ring are below read)
         ∙ ap (λ xs. slice_set xs i capacity) are.capacities ∙ replicate_written (length rings) capacity i
         ∙ ap (λ n. replicate n capacity) (sym (length-set rings i new));
-    others_empty = ap (drop shown) (map-set deque_items rings i new) ∙ drop-set-lt shown (map deque_items rings) i (deque_items new) below
+    others_empty = ap (drop shown) (map-set deque_items rings i new) ∙
+        drop-set-lt shown (map deque_items rings) i (deque_items new) below
         ∙ are.others_empty ∙ ap (λ n. replicate (n - shown) []) (sym (length-set rings i new));
   }
 
-  pub shown_written : (capacity shown : ℕ) (rings : List (VecDeque R Global)) (p : CellQueues R) (i : ℕ) (new : VecDeque R Global)
+  pub shown_written : (capacity shown : ℕ) (rings : List (VecDeque R Global)) (p : CellQueues R) (i : ℕ)
+      (new : VecDeque R Global)
       (rows : List R) → viewed capacity shown rings ≡ p → deque_items new ≡ rows →
       viewed capacity shown (slice_set rings i new) ≡ record p { rows = slice_set p.rows i rows }
   shown_written capacity shown rings p i new rows view is =
@@ -97,7 +109,8 @@ module _ {R : Type 0} where
   last_of_none [] none = refl
   last_of_none (x ∷ items) none = absurd (omega (arith, none))
 
-  pub last_popped : (result : Option R) (items front : List R) (n m : ℕ) → n ≡ length items → items ≡ front ++ option_to_list result →
+  pub last_popped : (result : Option R) (items front : List R) (n m : ℕ) → n ≡ length items →
+      items ≡ front ++ option_to_list result →
       MatchOption result ((n ≡ 0) × (m ≡ 0)) (λ _. m + 1 ≡ n) → result ≡ slice_get items (length items - 1)
   last_popped None items front n m size split cases = last_of_none items (sym size ∙ cases.0)
   last_popped (Some x) items front n m size split cases =
@@ -114,14 +127,17 @@ module _ {R : Type 0} where
       omega (arith, capacity_at capacity shown rings i ring are below read, are.few, ring.small.1)
 
   -- rings without a row
-  pub rings_empty : (capacity shown : ℕ) (rings : List (VecDeque R Global)) (p : CellQueues R) → viewed capacity shown rings ≡ p →
+  pub rings_empty : (capacity shown : ℕ) (rings : List (VecDeque R Global)) (p : CellQueues R) →
+      viewed capacity shown rings ≡ p →
       AreRings capacity shown rings → rows_of p.rows ≡ [] → map deque_items rings ≡ replicate (length rings) []
   rings_empty capacity shown rings p view are none =
       let size : length (map deque_items rings) ≡ length rings = length-map rings deque_items in
-      all_empty shown (map deque_items rings) (omega (arith, size, are.shown_there)) (ap (λ (q : CellQueues R). rows_of q.rows) view ∙ none)
+      all_empty shown (map deque_items rings) (omega (arith, size, are.shown_there))
+      (ap (λ (q : CellQueues R). rows_of q.rows) view ∙ none)
       (are.others_empty ∙ ap (λ n. replicate (n - shown) []) (sym size)) ∙ ap (λ n. replicate n []) size
 
-  pub rings_again : (capacity shown : ℕ) (rings : List (VecDeque R Global)) (p : CellQueues R) (n : ℕ) → viewed capacity shown rings ≡ p →
+  pub rings_again : (capacity shown : ℕ) (rings : List (VecDeque R Global)) (p : CellQueues R) (n : ℕ) →
+      viewed capacity shown rings ≡ p →
       AreRings capacity shown rings → rows_of p.rows ≡ [] → n ≤ p.most → AreRings capacity n rings
   rings_again capacity shown rings p n view are none within = record {
     few = are.few;
@@ -130,8 +146,10 @@ module _ {R : Type 0} where
     others_empty = ap (drop n) (rings_empty capacity shown rings p view are none) ∙ drop-replicate n (length rings) [];
   }
 
-  pub shown_again : (capacity shown : ℕ) (rings : List (VecDeque R Global)) (p : CellQueues R) (n : ℕ) → viewed capacity shown rings ≡ p →
-      AreRings capacity shown rings → rows_of p.rows ≡ [] → n ≤ p.most → viewed capacity n rings ≡ record p { rows = replicate n [] }
+  pub shown_again : (capacity shown : ℕ) (rings : List (VecDeque R Global)) (p : CellQueues R) (n : ℕ) →
+      viewed capacity shown rings ≡ p →
+      AreRings capacity shown rings → rows_of p.rows ≡ [] → n ≤ p.most →
+      viewed capacity n rings ≡ record p { rows = replicate n [] }
   shown_again capacity shown rings p n view are none within =
       let rows : shown_rows n rings ≡ replicate n [] = ap (take n) (rings_empty capacity shown rings p view are none)
       ∙ take-replicate n (length rings) [] (omega (arith, ap (λ (q : CellQueues R). q.most) view, within)) in
@@ -139,7 +157,8 @@ module _ {R : Type 0} where
       ∙ ap (λ (q : CellQueues R). record q { rows = replicate n [] }) view
 
   -- a ring has no more rows than its capacity
-  pub ring_within : (capacity shown : ℕ) (rings : List (VecDeque R Global)) (p : CellQueues R) (i : ℕ) (ring : VecDeque R Global) →
+  pub ring_within : (capacity shown : ℕ) (rings : List (VecDeque R Global)) (p : CellQueues R) (i : ℕ)
+      (ring : VecDeque R Global) →
       viewed capacity shown rings ≡ p → AreRings capacity shown rings → i < shown → ring ≡ slice_index_or rings i ring →
       length (slice_index_or p.rows i []) ≤ p.capacity
   ring_within capacity shown rings p i ring view are below read =

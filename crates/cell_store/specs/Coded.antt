@@ -22,7 +22,8 @@ module _ {R : Type 0} where
 
   abbrev pub cell_code : Coded R → Coded (KeptCell R)
   cell_code c = code_by ((Shape × List ℕ) ⊎ (Shape × (ℕ × List (List R))))
-      (coded⊎ (coded× shape.the_row.coded (coded_list coded_ℕ)) (coded× shape.the_row.coded (coded× coded_ℕ (coded_list (coded_list c)))))
+      (coded⊎ (coded× shape.the_row.coded (coded_list coded_ℕ))
+      (coded× shape.the_row.coded (coded× coded_ℕ (coded_list (coded_list c)))))
       split join join_split
 
   abbrev pub kept_code : Coded R → Coded (Kept R)

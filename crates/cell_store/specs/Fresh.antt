@@ -16,7 +16,8 @@ initial_value e me n ltime = val e (bare_state me n ltime) no_scope
 module _ {R : Type 0} where
   -- What a cell of a form keeps before the first event: its initial value, or no row.
   abbrev pub kept_first : ℕ → ℕ → ℕ → tree.Form → KeptCell R
-  kept_first me n ltime (tree.numbers shape initial) = numbers shape (replicate (size_of n shape) (initial_value initial me n ltime))
+  kept_first me n ltime (tree.numbers shape initial) =
+      numbers shape (replicate (size_of n shape) (initial_value initial me n ltime))
   kept_first me n ltime (tree.queue capacity items) = queues One capacity ([] ∷ [])
   kept_first me n ltime (tree.queues capacity items) = queues Array capacity (replicate n [])
 

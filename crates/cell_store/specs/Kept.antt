@@ -1,5 +1,6 @@
 -- The state of one layer of one member, whose queues keep rows of any type.
-use Rattle.std.specs.Prelude.{ℕ, ◌-◌, Bool, ◌&&◌, nat_lt, List, [], ◌∷◌, ◌++◌, map, length, take, drop, slice_get, slice_index, slice_index_or, slice_set, Option}
+use Rattle.std.specs.Prelude.{ℕ, ◌-◌, Bool, ◌&&◌, nat_lt, List, [], ◌∷◌, ◌++◌, map, length, take, drop, slice_get}
+use Rattle.std.specs.Prelude.{slice_index, slice_index_or, slice_set, Option}
 use Rattle.std.specs.List.{flat_map}
 use Rattle.layer_ast.specs.declared.syntax.Shape.{Shape}
 use Rattle.layer_ast.specs.declared.syntax.Shape.TheVariants.{One}
@@ -7,8 +8,8 @@ use Rattle.layer_mean.specs.State as state
 use Rattle.layer_mean.specs.State.{State, Contents}
 use Rattle.layer_mean.specs.declared.run.Row.{Row}
 
--- What a cell keeps: the numbers of its shape by their flat index, or the rows of its queue or of each queue of its array, the front
--- first; each of these keeps so many rows.
+-- What a cell keeps: the numbers of its shape by their flat index, or the rows of its queue or of each queue of its
+-- array, the front first; each of these keeps so many rows.
 pub data KeptCell (R : Type 0) : Type 0 where
   numbers : Shape → List ℕ → KeptCell R
   queues : Shape → (capacity : ℕ) → List (List R) → KeptCell R
@@ -60,7 +61,8 @@ module _ {R : Type 0} where
 
   -- Whether queue i of cell c is there and has fewer rows than a capacity.
   abbrev pub keeps_room : Kept R → ℕ → ℕ → ℕ → Bool
-  keeps_room k c i capacity = nat_lt i (length (queues_kept (kept_at k c))) && nat_lt (length (kept_rows k c i)) capacity
+  keeps_room k c i capacity = nat_lt i (length (queues_kept (kept_at k c))) &&
+      nat_lt (length (kept_rows k c i)) capacity
 
   abbrev pub with_kept : Kept R → ℕ → KeptCell R → Kept R
   with_kept k c cell = record k { cells = slice_set k.cells c cell }

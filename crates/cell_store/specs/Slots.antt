@@ -1,5 +1,6 @@
 -- How the cells of a layer lie: each has a part of one block of numbers, and its queues.
-use Rattle.std.specs.Prelude.{◌≡◌, ℕ, ◌+◌, ◌<◌, ◌≤◌, List, [], ◌∷◌, map, length, take, drop, replicate, slice_get, slice_index_or, Option, Some, None}
+use Rattle.std.specs.Prelude.{◌≡◌, ℕ, ◌+◌, ◌<◌, ◌≤◌, List, [], ◌∷◌, map, length, take, drop, replicate, slice_get}
+use Rattle.std.specs.Prelude.{slice_index_or, Option, Some, None}
 use Rattle.std.specs.List.{flat_map, sum_by}
 use Rattle.layer_ast.specs.declared.syntax.Shape.{Shape}
 use Rattle.layer_mean.specs.Tree as tree
@@ -38,8 +39,8 @@ module _ {R : Type 0} where
   abbrev pub slot_capacity : Slot R → ℕ
   slot_capacity s = capacity_framed s.frame s.rings.capacity
 
-  -- A cell of numbers has no queue, and no more numbers than there are for so many members; one of queues has no numbers, and room for the
-  -- queues of so many members.
+  -- A cell of numbers has no queue, and no more numbers than there are for so many members; one of queues has no
+  -- numbers, and room for the queues of so many members.
   abbrev pub FitsFrame : ℕ → Frame → ℕ → CellQueues R → Type 0
   FitsFrame most (Numbers shape) count qs = (count ≤ size_of most shape) × (qs.rows ≡ [])
   FitsFrame most (Queues shape) count qs = (count ≡ 0) × (qs.most ≡ size_of most shape)
@@ -94,8 +95,9 @@ module _ {R : Type 0} where
   HasFirst slots c i = (slot_rows (take c slots) ≡ []) × HasFirstIn i (slice_get slots c)
 
   -- Cells and their block before the first event.
-  pub record AreFirst (me n ltime most : ℕ) (cells : List CellTree) (block : List ℕ) (slots : List (Slot R)) : Type 0 where
-    pub laid : AreLaid most 0 (length block) slots
-    pub kept : map (slot_kept block) slots ≡ map (λ c. kept_first me n ltime c.form) cells
-    pub frames : frames_of slots ≡ map (λ c. frame_in c.form) cells
-    pub size : length block ≡ sum_by (numbers_for n) (frames_of slots)
+  pub record AreFirst (me n ltime most : ℕ) (cells : List CellTree) (block : List ℕ) (slots : List (Slot R)) : Type 0
+    where
+      pub laid : AreLaid most 0 (length block) slots
+      pub kept : map (slot_kept block) slots ≡ map (λ c. kept_first me n ltime c.form) cells
+      pub frames : frames_of slots ≡ map (λ c. frame_in c.form) cells
+      pub size : length block ≡ sum_by (numbers_for n) (frames_of slots)

@@ -1,10 +1,13 @@
 //! The store.
 
-ghost use Rattle.std.specs.Prelude.{◌≡◌, ◌≤◌, [], ◌++◌, true, length, map, IfOk, IfNone, IfSome, option_copied, option_to_list, All, vec_capacity};
+ghost use Rattle.std.specs.Prelude.{◌≡◌, ◌≤◌, [], ◌++◌, true, length, map, IfOk, IfNone, IfSome, option_copied};
+ghost use Rattle.std.specs.Prelude.{option_to_list, All, vec_capacity};
 ghost use Rattle.std.specs.List.{sum_by};
 ghost use Rattle.layer_mean.specs.State.{flat_index};
 ghost use Rattle.typed_layer.specs.View.{layer_tree, form_tree};
-ghost use Rattle.cell_store.specs.Kept.{kept_at, numbers_kept, queues_kept, kept_number, kept_rows, kept_row, kept_capacity, keeps_room, with_kept_number, with_last, with_first, without_first, without_last, first_row, last_row, rows_in, emptied};
+ghost use Rattle.cell_store.specs.Kept.{kept_at, numbers_kept, queues_kept, kept_number, kept_rows, kept_row};
+ghost use Rattle.cell_store.specs.Kept.{kept_capacity, keeps_room, with_kept_number, with_last, with_first};
+ghost use Rattle.cell_store.specs.Kept.{without_first, without_last, first_row, last_row, rows_in, emptied};
 ghost use Rattle.cell_store.specs.Fresh.{kept_first, kept_fresh, IsFor};
 ghost use Rattle.msg_core.specs.View.{most_members};
 
@@ -13,8 +16,8 @@ use std::alloc::{AllocError, Global};
 use std::marker::Model;
 use typed_layer::TypedLayer;
 
-/// The cells of one layer of one member, with the own rank, the number of members and the view's ltime. Rows are only moved in and out,
-/// so they may be of a type that can't be let go.
+/// The cells of one layer of one member, with the own rank, the number of members and the view's ltime. Rows are only
+/// moved in and out, so they may be of a type that can't be let go.
 pub struct Cells<R> {
     me: u32,
     count: u32,
@@ -69,7 +72,8 @@ impl<R> Cells<R> {
         })
     }
 
-    /// Begins again, at the member of rank `me` of `count`, of whom there are no more than there were at first. No row may be left.
+    /// Begins again, at the member of rank `me` of `count`, of whom there are no more than there were at first. No row
+    /// may be left.
     pub fn reset(&mut self, layer: &TypedLayer, me: u32, count: u32, ltime: u32)
         requires layer { IsFor (layer_tree layer.now) self.old }
         requires few { count ≤ self.old.most }

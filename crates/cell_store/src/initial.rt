@@ -6,8 +6,8 @@ ghost use Rattle.cell_store.specs.Fresh.{initial_value};
 
 use typed_layer::{Expression, applied, applied_to};
 
-/// What an initial expression is worth at the member of rank `me` of `count`. There are no cells and no scope yet, whose numbers and
-/// sizes are read as 0.
+/// What an initial expression is worth at the member of rank `me` of `count`. There are no cells and no scope yet,
+/// whose numbers and sizes are read as 0.
 #[tactic(auto, using(crate::proofs::Sizeless::no_size))]
 pub fn initial_value(expression: &Expression, me: u32, count: u32, ltime: u32) -> u32
     ensures { result ≡ initial_value (expression_tree expression.now) me count ltime }

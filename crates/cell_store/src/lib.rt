@@ -1,5 +1,5 @@
-//! The state of one layer of one member: all its numbers in one block, and its queues in rings, for rows of any type. No call but the
-//! one that makes it takes memory.
+//! The state of one layer of one member: all its numbers in one block, and its queues in rings, for rows of any type.
+//! No call but the one that makes it takes memory.
 #![tactic(auto)]
 
 mod cells;

@@ -1,6 +1,8 @@
 //! The queues of one cell.
 
-ghost use Rattle.std.specs.Prelude.{◌≡◌, ◌-◌, ◌<◌, ◌≤◌, List, [], ◌∷◌, ◌++◌, map, length, take, drop, replicate, slice_get, slice_index_or, slice_set, option_copied, option_to_list, IfOk, IfNone, IfSome};
+ghost use Rattle.std.specs.Prelude.{◌≡◌, ◌-◌, ◌<◌, ◌≤◌, List, [], ◌∷◌, ◌++◌, map, length, take, drop, replicate};
+ghost use Rattle.std.specs.Prelude.{slice_get, slice_index_or, slice_set, option_copied, option_to_list, IfOk, IfNone};
+ghost use Rattle.std.specs.Prelude.{IfSome};
 ghost use Rattle.std.specs.VecDeque.{deque_items};
 ghost use Rattle.cell_store.specs.Kept.{rows_of};
 ghost use Rattle.cell_store.specs.Rings.{CellQueues, shown_rows};
@@ -9,8 +11,8 @@ use std::alloc::{AllocError, Global};
 use std::collections::VecDeque;
 use std::marker::Model;
 
-/// The queues of one cell as rings, each made with its whole capacity. There may be fewer of them than there is room for; the others
-/// are empty.
+/// The queues of one cell as rings, each made with its whole capacity. There may be fewer of them than there is room
+/// for; the others are empty.
 pub struct Rings<R> {
     capacity: u8,
     shown: usize,
@@ -26,7 +28,8 @@ impl<R> Model for Rings<R> {
 
     ghost coded = { queues_code R.code };
 
-    ghost view = { λ r. record { capacity = r.capacity; most = length r.rings.items; rows = shown_rows r.shown r.rings.items } };
+    ghost view = { λ r. record
+        { capacity = r.capacity; most = length r.rings.items; rows = shown_rows r.shown r.rings.items } };
 
     ghost invariant = { λ r. AreRings r.capacity r.shown r.rings.items };
 }
@@ -94,7 +97,8 @@ impl<R> Rings<R> {
     pub fn push(&mut self, index: usize, row: R)
         requires there { index < length self.old.rows }
         requires room { length (slice_index_or self.old.rows index []) < self.old.capacity }
-        ensures { self.new ≡ record self.old { rows = slice_set self.old.rows index (slice_index_or self.old.rows index [] ++ row ∷ []) } }
+        ensures { self.new ≡ record self.old
+            { rows = slice_set self.old.rows index (slice_index_or self.old.rows index [] ++ row ∷ []) } }
     {
         let ring = &mut self.rings[index];
         ring.push_back_reserved(row);
@@ -104,7 +108,8 @@ impl<R> Rings<R> {
     pub fn put_front(&mut self, index: usize, row: R)
         requires there { index < length self.old.rows }
         requires room { length (slice_index_or self.old.rows index []) < self.old.capacity }
-        ensures { self.new ≡ record self.old { rows = slice_set self.old.rows index (row ∷ slice_index_or self.old.rows index []) } }
+        ensures { self.new ≡ record self.old
+            { rows = slice_set self.old.rows index (row ∷ slice_index_or self.old.rows index []) } }
     {
         let ring = &mut self.rings[index];
         ring.push_front_reserved(row);
@@ -114,7 +119,8 @@ impl<R> Rings<R> {
     pub fn take(&mut self, index: usize) -> Option<R>
         ensures row { result ≡ slice_get (slice_index_or self.old.rows index []) 0 }
         ensures within { length (slice_index_or self.old.rows index []) ≤ self.old.capacity }
-        ensures rest { self.new ≡ record self.old { rows = slice_set self.old.rows index (drop 1 (slice_index_or self.old.rows index [])) } }
+        ensures rest { self.new ≡
+            record self.old { rows = slice_set self.old.rows index (drop 1 (slice_index_or self.old.rows index [])) } }
     {
         if index < self.shown {
             let ring = &mut self.rings[index];
@@ -126,10 +132,12 @@ impl<R> Rings<R> {
 
     /// Takes the last row of a queue.
     pub fn take_back(&mut self, index: usize) -> Option<R>
-        ensures row { result ≡ slice_get (slice_index_or self.old.rows index []) (length (slice_index_or self.old.rows index []) - 1) }
+        ensures row { result ≡
+            slice_get (slice_index_or self.old.rows index []) (length (slice_index_or self.old.rows index []) - 1) }
         ensures within { length (slice_index_or self.old.rows index []) ≤ self.old.capacity }
         ensures rest { self.new ≡ record self.old {
-          rows = slice_set self.old.rows index (take (length (slice_index_or self.old.rows index []) - 1) (slice_index_or self.old.rows index []));
+          rows = slice_set self.old.rows index
+              (take (length (slice_index_or self.old.rows index []) - 1) (slice_index_or self.old.rows index []));
         } }
     {
         if index < self.shown {
@@ -142,7 +150,8 @@ impl<R> Rings<R> {
 
     /// The first queue that has a row.
     pub fn first_filled(&self) -> Option<usize>
-        ensures some { IfSome result (λ i. (0 < length (slice_index_or self.now.rows i [])) × (rows_of (take i self.now.rows) ≡ [])) }
+        ensures some { IfSome result
+            (λ i. (0 < length (slice_index_or self.now.rows i [])) × (rows_of (take i self.now.rows) ≡ [])) }
         ensures none { IfNone result (rows_of self.now.rows ≡ []) }
     {
         first_filled(&self.rings, self.shown)
@@ -174,7 +183,8 @@ impl<R> Rings<R> {
 fn first_filled<R>(rings: &[VecDeque<R>], shown: usize) -> Option<usize>
     requires { shown ≤ length rings.now }
     ensures some { IfSome result (λ i.
-        (0 < length (slice_index_or (shown_rows shown rings.now) i [])) × (rows_of (take i (shown_rows shown rings.now)) ≡ [])) }
+        (0 < length (slice_index_or (shown_rows shown rings.now) i [])) ×
+        (rows_of (take i (shown_rows shown rings.now)) ≡ [])) }
     ensures none { IfNone result (rows_of (shown_rows shown rings.now) ≡ []) }
 {
     for index in 0..shown {

@@ -1,13 +1,16 @@
 //! The cells of a layer, one behind the other.
 
-ghost use Rattle.std.specs.Prelude.{◌≡◌, ◌+◌, ◌<◌, ◌≤◌, [], ◌++◌, ◌&&◌, true, nat_lt, length, map, replicate, slice_get, slice_index_or, option_copied, IfOk, IfNone, IfSome, OnOk, OnErr, vec_capacity};
+ghost use Rattle.std.specs.Prelude.{◌≡◌, ◌+◌, ◌<◌, ◌≤◌, [], ◌++◌, ◌&&◌, true, nat_lt, length, map, replicate};
+ghost use Rattle.std.specs.Prelude.{slice_get, slice_index_or, option_copied, IfOk, IfNone, IfSome, OnOk, OnErr};
+ghost use Rattle.std.specs.Prelude.{vec_capacity};
 ghost use Rattle.std.specs.List.{sum_by};
 ghost use Rattle.layer_mean.specs.State.{size_of};
 ghost use Rattle.typed_layer.specs.View.{cell_tree, form_tree};
 ghost use Rattle.cell_store.specs.Kept.{rows_of};
 ghost use Rattle.cell_store.specs.Fresh.{tree_form};
 ghost use Rattle.cell_store.specs.Frames.{frame_in, capacity_in, numbers_for, queues_for, first_numbers};
-ghost use Rattle.cell_store.specs.Slots.{slot_first, slot_again, slot_form, slot_capacity, slot_rows, frames_of, AreLaid, AreFirst, HasFirst};
+ghost use Rattle.cell_store.specs.Slots.{slot_first, slot_again, slot_form, slot_capacity, slot_rows, frames_of};
+ghost use Rattle.cell_store.specs.Slots.{AreLaid, AreFirst, HasFirst};
 ghost use Rattle.msg_core.specs.View.{most_members};
 
 use crate::initial::initial_value;
@@ -73,7 +76,8 @@ impl<R> Slot<R> {
 
     /// Whether a queue is there and has fewer rows than a capacity.
     pub fn has_room(&self, index: usize, capacity: u8) -> bool
-        ensures { result ≡ (nat_lt index (length self.now.rings.rows) && nat_lt (length (slice_index_or self.now.rings.rows index [])) capacity) }
+        ensures { result ≡ (nat_lt index (length self.now.rings.rows) &&
+            nat_lt (length (slice_index_or self.now.rings.rows index [])) capacity) }
     {
         index < self.rings.count() && self.rings.len(index) < capacity
     }
@@ -146,8 +150,10 @@ fn fill(
     ltime: u32,
 ) -> Result<(), AllocError>
     requires { count ≤ most_members }
-    ensures numbers { OnOk result (block.new.items ≡ block.old.items ++ first_numbers me count ltime (form_tree form.now)) }
-    ensures full { OnErr result (vec_capacity block.old < length block.old.items + numbers_for count (frame_in (form_tree form.now))) }
+    ensures numbers { OnOk result
+        (block.new.items ≡ block.old.items ++ first_numbers me count ltime (form_tree form.now)) }
+    ensures full { OnErr result
+        (vec_capacity block.old < length block.old.items + numbers_for count (frame_in (form_tree form.now))) }
     ensures capacity { vec_capacity block.old ≤ vec_capacity block.new }
 {
     if let Form::Numbers { shape, initial } = form {
@@ -168,7 +174,8 @@ fn fill_and_begin<R>(
     ltime: u32,
 ) -> Result<Slot<R>, AllocError>
     requires { count ≤ most_members }
-    ensures numbers { OnOk result (block.new.items ≡ block.old.items ++ first_numbers me count ltime (form_tree form.now)) }
+    ensures numbers { OnOk result
+        (block.new.items ≡ block.old.items ++ first_numbers me count ltime (form_tree form.now)) }
     ensures slot { IfOk result (λ s. s ≡ slot_first count count (length block.old.items) (form_tree form.now)) }
 {
     let at = block.len();

@@ -1,5 +1,6 @@
 -- Each emission and each take of a typed block is orderly.
-use Rattle.std.proofs.Common.{◌≡◌, ℕ, zero, suc, ◌+◌, ◌≤◌, Bool, true, false, List, [], ◌∷◌, ◌++◌, length, Option, Some, None, refl, subst, arith}
+use Rattle.std.proofs.Common.{◌≡◌, ℕ, zero, suc, ◌+◌, ◌≤◌, Bool, true, false, List, [], ◌∷◌, ◌++◌, length, Option, Some}
+use Rattle.std.proofs.Common.{None, refl, subst, arith}
 use Rattle.std.specs.Prelude.{slice_get, slice_set}
 use Rattle.msg_core.specs.Chain.{Content}
 use Rattle.msg_core.specs.declared.message.Header.{Header}
@@ -10,24 +11,29 @@ use Rattle.layer_ast.specs.declared.tokens.Dir.TheVariants.{Up, Down}
 use Rattle.layer_ast.specs.declared.tokens.Kind.{Kind}
 use Rattle.layer_mean.specs.Event.{carries}
 use Rattle.layer_mean.specs.Headers.{declared}
-use Rattle.layer_mean.specs.Tree.{Carried, ContentTree, StatementTree, bind, assign, assign_square, push, take, branch, each, emit, StatementTrees, none, more, LayerTree}
+use Rattle.layer_mean.specs.Tree.{Carried, ContentTree, StatementTree, bind, assign, assign_square, push, take, branch}
+use Rattle.layer_mean.specs.Tree.{each, emit, StatementTrees, none, more, LayerTree}
 use Rattle.layer_mean.specs.Visit.{with_room}
 use Rattle.packet_mean.specs.ChainedState.{IsFrom, Brings}
 use Rattle.stack_mean.specs.Graph.{goes_down}
-use Rattle.chain_laws.specs.Typed.{Sends, Takes, with_taken_sort, Typed, TypedAll, met_sorts, sorts_of, TypedHandler, TypedLayer}
+use Rattle.chain_laws.specs.Typed.{Sends, Takes, with_taken_sort, Typed, TypedAll, met_sorts, sorts_of, TypedHandler}
+use Rattle.chain_laws.specs.Typed.{TypedLayer}
 use Rattle.chain_laws.specs.Runs.{TypedLayers, IsOnItsWay, task_place}
 use Rattle.chain_laws.proofs.Lists.{there, each_so}
 use Rattle.weight_laws.specs.Chains.{first_place, HasChain}
-use Rattle.weight_laws.specs.Orderly.{IsOrderlyContent, KeepsMessage, IsOrderlyStatement, IsOrderlyBlock, IsOrderlyHandler, IsOrderlyLayer, IsOrderly}
+use Rattle.weight_laws.specs.Orderly.{IsOrderlyContent, KeepsMessage, IsOrderlyStatement, IsOrderlyBlock}
+use Rattle.weight_laws.specs.Orderly.{IsOrderlyHandler, IsOrderlyLayer, IsOrderly}
 use Rattle.weight_laws.proofs.Chains.{chained_tasks_are_known}
 use Rattle.chain_laws.specs.Orderly.{TypedIsOrderly, ChainedIsKnown}
 
-sent_is : (layer : LayerTree) (blank : List Header) (sorts : List Sort) (dir : Dir) (kind : Kind) (c : Option ContentTree) (b : Bool) →
+sent_is : (layer : LayerTree) (blank : List Header) (sorts : List Sort) (dir : Dir) (kind : Kind)
+    (c : Option ContentTree) (b : Bool) →
     carries kind ≡ b → Sends layer blank sorts b dir c → IsOrderlyContent layer dir kind c
 sent_is layer blank sorts dir kind None b is h = tt
 sent_is layer blank sorts dir kind (Some c) false is h = absurd h
 sent_is layer blank sorts Up kind (Some c) true is h = is
-sent_is layer blank sorts Down kind (Some c) true is h = (is, there (declared layer c.tag) _ h.declares (λ d listed rest. rw listed refl))
+sent_is layer blank sorts Down kind (Some c) true is h =
+    (is, there (declared layer c.tag) _ h.declares (λ d listed rest. rw listed refl))
 
 -- a handler of a message from above has it in its first slot
 abbrev Above : Bool → List Sort → Type 0
@@ -38,7 +44,8 @@ later : (sorts : List Sort) (k : ℕ) → slice_get sorts 0 ≡ Some Msg → sli
 later sorts zero first free = absurd (cc (first, free))
 later sorts (suc k) first free = omega arith
 
-keeps_message : (layer : LayerTree) (blank : List Header) (sorts : List Sort) (above : Bool) (c : ℕ) (m : Option (ℕ × Carried)) →
+keeps_message : (layer : LayerTree) (blank : List Header) (sorts : List Sort) (above : Bool) (c : ℕ)
+    (m : Option (ℕ × Carried)) →
     Above above sorts → Takes layer blank sorts c m → KeepsMessage above m
 keeps_message layer blank sorts true c None first h = tt
 keeps_message layer blank sorts true c (Some slot) first h = later sorts slot.0 first h.1
@@ -50,7 +57,8 @@ still_set [] k s first free = first
 still_set (x ∷ sorts) zero s first free = absurd (cc (first, free))
 still_set (x ∷ sorts) (suc k) s first free = first
 
-still_above : (layer : LayerTree) (blank : List Header) (sorts : List Sort) (above : Bool) (c : ℕ) (m : Option (ℕ × Carried)) →
+still_above : (layer : LayerTree) (blank : List Header) (sorts : List Sort) (above : Bool) (c : ℕ)
+    (m : Option (ℕ × Carried)) →
     Above above sorts → Takes layer blank sorts c m → Above above (with_taken_sort sorts m)
 still_above layer blank sorts true c None first h = first
 still_above layer blank sorts true c (Some slot) first h = still_set sorts slot.0 _ first h.1
@@ -58,21 +66,26 @@ still_above layer blank sorts false c m first h = tt
 
 module _ (layer : LayerTree) (blank : List Header) (above : Bool) where
   mutual
-    statement_is : (x : StatementTree) (sorts : List Sort) → Above above sorts → Typed layer blank sorts x → IsOrderlyStatement layer above x
+    statement_is : (x : StatementTree) (sorts : List Sort) → Above above sorts → Typed layer blank sorts x →
+        IsOrderlyStatement layer above x
     statement_is (bind k e) sorts first h = tt
     statement_is (assign c i e) sorts first h = tt
     statement_is (assign_square c row column e) sorts first h = tt
     statement_is (push c i capacity row otherwise) sorts first h = block_is otherwise sorts first h.1
     statement_is (take c i taken block otherwise) sorts first h = (
       keeps_message layer blank sorts above c taken.message first h.0,
-      block_is block (with_taken_sort sorts taken.message) (still_above layer blank sorts above c taken.message first h.0) h.1,
+      block_is block (with_taken_sort sorts taken.message)
+          (still_above layer blank sorts above c taken.message first h.0) h.1,
       block_is otherwise sorts first h.2,
     )
-    statement_is (branch likely e block otherwise) sorts first h = (block_is block sorts first h.0, block_is otherwise sorts first h.1)
+    statement_is (branch likely e block otherwise) sorts first h =
+        (block_is block sorts first h.0, block_is otherwise sorts first h.1)
     statement_is (each k below most block) sorts first h = block_is block sorts first h.1
-    statement_is (emit e) sorts first h = sent_is layer blank sorts e.direction e.kind e.content (carries e.kind) refl h.1
+    statement_is (emit e) sorts first h = sent_is layer blank sorts e.direction e.kind e.content (carries e.kind) refl
+        h.1
 
-    block_is : (xs : StatementTrees) (sorts : List Sort) → Above above sorts → TypedAll layer blank sorts xs → IsOrderlyBlock layer above xs
+    block_is : (xs : StatementTrees) (sorts : List Sort) → Above above sorts → TypedAll layer blank sorts xs →
+        IsOrderlyBlock layer above xs
     block_is none sorts first h = tt
     block_is (more x rest) sorts first h = (statement_is x sorts first h.0, block_is rest sorts first h.1)
 
@@ -107,7 +120,8 @@ typed_is_orderly stack h = layers_are 0 stack h
 
 -- chained tasks
 
-has_chain : (stack : List LayerTree) (place : ℕ) (b : Bool) (m : Option Content) → Brings (IsFrom stack place) b m → HasChain stack place b m
+has_chain : (stack : List LayerTree) (place : ℕ) (b : Bool) (m : Option Content) → Brings (IsFrom stack place) b m →
+    HasChain stack place b m
 has_chain stack place true None h = absurd h
 has_chain stack place true (Some m) h = h.headers.chain
 has_chain stack place false None h = tt

@@ -1,5 +1,6 @@
 -- All numbers of a visit are below 2^32, and all bodies have at most 8,192 bytes.
-use Rattle.std.proofs.Common.{◌≡◌, ℕ, zero, suc, ◌+◌, ◌*◌, ◌-◌, ◌<◌, ◌≤◌, Bool, true, false, List, [], ◌++◌, length, refl, arith}
+use Rattle.std.proofs.Common.{◌≡◌, ℕ, zero, suc, ◌+◌, ◌*◌, ◌-◌, ◌<◌, ◌≤◌, Bool, true, false, List, [], ◌++◌, length}
+use Rattle.std.proofs.Common.{refl, arith}
 use Rattle.std.specs.Prelude.{◌^◌, ◌%◌, ◌/◌, nat_lt, nat_le, if◌then◌else◌, take, drop}
 use Rattle.std.specs.Int.Bits.{and_lt}
 use Rattle.std.specs.Int.Count.{ones_in}
@@ -14,7 +15,9 @@ use Rattle.msg_core.specs.Parts.{longest_body}
 use Rattle.layer_ast.specs.declared.syntax.Function.{Function}
 use Rattle.layer_ast.specs.declared.syntax.Function.TheVariants.{Not, Bit, Count, Lowest}
 use Rattle.layer_ast.specs.declared.syntax.Operator.{Operator}
-use Rattle.layer_ast.specs.declared.syntax.Operator.TheVariants.{Add, Subtract, Multiply, Equal, NotEqual, Less, LessOrEqual, Greater, GreaterOrEqual, And, Or, BitAnd, BitOr, BitXor}
+use Rattle.layer_ast.specs.declared.syntax.Operator.TheVariants.{Add, Subtract, Multiply, Equal, NotEqual, Less}
+use Rattle.layer_ast.specs.declared.syntax.Operator.TheVariants.{LessOrEqual, Greater, GreaterOrEqual, And, Or, BitAnd}
+use Rattle.layer_ast.specs.declared.syntax.Operator.TheVariants.{BitOr, BitXor}
 use Rattle.packet_mean.specs.ChainedState.{IsNumber, IsBody}
 use Rattle.layer_mean.specs.Value.{of_bool, wrapped, applied, function_of}
 use Rattle.chain_laws.proofs.Lists.{each_append, each_drop, each_take}
@@ -86,7 +89,8 @@ tail_body k body h = record {
   bytes = each_drop _ k body h.bytes;
 }
 
-joined_body : (p m : Content) (b : Bool) → nat_le (length p.body + length m.body) longest_body ≡ b → IsBody p.body → IsBody m.body →
+joined_body : (p m : Content) (b : Bool) → nat_le (length p.body + length m.body) longest_body ≡ b → IsBody p.body →
+    IsBody m.body →
     IsBody (if b then record { headers = m.headers; body = p.body ++ m.body } else m).body
 joined_body p m true is h i = record {
   within = omega (arith, leb-true (length p.body + length m.body) longest_body is, length-append p.body m.body);

@@ -1,5 +1,6 @@
 -- What statements do keeps states and scopes, and what they send is chained.
-use Rattle.std.proofs.Common.{◌≡◌, ◌∙◌, ℕ, zero, suc, ◌<◌, Bool, true, false, List, [], ◌∷◌, length, map, Option, Some, None, refl, subst, arith}
+use Rattle.std.proofs.Common.{◌≡◌, ◌∙◌, ℕ, zero, suc, ◌<◌, Bool, true, false, List, [], ◌∷◌, length, map, Option, Some}
+use Rattle.std.proofs.Common.{None, refl, subst, arith}
 use Rattle.std.specs.Prelude.{◌^◌, if◌then◌else◌, min, slice_index, option_map}
 use Rattle.std.specs.List.{AllByRecursion, fold}
 use Rattle.std.proofs.lemmas.List.{length-map}
@@ -16,15 +17,20 @@ use Rattle.layer_mean.specs.declared.run.Event.{Event}
 use Rattle.layer_mean.specs.declared.run.Row.{Row}
 use Rattle.layer_mean.specs.Event.{carries, event_of}
 use Rattle.layer_mean.specs.Headers.{declared}
-use Rattle.layer_mean.specs.Tree.{Carried, HeaderTree, MessageTree, ContentTree, EmissionTree, RowTree, StatementTree, bind, assign, assign_square, push, take, branch, each, emit, StatementTrees, none, more, LayerTree}
+use Rattle.layer_mean.specs.Tree.{Carried, HeaderTree, MessageTree, ContentTree, EmissionTree, RowTree, StatementTree}
+use Rattle.layer_mean.specs.Tree.{bind, assign, assign_square, push, take, branch, each, emit, StatementTrees, none}
+use Rattle.layer_mean.specs.Tree.{more, LayerTree}
 use Rattle.layer_mean.specs.State.{State, flat_index, row_at, rows_at, has_room, with_number, with_row, without_front}
 use Rattle.layer_mean.specs.Value.{Scope, is_true, val, mval, message_in}
-use Rattle.layer_mean.specs.Effect.{Outcome, Act, done, after, in_order, with_slot, turns, row_of, with_slots, with_taken, header_of, sent_as, emitted, chosen, taking, does, acts}
+use Rattle.layer_mean.specs.Effect.{Outcome, Act, done, after, in_order, with_slot, turns, row_of, with_slots}
+use Rattle.layer_mean.specs.Effect.{with_taken, header_of, sent_as, emitted, chosen, taking, does, acts}
 use Rattle.packet_mean.specs.ChainedState.{IsNumber, Numbers, IsMessage, EndsWith, IsRow, IsState, Brings, IsEvent}
-use Rattle.chain_laws.specs.Typed.{Small, sort_of, sort_under, Pushed, Content as SendsContent, Sends, Ends, Pushes, Takes, with_taken_sort, Typed, TypedAll}
+use Rattle.chain_laws.specs.Typed.{Small, sort_of, sort_under, Pushed, Content as SendsContent, Sends, Ends, Pushes}
+use Rattle.chain_laws.specs.Typed.{Takes, with_taken_sort, Typed, TypedAll}
 use Rattle.chain_laws.proofs.Lists.{Where, there, each_where, each_or, each_set, each_append, zip_set, zip_back}
 use Rattle.chain_laws.proofs.Small.{zero_small}
-use Rattle.chain_laws.proofs.Sorts.{HeadersOf, Is, kept_of, IsScope, Kept, kept, KeptRow, row_at_kept, number_keeps, front_keeps, row_keeps, rows_hold}
+use Rattle.chain_laws.proofs.Sorts.{HeadersOf, Is, kept_of, IsScope, Kept, kept, KeptRow, row_at_kept, number_keeps}
+use Rattle.chain_laws.proofs.Sorts.{front_keeps, row_keeps, rows_hold}
 use Rattle.chain_laws.proofs.Values.{val_small, vals_small, message_in_is, mval_is}
 
 -- the headers of an event that is sent in a direction
@@ -45,7 +51,8 @@ pub record Popped (P : List Header → Type 0) (layer : LayerTree) (hs : List He
   pub fields : Numbers first.fields
   pub behind : HeadersOf P (sort_under declaration.ends) rest
 
--- how the headers of a layer at a place stand before those of the layers above: P is of the layers above, and Q from this one on
+-- how the headers of a layer at a place stand before those of the layers above: P is of the layers above, and Q from
+-- this one on
 pub record Stands (P Q : List Header → Type 0) (layer : LayerTree) (place : ℕ) (blank : List Header) : Type 0 where
   pub blank_is : P blank
   pub push_is : (h : Header) (d : HeaderTree) (hs : List Header) → h.layer ≡ place → declared layer h.tag ≡ Some d →
@@ -53,7 +60,8 @@ pub record Stands (P Q : List Header → Type 0) (layer : LayerTree) (place : �
   pub pop_is : (hs : List Header) → Q hs → Popped P layer hs
 
 -- what statements keep
-pub record KeepsAt (P Q : List Header → Type 0) (layer : LayerTree) (sorts : List Sort) (s : State) (l : Scope) (sent : List (Dir × Event)) : Type 0 where
+pub record KeepsAt (P Q : List Header → Type 0) (layer : LayerTree) (sorts : List Sort) (s : State) (l : Scope)
+    (sent : List (Dir × Event)) : Type 0 where
   pub state : IsState P layer s
   pub scope : IsScope P sorts l
   pub sent_is : AllByRecursion (IsSent P Q) sent
@@ -62,7 +70,8 @@ abbrev pub Keeps : (P Q : List Header → Type 0) (layer : LayerTree) (sorts : L
 Keeps P Q layer sorts o = KeepsAt P Q layer sorts o.state o.scope o.sent
 
 -- an event of numbers, with a message where its kind carries one
-pub event_is : (C : List Header → Type 0) (kind : Kind) (ns : List ℕ) (m : Option Content) → Numbers ns → Brings C (carries kind) m →
+pub event_is : (C : List Header → Type 0) (kind : Kind) (ns : List ℕ) (m : Option Content) → Numbers ns →
+    Brings C (carries kind) m →
     IsEvent C (event_of kind ns m)
 event_is C kind ns m small brings = go (carries kind) where
   go : (b : Bool) → IsEvent C (if b
@@ -76,10 +85,12 @@ event_is C kind ns m small brings = go (carries kind) where
     message = brings;
   }
 
-module _ (P Q : List Header → Type 0) (layer : LayerTree) (place : ℕ) (blank : List Header) (stands : Stands P Q layer place blank) where
+module _ (P Q : List Header → Type 0) (layer : LayerTree) (place : ℕ) (blank : List Header)
+    (stands : Stands P Q layer place blank) where
   -- emissions
 
-  pushed_is : (sorts : List Sort) (c : ContentTree) (s : State) (l : Scope) → Pushed layer blank sorts c → IsState P layer s →
+  pushed_is : (sorts : List Sort) (c : ContentTree) (s : State) (l : Scope) → Pushed layer blank sorts c →
+      IsState P layer s →
       IsScope P sorts l → IsMessage Q (pushed (header_of place c s l) (mval c.message s l))
   pushed_is sorts c s l h state scope = there (declared layer c.tag) _ h.declares (λ d declares is.
       let m = mval_is P layer blank stands.blank_is sorts s l state scope c.message (sort_under d.ends) is.1 in
@@ -90,7 +101,8 @@ module _ (P Q : List Header → Type 0) (layer : LayerTree) (place : ℕ) (blank
         body = m.body;
       })
 
-  content_is : (sorts : List Sort) (dir : Dir) (c : ContentTree) (s : State) (l : Scope) → SendsContent layer blank sorts dir c →
+  content_is : (sorts : List Sort) (dir : Dir) (c : ContentTree) (s : State) (l : Scope) →
+      SendsContent layer blank sorts dir c →
       IsState P layer s → IsScope P sorts l →
       IsMessage (sent_headers P Q dir) (sent_as dir (header_of place c s l) (mval c.message s l))
   content_is sorts Up c s l h state scope =
@@ -99,7 +111,8 @@ module _ (P Q : List Header → Type 0) (layer : LayerTree) (place : ℕ) (blank
   content_is sorts Down c s l h state scope =
       let m = pushed_is sorts c s l h state scope in record { headers = m.headers; body = m.body }
 
-  brings_is : (sorts : List Sort) (b : Bool) (dir : Dir) (c : Option ContentTree) (s : State) (l : Scope) → Sends layer blank sorts b dir c →
+  brings_is : (sorts : List Sort) (b : Bool) (dir : Dir) (c : Option ContentTree) (s : State) (l : Scope) →
+      Sends layer blank sorts b dir c →
       IsState P layer s → IsScope P sorts l →
       Brings (sent_headers P Q dir) b (option_map (λ c. sent_as dir (header_of place c s l) (mval c.message s l)) c)
   brings_is sorts true dir None s l h state scope = absurd h
@@ -110,14 +123,16 @@ module _ (P Q : List Header → Type 0) (layer : LayerTree) (place : ℕ) (blank
   emitted_is : (sorts : List Sort) (e : EmissionTree) (s : State) (l : Scope) → AllByRecursion Small e.numbers →
       Sends layer blank sorts (carries e.kind) e.direction e.content → IsState P layer s → IsScope P sorts l →
       IsSent P Q (e.direction, emitted place e s l)
-  emitted_is sorts e s l small sends state scope = event_is (sent_headers P Q e.direction) e.kind (map (λ n. val n s l) e.numbers) _
+  emitted_is sorts e s l small sends state scope =
+      event_is (sent_headers P Q e.direction) e.kind (map (λ n. val n s l) e.numbers) _
       (vals_small s l (kept P layer sorts s l state scope) e.numbers small)
       (brings_is sorts (carries e.kind) e.direction e.content s l sends state scope)
 
   -- pushes
 
   ends_with : (sorts : List Sort) (it : Option (List ℕ × Carried)) (m : Option MessageTree) (s : State) (l : Scope) →
-      Ends layer blank sorts it m → IsState P layer s → IsScope P sorts l → EndsWith P it (option_map (λ m. mval m s l) m)
+      Ends layer blank sorts it m → IsState P layer s → IsScope P sorts l →
+      EndsWith P it (option_map (λ m. mval m s l) m)
   ends_with sorts None None s l h state scope = tt
   ends_with sorts None (Some m) s l h state scope = absurd h
   ends_with sorts (Some it) None s l h state scope = absurd h
@@ -125,7 +140,8 @@ module _ (P Q : List Header → Type 0) (layer : LayerTree) (place : ℕ) (blank
       let is = mval_is P layer blank stands.blank_is sorts s l state scope m (sort_of it.1) h in
       record { headers = kept_of P it.1 (mval m s l).headers is.headers; body = is.body }
 
-  pub row_is : (sorts : List Sort) (c capacity : ℕ) (row : RowTree) (s : State) (l : Scope) (h : Pushes layer blank sorts c capacity row) →
+  pub row_is : (sorts : List Sort) (c capacity : ℕ) (row : RowTree) (s : State) (l : Scope)
+      (h : Pushes layer blank sorts c capacity row) →
       IsState P layer s → IsScope P sorts l → IsRow P h.rows.items (row_of row s l)
   row_is sorts c capacity row s l h state scope = record {
     count = length-map row.numbers (λ e. val e s l) ∙ h.count;
@@ -135,9 +151,14 @@ module _ (P Q : List Header → Type 0) (layer : LayerTree) (place : ℕ) (blank
 
   -- scopes
 
-  pub slot_keeps : (sorts : List Sort) (k v : ℕ) (l : Scope) → IsNumber v → IsScope P sorts l → IsScope P sorts (with_slot k v l)
+  pub slot_keeps : (sorts : List Sort) (k v : ℕ) (l : Scope) → IsNumber v → IsScope P sorts l →
+      IsScope P sorts (with_slot k v l)
   slot_keeps sorts k v l small scope =
-      record { numbers_are = each_set IsNumber l.numbers k v scope.numbers_are small; messages_are = scope.messages_are }
+      record {
+        numbers_are = each_set IsNumber l.numbers k v scope.numbers_are small;
+        messages_are =
+            scope.messages_are;
+      }
 
   slots_keep : (sorts : List Sort) (slots values : List ℕ) (l : Scope) → Numbers values → IsScope P sorts l →
       IsScope P sorts (with_slots slots values l)
@@ -146,41 +167,51 @@ module _ (P Q : List Header → Type 0) (layer : LayerTree) (place : ℕ) (blank
   slots_keep sorts (k ∷ slots) (v ∷ values) l small scope =
       slots_keep sorts slots values (with_slot k v l) small.1 (slot_keeps sorts k v l small.0 scope)
 
-  pub taken_keeps : (sorts : List Sort) (c i : ℕ) (slots : List ℕ) (message : Option (ℕ × Carried)) (row : Row) (s : State) (l : Scope) →
-      Takes layer blank sorts c message → IsState P layer s → row_at s c i 0 ≡ Some row → Numbers row.numbers → IsScope P sorts l →
+  pub taken_keeps : (sorts : List Sort) (c i : ℕ) (slots : List ℕ) (message : Option (ℕ × Carried)) (row : Row)
+      (s : State) (l : Scope) →
+      Takes layer blank sorts c message → IsState P layer s → row_at s c i 0 ≡ Some row → Numbers row.numbers →
+      IsScope P sorts l →
       IsScope P (with_taken_sort sorts message) (with_taken (record { numbers = slots; message = message }) row l)
   taken_keeps sorts c i slots None row s l h state is small scope = slots_keep sorts slots row.numbers l small scope
   taken_keeps sorts c i slots (Some it) row s l h state is small scope =
       let m = with_slots slots row.numbers l in
       let keeps = slots_keep sorts slots row.numbers l small scope in
       let rows = h.0.rows in
-      let it_is : Is P (sort_of it.1) (message_in it.1 (Some row)) = message_in_is P blank it.1 rows.items (Some row) stands.blank_is h.0.blanks h.0.sort
-      (subst (Where (IsRow P rows.items)) is (each_where (IsRow P rows.items) (rows_at s c i) 0 (rows_hold P layer s c i rows state h.0.listed))) in
+      let it_is : Is P (sort_of it.1) (message_in it.1 (Some row)) =
+      message_in_is P blank it.1 rows.items (Some row) stands.blank_is h.0.blanks h.0.sort
+      (subst (Where (IsRow P rows.items)) is
+      (each_where (IsRow P rows.items) (rows_at s c i) 0 (rows_hold P layer s c i rows state h.0.listed))) in
       record {
         numbers_are = keeps.numbers_are;
-        messages_are = zip_set (Is P) sorts m.messages it.0 (sort_of it.1) (message_in it.1 (Some row)) keeps.messages_are it_is;
+        messages_are = zip_set (Is P) sorts m.messages it.0 (sort_of it.1) (message_in it.1 (Some row))
+            keeps.messages_are it_is;
       }
 
-  pub taken_back : (sorts : List Sort) (message : Option (ℕ × Carried)) (c : ℕ) (l : Scope) → Takes layer blank sorts c message →
+  pub taken_back : (sorts : List Sort) (message : Option (ℕ × Carried)) (c : ℕ) (l : Scope) →
+      Takes layer blank sorts c message →
       IsScope P (with_taken_sort sorts message) l → IsScope P sorts l
   taken_back sorts None c l h scope = scope
   taken_back sorts (Some it) c l h scope = record {
     numbers_are = scope.numbers_are;
-    messages_are = zip_back (Is P) sorts l.messages it.0 Int (sort_of it.1) h.1 (λ m is. record { headers = tt; body = is.body })
+    messages_are = zip_back (Is P) sorts l.messages it.0 Int (sort_of it.1) h.1
+        (λ m is. record { headers = tt; body = is.body })
         scope.messages_are;
   }
 
   -- statements
 
-  done_keeps : (sorts : List Sort) (s : State) (l : Scope) → IsState P layer s → IsScope P sorts l → KeepsAt P Q layer sorts s l []
+  done_keeps : (sorts : List Sort) (s : State) (l : Scope) → IsState P layer s → IsScope P sorts l →
+      KeepsAt P Q layer sorts s l []
   done_keeps sorts s l state scope = record { state = state; scope = scope; sent_is = tt }
 
-  if_keeps : (sorts : List Sort) (b : Bool) (o p : Outcome) → (b ≡ true → Keeps P Q layer sorts o) → Keeps P Q layer sorts p →
+  if_keeps : (sorts : List Sort) (b : Bool) (o p : Outcome) → (b ≡ true → Keeps P Q layer sorts o) →
+      Keeps P Q layer sorts p →
       Keeps P Q layer sorts (if b then o else p)
   if_keeps sorts true o p h i = h refl
   if_keeps sorts false o p h i = i
 
-  chosen_keeps : (sorts : List Sort) (b : Bool) (usual : Likely) (o p : Outcome) → Keeps P Q layer sorts o → Keeps P Q layer sorts p →
+  chosen_keeps : (sorts : List Sort) (b : Bool) (usual : Likely) (o p : Outcome) → Keeps P Q layer sorts o →
+      Keeps P Q layer sorts p →
       Keeps P Q layer sorts (chosen b usual o p)
   chosen_keeps sorts true likely.First o p h i = h
   chosen_keeps sorts true likely.Else o p h i = h
@@ -190,7 +221,8 @@ module _ (P Q : List Header → Type 0) (layer : LayerTree) (place : ℕ) (blank
   chosen_keeps sorts false likely.Two o p h i = i
 
   taking_keeps : (sorts : List Sort) (row : Option Row) (o : Row → Outcome) (p : Outcome) →
-      ((r : Row) → row ≡ Some r → Keeps P Q layer sorts (o r)) → Keeps P Q layer sorts p → Keeps P Q layer sorts (taking row o p)
+      ((r : Row) → row ≡ Some r → Keeps P Q layer sorts (o r)) → Keeps P Q layer sorts p →
+      Keeps P Q layer sorts (taking row o p)
   taking_keeps sorts None o p h i = i
   taking_keeps sorts (Some r) o p h i = h r refl
 
@@ -205,7 +237,8 @@ module _ (P Q : List Header → Type 0) (layer : LayerTree) (place : ℕ) (blank
   }
 
   turns_keep : (n k : ℕ) (act : Act) (sorts : List Sort) (s : State) (l : Scope) → n < 2 ^ 32 →
-      ((t : State) (m : Scope) → IsState P layer t → IsScope P sorts m → Keeps P Q layer sorts (act t m)) → IsState P layer s →
+      ((t : State) (m : Scope) → IsState P layer t → IsScope P sorts m → Keeps P Q layer sorts (act t m)) →
+      IsState P layer s →
       IsScope P sorts l → Keeps P Q layer sorts (turns n k act s l)
   turns_keep zero k act sorts s l small does state scope = done_keeps sorts s l state scope
   turns_keep (suc n) k act sorts s l small does state scope =
@@ -215,16 +248,19 @@ module _ (P Q : List Header → Type 0) (layer : LayerTree) (place : ℕ) (blank
       (slot_keeps sorts k n (turns n k act s l).scope (omega (arith, small)) scope))
 
   -- the numbers of a row that is there
-  pub row_numbers : (s : State) (c i : ℕ) (row : Row) → Kept s (record { numbers = []; messages = [] }) → row_at s c i 0 ≡ Some row → Numbers row.numbers
+  pub row_numbers : (s : State) (c i : ℕ) (row : Row) → Kept s (record { numbers = []; messages = [] }) →
+      row_at s c i 0 ≡ Some row → Numbers row.numbers
   row_numbers s c i row h is = (subst (Where KeptRow) is (row_at_kept s c i 0 h.cells)).numbers_are
 
   mutual
-    does_keeps : (x : StatementTree) (sorts : List Sort) (s : State) (l : Scope) → Typed layer blank sorts x → IsState P layer s →
+    does_keeps : (x : StatementTree) (sorts : List Sort) (s : State) (l : Scope) → Typed layer blank sorts x →
+        IsState P layer s →
         IsScope P sorts l → Keeps P Q layer sorts (does place x s l)
     does_keeps (bind k e) sorts s l h state scope = done_keeps sorts s (with_slot k (val e s l) l) state
         (slot_keeps sorts k (val e s l) l (val_small s l (kept P layer sorts s l state scope) e h) scope)
     does_keeps (assign c i e) sorts s l h state scope = done_keeps sorts (with_number s c (val i s l) (val e s l)) l
-        (number_keeps P layer s c (val i s l) (val e s l) state (val_small s l (kept P layer sorts s l state scope) e h)) scope
+        (number_keeps P layer s c (val i s l) (val e s l) state
+        (val_small s l (kept P layer sorts s l state scope) e h)) scope
     does_keeps (assign_square c row column e) sorts s l h state scope =
         let i = flat_index s.count (val row s l) (val column s l) in
         done_keeps sorts (with_number s c i (val e s l)) l
@@ -240,13 +276,22 @@ module _ (P Q : List Header → Type 0) (layer : LayerTree) (place : ℕ) (blank
         (λ row is. let t = without_front s c (val i s l) in
         let m = with_taken taken row l in
         let typed = with_taken_sort sorts taken.message in
-        let inside = acts_keep block typed (done t m) h.1 (done_keeps typed t m (front_keeps P layer s c (val i s l) state)
+        let inside = acts_keep block typed (done t m) h.1
+        (done_keeps typed t m (front_keeps P layer s c (val i s l) state)
         (taken_keeps sorts c (val i s l) taken.numbers taken.message row s l h.0 state is
-        (row_numbers s c (val i s l) row (kept P layer [] s _ state (record { numbers_are = tt; messages_are = tt })) is) scope)) in
-        record { state = inside.state; scope = taken_back sorts taken.message c _ h.0 inside.scope; sent_is = inside.sent_is })
+        (row_numbers s c (val i s l) row (kept P layer [] s _ state (record { numbers_are = tt; messages_are = tt }))
+        is) scope)) in
+        record {
+          state = inside.state;
+          scope = taken_back sorts taken.message c _ h.0 inside.scope;
+          sent_is =
+              inside.sent_is;
+        })
         (acts_keep otherwise sorts (done s l) h.2 (done_keeps sorts s l state scope))
-    does_keeps (branch usual e block otherwise) sorts s l h state scope = chosen_keeps sorts (is_true (val e s l)) usual _ _
-        (acts_keep block sorts (done s l) h.0 (done_keeps sorts s l state scope)) (acts_keep otherwise sorts (done s l) h.1 (done_keeps sorts s l state scope))
+    does_keeps (branch usual e block otherwise) sorts s l h state scope =
+        chosen_keeps sorts (is_true (val e s l)) usual _ _
+        (acts_keep block sorts (done s l) h.0 (done_keeps sorts s l state scope))
+        (acts_keep otherwise sorts (done s l) h.1 (done_keeps sorts s l state scope))
     does_keeps (each k below most block) sorts s l h state scope =
         let small = val_small s l (kept P layer sorts s l state scope) below h.0 in
         turns_keep (min (val below s l) most) k (in_order (acts place block)) sorts s l (omega (arith, small))
@@ -258,12 +303,14 @@ module _ (P Q : List Header → Type 0) (layer : LayerTree) (place : ℕ) (blank
     }
 
     -- the statements of a block, behind what was done before
-    acts_keep : (xs : StatementTrees) (sorts : List Sort) (o : Outcome) → TypedAll layer blank sorts xs → Keeps P Q layer sorts o →
+    acts_keep : (xs : StatementTrees) (sorts : List Sort) (o : Outcome) → TypedAll layer blank sorts xs →
+        Keeps P Q layer sorts o →
         Keeps P Q layer sorts (fold after o (acts place xs))
     acts_keep none sorts o h keeps = keeps
     acts_keep (more x rest) sorts o h keeps = acts_keep rest sorts (after o (does place x)) h.1
         (after_keeps sorts o (does place x) keeps (λ state scope. does_keeps x sorts o.state o.scope h.0 state scope))
 
-  pub block_keeps : (xs : StatementTrees) (sorts : List Sort) (s : State) (l : Scope) → TypedAll layer blank sorts xs → IsState P layer s →
+  pub block_keeps : (xs : StatementTrees) (sorts : List Sort) (s : State) (l : Scope) → TypedAll layer blank sorts xs →
+      IsState P layer s →
       IsScope P sorts l → Keeps P Q layer sorts (in_order (acts place xs) s l)
   block_keeps xs sorts s l h state scope = acts_keep xs sorts (done s l) h (done_keeps sorts s l state scope)

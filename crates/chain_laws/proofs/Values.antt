@@ -1,5 +1,6 @@
 -- The numbers of expressions are numbers, and messages have bodies and the headers of their sorts.
-use Rattle.std.proofs.Common.{◌≡◌, ℕ, Bool, true, false, List, [], ◌++◌, ◌+◌, length, map, Option, Some, None, refl, sym, subst, arith}
+use Rattle.std.proofs.Common.{◌≡◌, ℕ, Bool, true, false, List, [], ◌++◌, ◌+◌, length, map, Option, Some, None, refl}
+use Rattle.std.proofs.Common.{sym, subst, arith}
 use Rattle.std.specs.Prelude.{nat_le, if◌then◌else◌, option_map}
 use Rattle.std.specs.List.{AllByRecursion}
 use Rattle.std.specs.Option.{option_map_or}
@@ -8,14 +9,18 @@ use Rattle.msg_core.specs.Parts.{longest_body}
 use Rattle.msg_core.specs.declared.message.Header.{Header}
 use Rattle.layer_ast.specs.declared.syntax.Sort.{Sort}
 use Rattle.layer_mean.specs.declared.run.Row.{Row}
-use Rattle.layer_mean.specs.Tree.{Carried, part, whole, ItemsTree, ExpressionTree, number, me, count, ltime, local, element, square, rows, item, size, binary, apply, pick, MessageTree, message, nothing, held, cut, tail, join, LayerTree}
+use Rattle.layer_mean.specs.Tree.{Carried, part, whole, ItemsTree, ExpressionTree, number, me, count, ltime, local}
+use Rattle.layer_mean.specs.Tree.{element, square, rows, item, size, binary, apply, pick, MessageTree, message, nothing}
+use Rattle.layer_mean.specs.Tree.{held, cut, tail, join, LayerTree}
 use Rattle.layer_mean.specs.State.{State, flat_index, rows_at, row_at}
 use Rattle.layer_mean.specs.Value.{Scope, is_true, val, mval, missing, message_in}
 use Rattle.packet_mean.specs.ChainedState.{IsNumber, Numbers, IsBody, EndsWith, IsRow, IsState}
 use Rattle.chain_laws.specs.Typed.{Small, sort_of, HasBlank, Carries, Sorted}
 use Rattle.chain_laws.proofs.Lists.{Where, each_where, each_or, each_map, zip_at}
-use Rattle.chain_laws.proofs.Small.{applied_small, function_small, pick_small, no_body, body_number, cut_body, tail_body, join_body}
-use Rattle.chain_laws.proofs.Sorts.{HeadersOf, Is, same_kept, IsScope, Kept, kept, number_at_small, rows_at_kept, row_at_kept, number_in_small, message_in_body, rows_hold}
+use Rattle.chain_laws.proofs.Small.{applied_small, function_small, pick_small, no_body, body_number, cut_body}
+use Rattle.chain_laws.proofs.Small.{tail_body, join_body}
+use Rattle.chain_laws.proofs.Sorts.{HeadersOf, Is, same_kept, IsScope, Kept, kept, number_at_small, rows_at_kept}
+use Rattle.chain_laws.proofs.Sorts.{row_at_kept, number_in_small, message_in_body, rows_hold}
 
 module _ (s : State) (l : Scope) (is : Kept s l) where
   mutual
@@ -31,9 +36,11 @@ module _ (s : State) (l : Scope) (is : Kept s l) where
     val_small (item c i row k) h =
         number_in_small k (row_at s c (val i s l) (val row s l)) (row_at_kept s c (val i s l) (val row s l) is.cells)
     val_small (size m) h = body_number (mval m s l).body (body_small m)
-    val_small (binary operator a b) h = applied_small operator (val a s l) (val b s l) (val_small a h.0) (val_small b h.1)
+    val_small (binary operator a b) h = applied_small operator (val a s l) (val b s l) (val_small a h.0)
+        (val_small b h.1)
     val_small (apply function a) h = function_small function (val a s l)
-    val_small (pick c a b) h = pick_small (is_true (val c s l)) (val a s l) (val b s l) (val_small a h.0) (val_small b h.1)
+    val_small (pick c a b) h = pick_small (is_true (val c s l)) (val a s l) (val b s l) (val_small a h.0)
+        (val_small b h.1)
 
     pub body_small : (m : MessageTree) → IsBody (mval m s l).body
     body_small (message k) = each_or (λ m. IsBody m.body) l.messages k (plain []) is.bodies no_body
@@ -64,7 +71,8 @@ ends_is P carried (Some it) (Some m) is h = record {
   body = h.body;
 }
 
-pub message_in_is : (P : List Header → Type 0) (blank : List Header) (carried : Carried) (items : ItemsTree) (row : Option Row) →
+pub message_in_is : (P : List Header → Type 0) (blank : List Header) (carried : Carried) (items : ItemsTree)
+    (row : Option Row) →
     P blank → HasBlank blank carried → option_map (λ it. sort_of it.1) items.message ≡ Some (sort_of carried) →
     Where (IsRow P items) row → Is P (sort_of carried) (message_in carried row)
 message_in_is P blank carried items None h has is row = missing_is P blank carried h has
@@ -77,14 +85,17 @@ joined_headers P sort p m false h = h
 
 module _ (P : List Header → Type 0) (layer : LayerTree) (blank : List Header) (blank_is : P blank) (sorts : List Sort)
     (s : State) (l : Scope) (state : IsState P layer s) (scope : IsScope P sorts l) where
-  held_is : (c i k : ℕ) (carried : Carried) → Carries layer blank c carried → Is P (sort_of carried) (message_in carried (row_at s c i k))
+  held_is : (c i k : ℕ) (carried : Carried) → Carries layer blank c carried →
+      Is P (sort_of carried) (message_in carried (row_at s c i k))
   held_is c i k carried h = message_in_is P blank carried h.rows.items (row_at s c i k) blank_is h.blanks h.sort
       (each_where (IsRow P h.rows.items) (rows_at s c i) k (rows_hold P layer s c i h.rows state h.listed))
 
-  headers_are : (m : MessageTree) (sort : Sort) → Sorted layer blank sorts sort m → HeadersOf P sort (mval m s l).headers
+  headers_are : (m : MessageTree) (sort : Sort) → Sorted layer blank sorts sort m →
+      HeadersOf P sort (mval m s l).headers
   headers_are (message k) sort h = (zip_at (Is P) sorts l.messages k sort (plain []) scope.messages_are h).headers
   headers_are nothing sort h = subst (λ sort. HeadersOf P sort []) (sym h) refl
-  headers_are (held c i row carried) sort h = subst (λ sort. HeadersOf P sort (message_in carried (row_at s c (val i s l) (val row s l))).headers)
+  headers_are (held c i row carried) sort h =
+      subst (λ sort. HeadersOf P sort (message_in carried (row_at s c (val i s l) (val row s l))).headers)
       (sym h.1) (held_is c (val i s l) (val row s l) carried h.0).headers
   headers_are (cut m from n) sort h = subst (λ sort. HeadersOf P sort []) (sym h) refl
   headers_are (tail m from) sort h = headers_are m sort h
@@ -92,4 +103,5 @@ module _ (P : List Header → Type 0) (layer : LayerTree) (blank : List Header) 
       (nat_le (length (mval p s l).body + length (mval m s l).body) longest_body) (headers_are m sort h)
 
   pub mval_is : (m : MessageTree) (sort : Sort) → Sorted layer blank sorts sort m → Is P sort (mval m s l)
-  mval_is m sort h = record { headers = headers_are m sort h; body = body_small s l (kept P layer sorts s l state scope) m }
+  mval_is m sort h = record
+      { headers = headers_are m sort h; body = body_small s l (kept P layer sorts s l state scope) m }

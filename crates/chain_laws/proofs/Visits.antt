@@ -1,5 +1,6 @@
 -- A visit keeps chains: the handler that is chosen, or what a missing one does.
-use Rattle.std.proofs.Common.{◌≡◌, ℕ, zero, suc, ◌<◌, ◌≤◌, Bool, true, false, List, [], ◌∷◌, ◌++◌, map, Option, Some, None, refl, sym, ap, subst, arith}
+use Rattle.std.proofs.Common.{◌≡◌, ℕ, zero, suc, ◌<◌, ◌≤◌, Bool, true, false, List, [], ◌∷◌, ◌++◌, map, Option, Some}
+use Rattle.std.proofs.Common.{None, refl, sym, ap, subst, arith}
 use Rattle.std.specs.Prelude.{◌==◌, ◌&&◌, MatchBool, if◌then◌else◌, drop, slice_get, slice_index_or, option_to_list}
 use Rattle.std.specs.List.{AllByRecursion, AllZip, find}
 use Rattle.std.proofs.lemmas.Bool.{and_parts, eqb-true}
@@ -19,13 +20,16 @@ use Rattle.layer_ast.specs.declared.tokens.Kind.TheVariants.{Cast, Send, Stable,
 use Rattle.layer_mean.specs.declared.run.Event.{Event}
 use Rattle.layer_mean.specs.Event.{carries, arguments, arguments_for}
 use Rattle.layer_mean.specs.Headers.{declared, header_none}
-use Rattle.layer_mean.specs.Tree.{HeaderTree, Expected, always, common, rare, HandlerTree, Form, numbers, queue, queues, CellTree, LayerTree, no_layer}
+use Rattle.layer_mean.specs.Tree.{HeaderTree, Expected, always, common, rare, HandlerTree, Form, numbers, queue, queues}
+use Rattle.layer_mean.specs.Tree.{CellTree, LayerTree, no_layer}
 use Rattle.layer_mean.specs.State.{State, size_of}
 use Rattle.layer_mean.specs.Value.{Scope, is_true, val}
 use Rattle.layer_mean.specs.Effect.{usual, unusual, Outcome, decides, in_order, acts}
-use Rattle.layer_mean.specs.Visit.{no_scope, bare_state, fresh_cell, fresh, Met, behind, met, is_for, handler_for, entered, none_header, Visited, sent_on, unhandled, expecting, handled, step}
+use Rattle.layer_mean.specs.Visit.{no_scope, bare_state, fresh_cell, fresh, Met, behind, met, is_for, handler_for}
+use Rattle.layer_mean.specs.Visit.{entered, none_header, Visited, sent_on, unhandled, expecting, handled, step}
 use Rattle.packet_mean.specs.Chained.{IsChain}
-use Rattle.packet_mean.specs.ChainedState.{IsNumber, Numbers, IsBody, IsFrom, IsMessage, HoldsForm, IsState, Brings, IsEvent, IsChainedEvent}
+use Rattle.packet_mean.specs.ChainedState.{IsNumber, Numbers, IsBody, IsFrom, IsMessage, HoldsForm, IsState, Brings}
+use Rattle.packet_mean.specs.ChainedState.{IsEvent, IsChainedEvent}
 use Rattle.chain_laws.specs.Typed.{sort_under, met_sorts, sorts_of, TypedHandler, TypedForm, TypedLayer}
 use Rattle.chain_laws.specs.Visits.{IsChainedSent, VisitsKeepChains, FreshIsChained}
 use Rattle.chain_laws.proofs.Lists.{Where, there, some_and, each_append, each_so, each_same, each_room, zip_room}
@@ -40,7 +44,8 @@ come_headers P Q Up headers = Q headers
 come_headers P Q Down headers = P headers
 
 -- the arguments of an event are numbers
-pub arguments_small : (C : List Header → Type 0) (kind : Kind) (e : Event) → IsEvent C e → Numbers (arguments_for kind e)
+pub arguments_small : (C : List Header → Type 0) (kind : Kind) (e : Event) → IsEvent C e →
+    Numbers (arguments_for kind e)
 arguments_small C Cast e h = (h.peer, tt)
 arguments_small C Send e h = (h.peer, tt)
 arguments_small C Stable e h = (h.a, (h.b, tt))
@@ -48,7 +53,8 @@ arguments_small C Ack e h = (h.a, (h.b, tt))
 arguments_small C _ e h = (h.a, tt)
 
 -- the handler that is found is one of the layer, and is for the event
-first_found : (P : HandlerTree → Type 0) (p : HandlerTree → Bool) (x : HandlerTree) (others : Option HandlerTree) (b : Bool) → p x ≡ b → P x →
+first_found : (P : HandlerTree → Type 0) (p : HandlerTree → Bool) (x : HandlerTree) (others : Option HandlerTree)
+    (b : Bool) → p x ≡ b → P x →
     Where (λ h. P h × (p h ≡ true)) others → Where (λ h. P h × (p h ≡ true)) (if b then Some x else others)
 first_found P p x others true is h rest = (h, is)
 first_found P p x others false is h rest = rest
@@ -88,7 +94,8 @@ with_other : (C D : List Header → Type 0) (e : Event) (m : Option Content) →
     IsEvent D (record e { message = m })
 with_other C D e m h brings = record { peer = h.peer; a = h.a; b = h.b; message = brings }
 
-module _ (P Q : List Header → Type 0) (layer : LayerTree) (place : ℕ) (blank : List Header) (stands : Stands P Q layer place blank) where
+module _ (P Q : List Header → Type 0) (layer : LayerTree) (place : ℕ) (blank : List Header)
+    (stands : Stands P Q layer place blank) where
   -- what is met
 
   up_met : (hs : List Header) (body : List ℕ) → IsBody body → Popped P layer hs →
@@ -107,20 +114,27 @@ module _ (P Q : List Header → Type 0) (layer : LayerTree) (place : ℕ) (blank
         );
       }
 
-  pub met_is : (dir : Dir) (b : Bool) (m : Option Content) → Brings (come_headers P Q dir) b m → IsMet P layer dir b (met dir m)
+  pub met_is : (dir : Dir) (b : Bool) (m : Option Content) → Brings (come_headers P Q dir) b m →
+      IsMet P layer dir b (met dir m)
   met_is dir true None h = absurd h
   met_is Up true (Some m) h = up_met m.headers m.body h.body (stands.pop_is m.headers h.headers)
-  met_is Down true (Some m) h = record { fields_are = tt; messages_are = (record { headers = h.headers; body = h.body }, tt); passes = (refl, h) }
+  met_is Down true (Some m) h =
+      record { fields_are = tt; messages_are = (record { headers = h.headers; body = h.body }, tt); passes = (refl, h) }
   met_is dir false None h = record { fields_are = tt; messages_are = tt; passes = refl }
   met_is dir false (Some m) h = absurd h
 
   -- without a handler
 
-  unhandled_leaves : (s : State) (dir : Dir) (e : Event) (m : Met) (c : Option Content) → IsState P layer s → IsEvent (come_headers P Q dir) e →
+  unhandled_leaves : (s : State) (dir : Dir) (e : Event) (m : Met) (c : Option Content) → IsState P layer s →
+      IsEvent (come_headers P Q dir) e →
       Passes P dir (carries e.kind) m.tag c → Leaves P Q layer (unhandled place s dir e m c)
   unhandled_leaves s dir e m None state event passes = record {
     state = state;
-    sent = (with_other (come_headers P Q dir) (sent_headers P Q dir) e None event (brings_none _ (carries e.kind) passes), tt);
+    sent = (
+      with_other (come_headers P Q dir) (sent_headers P Q dir) e None event
+          (brings_none _ (carries e.kind) passes),
+      tt,
+    );
   }
   unhandled_leaves s Down e m (Some c) state event passes = record {
     state = state;
@@ -134,7 +148,8 @@ module _ (P Q : List Header → Type 0) (layer : LayerTree) (place : ℕ) (blank
   }
   unhandled_leaves s Up e m (Some c) state event passes = go (m.tag == 0) refl where
     go : (b : Bool) → (m.tag == 0) ≡ b →
-        Leaves P Q layer (if b then sent_on s Up e (Some c) else record { state = s; sent = []; decided = unusual ∷ [] })
+        Leaves P Q layer (if b then sent_on s Up e (Some c) else record
+        { state = s; sent = []; decided = unusual ∷ [] })
     go true is = record {
       state = state;
       sent = (
@@ -160,21 +175,26 @@ module _ (P Q : List Header → Type 0) (layer : LayerTree) (place : ℕ) (blank
   expecting_keeps sorts (common e) s l o h = decided_keeps sorts (is_true (val e s l)) o h
   expecting_keeps sorts rare s l o h = h
 
-  pub entered_is : (h : HandlerTree) (e : Event) (m : Met) (dir : Dir) (b : Bool) → h.direction ≡ dir → carries h.kind ≡ b → h.tag ≡ m.tag →
+  pub entered_is : (h : HandlerTree) (e : Event) (m : Met) (dir : Dir) (b : Bool) → h.direction ≡ dir →
+      carries h.kind ≡ b → h.tag ≡ m.tag →
       Numbers (arguments e) → IsMet P layer dir b m → IsScope P (sorts_of layer h) (entered h e m)
   entered_is h e m dir b same_dir same_kind same_tag small is = record {
-    numbers_are = each_room IsNumber h.numbers 0 (arguments e ++ m.fields) zero_small (each_append IsNumber (arguments e) m.fields small is.fields_are);
-    messages_are = zip_room (Is P) h.messages Int (plain []) (met_sorts layer h.direction (carries h.kind) h.tag) (option_to_list m.message)
+    numbers_are = each_room IsNumber h.numbers 0 (arguments e ++ m.fields) zero_small
+        (each_append IsNumber (arguments e) m.fields small is.fields_are);
+    messages_are = zip_room (Is P) h.messages Int (plain []) (met_sorts layer h.direction (carries h.kind) h.tag)
+        (option_to_list m.message)
         (record { headers = tt; body = no_body })
         (rw (same_dir, same_kind, same_tag) is.messages_are);
   }
 
   handled_leaves : (o : Option HandlerTree) (s : State) (dir : Dir) (e : Event) (m : Met) →
-      Where (λ h. TypedHandler layer blank h × (is_for dir e.kind m.tag h ≡ true)) o → IsState P layer s → IsEvent (come_headers P Q dir) e →
+      Where (λ h. TypedHandler layer blank h × (is_for dir e.kind m.tag h ≡ true)) o → IsState P layer s →
+      IsEvent (come_headers P Q dir) e →
       IsMet P layer dir (carries e.kind) m → Leaves P Q layer (handled place o s dir e m)
   handled_leaves None s dir e m h state event is = unhandled_leaves s dir e m m.message state event is.passes
   handled_leaves (Some h) s dir e m typed state event is =
-      let all = and_parts (sameb dir_row.the_type h.direction dir && sameb kind_row.the_type h.kind e.kind) (h.tag == m.tag) typed.1 in
+      let all = and_parts (sameb dir_row.the_type h.direction dir && sameb kind_row.the_type h.kind e.kind)
+      (h.tag == m.tag) typed.1 in
       let both = and_parts (sameb dir_row.the_type h.direction dir) (sameb kind_row.the_type h.kind e.kind) all.0 in
       let l = entered h e m in
       let scope = entered_is h e m dir (carries e.kind) (same_true dir_row.the_type tt h.direction dir both.0)
@@ -184,7 +204,8 @@ module _ (P Q : List Header → Type 0) (layer : LayerTree) (place : ℕ) (blank
       (block_keeps P Q layer place blank stands h.block (sorts_of layer h) s l typed.0 state scope) in
       record { state = keeps.state; sent = keeps.sent_is }
 
-  pub step_leaves : (s : State) (dir : Dir) (e : Event) → TypedLayer blank layer → IsState P layer s → IsEvent (come_headers P Q dir) e →
+  pub step_leaves : (s : State) (dir : Dir) (e : Event) → TypedLayer blank layer → IsState P layer s →
+      IsEvent (come_headers P Q dir) e →
       Leaves P Q layer (step place layer s dir e)
   unfolding step
   step_leaves s dir e typed state event =
@@ -202,7 +223,8 @@ from_layer (first ∷ above) zero layer is = let e : first ≡ layer = cc is in 
 from_layer (first ∷ above) (suc place) layer is = from_layer above place layer is
 
 -- what stands behind a header of a chain
-chain_behind : (ends : Bool) (stack : List LayerTree) (place : ℕ) (hs : List Header) → HeadersOf (IsFrom stack place) (sort_under ends) hs →
+chain_behind : (ends : Bool) (stack : List LayerTree) (place : ℕ) (hs : List Header) →
+    HeadersOf (IsFrom stack place) (sort_under ends) hs →
     MatchBool ends (hs ≡ []) (IsChain (drop place stack) place hs) × AllByRecursion (λ h. Numbers h.fields) hs
 chain_behind true stack place hs h = (h, subst (λ hs. AllByRecursion (λ (h : Header). Numbers h.fields) hs) (sym h) tt)
 chain_behind false stack place hs h = (h.chain, h.fields)
@@ -214,7 +236,8 @@ behind_chain true stack place hs h fields = h
 behind_chain false stack place hs h fields = record { chain = h; fields = fields }
 
 popped_from : (stack : List LayerTree) (place : ℕ) (layer : LayerTree) (hs : List Header) →
-    IsChain (layer ∷ drop (suc place) stack) place hs → AllByRecursion (λ h. Numbers h.fields) hs → Popped (IsFrom stack (suc place)) layer hs
+    IsChain (layer ∷ drop (suc place) stack) place hs → AllByRecursion (λ h. Numbers h.fields) hs →
+    Popped (IsFrom stack (suc place)) layer hs
 popped_from stack place layer [] is fields = absurd is
 popped_from stack place layer (h ∷ hs) is fields = there (declared layer h.tag) _ is (λ d declares is_d. record {
   first = h;
@@ -226,17 +249,20 @@ popped_from stack place layer (h ∷ hs) is fields = there (declared layer h.tag
   behind = behind_chain d.ends stack (suc place) hs is_d.2 fields.1;
 })
 
-pub stands : (stack : List LayerTree) (place : ℕ) (blank : List Header) (layer : LayerTree) → slice_get stack place ≡ Some layer →
+pub stands : (stack : List LayerTree) (place : ℕ) (blank : List Header) (layer : LayerTree) →
+    slice_get stack place ≡ Some layer →
     IsFrom stack (suc place) blank → Stands (IsFrom stack (suc place)) (IsFrom stack place) layer place blank
 stands stack place blank layer listed is = record {
   blank_is = is;
   push_is = λ h d hs at declares count small h_behind.
       let on = chain_behind d.ends stack (suc place) hs h_behind in
       record {
-        chain = rw (from_layer stack place layer listed) (some_and (declared layer h.tag) _ d declares (at, count, on.0));
+        chain = rw (from_layer stack place layer listed)
+            (some_and (declared layer h.tag) _ d declares (at, count, on.0));
         fields = (small, on.1);
       };
-  pop_is = λ hs from. popped_from stack place layer hs (rw (from_layer stack place layer listed) at (from.chain)) from.fields;
+  pop_is = λ hs from. popped_from stack place layer hs (rw (from_layer stack place layer listed) at (from.chain))
+      from.fields;
 }
 
 -- over the layers of a stack
@@ -264,12 +290,14 @@ visits_keep_chains stack place blank layer s dir e h state event =
     (subst (λ (l : LayerTree). IsState P l s) here state) (come_is stack place dir e event) in
     record {
       state = subst (λ (l : LayerTree). IsState P l (step place layer s dir e).state) (sym here) leaves.state;
-      sent = each_so (IsSent P Q) (IsChainedSent stack place) (λ x is. sent_is stack place x.0 x.1 is) (step place layer s dir e).sent leaves.sent;
+      sent = each_so (IsSent P Q) (IsChainedSent stack place) (λ x is. sent_is stack place x.0 x.1 is)
+          (step place layer s dir e).sent leaves.sent;
     }
 
 -- fresh states
 
-form_fresh : (P : List Header → Type 0) (me n ltime : ℕ) (form : Form) → me < n → n ≤ 32 → IsNumber ltime → TypedForm form →
+form_fresh : (P : List Header → Type 0) (me n ltime : ℕ) (form : Form) → me < n → n ≤ 32 → IsNumber ltime →
+    TypedForm form →
     HoldsForm P n form (fresh_cell (bare_state me n ltime) form)
 form_fresh P me n ltime (numbers shape initial) below most small h = (
   length-replicate (size_of n shape) (val initial (bare_state me n ltime) no_scope),
@@ -290,12 +318,14 @@ form_fresh P me n ltime (queues capacity items) below most small h =
 
 cells_fresh : (P : List Header → Type 0) (me n ltime : ℕ) (cells : List CellTree) → me < n → n ≤ 32 → IsNumber ltime →
     AllByRecursion (λ (cell : CellTree). TypedForm cell.form) cells →
-    AllZip (λ (cell : CellTree) held. HoldsForm P n cell.form held) cells (map (λ (c : CellTree). fresh_cell (bare_state me n ltime) c.form) cells)
+    AllZip (λ (cell : CellTree) held. HoldsForm P n cell.form held) cells
+    (map (λ (c : CellTree). fresh_cell (bare_state me n ltime) c.form) cells)
 cells_fresh P me n ltime [] below most small h = tt
 cells_fresh P me n ltime (c ∷ cells) below most small h =
     (form_fresh P me n ltime c.form below most small h.0, cells_fresh P me n ltime cells below most small h.1)
 
-pub fresh_is : (P : List Header → Type 0) (blank : List Header) (layer : LayerTree) (me n ltime : ℕ) → TypedLayer blank layer → me < n →
+pub fresh_is : (P : List Header → Type 0) (blank : List Header) (layer : LayerTree) (me n ltime : ℕ) →
+    TypedLayer blank layer → me < n →
     n ≤ 32 → IsNumber ltime → IsState P layer (fresh layer me n ltime)
 fresh_is P blank layer me n ltime h below most small = record {
   some_member = omega (arith, below);
@@ -307,5 +337,6 @@ fresh_is P blank layer me n ltime h below most small = record {
 
 pub fresh_is_chained : FreshIsChained
 fresh_is_chained stack place blank layer me n ltime h below most small =
-    subst (λ (l : LayerTree). IsState (IsFrom stack (suc place)) l (fresh layer me n ltime)) (sym (layer_listed stack place layer h.listed))
+    subst (λ (l : LayerTree). IsState (IsFrom stack (suc place)) l (fresh layer me n ltime))
+    (sym (layer_listed stack place layer h.listed))
     (fresh_is (IsFrom stack (suc place)) blank layer me n ltime h.typed below most small)

@@ -28,14 +28,16 @@ TypedStack stack = TypedLayers 0 stack
 -- The states of a member's layers are chained, each at its place.
 pub record AreChainedStates (stack : List LayerTree) (states : List State) : Type 0 where
   pub count : length states ≡ length stack
-  pub states_are : (place : ℕ) → place < length stack → IsChainedState stack place (slice_index_or states place no_state)
+  pub states_are : (place : ℕ) → place < length stack →
+      IsChainedState stack place (slice_index_or states place no_state)
 
 -- Where a task may stand: going up at a place or at the upper edge, going down at a place or at the lower one.
 abbrev pub IsOnItsWay : List LayerTree → Dir → ℕ → Type 0
 IsOnItsWay stack Up at = (1 ≤ at) × (at ≤ length stack + 1)
 IsOnItsWay stack Down at = at ≤ length stack
 
--- The place from which the message of a task comes: going up it has the header of the place that it goes to, the first of which is 1.
+-- The place from which the message of a task comes: going up it has the header of the place that it goes to, the first
+-- of which is 1.
 abbrev pub task_place : Dir → ℕ → ℕ
 task_place Up at = at - 1
 task_place Down at = at

@@ -1,7 +1,8 @@
--- Layers whose visits keep chains, as it is seen from their trees alone: literals are numbers, the messages of the scope and of queues
--- are used as what they are, and each header that is pushed suits the message behind it. Everything else has a meaning that keeps
--- chains whatever it is.
-use Rattle.std.specs.Prelude.{◌≡◌, ℕ, Bool, true, false, if◌then◌else◌, List, [], ◌∷◌, length, slice_get, slice_set, Option, Some, None, IsSomeAnd, option_map, option_and_then}
+-- Layers whose visits keep chains, as it is seen from their trees alone: literals are numbers, the messages of the
+-- scope and of queues are used as what they are, and each header that is pushed suits the message behind it. Everything
+-- else has a meaning that keeps chains whatever it is.
+use Rattle.std.specs.Prelude.{◌≡◌, ℕ, Bool, true, false, if◌then◌else◌, List, [], ◌∷◌, length, slice_get, slice_set}
+use Rattle.std.specs.Prelude.{Option, Some, None, IsSomeAnd, option_map, option_and_then}
 use Rattle.std.specs.List.{AllByRecursion}
 use Rattle.std.specs.Option.{option_map_or}
 use Rattle.msg_core.specs.declared.message.Header.{Header}
@@ -11,7 +12,10 @@ use Rattle.layer_ast.specs.declared.tokens.Dir.{Dir}
 use Rattle.layer_ast.specs.declared.tokens.Dir.TheVariants.{Up, Down}
 use Rattle.layer_mean.specs.Event.{carries}
 use Rattle.layer_mean.specs.Headers.{declared}
-use Rattle.layer_mean.specs.Tree.{Carried, part, whole, ExpressionTree, number, binary, pick, MessageTree, message, nothing, held, cut, tail, join, ContentTree, RowTree, ItemsTree, Form, numbers, queue, queues, StatementTree, bind, assign, assign_square, push, take, branch, each, emit, StatementTrees, none, more, HandlerTree, LayerTree}
+use Rattle.layer_mean.specs.Tree.{Carried, part, whole, ExpressionTree, number, binary, pick, MessageTree, message}
+use Rattle.layer_mean.specs.Tree.{nothing, held, cut, tail, join, ContentTree, RowTree, ItemsTree, Form, numbers, queue}
+use Rattle.layer_mean.specs.Tree.{queues, StatementTree, bind, assign, assign_square, push, take, branch, each, emit}
+use Rattle.layer_mean.specs.Tree.{StatementTrees, none, more, HandlerTree, LayerTree}
 use Rattle.layer_mean.specs.Visit.{with_room}
 use Rattle.packet_mean.specs.ChainedState.{IsNumber}
 
@@ -52,8 +56,8 @@ pub record Carries (layer : LayerTree) (blank : List Header) (c : ℕ) (carried 
   pub sort : option_map (λ item. sort_of item.1) rows.items.message ≡ Some (sort_of carried)
   pub blanks : HasBlank blank carried
 
--- A message expression is of a sort: `Msg` has the headers of a message of the layers above, and `Part` none. Its spine alone says
--- so. The sorts are those of the scope's messages; a slot that holds no message yet has the sort `Int`.
+-- A message expression is of a sort: `Msg` has the headers of a message of the layers above, and `Part` none. Its spine
+-- alone says so. The sorts are those of the scope's messages; a slot that holds no message yet has the sort `Int`.
 abbrev pub Sorted : LayerTree → List Header → List Sort → Sort → MessageTree → Type 0
 Sorted layer blank sorts sort (message k) = slice_get sorts k ≡ Some sort
 Sorted layer blank sorts sort nothing = sort ≡ Part
@@ -62,8 +66,8 @@ Sorted layer blank sorts sort (cut m from length) = sort ≡ Part
 Sorted layer blank sorts sort (tail m from) = Sorted layer blank sorts sort m
 Sorted layer blank sorts sort (join p m) = Sorted layer blank sorts sort m
 
--- What is sent up is a message of the layers above. What is sent down gets a header that the layer declares, of as many fields: one
--- that ends stands in front of a part, and one that passes in front of a message of the layers above.
+-- What is sent up is a message of the layers above. What is sent down gets a header that the layer declares, of as many
+-- fields: one that ends stands in front of a part, and one that passes in front of a message of the layers above.
 abbrev pub sort_under : Bool → Sort
 sort_under ends = if ends then Part else Msg
 
@@ -89,7 +93,8 @@ Ends layer blank sorts (Some item) (Some m) = Sorted layer blank sorts (sort_of 
 Ends layer blank sorts _ _ = ⊥
 
 -- A push is on a queue of the layer, with its capacity and a row of its items.
-pub record Pushes (layer : LayerTree) (blank : List Header) (sorts : List Sort) (c capacity : ℕ) (row : RowTree) : Type 0 where
+pub record Pushes (layer : LayerTree) (blank : List Header) (sorts : List Sort) (c capacity : ℕ) (row : RowTree) : Type
+    0 where
   pub rows : Queue
   pub listed : queue_at layer c ≡ Some rows
   pub room : capacity ≡ rows.capacity

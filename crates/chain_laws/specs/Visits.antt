@@ -18,8 +18,8 @@ pub record StandsTyped (stack : List LayerTree) (place : ℕ) (blank : List Head
   pub blank_is : IsFrom stack (suc place) blank
   pub typed : TypedLayer blank layer
 
--- The place from which the message of an event comes that a place sends: going up it has lost the place's own header, and going down
--- it has it.
+-- The place from which the message of an event comes that a place sends: going up it has lost the place's own header,
+-- and going down it has it.
 abbrev pub sent_place : Dir → ℕ → ℕ
 sent_place Up place = suc place
 sent_place Down place = place
@@ -34,7 +34,8 @@ pub record StaysChained (stack : List LayerTree) (place : ℕ) (v : Visited) : T
 
 -- A visit of a typed layer, in a chained state, by a chained event, leaves what is chained.
 abbrev pub VisitsKeepChains : Type 0
-VisitsKeepChains = (stack : List LayerTree) (place : ℕ) (blank : List Header) (layer : LayerTree) (s : State) (dir : Dir) (event : Event) →
+VisitsKeepChains = (stack : List LayerTree) (place : ℕ) (blank : List Header) (layer : LayerTree) (s : State)
+    (dir : Dir) (event : Event) →
     StandsTyped stack place blank layer → IsChainedState stack place s → IsChainedEvent stack place dir event →
     StaysChained stack place (step place layer s dir event)
 

@@ -1,5 +1,5 @@
-//! Laws of chained messages, each the contract of a function that does nothing: what keeps them chained, and that so kept they are
-//! what the laws of weights ask for.
+//! Laws of chained messages, each the contract of a function that does nothing: what keeps them chained, and that so
+//! kept they are what the laws of weights ask for.
 #![tactic(auto)]
 
 ghost use Rattle.chain_laws.specs.Runs.{ChainsAreShort, RunFromATask, RunsKeepChains, TurnsKeepChains};

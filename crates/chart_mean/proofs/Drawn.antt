@@ -14,7 +14,8 @@ use Rattle.chart_mean.specs.declared.types.Range.{Range}
 module _ (law : Law) (range : Range) (text : List ℕ) where
   taken : (large : Bool) (lines : Result (List ReportLine) ℕ) (finding : Finding) →
       (if large then Err too_large else judged law lines) ≡ Ok finding →
-      (large ≡ false) × ((if large then Err too_large else drawn range (lines_of text) lines) ≡ Ok (pictured range (lines_of text)))
+      (large ≡ false) × ((if large then Err too_large else drawn range (lines_of text) lines) ≡
+      Ok (pictured range (lines_of text)))
   taken true lines finding is = absurd (cc is)
   taken false (Err number) finding is = absurd (cc is)
   taken false (Ok said) finding is = (refl, refl)
@@ -27,7 +28,8 @@ module _ (law : Law) (range : Range) (text : List ℕ) where
   refused false (Ok said) fault is = absurd (cc is)
 
   -- a text on which an audit finds something has a picture
-  pub pictured_where_judged : (finding : Finding) → audit_of law text ≡ Ok finding → chart_of range text ≡ Ok (pictured range (lines_of text))
+  pub pictured_where_judged : (finding : Finding) → audit_of law text ≡ Ok finding →
+      chart_of range text ≡ Ok (pictured range (lines_of text))
   pictured_where_judged finding is = (taken (is_too_large text) (report_from running 1 (lines_of text)) finding is).1
 
   -- and isn't too large

@@ -31,7 +31,8 @@ only : (n status : ℕ) → Due 7 status → Due n status
 only n status due = ⊎_elim (λ is. inr is) (λ is. inr is) due
 
 -- where the shelf tells, what was found is what it has
-on_shelf : (told : Option Shelved) (shelf : Shelved) (P : Shelved → Type 0) → told ≡ Some shelf → IfSome told P → P shelf
+on_shelf : (told : Option Shelved) (shelf : Shelved) (P : Shelved → Type 0) → told ≡ Some shelf → IfSome told P →
+    P shelf
 on_shelf told shelf P is found = subst (λ t. IfSome t P) is found
 
 module _ (r : Request) (a : Around) (status : ℕ) (shelf : Shelved) (is : a.told ≡ Some shelf) where
@@ -54,22 +55,27 @@ module _ (r : Request) (a : Around) (status : ℕ) (shelf : Shelved) (is : a.tol
   unread Memory d due none = only 4 status due
 
   -- one file has one picture or one fault
-  file_is : (file other : List ℕ) → found_in shelf r.file ≡ Some file → found_in shelf r.file ≡ Some other → file ≡ other
+  file_is : (file other : List ℕ) → found_in shelf r.file ≡ Some file → found_in shelf r.file ≡ Some other →
+      file ≡ other
   file_is file other one two = cc (one, two)
 
-  unlike : {X : Type 0} (file other picture : List ℕ) (fault : AuditFault) → found_in shelf r.file ≡ Some file → found_in shelf r.file ≡ Some other →
+  unlike : {X : Type 0} (file other picture : List ℕ) (fault : AuditFault) → found_in shelf r.file ≡ Some file →
+      found_in shelf r.file ≡ Some other →
       chart_of r.range file ≡ Ok picture → chart_of r.range other ≡ Err fault → X
   unlike file other picture fault one two drawn not_drawn =
       let same = ap (chart_of r.range) (file_is file other one two) in absurd (cc (same, drawn, not_drawn))
 
-  refused : (end : Ending) → Draws r a end → Due (status_number end) status → (file : List ℕ) (fault : AuditFault) → found_in shelf r.file ≡ Some file →
+  refused : (end : Ending) → Draws r a end → Due (status_number end) status → (file : List ℕ) (fault : AuditFault) →
+      found_in shelf r.file ≡ Some file →
       chart_of r.range file ≡ Err fault → Due 1 status
-  refused Done d due file fault has not_drawn = unlike d.good.file file d.good.picture fault (found d.good.file d.good.found) has d.good.drawn not_drawn
+  refused Done d due file fault has not_drawn =
+      unlike d.good.file file d.good.picture fault (found d.good.file d.good.found) has d.good.drawn not_drawn
   refused TooLarge d due file fault has not_drawn = due
   refused (Line number) d due file fault has not_drawn = due
   refused Words d due file fault has not_drawn = absurd d
   refused Read d due file fault has not_drawn = apart file has (missed d.none)
-  refused Write d due file fault has not_drawn = unlike d.good.file file d.good.picture fault (found d.good.file d.good.found) has d.good.drawn not_drawn
+  refused Write d due file fault has not_drawn =
+      unlike d.good.file file d.good.picture fault (found d.good.file d.good.found) has d.good.drawn not_drawn
   refused Memory d due file fault has not_drawn = only 1 status due
 
   picture_is : (file other one two : List ℕ) → found_in shelf r.file ≡ Some file → found_in shelf r.file ≡ Some other →
@@ -77,13 +83,18 @@ module _ (r : Request) (a : Around) (status : ℕ) (shelf : Shelved) (is : a.tol
   picture_is file other one two has other_has drawn other_drawn =
       let same = ap (chart_of r.range) (file_is file other has other_has) in cc (same, drawn, other_drawn)
 
-  complete : (end : Ending) → Draws r a end → Due (status_number end) status → (file picture : List ℕ) → found_in shelf r.file ≡ Some file →
-      chart_of r.range file ≡ Ok picture → NoPutFailed a → ((status ≡ 0) × Gains a.output a.output_after (picture ∷ [])) ⊎ (status ≡ 7)
+  complete : (end : Ending) → Draws r a end → Due (status_number end) status → (file picture : List ℕ) →
+      found_in shelf r.file ≡ Some file →
+      chart_of r.range file ≡ Ok picture → NoPutFailed a →
+      ((status ≡ 0) × Gains a.output a.output_after (picture ∷ [])) ⊎ (status ≡ 7)
   complete Done d due file picture has drawn sound =
-      let same = picture_is d.good.file file d.good.picture picture (found d.good.file d.good.found) has d.good.drawn drawn in
+      let same = picture_is d.good.file file d.good.picture picture (found d.good.file d.good.found) has d.good.drawn
+      drawn in
       ⊎_elim (λ is. inl (is, subst (λ p. Gains a.output a.output_after (p ∷ [])) same d.written)) (λ is. inr is) due
-  complete TooLarge d due file picture has drawn sound = unlike file d.file picture _ has (found d.file d.found) drawn d.refused
-  complete (Line number) d due file picture has drawn sound = unlike file d.file picture _ has (found d.file d.found) drawn d.refused
+  complete TooLarge d due file picture has drawn sound = unlike file d.file picture _ has (found d.file d.found) drawn
+      d.refused
+  complete (Line number) d due file picture has drawn sound = unlike file d.file picture _ has (found d.file d.found)
+      drawn d.refused
   complete Words d due file picture has drawn sound = absurd d
   complete Read d due file picture has drawn sound = apart file has (missed d.none)
   complete Write d due file picture has drawn sound = absurd (sound d.written.rose)
@@ -99,10 +110,12 @@ none_due Write a status c due = absurd c
 none_due Memory a status c due = only 2 status due
 
 -- the status of a run that ended so, and said that, is the one that is due
-pub exact : (request : Option Request) (a : Around) (e : Errors) (end : Ending) → Comes request a end → Said end e → ExactFor request a e.status
+pub exact : (request : Option Request) (a : Around) (e : Errors) (end : Ending) → Comes request a end → Said end e →
+    ExactFor request a e.status
 exact None a e end c said = none_due end a e.status c (said_due end e said)
 exact (Some r) a e end c said = let due = said_due end e said in record {
   unread = λ shelf is none. unread r a e.status shelf is end c due none;
   refused = λ shelf file fault is has not_drawn. refused r a e.status shelf is end c due file fault has not_drawn;
-  complete = λ shelf file picture is has drawn sound. complete r a e.status shelf is end c due file picture has drawn sound;
+  complete = λ shelf file picture is has drawn sound. complete r a e.status shelf is end c due file picture has drawn
+      sound;
 }

@@ -16,28 +16,35 @@ as_many_marks before (line ∷ lines) = ap suc (as_many_marks (before ++ line �
 -- the spelling of a byte in front of escaped text is escaped, by the tests that tell how it is spelled
 byte_escaped : (byte : ℕ) (rest : List ℕ) → is_escaped rest ≡ true → is_escaped (escaped_byte byte ++ rest) ≡ true
 byte_escaped byte rest behind = amp (byte == 38) refl where
-  plain : (p : Bool) → (nat_le 32 byte && nat_le byte 126) ≡ p → (byte == 38) ≡ false → (byte == 60) ≡ false → (byte == 62) ≡ false → (byte == 34) ≡ false →
+  plain : (p : Bool) → (nat_le 32 byte && nat_le byte 126) ≡ p → (byte == 38) ≡ false → (byte == 60) ≡ false →
+      (byte == 62) ≡ false → (byte == 34) ≡ false →
       is_escaped ((if p then byte ∷ [] else codes "&#65533;") ++ rest) ≡ true
   plain true is a l g q = rw (is, a, l, g, q) behind
   plain false is a l g q = behind
 
   quot : (t : Bool) → (byte == 34) ≡ t → (byte == 38) ≡ false → (byte == 60) ≡ false → (byte == 62) ≡ false →
-      is_escaped ((if t then codes "&quot;" else if nat_le 32 byte && nat_le byte 126 then byte ∷ [] else codes "&#65533;") ++ rest) ≡ true
+      is_escaped ((if t then codes "&quot;" else if nat_le 32 byte && nat_le byte 126 then byte ∷
+      [] else codes "&#65533;") ++ rest) ≡ true
   quot true is a l g = behind
   quot false is a l g = plain (nat_le 32 byte && nat_le byte 126) refl a l g is
 
   gt : (t : Bool) → (byte == 62) ≡ t → (byte == 38) ≡ false → (byte == 60) ≡ false →
-      is_escaped ((if t then codes "&gt;" else if byte == 34 then codes "&quot;" else if nat_le 32 byte && nat_le byte 126 then byte ∷ [] else codes "&#65533;") ++ rest) ≡ true
+      is_escaped ((if t then codes "&gt;" else if byte == 34 then codes "&quot;" else if nat_le 32 byte &&
+      nat_le byte 126 then byte ∷ [] else codes "&#65533;") ++ rest) ≡ true
   gt true is a l = behind
   gt false is a l = quot (byte == 34) refl a l is
 
   lt : (t : Bool) → (byte == 60) ≡ t → (byte == 38) ≡ false →
-      is_escaped ((if t then codes "&lt;" else if byte == 62 then codes "&gt;" else if byte == 34 then codes "&quot;" else if nat_le 32 byte && nat_le byte 126 then byte ∷ [] else codes "&#65533;") ++ rest) ≡ true
+      is_escaped ((if t then codes "&lt;" else if byte == 62 then codes "&gt;" else if byte ==
+      34 then codes "&quot;" else if nat_le 32 byte && nat_le byte 126 then byte ∷ [] else codes "&#65533;") ++
+      rest) ≡ true
   lt true is a = behind
   lt false is a = gt (byte == 62) refl a is
 
   amp : (t : Bool) → (byte == 38) ≡ t →
-      is_escaped ((if t then codes "&amp;" else if byte == 60 then codes "&lt;" else if byte == 62 then codes "&gt;" else if byte == 34 then codes "&quot;" else if nat_le 32 byte && nat_le byte 126 then byte ∷ [] else codes "&#65533;") ++ rest) ≡ true
+      is_escaped ((if t then codes "&amp;" else if byte == 60 then codes "&lt;" else if byte ==
+      62 then codes "&gt;" else if byte == 34 then codes "&quot;" else if nat_le 32 byte &&
+      nat_le byte 126 then byte ∷ [] else codes "&#65533;") ++ rest) ≡ true
   amp true is = behind
   amp false is = lt (byte == 60) refl is
 

@@ -1,5 +1,6 @@
 -- The mark of a line, and the arrow that leads to a delivery.
-use Rattle.std.specs.Prelude.{ℕ, ◌==◌, ◌&&◌, ◌%◌, not, Bool, false, List, [], ◌∷◌, ◌++◌, fold, Option, Some, None, codes, bytes_eq, if◌then◌else◌}
+use Rattle.std.specs.Prelude.{ℕ, ◌==◌, ◌&&◌, ◌%◌, not, Bool, false, List, [], ◌∷◌, ◌++◌, fold, Option, Some, None}
+use Rattle.std.specs.Prelude.{codes, bytes_eq, if◌then◌else◌}
 use Rattle.std.specs.Fmt.{decimal}
 use Rattle.script_mean.specs.Words.{Word}
 use Rattle.chart_mean.specs.Says.{Says, deliver, packet, view, out, other, aside}
@@ -31,7 +32,8 @@ sender_of _ = 0
 
 -- the bearer of a body behind one more line
 abbrev pub bearer_next : Word → Option Sent → Line → Option Sent
-bearer_next wanted found line = if carries wanted line.says then Some (record { x = line.x; member = sender_of line.says }) else found
+bearer_next wanted found line =
+    if carries wanted line.says then Some (record { x = line.x; member = sender_of line.says }) else found
 
 -- the bearer of a body: the last packet of these lines that carries it
 abbrev pub bearer : List Line → Word → Option Sent
@@ -57,7 +59,8 @@ arrow (Some sent) x y =
 -- each tenth line of a report has its number at the axis
 abbrev pub tenth : Line → List ℕ
 tenth line =
-    if line.number % 10 == 0 then codes "<text class='number'" ++ numbered (codes "x") line.x ++ codes " y='14'>" ++ decimal line.number ++ codes "</text>"
+    if line.number % 10 == 0 then codes "<text class='number'" ++ numbered (codes "x") line.x ++ codes " y='14'>" ++
+    decimal line.number ++ codes "</text>"
     else []
 
 -- what a mark begins with: its title is the line's text, escaped
@@ -66,7 +69,8 @@ title line = codes "<g id='L" ++ decimal line.number ++ codes "'><title>" ++ esc
 
 -- a line's sign, at its place
 abbrev pub sign : Line → List ℕ
-sign line = codes "<use href='#" ++ sign_of line.says ++ codes "'" ++ numbered (codes "x") line.x ++ numbered (codes "y") (y_of line.says) ++ codes "/>"
+sign line = codes "<use href='#" ++ sign_of line.says ++ codes "'" ++ numbered (codes "x") line.x ++
+    numbered (codes "y") (y_of line.says) ++ codes "/>"
 
 -- the mark of a line, with an arrow from the packet that brings what it delivers
 abbrev pub mark : Option Sent → Line → List ℕ

@@ -15,13 +15,15 @@ use Rattle.chart_mean.specs.declared.types.Range.{Range}
 -- the first line of a picture, of so many pixels each way
 abbrev pub opening : (width height : ℕ) → List ℕ
 opening width height =
-    codes "<svg xmlns='http://www.w3.org/2000/svg'" ++ numbered (codes "width") width ++ numbered (codes "height") height
+    codes "<svg xmlns='http://www.w3.org/2000/svg'" ++ numbered (codes "width") width ++
+    numbered (codes "height") height
     ++ codes " viewBox='0 0 " ++ decimal width ++ codes " " ++ decimal height ++ codes "'>\n"
 
 -- the axis, up to the right end
 abbrev pub axis_line : (end : ℕ) → List ℕ
 axis_line end =
-    codes "<line class='axis'" ++ numbered (codes "x1") left ++ numbered (codes "y1") axis ++ numbered (codes "x2") end ++ numbered (codes "y2") axis ++ codes "/>\n"
+    codes "<line class='axis'" ++ numbered (codes "x1") left ++ numbered (codes "y1") axis ++
+    numbered (codes "x2") end ++ numbered (codes "y2") axis ++ codes "/>\n"
 
 -- the picture of these lines: what it begins with, the members' rows, a mark for each line, and its last line
 abbrev pub picture : List Line → List ℕ
@@ -45,6 +47,8 @@ abbrev pub drawn : Range → List (List ℕ) → Result (List ReportLine) ℕ �
 drawn range texts (Err line) = Err (bad_line line)
 drawn range texts (Ok said) = Ok (pictured range texts)
 
--- the picture of a range of a text, unless that is too large or no report: the texts that an audit takes are those of which there is one
+-- the picture of a range of a text, unless that is too large or no report: the texts that an audit takes are those of
+-- which there is one
 abbrev pub chart_of : Range → List ℕ → Result (List ℕ) AuditFault
-chart_of range text = if is_too_large text then Err too_large else drawn range (lines_of text) (report_from running 1 (lines_of text))
+chart_of range text = if is_too_large text then Err too_large else drawn range (lines_of text)
+    (report_from running 1 (lines_of text))

@@ -1,5 +1,6 @@
 -- A member's row: its number, and a band for each stay in a view.
-use Rattle.std.specs.Prelude.{ℕ, zero, suc, ◌+◌, ◌-◌, ◌==◌, ◌%◌, List, [], ◌∷◌, ◌++◌, Option, Some, None, codes, if◌then◌else◌}
+use Rattle.std.specs.Prelude.{ℕ, zero, suc, ◌+◌, ◌-◌, ◌==◌, ◌%◌, List, [], ◌∷◌, ◌++◌, Option, Some, None, codes}
+use Rattle.std.specs.Prelude.{if◌then◌else◌}
 use Rattle.std.specs.List.{flat_map}
 use Rattle.std.specs.Fmt.{decimal}
 use Rattle.chart_mean.specs.Says.{Says, view, out}
@@ -33,12 +34,14 @@ first_turn = record { x = left; stay = Untold }
 -- a line along a member's row
 abbrev pub midst : ℕ → (x end : ℕ) → List ℕ
 midst member x end =
-    codes "<line" ++ numbered (codes "x1") x ++ numbered (codes "y1") (down member) ++ numbered (codes "x2") end ++ numbered (codes "y2") (down member) ++ codes "/>"
+    codes "<line" ++ numbered (codes "x1") x ++ numbered (codes "y1") (down member) ++ numbered (codes "x2") end ++
+    numbered (codes "y2") (down member) ++ codes "/>"
 
 -- a band along a member's row, with a line in its midst
 abbrev pub band : ℕ → (x end : ℕ) → List ℕ
 band member x end =
-    codes "<rect" ++ numbered (codes "x") x ++ numbered (codes "y") (down member - 12) ++ numbered (codes "width") (end - x) ++ codes " height='24'/>"
+    codes "<rect" ++ numbered (codes "x") x ++ numbered (codes "y") (down member - 12) ++
+    numbered (codes "width") (end - x) ++ codes " height='24'/>"
     ++ midst member x end
 
 -- a band's label: the view's logical time and its mask
@@ -69,7 +72,8 @@ stays member end turn (next ∷ turns) = stayed member turn.x next.x turn.stay +
 -- a member's number in front of its row
 abbrev pub heading : ℕ → List ℕ
 heading member =
-    codes "<text class='member'" ++ numbered (codes "x") (left - 12) ++ numbered (codes "y") (down member + 5) ++ codes ">" ++ decimal member ++ codes "</text>\n"
+    codes "<text class='member'" ++ numbered (codes "x") (left - 12) ++ numbered (codes "y") (down member + 5) ++
+    codes ">" ++ decimal member ++ codes "</text>\n"
 
 -- a member's row
 abbrev pub row : (end : ℕ) → List Line → ℕ → List ℕ

@@ -15,7 +15,8 @@ use Rattle.chart_mean.specs.Ends.{Said}
 use Rattle.chart_mean.specs.declared.types.Ending.{Ending}
 use Rattle.chart_mean.specs.declared.types.Ending.TheVariants.{Done, TooLarge, Line, Words, Read, Write, Memory}
 
--- What a run began with and what it left: what the shelf told, its count of faults before and after, and what the output told.
+-- What a run began with and what it left: what the shelf told, its count of faults before and after, and what the
+-- output told.
 pub record Around : Type 0 where
   pub told : Option Shelved
   pub reads : ℕ
@@ -29,7 +30,8 @@ surrounding told reads reads_after output output_after =
 
 -- The same, by what a shelf and an output were before and after.
 abbrev pub around : {S O : Type 0} → shelves.Ghosts S → outputs.Ghosts O → S → S → O → O → Around
-around s o shelf shelf_after out out_after = surrounding (s.told shelf) (s.faults shelf) (s.faults shelf_after) (tells_of o out) (tells_of o out_after)
+around s o shelf shelf_after out out_after = surrounding (s.told shelf) (s.faults shelf) (s.faults shelf_after)
+    (tells_of o out) (tells_of o out_after)
 
 -- Nothing was read and nothing was written.
 pub record Nothing (a : Around) : Type 0 where
@@ -98,11 +100,12 @@ Due due status = (status ≡ due) ⊎ (status ≡ 7)
 abbrev pub NoPutFailed : Around → Type 0
 NoPutFailed a = Rose a.output.faults a.output_after.faults → ⊥
 
--- Where the shelf tells, what it finds of a request determines the status: 4 where there is no file, 1 where it is no report, and where it is one
--- and no put failed, 0, and the output gained the picture.
+-- Where the shelf tells, what it finds of a request determines the status: 4 where there is no file, 1 where it is no
+-- report, and where it is one and no put failed, 0, and the output gained the picture.
 pub record Exact (r : Request) (a : Around) (status : ℕ) : Type 0 where
   pub unread : (shelf : Shelved) → a.told ≡ Some shelf → found_in shelf r.file ≡ None → Due 4 status
-  pub refused : (shelf : Shelved) (file : List ℕ) (fault : AuditFault) → a.told ≡ Some shelf → found_in shelf r.file ≡ Some file →
+  pub refused : (shelf : Shelved) (file : List ℕ) (fault : AuditFault) → a.told ≡ Some shelf →
+      found_in shelf r.file ≡ Some file →
       chart_of r.range file ≡ Err fault → Due 1 status
   pub complete : (shelf : Shelved) (file picture : List ℕ) → a.told ≡ Some shelf → found_in shelf r.file ≡ Some file →
       chart_of r.range file ≡ Ok picture → NoPutFailed a →

@@ -1,12 +1,13 @@
 -- What a picture shows of a line of a report.
-use Rattle.std.specs.Prelude.{ℕ, Bool, List, [], ◌∷◌, Option, Some, None, option_map, unwrap_or, codes, bytes_eq, if◌then◌else◌}
+use Rattle.std.specs.Prelude.{ℕ, Bool, List, [], ◌∷◌, Option, Some, None, option_map, unwrap_or, codes, bytes_eq}
+use Rattle.std.specs.Prelude.{if◌then◌else◌}
 use Rattle.std.specs.List.{list_any}
 use Rattle.script_mean.specs.Words.{Word, words_of}
 use Rattle.script_mean.specs.Form.{Form, ◌>>=◌, one, a_word, a_number, ends}
 use Rattle.audit_mean.specs.Line.{a_member}
 
--- a member delivers a body, by cast or send; sends a packet with a body; is in a new view; is out; does what the line's first word says; or
--- the line is beside the members
+-- a member delivers a body, by cast or send; sends a packet with a body; is in a new view; is out; does what the line's
+-- first word says; or the line is beside the members
 pub data Says : Type 0 where
   deliver : (kind : Word) (member : ℕ) (body : Word) → Says
   packet : (member : ℕ) (body : Word) → Says
@@ -25,7 +26,8 @@ kinds = codes "cast" ∷ codes "send" ∷ []
 -- the first words of the other lines whose second word is the member of which they tell
 abbrev pub others : List Word
 others =
-    codes "block" ∷ codes "announce" ∷ codes "timer" ∷ codes "refused" ∷ codes "absent" ∷ codes "state" ∷ codes "cell" ∷ codes "deaf" ∷ []
+    codes "block" ∷ codes "announce" ∷ codes "timer" ∷ codes "refused" ∷ codes "absent" ∷ codes "state" ∷ codes "cell" ∷
+    codes "deaf" ∷ []
 
 -- one of these words
 abbrev pub a_word_of : List Word → Form Word

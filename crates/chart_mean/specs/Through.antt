@@ -23,9 +23,11 @@ closed false Read = Read
 closed false Write = Write
 closed false Memory = Memory
 
--- A run that put so much on the output and ended so; what was handed on to the output's stream; and what was said then, of the end that
--- comes of both, and handed on to the standard error's. Where that is the run's own end, all that `run` does is done.
-pub record RunsThrough (words : List Text) (told : Option Shelved) (reads reads_after : ℕ) (out err : Stream) (status : ℕ) : Type 0 where
+-- A run that put so much on the output and ended so; what was handed on to the output's stream; and what was said then,
+-- of the end that comes of both, and handed on to the standard error's. Where that is the run's own end, all that `run`
+-- does is done.
+pub record RunsThrough (words : List Text) (told : Option Shelved) (reads reads_after : ℕ) (out err : Stream)
+    (status : ℕ) : Type 0 where
   pub put : Tells
   pub end : Ending
   pub came : Comes (request_of words) (surrounding told reads reads_after out.before put) end
@@ -33,7 +35,8 @@ pub record RunsThrough (words : List Text) (told : Option Shelved) (reads reads_
   pub handed_on : HandsOn put out.after out.holds whole
   pub closing : Tells
   pub said : Said (closed whole end) (errors err.before closing status)
-  pub runs : closed whole end ≡ end → Runs words (surrounding told reads reads_after out.before put) (errors err.before closing status)
+  pub runs : closed whole end ≡ end →
+      Runs words (surrounding told reads reads_after out.before put) (errors err.before closing status)
   pub heard : Bool
   pub told_on : HandsOn closing err.after err.holds heard
 

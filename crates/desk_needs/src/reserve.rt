@@ -2,15 +2,16 @@
 
 ghost use Rattle.std.specs.Prelude.{◌≡◌, map, option_map};
 ghost use Rattle.stack_mean.specs.Acceptance.{held_at_most};
-ghost use Rattle.typed_layer.specs.View.{message_tree, row_tree, emission_tree, statement_tree, block_tree, handler_tree, layer_tree};
+ghost use Rattle.typed_layer.specs.View.{message_tree, row_tree, emission_tree, statement_tree, block_tree};
+ghost use Rattle.typed_layer.specs.View.{handler_tree, layer_tree};
 ghost use Rattle.layer_desk.specs.Need.{lifts, row_lifts, emission_lifts, in_hand, block_in_hand};
 ghost use Rattle.desk_needs.specs.Layouts.{most, layout_of};
 ghost use Rattle.desk_needs.specs.Reserved.{reserved};
 
 use typed_layer::{Block, Emission, Handler, MessageExpression, Row, Statement, TypedLayer};
 
-/// The most numbers and messages that a handler's block declares, and the most messages that one has in hand, as far as 32 bits
-/// hold that number.
+/// The most numbers and messages that a handler's block declares, and the most messages that one has in hand, as far as
+/// 32 bits hold that number.
 #[derive(Clone, Copy, Debug, PartialEq, Eq)]
 pub struct Reserve {
     pub numbers: u8,

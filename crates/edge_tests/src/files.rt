@@ -10,7 +10,8 @@ use std::rt::Files;
 use std::test::Fail;
 use std::{fs, io, process};
 
-/// A stream that takes three bytes at most in a call, is interrupted before each, and fails once it took so many. Its first flush fails.
+/// A stream that takes three bytes at most in a call, is interrupted before each, and fails once it took so many. Its
+/// first flush fails.
 #[derive(Drop)]
 struct Slow {
     taken: Vec<u8>,

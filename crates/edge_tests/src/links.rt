@@ -27,7 +27,8 @@ fn room(alloc: Global) -> Result<Vec<u8>, AllocError>
     vec![in alloc; 0; LONGEST_DATAGRAM]
 }
 
-/// What becomes of three datagrams to the member 1, of which the first comes and the third overtakes it, and of two receives more.
+/// What becomes of three datagrams to the member 1, of which the first comes and the third overtakes it, and of two
+/// receives more.
 fn exchanged<N: Links>(links: &mut N, into: &mut [u8]) -> Result<bool, LinkError>
     requires { length into.old ≡ LONGEST_DATAGRAM }
 {

@@ -78,7 +78,8 @@ fn passes<N: Links>(
     Ok(whole && alone)
 }
 
-// Whether datagrams of each size pass between two of three members at two addresses, and two that follow one another in their order.
+// Whether datagrams of each size pass between two of three members at two addresses, and two that follow one another in
+// their order.
 fn sizes_pass<N: Links>(
     clock: &impl Clock,
     links: &mut N,
@@ -103,8 +104,8 @@ fn sizes_pass<N: Links>(
     Ok(none && some && most && first && second && behind)
 }
 
-// Whether no member may listen at a place that is taken, a send to no port fails, members are heard that moved, and one that the other doesn't
-// know.
+// Whether no member may listen at a place that is taken, a send to no port fails, members are heard that moved, and one
+// that the other doesn't know.
 fn places_are_their_own<N: Links>(
     clock: &impl Clock,
     links: &mut N,

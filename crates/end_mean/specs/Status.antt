@@ -34,8 +34,9 @@ pub data SecondFault : Type 0 where
   misspelled : (fault : ScriptFault) → SecondFault
   too_many_rows : SecondFault
 
--- how the program ends: the whole output was written, or it was and is a breach of a law; a file or the words are refused, a
--- file of an audit being a report, and a third file one of traces; a read, a write or a link failed; memory ran out
+-- how the program ends: the whole output was written, or it was and is a breach of a law; a file or the words are
+-- refused, a file of an audit being a report, and a third file one of traces; a read, a write or a link failed; memory
+-- ran out
 pub data Ended : Type 0 where
   done : Ended
   breached : Ended

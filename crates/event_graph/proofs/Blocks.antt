@@ -1,7 +1,9 @@
 -- What stands in blocks, statement by statement, and how often it is done.
-use Rattle.std.proofs.Common.{◌≡◌, ℕ, ◌+◌, ◌*◌, ◌<◌, min, length, take, get_or, add-one, take-suc, List, [], ◌∷◌, ◌++◌, map, refl, sym, ap, ◌∙◌, append_assoc, append-nil, arith}
+use Rattle.std.proofs.Common.{◌≡◌, ℕ, ◌+◌, ◌*◌, ◌<◌, min, length, take, get_or, add-one, take-suc, List, [], ◌∷◌, ◌++◌}
+use Rattle.std.proofs.Common.{map, refl, sym, ap, ◌∙◌, append_assoc, append-nil, arith}
 use Rattle.std.proofs.lemmas.List.{map-append}
-use Rattle.layer_mean.specs.Tree.{LayerTree, StatementTree, bind, assign, assign_square, push, take as take_row, branch, each, emit, StatementTrees, none, more}
+use Rattle.layer_mean.specs.Tree.{LayerTree, StatementTree, bind, assign, assign_square, push, take as take_row, branch}
+use Rattle.layer_mean.specs.Tree.{each, emit, StatementTrees, none, more}
 use Rattle.stack_mean.specs.Graph as graph
 use Rattle.stack_mean.specs.Graph.{emission_arrow}
 use Rattle.stack_mean.specs.Emissions.{Repeated, emissions, emissions_in, joins, joins_of}
@@ -13,7 +15,8 @@ use Rattle.typed_layer.specs.View.{trees, statement_tree}
 use Rattle.typed_layer.specs.declared.tree.Statement.{Statement}
 use Rattle.event_graph.specs.Edges.{emission_edge}
 
-pub joins_more : (xs : List StatementTree) (x : StatementTree) → joins_of (trees (xs ++ x ∷ [])) ≡ joins_of (trees xs) + joins x
+pub joins_more : (xs : List StatementTree) (x : StatementTree) → joins_of (trees (xs ++ x ∷ [])) ≡
+    joins_of (trees xs) + joins x
 joins_more [] x = omega arith
 joins_more (y ∷ xs) x = omega (arith, joins_more xs x)
 
@@ -33,10 +36,12 @@ one_more_tree xs i x within is =
     ∙ map-append statement_tree (take i xs) (x ∷ [])
 
 pub joins_step : (xs : List Statement) (i : ℕ) (x : Statement) (sum own next : ℕ) → i < length xs → x ≡ get_or xs i x →
-    sum ≡ held_at_most (joins_of (trees (map statement_tree (take i xs)))) → own ≡ held_at_most (joins (statement_tree x)) →
+    sum ≡ held_at_most (joins_of (trees (map statement_tree (take i xs)))) →
+    own ≡ held_at_most (joins (statement_tree x)) →
     next ≡ held_at_most (sum + own) → next ≡ held_at_most (joins_of (trees (map statement_tree (take (i + 1) xs))))
 joins_step xs i x sum own next within is so_far its more_is =
-    let all = ap (λ ts. joins_of (trees ts)) (one_more_tree xs i x within is) ∙ joins_more (map statement_tree (take i xs)) (statement_tree x) in
+    let all = ap (λ ts. joins_of (trees ts)) (one_more_tree xs i x within is) ∙
+    joins_more (map statement_tree (take i xs)) (statement_tree x) in
     omega (arith, so_far, its, more_is, all)
 
 pub edges_step : (stack : List LayerTree) (node : graph.Node) (times : ℕ) (xs : List Statement) (i : ℕ) (x : Statement)
@@ -64,7 +69,8 @@ products s t m same =
     omega (arith, one, other, between)
 
 module _ (stack : List LayerTree) (node : graph.Node) where
-  appended : (s t : ℕ) (f g : ℕ → List Repeated) → map (emission_edge stack node) (f s) ≡ map (emission_edge stack node) (f t) →
+  appended : (s t : ℕ) (f g : ℕ → List Repeated) → map (emission_edge stack node) (f s) ≡
+      map (emission_edge stack node) (f t) →
       map (emission_edge stack node) (g s) ≡ map (emission_edge stack node) (g t) →
       map (emission_edge stack node) (f s ++ g s) ≡ map (emission_edge stack node) (f t ++ g t)
   appended s t f g one other =
@@ -80,9 +86,11 @@ module _ (stack : List LayerTree) (node : graph.Node) where
     statement_held s t (assign_square c row column e) same = refl
     statement_held s t (push c i capacity row otherwise) same = block_held s t otherwise same
     statement_held s t (take_row c i taken block otherwise) same =
-        appended s t (λ n. emissions_in n block) (λ n. emissions_in n otherwise) (block_held s t block same) (block_held s t otherwise same)
+        appended s t (λ n. emissions_in n block) (λ n. emissions_in n otherwise) (block_held s t block same)
+        (block_held s t otherwise same)
     statement_held s t (branch likely e block otherwise) same =
-        appended s t (λ n. emissions_in n block) (λ n. emissions_in n otherwise) (block_held s t block same) (block_held s t otherwise same)
+        appended s t (λ n. emissions_in n block) (λ n. emissions_in n otherwise) (block_held s t block same)
+        (block_held s t otherwise same)
     statement_held s t (each k below most block) same = block_held (s * most) (t * most) block (products s t most same)
     statement_held s t (emit e) same =
         let targets = map node_number (emission_arrow stack node (record { times = 0; emission = e })).targets in
@@ -93,4 +101,5 @@ module _ (stack : List LayerTree) (node : graph.Node) where
         map (emission_edge stack node) (emissions_in s b) ≡ map (emission_edge stack node) (emissions_in t b)
     block_held s t none same = refl
     block_held s t (more x rest) same =
-        appended s t (λ n. emissions n x) (λ n. emissions_in n rest) (statement_held s t x same) (block_held s t rest same)
+        appended s t (λ n. emissions n x) (λ n. emissions_in n rest) (statement_held s t x same)
+        (block_held s t rest same)

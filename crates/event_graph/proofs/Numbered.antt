@@ -16,11 +16,13 @@ numbered at dir kind first (suc count) =
     let one : Node = record { at = at; dir = dir; kind = kind; tag = first } in
     let other : Node = record { at = at; dir = dir; kind = kind; tag = first + 1 } in
     let next : node_number one + 1 ≡ node_number other = omega arith in
-    ap (λ (xs : List ℕ). node_number one ∷ xs) (ap (λ n. range_with_len n count) next ∙ numbered at dir kind (first + 1) count)
+    ap (λ (xs : List ℕ). node_number one ∷ xs)
+    (ap (λ n. range_with_len n count) next ∙ numbered at dir kind (first + 1) count)
 
 pub edge_is : (times number count : ℕ) (node : Node) (dir : Dir) (kind : Kind) (first : ℕ) → times ≤ 4294967295 →
     number ≡ node_number (record { at = beyond dir node.at; dir = dir; kind = kind; tag = first }) →
-    record { times = times; targets = range_with_len number count } ≡ edge_of (arrow_to times node dir kind (range_with_len first count))
+    record { times = times; targets = range_with_len number count } ≡
+    edge_of (arrow_to times node dir kind (range_with_len first count))
 edge_is times number count node dir kind first low is =
     let held : times ≡ held_at_most times = omega arith in
     let targets = ap (λ n. range_with_len n count) is ∙ numbered (beyond dir node.at) dir kind first count in

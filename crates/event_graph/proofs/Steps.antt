@@ -1,5 +1,7 @@
 -- Lists that are gathered step by step.
-use Rattle.std.proofs.Common.{◌≡◌, ℕ, zero, suc, ◌+◌, ◌<◌, max, Bool, true, false, Some, None, fold, List, [], ◌∷◌, ◌++◌, map, flat_map, length, take, get_or, refl, sym, ap, ◌∙◌, append_assoc, append-nil, add-one, take-suc, arith}
+use Rattle.std.proofs.Common.{◌≡◌, ℕ, zero, suc, ◌+◌, ◌<◌, max, Bool, true, false, Some, None, fold, List, [], ◌∷◌}
+use Rattle.std.proofs.Common.{◌++◌, map, flat_map, length, take, get_or, refl, sym, ap, ◌∙◌, append_assoc, append-nil}
+use Rattle.std.proofs.Common.{add-one, take-suc, arith}
 use Rattle.std.specs.Prelude.{if◌then◌else◌}
 use Rattle.std.specs.List.{find, range_with_len}
 use Rattle.std.proofs.lemmas.List.{map-append}
@@ -20,7 +22,8 @@ range_more n =
     let last : 0 + n ≡ n = omega arith in
     ap (range_with_len 0) (add-one n) ∙ range_suc 0 n ∙ ap (λ k. range_with_len 0 n ++ k ∷ []) last
 
-pub one_taken : {X : Type 0} (xs : List X) (i : ℕ) (x : X) → i < length xs → x ≡ get_or xs i x → take (i + 1) xs ≡ take i xs ++ x ∷ []
+pub one_taken : {X : Type 0} (xs : List X) (i : ℕ) (x : X) → i < length xs → x ≡ get_or xs i x →
+    take (i + 1) xs ≡ take i xs ++ x ∷ []
 one_taken xs i x within is =
     ap (λ n. take n xs) (add-one i) ∙ take-suc xs i x within ∙ ap (λ y. take i xs ++ y ∷ []) (sym is)
 
@@ -56,39 +59,45 @@ elements_step f xs i d front done next within so_far more =
     ∙ append_assoc front (flat_map f (take i xs)) (f (get_or xs i d))
     ∙ ap (λ ys. front ++ ys) (sym (ap (flat_map f) taken ∙ flat_more f (take i xs) (get_or xs i d)))
 
-pub largest_more : (f : ℕ → ℕ) (a n : ℕ) → largest (map f (range_with_len a (n + 1))) ≡ max (largest (map f (range_with_len a n))) (f (a + n))
+pub largest_more : (f : ℕ → ℕ) (a n : ℕ) → largest (map f (range_with_len a (n + 1))) ≡
+    max (largest (map f (range_with_len a n))) (f (a + n))
 largest_more f a n =
     ap largest (map-range_with_len_more f a n (a + n) refl) ∙ fold_push max 0 (map f (range_with_len a n)) (f (a + n))
 
-pub fold_more : {B : Type 0} (f : B → ℕ → B) (b : B) (a n : ℕ) → fold f b (range_with_len a (n + 1)) ≡ f (fold f b (range_with_len a n)) (a + n)
-fold_more f b a n = ap (λ k. fold f b (range_with_len a k)) (add-one n) ∙ ap (fold f b) (range_suc a n) ∙ fold_push f b (range_with_len a n) (a + n)
+pub fold_more : {B : Type 0} (f : B → ℕ → B) (b : B) (a n : ℕ) → fold f b (range_with_len a (n + 1)) ≡
+    f (fold f b (range_with_len a n)) (a + n)
+fold_more f b a n = ap (λ k. fold f b (range_with_len a k)) (add-one n) ∙ ap (fold f b) (range_suc a n) ∙
+    fold_push f b (range_with_len a n) (a + n)
 
 -- the first that passes a test, and none so far
 pub found_at : {X Y : Type 0} (f : X → Y) (p : Y → Bool) (xs : List X) (i : ℕ) (d : X) → i < length xs →
     find p (map f (take i xs)) ≡ None → p (f (get_or xs i d)) ≡ true → find p (map f xs) ≡ Some (f (get_or xs i d))
 found_at f p [] i d within none passes = absurd (omega arith)
 found_at f p (x ∷ xs) zero d within none passes = ap (λ b. if b then Some (f x) else find p (map f xs)) passes
-found_at f p (x ∷ xs) (suc i) d within none passes = go (p (f x)) none (λ later. found_at f p xs i d (omega arith) later passes) where
-  go : (b : Bool) → (if b then Some (f x) else find p (map f (take i xs))) ≡ None →
-      (find p (map f (take i xs)) ≡ None → find p (map f xs) ≡ Some (f (get_or xs i d))) →
-      (if b then Some (f x) else find p (map f xs)) ≡ Some (f (get_or xs i d))
-  go true e later = absurd (cc e)
-  go false e later = later e
+found_at f p (x ∷ xs) (suc i) d within none passes =
+    go (p (f x)) none (λ later. found_at f p xs i d (omega arith) later passes) where
+      go : (b : Bool) → (if b then Some (f x) else find p (map f (take i xs))) ≡ None →
+          (find p (map f (take i xs)) ≡ None → find p (map f xs) ≡ Some (f (get_or xs i d))) →
+          (if b then Some (f x) else find p (map f xs)) ≡ Some (f (get_or xs i d))
+      go true e later = absurd (cc e)
+      go false e later = later e
 
 behind : {X Y : Type 0} (f : X → Y) (p : Y → Bool) (d : X) (xs : List X) (i : ℕ) → i < length xs →
     find p (map f (take i xs)) ≡ None → p (f (get_or xs i d)) ≡ false → find p (map f (take (suc i) xs)) ≡ None
 behind f p d [] i within none fails = absurd (omega arith)
 behind f p d (x ∷ xs) zero within none fails = ap (λ b. if b then Some (f x) else None) fails
-behind f p d (x ∷ xs) (suc i) within none fails = go (p (f x)) none (λ later. behind f p d xs i (omega arith) later fails) where
-  go : (b : Bool) → (if b then Some (f x) else find p (map f (take i xs))) ≡ None →
-      (find p (map f (take i xs)) ≡ None → find p (map f (take (suc i) xs)) ≡ None) →
-      (if b then Some (f x) else find p (map f (take (suc i) xs))) ≡ None
-  go true e later = absurd (cc e)
-  go false e later = later e
+behind f p d (x ∷ xs) (suc i) within none fails =
+    go (p (f x)) none (λ later. behind f p d xs i (omega arith) later fails) where
+      go : (b : Bool) → (if b then Some (f x) else find p (map f (take i xs))) ≡ None →
+          (find p (map f (take i xs)) ≡ None → find p (map f (take (suc i) xs)) ≡ None) →
+          (if b then Some (f x) else find p (map f (take (suc i) xs))) ≡ None
+      go true e later = absurd (cc e)
+      go false e later = later e
 
 pub none_yet : {X Y : Type 0} (f : X → Y) (p : Y → Bool) (xs : List X) (i : ℕ) (d : X) → i < length xs →
     find p (map f (take i xs)) ≡ None → p (f (get_or xs i d)) ≡ false → find p (map f (take (i + 1) xs)) ≡ None
-none_yet f p xs i d within none fails = ap (λ n. find p (map f (take n xs))) (add-one i) ∙ behind f p d xs i within none fails
+none_yet f p xs i d within none fails = ap (λ n. find p (map f (take n xs))) (add-one i) ∙ behind f p d xs i within
+    none fails
 
 pub empty_is : {X : Type 0} (xs : List X) → length xs ≡ 0 → xs ≡ []
 empty_is [] none = refl

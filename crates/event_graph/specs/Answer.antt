@@ -11,7 +11,8 @@ use Rattle.event_graph.specs.declared.stack.Stack.{Stack}
 abbrev pub stack_tree : Stack → List LayerTree
 stack_tree s = typed_tree s.typed
 
--- The answer for a stack: this very stack where it is accepted, the very refusal that the definition gives, or want of memory.
+-- The answer for a stack: this very stack where it is accepted, the very refusal that the definition gives, or want of
+-- memory.
 abbrev pub IsAnswer : List LayerTree → Result Stack StackError → Type 0
 IsAnswer stack (Ok s) = (stack_tree s ≡ stack) × (accepted stack ≡ Ok stack)
 IsAnswer stack (Err (Cycle place kind)) = accepted stack ≡ Err (cycle place kind)

@@ -14,7 +14,9 @@ is_steady_at own vertices costs n =
 abbrev pub is_often : Edge → Bool
 is_often edge = nat_lt 0 edge.times
 
--- Whether a node's cost is below what 32 bits hold, and each of its edges stands for one time at least: then steady costs fall along them.
+-- Whether a node's cost is below what 32 bits hold, and each of its edges stands for one time at least: then steady
+-- costs fall along them.
 abbrev pub falls_at : List Vertex → List ℕ → Node → Bool
 falls_at vertices costs n =
-    nat_lt (slice_index costs (node_number n)) 4294967295 && list_all is_often (vertex_at vertices (node_number n)).edges
+    nat_lt (slice_index costs (node_number n)) 4294967295 &&
+    list_all is_often (vertex_at vertices (node_number n)).edges

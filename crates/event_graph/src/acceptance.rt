@@ -10,8 +10,8 @@ use crate::stack::Stack;
 use std::alloc::Global;
 use typed_layer::Typed;
 
-/// The stack of these layers, if no event can follow from itself, and the tasks and the joins that can follow from an entry are within
-/// their limits; else the first reason for which it isn't accepted.
+/// The stack of these layers, if no event can follow from itself, and the tasks and the joins that can follow from an
+/// entry are within their limits; else the first reason for which it isn't accepted.
 pub fn accept(alloc: Global, typed: Typed) -> Result<Stack, StackError>
     requires { IsOrderly (typed_tree typed) }
     ensures { IsAnswer (typed_tree typed) result }

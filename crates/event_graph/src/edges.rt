@@ -83,7 +83,8 @@ fn keeps_headers(message: &MessageExpression) -> bool
 
 /// The tags that an emitted message can have.
 fn content_tags(stack: &Typed, node: Node, dir: Dir, content: &Content) -> Tags
-    ensures { range_with_len result.first result.count ≡ graph.content_tags (typed_tree stack.now) (node_tree node) dir (content_tree content.now) }
+    ensures { range_with_len result.first result.count ≡ graph.content_tags (typed_tree stack.now) (node_tree node) dir
+        (content_tree content.now) }
 {
     match dir {
         Dir::Down => Tags {
@@ -112,7 +113,8 @@ fn content_tags(stack: &Typed, node: Node, dir: Dir, content: &Content) -> Tags
 
 /// The tags that an emitted event can have.
 fn emission_tags(stack: &Typed, node: Node, emission: &Emission) -> Tags
-    ensures { range_with_len result.first result.count ≡ graph.emission_tags (typed_tree stack.now) (node_tree node) (emission_tree emission.now) (emission_tree emission.now).content }
+    ensures { range_with_len result.first result.count ≡ graph.emission_tags (typed_tree stack.now) (node_tree node)
+        (emission_tree emission.now) (emission_tree emission.now).content }
 {
     match &emission.content {
         None => Tags { first: 0, count: 1 },
@@ -122,7 +124,8 @@ fn emission_tags(stack: &Typed, node: Node, emission: &Emission) -> Tags
 
 /// The edge from a node to its neighbour in a direction, for an event of a kind with one of these tags.
 pub fn edge_to(times: u32, node: Node, dir: Dir, kind: Kind, tags: Tags) -> Edge
-    ensures { edge_tree result ≡ edge_of (graph.arrow_to times (node_tree node) dir kind (range_with_len tags.first tags.count)) }
+    ensures { edge_tree result ≡
+        edge_of (graph.arrow_to times (node_tree node) dir kind (range_with_len tags.first tags.count)) }
 {
     Edge {
         times,
@@ -133,7 +136,8 @@ pub fn edge_to(times: u32, node: Node, dir: Dir, kind: Kind, tags: Tags) -> Edge
 
 /// The edge of an emission that is done so many times.
 fn emitted(stack: &Typed, node: Node, times: u32, emission: &Emission) -> Edge
-    ensures { edge_tree result ≡ emission_edge (typed_tree stack.now) (node_tree node) (record { times = times; emission = emission_tree emission.now }) }
+    ensures { edge_tree result ≡ emission_edge (typed_tree stack.now) (node_tree node)
+        (record { times = times; emission = emission_tree emission.now }) }
 {
     let tags = emission_tags(stack, node, emission);
     edge_to(times, node, emission.direction, emission.kind, tags)
@@ -148,7 +152,8 @@ fn add_emission(
     edges: &mut Vec<Edge>,
 ) -> Result<(), AllocError>
     ensures { OnOk result (map edge_tree edges.new.items ≡ map edge_tree edges.old.items ++
-        map (emission_edge (typed_tree stack.now) (node_tree node)) (record { times = times; emission = emission_tree emission.now } ∷ [])) }
+        map (emission_edge (typed_tree stack.now) (node_tree node))
+        (record { times = times; emission = emission_tree emission.now } ∷ [])) }
 {
     edges.push(emitted(stack, node, times, emission))?;
     Ok(())
@@ -165,7 +170,8 @@ fn add_repeated(
     edges: &mut Vec<Edge>,
 ) -> Result<(), AllocError>
     ensures { OnOk result (map edge_tree edges.new.items ≡ map edge_tree edges.old.items ++
-        map (emission_edge (typed_tree stack.now) (node_tree node)) (emissions_in (times * most) (block_tree block.now))) }
+        map (emission_edge (typed_tree stack.now) (node_tree node))
+        (emissions_in (times * most) (block_tree block.now))) }
 {
     add_block(
         stack,

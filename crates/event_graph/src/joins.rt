@@ -3,9 +3,11 @@
 ghost use Rattle.std.specs.Prelude.{◌≡◌, map, option_map};
 ghost use Rattle.std.specs.List.{sum_by};
 ghost use Rattle.std.specs.Option.{option_map_or};
-ghost use Rattle.stack_mean.specs.Emissions.{joins_in, joins_in_message, joins_in_content, joins_in_emission, joins_in_row, joins, joins_of, joins_expected, handler_joins};
+ghost use Rattle.stack_mean.specs.Emissions.{joins_in, joins_in_message, joins_in_content, joins_in_emission};
+ghost use Rattle.stack_mean.specs.Emissions.{joins_in_row, joins, joins_of, joins_expected, handler_joins};
 ghost use Rattle.stack_mean.specs.Acceptance.{held_at_most};
-ghost use Rattle.typed_layer.specs.View.{expression_tree, message_tree, content_tree, emission_tree, row_tree, statement_tree, block_tree, expected_tree, handler_tree};
+ghost use Rattle.typed_layer.specs.View.{expression_tree, message_tree, content_tree, emission_tree, row_tree};
+ghost use Rattle.typed_layer.specs.View.{statement_tree, block_tree, expected_tree, handler_tree};
 
 use typed_layer::{
     Block, Content, Emission, Expected, Expression, Handler, MessageExpression, Row, Statement,

@@ -52,7 +52,8 @@ fn is_free(stack: &Typed, nodes: &[Node], vertices: &[Vertex], weights: &[u32]) 
     requires orderly { IsOrderly (typed_tree stack.now) }
     requires nodes { map node_tree nodes.now ≡ graph.nodes (typed_tree stack.now) }
     requires table { map vertex_tree vertices.now ≡ table_of (typed_tree stack.now) }
-    requires steady { list_all (is_steady_at one_task (map vertex_tree vertices.now) weights.now) (map node_tree nodes.now) ≡ true }
+    requires steady { list_all (is_steady_at one_task (map vertex_tree vertices.now) weights.now)
+        (map node_tree nodes.now) ≡ true }
     ensures { result ≡ true → graph.first_on_cycle (typed_tree stack.now) ≡ None }
 {
     all_fall(nodes, vertices, weights)
@@ -69,7 +70,9 @@ fn cycle_of(
     requires orderly { IsOrderly (typed_tree stack.now) }
     requires nodes { map node_tree nodes.now ≡ graph.nodes (typed_tree stack.now) }
     requires table { map vertex_tree vertices.now ≡ table_of (typed_tree stack.now) }
-    requires steady { IfSome weights.now (λ costs. list_all (is_steady_at one_task (map vertex_tree vertices.now) costs.items) (map node_tree nodes.now) ≡ true) }
+    requires steady { IfSome weights.now
+        (λ costs. list_all (is_steady_at one_task (map vertex_tree vertices.now) costs.items)
+        (map node_tree nodes.now) ≡ true) }
     ensures { IfOk result (λ found. option_map node_tree found ≡ graph.first_on_cycle (typed_tree stack.now)) }
 {
     if let Some(weights) = weights {
@@ -113,7 +116,8 @@ fn largest_settled(
     requires nodes { map node_tree _nodes.now ≡ graph.nodes (typed_tree stack.now) }
     requires table { map vertex_tree _vertices.now ≡ table_of (typed_tree stack.now) }
     requires free { None ≡ graph.first_on_cycle (typed_tree stack.now) }
-    requires steady { list_all (is_steady_at (own_of _measure) (map vertex_tree _vertices.now) costs.now) (map node_tree _nodes.now) ≡ true }
+    requires steady { list_all (is_steady_at (own_of _measure) (map vertex_tree _vertices.now) costs.now)
+        (map node_tree _nodes.now) ≡ true }
     ensures { result ≡ held_at_most (largest_of _measure (typed_tree stack.now)) }
 {
     largest_of_entries(stack, costs)
@@ -149,7 +153,9 @@ fn largest_in(
     requires nodes { map node_tree nodes.now ≡ graph.nodes (typed_tree stack.now) }
     requires table { map vertex_tree vertices.now ≡ table_of (typed_tree stack.now) }
     requires free { None ≡ graph.first_on_cycle (typed_tree stack.now) }
-    requires steady { IfSome settled.now (λ costs. list_all (is_steady_at (own_of measure) (map vertex_tree vertices.now) costs.items) (map node_tree nodes.now) ≡ true) }
+    requires steady { IfSome settled.now
+        (λ costs. list_all (is_steady_at (own_of measure) (map vertex_tree vertices.now) costs.items)
+        (map node_tree nodes.now) ≡ true) }
     ensures { IfOk result (λ most. most ≡ held_at_most (largest_of measure (typed_tree stack.now))) }
 {
     match settled {

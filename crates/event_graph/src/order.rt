@@ -67,8 +67,8 @@ impl Walk {
     }
 }
 
-/// The numbers of some nodes and of what follows from them, in an order. (Nothing is proved of it: it only tells in which order
-/// costs are improved.)
+/// The numbers of some nodes and of what follows from them, in an order. (Nothing is proved of it: it only tells in
+/// which order costs are improved.)
 pub fn order_of(
     alloc: Global,
     nodes: &[Node],

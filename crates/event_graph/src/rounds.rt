@@ -106,7 +106,8 @@ fn next_costs(
     vertices: &[Vertex],
     before: &[u32],
 ) -> Result<Vec<u32>, AllocError>
-    ensures { IfOk result (λ costs. costs.items ≡ round.round (own_of measure) (map vertex_tree vertices.now) before.now) }
+    ensures { IfOk result
+        (λ costs. costs.items ≡ round.round (own_of measure) (map vertex_tree vertices.now) before.now) }
 {
     let mut costs = Vec::new(alloc);
     for vertex in vertices {

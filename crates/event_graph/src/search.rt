@@ -21,7 +21,8 @@ pub struct Search {
 impl Search {
     /// A search of a table that has seen nothing.
     fn of(alloc: Global, vertices: &[Vertex]) -> Result<Search, AllocError>
-        ensures { IfOk result (λ s. search_tree s ≡ record { seen = replicate (length (map vertex_tree vertices.now)) false; last = [] }) }
+        ensures { IfOk result
+            (λ s. search_tree s ≡ record { seen = replicate (length (map vertex_tree vertices.now)) false; last = [] }) }
     {
         let seen = vec![in alloc; false; vertices.len()]?;
         Ok(Search {
@@ -66,7 +67,8 @@ impl Search {
 
     /// Sees the targets of edges.
     fn see_edges(&mut self, edges: &[Edge]) -> Result<(), AllocError>
-        ensures { OnOk result (search_tree self.new ≡ fold search.see_targets (search_tree self.old) (map edge_tree edges.now)) }
+        ensures { OnOk result
+            (search_tree self.new ≡ fold search.see_targets (search_tree self.old) (map edge_tree edges.now)) }
     {
         for edge in edges {
             self.see_targets(*edge)?;
@@ -76,7 +78,8 @@ impl Search {
 
     /// Sees the targets of the edges from a vertex.
     fn see_edges_of(&mut self, vertex: &Vertex) -> Result<(), AllocError>
-        ensures { OnOk result (search_tree self.new ≡ fold search.see_targets (search_tree self.old) (vertex_tree vertex.now).edges) }
+        ensures { OnOk result
+            (search_tree self.new ≡ fold search.see_targets (search_tree self.old) (vertex_tree vertex.now).edges) }
     {
         match &vertex.edges {
             Edges::Nowhere => Ok(()),
@@ -87,7 +90,8 @@ impl Search {
 
     /// Sees what follows from a number.
     fn see_vertex(&mut self, vertices: &[Vertex], number: usize) -> Result<(), AllocError>
-        ensures { OnOk result (search_tree self.new ≡ search.see_vertex (map vertex_tree vertices.now) (search_tree self.old) number) }
+        ensures { OnOk result
+            (search_tree self.new ≡ search.see_vertex (map vertex_tree vertices.now) (search_tree self.old) number) }
     {
         if number < vertices.len() {
             self.see_edges_of(&vertices[number])
@@ -98,7 +102,8 @@ impl Search {
 
     /// Sees what follows from some numbers.
     fn see_behind(&mut self, vertices: &[Vertex], numbers: &[usize]) -> Result<(), AllocError>
-        ensures { OnOk result (search_tree self.new ≡ search.see_behind (map vertex_tree vertices.now) (search_tree self.old) numbers.now) }
+        ensures { OnOk result
+            (search_tree self.new ≡ search.see_behind (map vertex_tree vertices.now) (search_tree self.old) numbers.now) }
     {
         for number in numbers {
             self.see_vertex(vertices, *number)?;
@@ -116,7 +121,8 @@ impl Search {
 
     /// Sees what follows from the numbers that were seen last.
     fn round(&mut self, alloc: Global, vertices: &[Vertex]) -> Result<(), AllocError>
-        ensures { OnOk result (search_tree self.new ≡ search.search_round (map vertex_tree vertices.now) (search_tree self.old)) }
+        ensures { OnOk result
+            (search_tree self.new ≡ search.search_round (map vertex_tree vertices.now) (search_tree self.old)) }
     {
         let last = self.take_last(alloc);
         self.see_behind(vertices, &last)
@@ -124,7 +130,8 @@ impl Search {
 
     /// So many rounds; once one sees nothing, none is made.
     fn rounds(&mut self, alloc: Global, vertices: &[Vertex], most: usize) -> Result<(), AllocError>
-        ensures { OnOk result (search_tree self.new ≡ search.searched (map vertex_tree vertices.now) most (search_tree self.old)) }
+        ensures { OnOk result
+            (search_tree self.new ≡ search.searched (map vertex_tree vertices.now) most (search_tree self.old)) }
     {
         for _done in 0..most {
             if self.last.is_empty() {
@@ -154,7 +161,9 @@ pub fn first_met(
     most: usize,
     nodes: &[Node],
 ) -> Result<Option<Node>, AllocError>
-    ensures { IfOk result (λ found. option_map node_tree found ≡ find (meets_itself (map vertex_tree vertices.now) most) (map node_tree nodes.now)) }
+    ensures { IfOk result
+        (λ found. option_map node_tree found ≡ find (meets_itself (map vertex_tree vertices.now) most)
+        (map node_tree nodes.now)) }
 {
     for node in nodes {
         if is_met(alloc, vertices, most, *node)? {

@@ -15,7 +15,8 @@ use std::alloc::{AllocError, Global};
 /// How many sweeps are made at most; for most stacks one is enough.
 const MOST_SWEEPS: u8 = 33;
 
-/// Sets the cost of each number to that of one more round, in order. (Whatever is set, only costs that are steady are used.)
+/// Sets the cost of each number to that of one more round, in order. (Whatever is set, only costs that are steady are
+/// used.)
 fn sweep(measure: Measure, order: &[u32], vertices: &[Vertex], costs: &mut Vec<u32>) {
     for number in order {
         let number = *number as usize;
@@ -27,7 +28,8 @@ fn sweep(measure: Measure, order: &[u32], vertices: &[Vertex], costs: &mut Vec<u
 
 /// Whether a round wouldn't change the cost of a node.
 fn keeps(measure: Measure, vertices: &[Vertex], costs: &[u32], node: Node) -> bool
-    ensures { result ≡ true → is_steady_at (own_of measure) (map vertex_tree vertices.now) costs.now (node_tree node) ≡ true }
+    ensures { result ≡ true → is_steady_at (own_of measure) (map vertex_tree vertices.now) costs.now (node_tree node) ≡
+        true }
 {
     let number = number_at(u16::from(node.at), node.dir, node.kind, node.tag) as usize;
     if number < vertices.len() {
@@ -39,7 +41,8 @@ fn keeps(measure: Measure, vertices: &[Vertex], costs: &[u32], node: Node) -> bo
 
 /// Whether a round wouldn't change the cost of any node.
 fn are_steady(measure: Measure, nodes: &[Node], vertices: &[Vertex], costs: &[u32]) -> bool
-    ensures { result ≡ true → list_all (is_steady_at (own_of measure) (map vertex_tree vertices.now) costs.now) (map node_tree nodes.now) ≡ true }
+    ensures { result ≡ true → list_all (is_steady_at (own_of measure) (map vertex_tree vertices.now) costs.now)
+        (map node_tree nodes.now) ≡ true }
 {
     for node in nodes {
         if !keeps(measure, vertices, costs, *node) {
@@ -57,7 +60,10 @@ pub fn steady_costs(
     nodes: &[Node],
     vertices: &[Vertex],
 ) -> Result<Option<Vec<u32>>, AllocError>
-    ensures { IfOk result (λ found. IfSome found (λ costs. list_all (is_steady_at (own_of measure) (map vertex_tree vertices.now) costs.items) (map node_tree nodes.now) ≡ true)) }
+    ensures { IfOk result
+        (λ found. IfSome found
+        (λ costs. list_all (is_steady_at (own_of measure) (map vertex_tree vertices.now) costs.items)
+        (map node_tree nodes.now) ≡ true)) }
 {
     let mut costs = vec![in alloc; 1; vertices.len()]?;
     for _sweep in 0..MOST_SWEEPS {
@@ -106,7 +112,8 @@ fn falls(vertices: &[Vertex], costs: &[u32], node: Node) -> bool
 
 /// Whether it is so for all nodes.
 pub fn all_fall(nodes: &[Node], vertices: &[Vertex], costs: &[u32]) -> bool
-    ensures { result ≡ true → list_all (falls_at (map vertex_tree vertices.now) costs.now) (map node_tree nodes.now) ≡ true }
+    ensures { result ≡ true → list_all (falls_at (map vertex_tree vertices.now) costs.now) (map node_tree nodes.now) ≡
+        true }
 {
     for node in nodes {
         if !falls(vertices, costs, *node) {

@@ -1,6 +1,7 @@
 //! The nodes of a stack, and for each what follows from it, by its number.
 
-ghost use Rattle.std.specs.Prelude.{◌≡◌, ◌≤◌, ◌++◌, OnOk, IfOk, fold, length, map, option_map, option_to_list, replicate};
+ghost use Rattle.std.specs.Prelude.{◌≡◌, ◌≤◌, ◌++◌, OnOk, IfOk, fold, length, map, option_map, option_to_list};
+ghost use Rattle.std.specs.Prelude.{replicate};
 ghost use Rattle.std.specs.List.{flat_map, range_with_len};
 ghost use Rattle.layer_ast.specs.Spelling.{kinds};
 ghost use Rattle.layer_ast.specs.declared.tokens.Dir.TheVariants as direction;
@@ -71,7 +72,8 @@ fn tags_for(stack: &Typed, kind: Kind, at: u16) -> Tags
 
 /// The edge from a node that finds no handler, if it has one.
 fn passed(stack: &Typed, node: Node) -> Option<Edge>
-    ensures { option_to_list (option_map edge_tree result) ≡ map edge_of (graph.passing (typed_tree stack.now) (node_tree node) node.dir) }
+    ensures { option_to_list (option_map edge_tree result) ≡
+        map edge_of (graph.passing (typed_tree stack.now) (node_tree node) node.dir) }
 {
     match node.dir {
         Dir::Down => Some(edge_to(1, node, Dir::Down, node.kind, Tags { first: 0, count: 1 })),
@@ -135,7 +137,8 @@ fn make_vertex(alloc: Global, stack: &Typed, node: Node) -> Result<Vertex, Alloc
 /// The tags that an event of a direction and a kind can have on its way to a place.
 pub fn tags_to(stack: &Typed, at: u8, dir: Dir, kind: Kind) -> Tags
     ensures first { result.first ≡ 0 }
-    ensures tags { range_with_len 0 result.count ≡ graph.tags_for kind (graph.header_layer (typed_tree stack.now) dir at) }
+    ensures tags { range_with_len 0 result.count ≡
+        graph.tags_for kind (graph.header_layer (typed_tree stack.now) dir at) }
 {
     match dir {
         Dir::Up => tags_for(stack, kind, u16::from(at)),
@@ -151,7 +154,8 @@ fn add_nodes(
     kind: Kind,
     nodes: &mut Vec<Node>,
 ) -> Result<(), AllocError>
-    ensures { OnOk result (map node_tree nodes.new.items ≡ map node_tree nodes.old.items ++ graph.nodes_of (typed_tree stack.now) at dir kind) }
+    ensures { OnOk result (map node_tree nodes.new.items ≡ map node_tree nodes.old.items ++
+        graph.nodes_of (typed_tree stack.now) at dir kind) }
 {
     let tags = tags_to(stack, at, dir, kind);
     for tag in 0..tags.count {
@@ -162,7 +166,8 @@ fn add_nodes(
 
 /// Adds the nodes of a place and a kind.
 fn add_kind(stack: &Typed, at: u8, kind: Kind, nodes: &mut Vec<Node>) -> Result<(), AllocError>
-    ensures { OnOk result (map node_tree nodes.new.items ≡ map node_tree nodes.old.items ++ nodes_of_kind (typed_tree stack.now) at kind) }
+    ensures { OnOk result (map node_tree nodes.new.items ≡ map node_tree nodes.old.items ++
+        nodes_of_kind (typed_tree stack.now) at kind) }
 {
     add_nodes(stack, at, Dir::Up, kind, nodes)?;
     add_nodes(stack, at, Dir::Down, kind, nodes)
@@ -170,7 +175,8 @@ fn add_kind(stack: &Typed, at: u8, kind: Kind, nodes: &mut Vec<Node>) -> Result<
 
 /// Adds the nodes of a place and of some kinds.
 fn add_kinds(stack: &Typed, at: u8, kinds: &[Kind], nodes: &mut Vec<Node>) -> Result<(), AllocError>
-    ensures { OnOk result (map node_tree nodes.new.items ≡ map node_tree nodes.old.items ++ flat_map (nodes_of_kind (typed_tree stack.now) at) kinds.now) }
+    ensures { OnOk result (map node_tree nodes.new.items ≡ map node_tree nodes.old.items ++
+        flat_map (nodes_of_kind (typed_tree stack.now) at) kinds.now) }
 {
     for kind in kinds {
         add_kind(stack, at, *kind, nodes)?;
@@ -181,7 +187,8 @@ fn add_kinds(stack: &Typed, at: u8, kinds: &[Kind], nodes: &mut Vec<Node>) -> Re
 /// Adds the nodes of a place.
 #[tactic(auto, unfolding(layer_ast::specs::Spelling::kinds))]
 fn add_place(stack: &Typed, at: u8, nodes: &mut Vec<Node>) -> Result<(), AllocError>
-    ensures { OnOk result (map node_tree nodes.new.items ≡ map node_tree nodes.old.items ++ nodes_at (typed_tree stack.now) at) }
+    ensures { OnOk result (map node_tree nodes.new.items ≡ map node_tree nodes.old.items ++
+        nodes_at (typed_tree stack.now) at) }
 {
     add_kinds(stack, at, &KINDS, nodes)
 }
@@ -217,7 +224,9 @@ fn enter(
     node: Node,
     vertices: &mut Vec<Vertex>,
 ) -> Result<(), AllocError>
-    ensures { OnOk result (map vertex_tree vertices.new.items ≡ with_node (typed_tree stack.now) (map vertex_tree vertices.old.items) (node_tree node)) }
+    ensures { OnOk result
+        (map vertex_tree vertices.new.items ≡ with_node (typed_tree stack.now) (map vertex_tree vertices.old.items)
+        (node_tree node)) }
 {
     let vertex = make_vertex(alloc, stack, node)?;
     let number = number_at(u16::from(node.at), node.dir, node.kind, node.tag) as usize;

@@ -1,5 +1,6 @@
 -- The earlier of faults, in any order of taking two.
-use Rattle.std.proofs.Common.{◌≡◌, ℕ, zero, suc, ◌<◌, length, arith, Contains, slice_index_or, subst, Bool, true, false, List, [], ◌∷◌, ◌++◌, Option, Some, None, refl, sym, ap, ◌∙◌, fold, append-nil}
+use Rattle.std.proofs.Common.{◌≡◌, ℕ, zero, suc, ◌<◌, length, arith, Contains, slice_index_or, subst, Bool, true, false}
+use Rattle.std.proofs.Common.{List, [], ◌∷◌, ◌++◌, Option, Some, None, refl, sym, ap, ◌∙◌, fold, append-nil}
 use Rattle.std.specs.Cmp.{IsTotalOrder}
 use Rattle.std.specs.List.{AllByRecursion}
 use Rattle.std.specs.Cmp.Lexicographic.{slice_cmp, nat_list_cmp_total}
@@ -11,7 +12,8 @@ use Rattle.fault_mean.specs.Earliest.{earlier, earlier_of, earliest, precedes}
 use Rattle.fault_mean.specs.EarliestOf.{IsFirst, IsInOrder, IsThere}
 
 -- what is less than one that isn't greater than another is less than the other
-less-through : {K : Type 0} {C : K → K → Ordering} → IsTotalOrder C → (f g h : K) → C h f ≡ Less → is_lt (C g f) ≡ false → C h g ≡ Less
+less-through : {K : Type 0} {C : K → K → Ordering} → IsTotalOrder C → (f g h : K) → C h f ≡ Less →
+    is_lt (C g f) ≡ false → C h g ≡ Less
 less-through {K} {C} o f g h less through = by (C g f) refl through
   where
     by : (r : Ordering) → C g f ≡ r → is_lt r ≡ false → C h g ≡ Less
@@ -25,7 +27,8 @@ is_lt-Less Equal e = absurd (cc)
 is_lt-Less Greater e = absurd (cc)
 
 -- nothing that isn't less than one is less than another that isn't greater
-not-through : {K : Type 0} {C : K → K → Ordering} → IsTotalOrder C → (f g h : K) → is_lt (C g f) ≡ false → is_lt (C h g) ≡ false → is_lt (C h f) ≡ false
+not-through : {K : Type 0} {C : K → K → Ordering} → IsTotalOrder C → (f g h : K) → is_lt (C g f) ≡ false →
+    is_lt (C h g) ≡ false → is_lt (C h f) ≡ false
 not-through {K} {C} o f g h through not = by (C h f) refl
   where
     by : (r : Ordering) → C h f ≡ r → is_lt r ≡ false
@@ -37,19 +40,23 @@ module _ {F : Type 0} (key : F → List ℕ) where
   regroup : (f g h : F) → earlier_of key (earlier_of key f g) h ≡ earlier_of key f (earlier_of key g h)
   regroup f g h = by (is_lt (slice_cmp nat_cmp (key g) (key f))) (is_lt (slice_cmp nat_cmp (key h) (key g))) refl refl
     where
-      by : (a b : Bool) → is_lt (slice_cmp nat_cmp (key g) (key f)) ≡ a → is_lt (slice_cmp nat_cmp (key h) (key g)) ≡ b →
+      by : (a b : Bool) → is_lt (slice_cmp nat_cmp (key g) (key f)) ≡ a → is_lt (slice_cmp nat_cmp (key h) (key g)) ≡
+          b →
           earlier_of key (earlier_of key f g) h ≡ earlier_of key f (earlier_of key g h)
       by true true gf hg =
-          let less : is_lt (slice_cmp nat_cmp (key h) (key f)) ≡ true = ap is_lt (nat_list_cmp_total.trans (key h) (key g) (key f) (is_lt-Less _ hg) (is_lt-Less _ gf)) in
+          let less : is_lt (slice_cmp nat_cmp (key h) (key f)) ≡ true =
+          ap is_lt (nat_list_cmp_total.trans (key h) (key g) (key f) (is_lt-Less _ hg) (is_lt-Less _ gf)) in
           rw (gf, hg) (rw less refl)
       by true false gf hg = rw (gf, hg) (rw gf refl)
       by false true gf hg = rw (gf, hg) refl
       by false false gf hg =
-          let not : is_lt (slice_cmp nat_cmp (key h) (key f)) ≡ false = not-through nat_list_cmp_total (key f) (key g) (key h) gf hg in
+          let not : is_lt (slice_cmp nat_cmp (key h) (key f)) ≡ false =
+          not-through nat_list_cmp_total (key f) (key g) (key h) gf hg in
           rw (gf, hg) (rw (gf, not) refl)
 
   -- what a fold begins with may be taken into account at the end
-  from_first : (f x : F) (ys : List F) → fold (earlier_of key) (earlier_of key f x) ys ≡ earlier_of key f (fold (earlier_of key) x ys)
+  from_first : (f x : F) (ys : List F) → fold (earlier_of key) (earlier_of key f x) ys ≡
+      earlier_of key f (fold (earlier_of key) x ys)
   from_first f x [] = refl
   from_first f x (y ∷ ys) =
       ap (λ z. fold (earlier_of key) z ys) (regroup f x y) ∙ from_first f (earlier_of key x y) ys
@@ -99,9 +106,11 @@ module _ {F : Type 0} (key : F → List ℕ) where
           (precedes key x (earlier_of key x y) ≡ false) × (precedes key y (earlier_of key x y) ≡ false)
       by true e = rw e (asymmetric (slice_cmp nat_cmp (key x) (key y)) refl e, not-itself y)
         where
-          asymmetric : (r : Ordering) → slice_cmp nat_cmp (key x) (key y) ≡ r → precedes key y x ≡ true → is_lt r ≡ false
+          asymmetric : (r : Ordering) → slice_cmp nat_cmp (key x) (key y) ≡ r → precedes key y x ≡ true →
+              is_lt r ≡ false
           asymmetric Less d t =
-              let less : slice_cmp nat_cmp (key x) (key x) ≡ Less = nat_list_cmp_total.trans (key x) (key y) (key x) d (is_lt-Less _ t) in
+              let less : slice_cmp nat_cmp (key x) (key x) ≡ Less =
+              nat_list_cmp_total.trans (key x) (key y) (key x) d (is_lt-Less _ t) in
               let no = not-itself x in
               absurd (cc)
           asymmetric Equal d t = refl

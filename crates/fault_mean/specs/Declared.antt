@@ -1,9 +1,11 @@
--- What a layer's own names stand for: its params, its cells and its headers are one space of names, visible in the whole layer.
+-- What a layer's own names stand for: its params, its cells and its headers are one space of names, visible in the
+-- whole layer.
 use Rattle.std.specs.Prelude.{ℕ, ◌+◌, Bool, true, false, List, [], ◌∷◌, bytes_eq, Option, Some, None, option_map}
 use Rattle.std.specs.List.{find, filter, position}
 use Rattle.layer_ast.specs.declared.names.Name.{Name}
 use Rattle.layer_ast.specs.declared.names.Word.{Word}
-use Rattle.layer_ast.specs.Tree.{DeclarationTree, param, int, rows_cell, rows_array, header, ItemTree, ItemsTree, LayerTree, NamesTree}
+use Rattle.layer_ast.specs.Tree.{DeclarationTree, param, int, rows_cell, rows_array, header, ItemTree, ItemsTree}
+use Rattle.layer_ast.specs.Tree.{LayerTree, NamesTree}
 
 -- The name that a declaration declares.
 abbrev pub declared_name : DeclarationTree → Name

@@ -1,18 +1,22 @@
 -- The faults of the types of expressions and arguments.
-use Rattle.std.specs.Prelude.{Bool, true, false, not, List, [], ◌++◌, flat_map, find, length, zip, bytes_eq, Option, is_some, option_map}
+use Rattle.std.specs.Prelude.{Bool, true, false, not, List, [], ◌++◌, flat_map, find, length, zip, bytes_eq, Option}
+use Rattle.std.specs.Prelude.{is_some, option_map}
 use Rattle.std.specs.Option.{option_map_or}
 use Rattle.layer_ast.specs.declared.names.At.{At}
 use Rattle.layer_ast.specs.declared.names.Name.{Name}
 use Rattle.layer_ast.specs.declared.syntax.Shape.TheVariants.{Array, Square}
 use Rattle.layer_ast.specs.declared.syntax.Sort.{Sort}
 use Rattle.layer_ast.specs.declared.syntax.Sort.TheVariants.{Int}
-use Rattle.layer_ast.specs.Tree.{ExpressionTree, named, element, square, rows, item, size, binary, apply, pick, QueueTree, queue, queue_at, MessageTree, bare, built, BuiltTree, nothing, held, cut, tail, join, ArgumentTree, value, content, LayerTree}
+use Rattle.layer_ast.specs.Tree.{ExpressionTree, named, element, square, rows, item, size, binary, apply, pick}
+use Rattle.layer_ast.specs.Tree.{QueueTree, queue, queue_at, MessageTree, bare, built, BuiltTree, nothing, held, cut}
+use Rattle.layer_ast.specs.Tree.{tail, join, ArgumentTree, value, content, LayerTree}
 use Rattle.fault_mean.specs.Earliest.{unless}
 use Rattle.fault_mean.specs.Faults.{TypeFault, kind}
 use Rattle.fault_mean.specs.Forms.{declared_as, is_numbers, is_queue, is_queue_array, queue_name, row_of}
 use Rattle.fault_mean.specs.Kinds.{a_message, a_msg, a_number, a_part, allows}
 use Rattle.fault_mean.specs.Scope.{Scope}
-use Rattle.fault_mean.specs.Sorts.{argument_at, argument_sort, expression_at, held_sort, message_at, message_sort, name_sort}
+use Rattle.fault_mean.specs.Sorts.{argument_at, argument_sort, expression_at, held_sort, message_at, message_sort}
+use Rattle.fault_mean.specs.Sorts.{name_sort}
 
 -- Whether a sort, where one is known, is one of these.
 abbrev pub may_be : List Sort → Option Sort → Bool
@@ -25,7 +29,8 @@ must_be wanted sort = option_map_or (allows wanted) sort false
 -- Whether `at` may read this label: an item of that name is a number.
 abbrev pub reads_number : LayerTree → QueueTree → Name → Bool
 reads_number layer q label =
-    must_be a_number (option_map (λ i. i.sort) (find (λ i. bytes_eq i.name.word label.word) (row_of layer (queue_name q).word)))
+    must_be a_number (option_map (λ i. i.sort)
+    (find (λ i. bytes_eq i.name.word label.word) (row_of layer (queue_name q).word)))
 
 abbrev mutual
   -- The faults of an expression, which is to be a number.

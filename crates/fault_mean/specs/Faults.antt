@@ -3,8 +3,8 @@ use Rattle.std.specs.Prelude.{ℕ, List}
 use Rattle.layer_ast.specs.declared.names.At.{At}
 use Rattle.fault_mean.specs.Earliest.{key_at}
 
--- A fault of names at a place: a name that isn't declared or visible there, a name or a handler that is there already, or one more
--- than a limit allows.
+-- A fault of names at a place: a name that isn't declared or visible there, a name or a handler that is there already,
+-- or one more than a limit allows.
 pub data NameFault : Type 0 where
   unknown : (at : At) → NameFault
   twice : (at : At) → NameFault
@@ -22,8 +22,9 @@ name_fault_at at (unknown _) = unknown at
 name_fault_at at (twice _) = twice at
 name_fault_at at (too_many _) = too_many at
 
--- A fault of types at a place: something of another kind than is needed, another number of arguments or names, a header where none
--- may stand, a header that doesn't suit the message, or an initial value that isn't made of what it may be made of.
+-- A fault of types at a place: something of another kind than is needed, another number of arguments or names, a header
+-- where none may stand, a header that doesn't suit the message, or an initial value that isn't made of what it may be
+-- made of.
 pub data TypeFault : Type 0 where
   kind : (at : At) → TypeFault
   arity : (at : At) → TypeFault

@@ -7,7 +7,8 @@ use Rattle.layer_ast.specs.declared.names.Name.{Name}
 use Rattle.layer_ast.specs.declared.names.Word.{Word}
 use Rattle.layer_ast.specs.declared.syntax.Ending.TheVariants.{Ends}
 use Rattle.layer_ast.specs.declared.syntax.Shape.{Shape}
-use Rattle.layer_ast.specs.Tree.{DeclarationTree, int, rows_cell, rows_array, header, ItemTree, LayerTree, QueueTree, queue, queue_at}
+use Rattle.layer_ast.specs.Tree.{DeclarationTree, int, rows_cell, rows_array, header, ItemTree, LayerTree, QueueTree}
+use Rattle.layer_ast.specs.Tree.{queue, queue_at}
 use Rattle.fault_mean.specs.Declared.{declaration_of, items_in, names_in}
 
 -- Whether a layer declares a word, as something of which a test holds.
@@ -31,7 +32,8 @@ abbrev pub is_end : DeclarationTree → Bool
 is_end (header at name fields Ends) = true
 is_end _ = false
 
--- The items of the rows that a declaration declares, and of the queue or array of queues of a word; other words have none.
+-- The items of the rows that a declaration declares, and of the queue or array of queues of a word; other words have
+-- none.
 abbrev pub items_of : DeclarationTree → List ItemTree
 items_of (rows_cell at name capacity items) = items_in items
 items_of (rows_array at name capacity items) = items_in items

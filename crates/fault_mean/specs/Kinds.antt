@@ -25,8 +25,8 @@ a_part = Part ∷ []
 abbrev pub a_message : List Sort
 a_message = Msg ∷ Part ∷ []
 
--- What is wanted for each argument of a kind: a peer and a message for casts and sends, two numbers for Stable and Ack, and one
--- number for every other kind.
+-- What is wanted for each argument of a kind: a peer and a message for casts and sends, two numbers for Stable and Ack,
+-- and one number for every other kind.
 abbrev pub arguments_of : Kind → List (List Sort)
 arguments_of Cast = a_number ∷ a_message ∷ []
 arguments_of Send = a_number ∷ a_message ∷ []

@@ -1,14 +1,17 @@
--- The limits of a file, and of a layer's text. (Those of places, headers and rows stand beside the headers of messages.)
+-- The limits of a file, and of a layer's text. (Those of places, headers and rows stand beside the headers of
+-- messages.)
 use Rattle.std.specs.Prelude.{ℕ, Bool, true, ◌&&◌, nat_le, if◌then◌else◌, List, [], ◌∷◌, ◌++◌, flat_map, filter, drop}
 use Rattle.std.specs.Option.{option_map_or}
 use Rattle.layer_ast.specs.declared.names.At.{At}
-use Rattle.layer_ast.specs.Tree.{DeclarationTree, rows_cell, rows_array, ItemTree, LayerTree, PlaceTree, SizeTree, fixed, sized, StatementTree, each}
+use Rattle.layer_ast.specs.Tree.{DeclarationTree, rows_cell, rows_array, ItemTree, LayerTree, PlaceTree, SizeTree}
+use Rattle.layer_ast.specs.Tree.{fixed, sized, StatementTree, each}
 use Rattle.fault_mean.specs.Kinds.{a_number, allows}
 use Rattle.fault_mean.specs.Places.{param_value}
 use Rattle.fault_mean.specs.Scope.{layer_statements}
 use Rattle.msg_core.specs.Headers.{most_fields}
 
--- The most layers of a file; the most params and cells of a layer, and the most handlers; the most names that a handler declares.
+-- The most layers of a file; the most params and cells of a layer, and the most handlers; the most names that a handler
+-- declares.
 abbrev pub most_layers : ℕ
 most_layers = 64
 
@@ -62,7 +65,8 @@ maximum_in _ = []
 
 -- All sizes of a layer.
 abbrev pub sizes_in : LayerTree → List LimitedSize
-sizes_in layer = flat_map capacity_in layer.declarations ++ flat_map (λ s. maximum_in s.statement) (layer_statements layer)
+sizes_in layer = flat_map capacity_in layer.declarations ++
+    flat_map (λ s. maximum_in s.statement) (layer_statements layer)
 
 -- The place of a size that is a number outside its limit.
 abbrev pub number_outside : ℕ → SizeTree → List At
@@ -72,4 +76,5 @@ number_outside most (sized name) = []
 -- Whether a size is, at a place of the stack, within its limit as far as it is a param of the layer.
 abbrev pub is_within_at : LayerTree → PlaceTree → SizeTree → ℕ → Bool
 is_within_at layer place (fixed at number) most = true
-is_within_at layer place (sized name) most = option_map_or (is_within most) (param_value layer place.given name.word) true
+is_within_at layer place (sized name) most = option_map_or (is_within most) (param_value layer place.given name.word)
+    true

@@ -1,26 +1,32 @@
 -- The first fault of a file's names, in text order.
-use Rattle.std.specs.Prelude.{ℕ, Bool, true, false, ◌&&◌, if◌then◌else◌, List, [], ◌∷◌, ◌++◌, map, flat_map, filter, drop, bytes_eq, Option, Some, None}
+use Rattle.std.specs.Prelude.{ℕ, Bool, true, false, ◌&&◌, if◌then◌else◌, List, [], ◌∷◌, ◌++◌, map, flat_map, filter}
+use Rattle.std.specs.Prelude.{drop, bytes_eq, Option, Some, None}
 use Rattle.std.specs.List.{list_any}
 use Rattle.std.specs.Option.{option_map_or}
 use denote.Enum.Bare.{sameb}
 use Rattle.layer_ast.specs.contracts.tokens.Dir as dir_row
 use Rattle.layer_ast.specs.contracts.tokens.Kind as kind_row
 use Rattle.layer_ast.specs.declared.names.Name.{Name}
-use Rattle.layer_ast.specs.Tree.{PoppedTree, Expected, common, HandlerTree, DeclarationTree, int, rows_cell, rows_array, ItemTree, LayerTree, PlaceTree, FileTree}
+use Rattle.layer_ast.specs.Tree.{PoppedTree, Expected, common, HandlerTree, DeclarationTree, int, rows_cell, rows_array}
+use Rattle.layer_ast.specs.Tree.{ItemTree, LayerTree, PlaceTree, FileTree}
 use Rattle.fault_mean.specs.Declared.{declared_name, is_cell, is_header, is_param}
 use Rattle.fault_mean.specs.Earliest.{earliest, unless}
 use Rattle.fault_mean.specs.Faults.{NameFault, unknown, twice, too_many, name_key, name_fault_at}
 use Rattle.fault_mean.specs.Forms.{declared_as, items_of, labels_of, row_of}
-use Rattle.fault_mean.specs.Limits.{LimitedSize, capacity_in, is_within_at, maximum_in, messages_inside, number_outside, numbers_beyond, sizes_in, most_layers, most_params, most_cells, most_handlers, most_names}
+use Rattle.fault_mean.specs.Limits.{LimitedSize, capacity_in, is_within_at, maximum_in, messages_inside, number_outside}
+use Rattle.fault_mean.specs.Limits.{numbers_beyond, sizes_in, most_layers, most_params, most_cells, most_handlers}
+use Rattle.fault_mean.specs.Limits.{most_names}
 use Rattle.fault_mean.specs.Places.{faults_of_layers, layer_at}
-use Rattle.fault_mean.specs.Scope.{Scope, Standing, brought, handler_names, handler_statements, head_names, head_scope, is_visible, layer_scope, visible}
+use Rattle.fault_mean.specs.Scope.{Scope, Standing, brought, handler_names, handler_statements, head_names, head_scope}
+use Rattle.fault_mean.specs.Scope.{is_visible, layer_scope, visible}
 use Rattle.fault_mean.specs.Uses.{Use, of_name, of_label, uses, size_uses, statement_uses}
 use Rattle.msg_core.specs.Headers.{most_places, most_declared, most_fields}
 
 -- Those of these things that are the same as one before them in the list, or as one of the earlier things.
 abbrev pub repeated : {A : Type 0} → (A → A → Bool) → List A → List A → List A
 repeated same earlier [] = []
-repeated same earlier (x ∷ rest) = (if list_any (same x) earlier then x ∷ [] else []) ++ repeated same (x ∷ earlier) rest
+repeated same earlier (x ∷ rest) = (if list_any (same x) earlier then x ∷ [] else []) ++
+    repeated same (x ∷ earlier) rest
 
 -- Whether two names are the same word.
 abbrev pub same_word : Name → Name → Bool
@@ -91,7 +97,8 @@ same_popped _ _ = false
 -- Whether two handlers are of the same direction, kind and header.
 abbrev pub same_events : HandlerTree → HandlerTree → Bool
 same_events a b =
-    sameb dir_row.the_type a.direction b.direction && sameb kind_row.the_type a.kind b.kind && same_popped a.popped b.popped
+    sameb dir_row.the_type a.direction b.direction && sameb kind_row.the_type a.kind b.kind &&
+    same_popped a.popped b.popped
 
 -- The faults of a statement, without those in its blocks.
 abbrev pub statement_name_faults : Standing → List NameFault
@@ -105,7 +112,8 @@ abbrev pub expected_uses : Expected → List Use
 expected_uses (common condition) = uses condition
 expected_uses _ = []
 
--- The faults of a handler. The name of the header that it takes off is one of the layer's own names, and it declares few names.
+-- The faults of a handler. The name of the header that it takes off is one of the layer's own names, and it declares
+-- few names.
 abbrev pub handler_name_faults : LayerTree → HandlerTree → List NameFault
 handler_name_faults layer handler =
     uses_faults (layer_scope layer) (option_map_or (λ p. of_name p.name ∷ []) handler.popped [])
@@ -122,15 +130,16 @@ layer_name_faults layer =
     ++ map (λ h. too_many h.at) (drop most_handlers layer.handlers)
     ++ flat_map (handler_name_faults layer) layer.handlers
 
--- The faults of a place that names this layer: it gives no param twice, what it gives are params of the layer, and each size that
--- is a param is within its limit with the param's value there.
+-- The faults of a place that names this layer: it gives no param twice, what it gives are params of the layer, and each
+-- size that is a param is within its limit with the param's value there.
 abbrev pub place_faults_in : PlaceTree → LayerTree → List NameFault
 place_faults_in place layer =
     twice_among [] (map (λ g. g.name) place.given)
     ++ flat_map (λ g. unless (declared_as is_param layer g.name.word) (unknown g.name.at)) place.given
     ++ flat_map (λ l. unless (is_within_at layer place l.size l.most) (too_many place.name.at)) (sizes_in layer)
 
--- The faults of a place: its layer is one of the file or of the library. What a place of another layer gives isn't judged.
+-- The faults of a place: its layer is one of the file or of the library. What a place of another layer gives isn't
+-- judged.
 abbrev pub place_faults : FileTree → PlaceTree → List NameFault
 place_faults file place = option_map_or (place_faults_in place) (layer_at file place) (unknown place.name.at ∷ [])
 
@@ -143,7 +152,7 @@ name_faults file =
     ++ too_many_of most_places (map (λ place. place.name) file.places)
     ++ flat_map (place_faults file) file.places
 
--- The first fault of a file's names in text order, where there is one: of two at one place an unknown name comes first, then a
--- name that is there twice.
+-- The first fault of a file's names in text order, where there is one: of two at one place an unknown name comes first,
+-- then a name that is there twice.
 abbrev pub name_fault : FileTree → Option NameFault
 name_fault file = earliest name_key (name_faults file)

@@ -1,5 +1,6 @@
 -- What the places of a stack name, and the values that they give to params.
-use Rattle.std.specs.Prelude.{ℕ, List, ◌++◌, map, flat_map, filter_map, bytes_eq, find, Option, Some, None, option_map, option_and_then, unwrap_or, is_some, if◌then◌else◌}
+use Rattle.std.specs.Prelude.{ℕ, List, ◌++◌, map, flat_map, filter_map, bytes_eq, find, Option, Some, None, option_map}
+use Rattle.std.specs.Prelude.{option_and_then, unwrap_or, is_some, if◌then◌else◌}
 use Rattle.std.specs.Option.{option_or}
 use Rattle.layer_ast.specs.declared.names.At.{At}
 use Rattle.layer_ast.specs.declared.names.Word.{Word}
@@ -26,9 +27,11 @@ declared_value _ = None
 -- The value of a param of a layer at a place that gives these: the given one, or else the declared one.
 abbrev pub param_value : LayerTree → List GivenTree → Word → Option ℕ
 param_value layer given word =
-    option_map (λ value. unwrap_or (given_value given word) value) (option_and_then declared_value (declaration_of layer word))
+    option_map (λ value. unwrap_or (given_value given word) value)
+    (option_and_then declared_value (declaration_of layer word))
 
--- A layer that is judged: one that the file writes, or one of the library, whose faults are moved to the place that names it.
+-- A layer that is judged: one that the file writes, or one of the library, whose faults are moved to the place that
+-- names it.
 pub data Judged : Type 0 where
   written : (layer : LayerTree) → Judged
   called : (at : At) (layer : LayerTree) → Judged
@@ -39,8 +42,8 @@ called_at file place = if is_some (layer_among file.layers place.name.word)
     then None
     else option_map (called place.name.at) (layer_among file.library place.name.word)
 
--- The layers of a file that are judged: each that the file writes, whether or not a place names it, and each of the library for
--- each place that names it.
+-- The layers of a file that are judged: each that the file writes, whether or not a place names it, and each of the
+-- library for each place that names it.
 abbrev pub judged_layers : FileTree → List Judged
 judged_layers file = map written file.layers ++ filter_map (called_at file) file.places
 

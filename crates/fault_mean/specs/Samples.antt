@@ -36,7 +36,8 @@ small_text inside = lines (codes "layer a {" ∷ (inside ++ codes "}" ∷ codes 
 -- The file of such a layer, with its stack on this line.
 abbrev pub small_file : ℕ → List DeclarationTree → List HandlerTree → FileTree
 small_file line declarations handlers = record {
-  layers = record { at = at 1 1; name = name_at (codes "a") 1 7; declarations = declarations; handlers = handlers } ∷ [];
+  layers = record { at = at 1 1; name = name_at (codes "a") 1 7; declarations = declarations; handlers = handlers } ∷
+      [];
   places = record { name = name_at (codes "a") line 9; given = [] } ∷ [];
   library = [];
 }
@@ -59,7 +60,11 @@ timer_down line = handler (at line 3) Down Timer record { first = name_at (codes
 
 abbrev pub cast_down : ℕ → StatementTrees → HandlerTree
 cast_down line =
-    handler (at line 3) Down Cast record { first = name_at (codes "p") line 13; rest = name_at (codes "m") line 16 ∷ [] }
+    handler (at line 3) Down Cast record {
+      first = name_at (codes "p") line 13;
+      rest = name_at (codes "m") line 16 ∷
+          [];
+    }
 
 abbrev pub cast_up : ℕ → StatementTrees → HandlerTree
 cast_up line =

@@ -7,7 +7,8 @@ use Rattle.layer_ast.specs.declared.syntax.Shape.TheVariants.{One}
 use Rattle.layer_ast.specs.declared.tokens.Dir.TheVariants.{Up}
 use Rattle.layer_ast.specs.Samples.{at, name_at}
 use Rattle.layer_ast.specs.Spelling.{kinds}
-use Rattle.layer_ast.specs.Tree.{DeclarationTree, HandlerTree, FileTree, StatementTrees, bind, header, int, more, none, number, param}
+use Rattle.layer_ast.specs.Tree.{DeclarationTree, HandlerTree, FileTree, StatementTrees, bind, header, int, more, none}
+use Rattle.layer_ast.specs.Tree.{number, param}
 use Rattle.fault_mean.specs.Faults.{too_many}
 use Rattle.fault_mean.specs.NameFaults.{name_fault}
 use Rattle.fault_mean.specs.Samples.{handler, small_file, timer_down}
@@ -18,7 +19,8 @@ numbered count = map (λ k. name_at (k ∷ []) 2 k) (range_with_len 1 count)
 
 -- So many things are no fault, and one more is one at its place.
 abbrev pub HasLimit : (ℕ → FileTree) → ℕ → Type 0
-HasLimit file most = (name_fault (file most) ≡ None) × (name_fault (file (most + 1)) ≡ Some (too_many (at 2 (most + 1))))
+HasLimit file most = (name_fault (file most) ≡ None) ×
+    (name_fault (file (most + 1)) ≡ Some (too_many (at 2 (most + 1))))
 
 -- A layer with these declarations alone.
 abbrev pub declaring : List DeclarationTree → FileTree

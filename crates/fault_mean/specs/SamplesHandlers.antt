@@ -44,7 +44,8 @@ CellPutOn = IsJudged
 -- A row of two items that gets one name.
 abbrev pub RowArity : Type 0
 RowArity = IsJudged
-    (small_text (codes "  state queue q[2] of (u: int, w: msg);" ∷ codes "  down Timer(t) { take q (v) { } else { } }" ∷ []))
+    (small_text (codes "  state queue q[2] of (u: int, w: msg);" ∷ codes "  down Timer(t) { take q (v) { } else { } }" ∷
+    []))
     (Some (of_types (fault.arity (at 3 19))))
 
 -- A condition may read each name of its handler.

@@ -44,7 +44,8 @@ HeldOfNumbers = IsJudged
 -- A part for an item that is a message.
 abbrev pub PartPushed : Type 0
 PartPushed = IsJudged
-    (small_text (codes "  state queue q[2] of (w: msg);" ∷ codes "  down Cast(p, m) { push q (nothing) else { } }" ∷ []))
+    (small_text (codes "  state queue q[2] of (w: msg);" ∷ codes "  down Cast(p, m) { push q (nothing) else { } }" ∷
+    []))
     (Some (of_types (fault.kind (at 3 29))))
 
 -- A capacity that is a cell.

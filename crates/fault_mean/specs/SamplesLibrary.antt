@@ -19,7 +19,8 @@ FromLibrary = IsJudgedOver (of_library []) (lines (codes "stack { b; }" ∷ []))
 -- A param of it gets a value that is too large for the capacity that it is.
 abbrev pub GivenToLibrary : Type 0
 GivenToLibrary =
-    IsJudgedOver (of_library []) (lines (codes "stack { b(keep = 65); }" ∷ [])) (Some (of_names (fault.too_many (at 1 9))))
+    IsJudgedOver (of_library []) (lines (codes "stack { b(keep = 65); }" ∷ []))
+    (Some (of_names (fault.too_many (at 1 9))))
 
 -- Were a type at fault in it, this would be at the place's name.
 abbrev pub FaultOfLibrary : Type 0

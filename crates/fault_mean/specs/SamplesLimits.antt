@@ -50,7 +50,8 @@ MaximumOutside = IsJudged
 abbrev pub NotPlaced : Type 0
 NotPlaced = IsJudged
     (lines
-    (codes "layer a { param keep = 0; state queue q[keep] of (u: int); }" ∷ codes "layer b { }" ∷ codes "stack { b; }" ∷ []))
+    (codes "layer a { param keep = 0; state queue q[keep] of (u: int); }" ∷ codes "layer b { }" ∷ codes "stack { b; }" ∷
+    []))
     None
 
 -- Twenty-five places.

@@ -1,5 +1,5 @@
--- Which names are visible where: a layer's own names everywhere in it, a handler's names in its condition and block, and a local
--- from its declaration to the end of its block.
+-- Which names are visible where: a layer's own names everywhere in it, a handler's names in its condition and block,
+-- and a local from its declaration to the end of its block.
 use Rattle.std.specs.Prelude.{Bool, if◌then◌else◌, List, [], ◌∷◌, ◌++◌, map, flat_map, bytes_eq, Option, Some}
 use Rattle.std.specs.List.{list_any}
 use Rattle.std.specs.Option.{option_map_or}
@@ -7,7 +7,8 @@ use Rattle.layer_ast.specs.declared.names.Name.{Name}
 use Rattle.layer_ast.specs.declared.names.Word.{Word}
 use Rattle.layer_ast.specs.declared.syntax.Sort.{Sort}
 use Rattle.layer_ast.specs.declared.syntax.Sort.TheVariants.{Int, Msg, Part}
-use Rattle.layer_ast.specs.Tree.{LayerTree, HandlerTree, NamesTree, PoppedTree, QueueTree, StatementTree, bind, push, take, when, choose, each, StatementTrees, none, more}
+use Rattle.layer_ast.specs.Tree.{LayerTree, HandlerTree, NamesTree, PoppedTree, QueueTree, StatementTree, bind, push}
+use Rattle.layer_ast.specs.Tree.{take, when, choose, each, StatementTrees, none, more}
 use Rattle.fault_mean.specs.Declared.{declared_name, names_in}
 use Rattle.fault_mean.specs.Forms.{declared_as, is_end, row_of, queue_name}
 use Rattle.fault_mean.specs.Kinds.{allows, arguments_of}
@@ -62,7 +63,8 @@ argument_sorts layer handler =
 abbrev pub head_scope : LayerTree → HandlerTree → Scope
 head_scope layer handler = record {
   layer = layer;
-  locals = locals_as (argument_sorts layer handler) (names_in (Some handler.names)) ++ locals_as [] (popped_names handler.popped);
+  locals = locals_as (argument_sorts layer handler) (names_in (Some handler.names)) ++
+      locals_as [] (popped_names handler.popped);
 }
 
 -- The scope behind a statement in its block: only `let` adds to it.
@@ -87,8 +89,10 @@ abbrev mutual
   standing_inside scope (take at q names block otherwise) =
       standing_in (taken_scope scope q names) block ++ standing_in scope otherwise
   standing_inside scope (when at likely condition block) = standing_in scope block
-  standing_inside scope (choose at likely condition block otherwise) = standing_in scope block ++ standing_in scope otherwise
-  standing_inside scope (each at name below most block) = standing_in (with_locals scope (locals_as [] (name ∷ []))) block
+  standing_inside scope (choose at likely condition block otherwise) = standing_in scope block ++ standing_in
+      scope otherwise
+  standing_inside scope (each at name below most block) = standing_in
+      (with_locals scope (locals_as [] (name ∷ []))) block
   standing_inside scope _ = []
 
   -- The statements of a block and those inside them, in text order, each in its scope.
@@ -114,4 +118,5 @@ brought _ = []
 
 -- All names that a handler declares, in text order, whether or not they are visible together.
 abbrev pub handler_names : LayerTree → HandlerTree → List Name
-handler_names layer handler = head_names handler ++ flat_map (λ s. brought s.statement) (handler_statements layer handler)
+handler_names layer handler = head_names handler ++
+    flat_map (λ s. brought s.statement) (handler_statements layer handler)

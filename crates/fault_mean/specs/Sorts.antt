@@ -1,12 +1,16 @@
 -- What names and messages are: numbers, messages of the layers above, or parts.
-use Rattle.std.specs.Prelude.{Bool, true, false, ◌&&◌, ◌||◌, if◌then◌else◌, find, bytes_eq, Option, Some, None, option_map}
+use Rattle.std.specs.Prelude.{Bool, true, false, ◌&&◌, ◌||◌, if◌then◌else◌, find, bytes_eq, Option, Some, None}
+use Rattle.std.specs.Prelude.{option_map}
 use Rattle.std.specs.Option.{option_or}
 use Rattle.layer_ast.specs.declared.names.At.{At}
 use Rattle.layer_ast.specs.declared.names.Word.{Word}
 use Rattle.layer_ast.specs.declared.syntax.Shape.TheVariants.{One}
 use Rattle.layer_ast.specs.declared.syntax.Sort.{Sort}
 use Rattle.layer_ast.specs.declared.syntax.Sort.TheVariants.{Int, Msg, Part}
-use Rattle.layer_ast.specs.Tree.{ExpressionTree, number, me, members, ltime, named, element, square, rows, item, size, binary, apply, pick, MessageTree, bare, built, BuiltTree, nothing, held, cut, tail, join, ArgumentTree, value, content, DeclarationTree, LayerTree, QueueTree, SizeTree, fixed, sized}
+use Rattle.layer_ast.specs.Tree.{ExpressionTree, number, me, members, ltime, named, element, square, rows, item, size}
+use Rattle.layer_ast.specs.Tree.{binary, apply, pick, MessageTree, bare, built, BuiltTree, nothing, held, cut, tail}
+use Rattle.layer_ast.specs.Tree.{join, ArgumentTree, value, content, DeclarationTree, LayerTree, QueueTree, SizeTree}
+use Rattle.layer_ast.specs.Tree.{fixed, sized}
 use Rattle.fault_mean.specs.Declared.{is_param}
 use Rattle.fault_mean.specs.Forms.{declared_as, is_numbers, queue_name, row_of}
 use Rattle.fault_mean.specs.Kinds.{a_message, allows}

@@ -1,5 +1,6 @@
 -- The first fault of a file's types, in text order.
-use Rattle.std.specs.Prelude.{ℕ, Bool, true, false, not, ◌&&◌, ◌==◌, if◌then◌else◌, List, [], ◌∷◌, ◌++◌, map, flat_map, length, slice_get, Option, Some, None, option_and_then}
+use Rattle.std.specs.Prelude.{ℕ, Bool, true, false, not, ◌&&◌, ◌==◌, if◌then◌else◌, List, [], ◌∷◌, ◌++◌, map, flat_map}
+use Rattle.std.specs.Prelude.{length, slice_get, Option, Some, None, option_and_then}
 use Rattle.std.specs.Option.{option_map_or}
 use Rattle.layer_ast.specs.declared.names.At.{At}
 use Rattle.layer_ast.specs.declared.names.Name.{Name}
@@ -10,7 +11,9 @@ use Rattle.layer_ast.specs.declared.syntax.Sort.TheVariants.{Msg, Part}
 use Rattle.layer_ast.specs.declared.tokens.Dir.{Dir}
 use Rattle.layer_ast.specs.declared.tokens.Dir.TheVariants.{Up, Down}
 use Rattle.layer_ast.specs.declared.tokens.Kind.{Kind}
-use Rattle.layer_ast.specs.Tree.{ExpressionTree, QueueTree, ArgumentTree, PushedTree, SizeTree, fixed, sized, StatementTree, bind, set, set_square, push, take, when, choose, each, emit, Expected, common, HandlerTree, DeclarationTree, int, rows_cell, rows_array, LayerTree, FileTree}
+use Rattle.layer_ast.specs.Tree.{ExpressionTree, QueueTree, ArgumentTree, PushedTree, SizeTree, fixed, sized}
+use Rattle.layer_ast.specs.Tree.{StatementTree, bind, set, set_square, push, take, when, choose, each, emit, Expected}
+use Rattle.layer_ast.specs.Tree.{common, HandlerTree, DeclarationTree, int, rows_cell, rows_array, LayerTree, FileTree}
 use Rattle.layer_mean.specs.Event.{carries}
 use Rattle.fault_mean.specs.Declared.{is_header, is_param, names_in}
 use Rattle.fault_mean.specs.Earliest.{earliest, unless}
@@ -41,16 +44,16 @@ abbrev pub pushes : Dir → Bool
 pushes Down = true
 pushes Up = false
 
--- Whether a message of this sort may be sent in this direction under a header that ends or passes: a part goes down alone, and
--- under a header that ends, and a message of the layers above goes down under one that passes.
+-- Whether a message of this sort may be sent in this direction under a header that ends or passes: a part goes down
+-- alone, and under a header that ends, and a message of the layers above goes down under one that passes.
 abbrev pub suits : Dir → Bool → Sort → Bool
 suits Up ends Part = false
 suits Down false Part = false
 suits Down true Msg = false
 suits _ ends sort = true
 
--- The faults of a header that is named behind `with`, at the first token of its handler or emission: it is a header, has so many
--- fields, and stands where one may.
+-- The faults of a header that is named behind `with`, at the first token of its handler or emission: it is a header,
+-- has so many fields, and stands where one may.
 abbrev pub with_faults : LayerTree → At → Name → ℕ → Bool → List TypeFault
 with_faults layer at name fields allowed =
     unless (declared_as is_header layer name.word) (kind at)
@@ -78,7 +81,8 @@ emission_faults scope at dir event arguments pushed =
     unless (length arguments == length (arguments_of event)) (arity at)
     ++ arguments_faults scope (arguments_of event) arguments
     ++ option_map_or (pushed_faults scope at dir event) pushed []
-    ++ unless (option_map_or (suits dir (ends_with scope.layer pushed)) (sent_sort scope event arguments) true) (header at)
+    ++ unless (option_map_or (suits dir (ends_with scope.layer pushed)) (sent_sort scope event arguments) true)
+    (header at)
 
 -- The faults of an assignment to a cell of numbers of this shape, at its word `set`.
 abbrev pub set_faults : Scope → At → Shape → Name → List ExpressionTree → List TypeFault
@@ -103,7 +107,8 @@ statement_type_faults scope (set_square at name row column e) = set_faults scope
 statement_type_faults scope (push at q items otherwise) =
     row_type_faults scope at q (length (arguments_in (Some items)))
     ++ arguments_faults scope (row_sorts scope.layer q) (arguments_in (Some items))
-statement_type_faults scope (take at q names block otherwise) = row_type_faults scope at q (length (names_in (Some names)))
+statement_type_faults scope (take at q names block otherwise) =
+    row_type_faults scope at q (length (names_in (Some names)))
 statement_type_faults scope (when at likely condition block) = number_faults scope condition
 statement_type_faults scope (choose at likely condition block otherwise) = number_faults scope condition
 statement_type_faults scope (each at name below most block) =
@@ -135,7 +140,7 @@ abbrev pub layer_type_faults : LayerTree → List TypeFault
 layer_type_faults layer =
     flat_map (declaration_type_faults layer) layer.declarations ++ flat_map (handler_type_faults layer) layer.handlers
 
--- The first fault of a file's types in text order, where there is one: of those at one place the kind comes first, then the number
--- of arguments or names, the direction, the header, and the initial value.
+-- The first fault of a file's types in text order, where there is one: of those at one place the kind comes first, then
+-- the number of arguments or names, the direction, the header, and the initial value.
 abbrev pub type_fault : FileTree → Option TypeFault
 type_fault file = earliest type_key (faults_of_layers type_fault_at layer_type_faults file)

@@ -2,7 +2,10 @@
 use Rattle.std.specs.Prelude.{List, [], ◌∷◌, ◌++◌, flat_map, Option, Some, None}
 use Rattle.std.specs.Option.{option_map_or}
 use Rattle.layer_ast.specs.declared.names.Name.{Name}
-use Rattle.layer_ast.specs.Tree.{ExpressionTree, named, element, square, rows, item, size, binary, apply, pick, QueueTree, queue, queue_at, MessageTree, bare, built, BuiltTree, nothing, held, cut, tail, join, ArgumentTree, value, content, ArgumentsTree, PushedTree, SizeTree, fixed, sized, StatementTree, bind, set, set_square, push, take, when, choose, each, emit}
+use Rattle.layer_ast.specs.Tree.{ExpressionTree, named, element, square, rows, item, size, binary, apply, pick}
+use Rattle.layer_ast.specs.Tree.{QueueTree, queue, queue_at, MessageTree, bare, built, BuiltTree, nothing, held, cut}
+use Rattle.layer_ast.specs.Tree.{tail, join, ArgumentTree, value, content, ArgumentsTree, PushedTree, SizeTree, fixed}
+use Rattle.layer_ast.specs.Tree.{sized, StatementTree, bind, set, set_square, push, take, when, choose, each, emit}
 use Rattle.fault_mean.specs.Forms.{queue_name}
 
 -- A use of a name that is to be visible, or of the label of an item in the rows of a queue.

@@ -8,7 +8,8 @@ pub fn in_order()
     ensures types { IsInOrder type_key }
 {}
 
-/// The first fault of a list is one of the list, none of the list comes before it, and there is one where there are faults.
+/// The first fault of a list is one of the list, none of the list comes before it, and there is one where there are
+/// faults.
 pub fn first()
     ensures first_name { IsFirst name_key }
     ensures first_type { IsFirst type_key }

@@ -1,12 +1,21 @@
-//! Small files, judged by evaluation: each text spells a tree, and the definitions give its first fault. Nothing runs here.
+//! Small files, judged by evaluation: each text spells a tree, and the definitions give its first fault. Nothing runs
+//! here.
 ghost use Rattle.fault_mean.specs.SamplesCounts.{Params, Cells, Headers, Handlers, Locals, Layers};
 ghost use Rattle.fault_mean.specs.SamplesLibrary.{FromLibrary, GivenToLibrary, FaultOfLibrary, HidesLibrary};
-ghost use Rattle.fault_mean.specs.SamplesVisible.{UnknownCell, BeforeLet, InItsLet, InItsBound, BehindItsBlock, TakenElsewhere, LocalAsHeader, DeclaredBehind, UnknownLabel, LabelOfNone, UnknownLayer, CellGiven};
-ghost use Rattle.fault_mean.specs.SamplesTwice.{LayerTwice, CellAndParam, LocalAndCell, ArgumentAndField, OtherBlocks, LabelTwice, ParamTwice, HandlerTwice};
-ghost use Rattle.fault_mean.specs.SamplesLimits.{FiveFields, FifthTwice, MessageInside, CapacityOutside, GivenOutside, MaximumOutside, NotPlaced, PlacesBeyond};
-ghost use Rattle.fault_mean.specs.SamplesKinds.{NumberAsMessage, ArrayAsNumber, TailOfPart, JoinOfMessages, QueueSet, HeldOfNumbers, PartPushed, CellAsSize};
-ghost use Rattle.fault_mean.specs.SamplesEmissions.{ArgumentMissing, FieldMissing, HeaderUp, FieldMissingUp, MessageEnds, PartPasses, PartUp, InitialOfCell, InitialOfArray, NamesFirst, Counter};
-ghost use Rattle.fault_mean.specs.SamplesHandlers.{HandlerArity, FieldsArity, TakesOffDown, TakesOffTimer, CellTakenOff, CellPutOn, RowArity, ConditionOfField};
+ghost use Rattle.fault_mean.specs.SamplesVisible.{UnknownCell, BeforeLet, InItsLet, InItsBound, BehindItsBlock};
+ghost use Rattle.fault_mean.specs.SamplesVisible.{TakenElsewhere, LocalAsHeader, DeclaredBehind, UnknownLabel};
+ghost use Rattle.fault_mean.specs.SamplesVisible.{LabelOfNone, UnknownLayer, CellGiven};
+ghost use Rattle.fault_mean.specs.SamplesTwice.{LayerTwice, CellAndParam, LocalAndCell, ArgumentAndField, OtherBlocks};
+ghost use Rattle.fault_mean.specs.SamplesTwice.{LabelTwice, ParamTwice, HandlerTwice};
+ghost use Rattle.fault_mean.specs.SamplesLimits.{FiveFields, FifthTwice, MessageInside, CapacityOutside, GivenOutside};
+ghost use Rattle.fault_mean.specs.SamplesLimits.{MaximumOutside, NotPlaced, PlacesBeyond};
+ghost use Rattle.fault_mean.specs.SamplesKinds.{NumberAsMessage, ArrayAsNumber, TailOfPart, JoinOfMessages, QueueSet};
+ghost use Rattle.fault_mean.specs.SamplesKinds.{HeldOfNumbers, PartPushed, CellAsSize};
+ghost use Rattle.fault_mean.specs.SamplesEmissions.{ArgumentMissing, FieldMissing, HeaderUp, FieldMissingUp};
+ghost use Rattle.fault_mean.specs.SamplesEmissions.{MessageEnds, PartPasses, PartUp, InitialOfCell, InitialOfArray};
+ghost use Rattle.fault_mean.specs.SamplesEmissions.{NamesFirst, Counter};
+ghost use Rattle.fault_mean.specs.SamplesHandlers.{HandlerArity, FieldsArity, TakesOffDown, TakesOffTimer};
+ghost use Rattle.fault_mean.specs.SamplesHandlers.{CellTakenOff, CellPutOn, RowArity, ConditionOfField};
 
 /// Which names are visible where.
 pub fn visible()

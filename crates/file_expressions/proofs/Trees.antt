@@ -1,5 +1,6 @@
 -- The first of some items.
-use Rattle.std.proofs.Common.{◌≡◌, ℕ, Bool, true, false, cond, find, List, [], ◌∷◌, map, bytes_eq, Option, Some, option_map, refl, sym, ap, ◌∙◌}
+use Rattle.std.proofs.Common.{◌≡◌, ℕ, Bool, true, false, cond, find, List, [], ◌∷◌, map, bytes_eq, Option, Some}
+use Rattle.std.proofs.Common.{option_map, refl, sym, ap, ◌∙◌}
 use Rattle.layer_ast.specs.Tree.{ItemTree}
 use Rattle.layer_ast.specs.View.{item_tree}
 use Rattle.layer_ast.specs.declared.syntax.Item.{Item}

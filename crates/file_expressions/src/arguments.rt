@@ -24,7 +24,9 @@ use layer_ast::{Argument, Built, Expression, Sort};
 /// An argument that is a number, but no name of one.
 #[tactic(auto, using(file_scope::proofs::Finds::finds_both))]
 fn number(found: &mut Found, scope: &Scope, wanted: Wanted, e: &Expression)
-    ensures { Finds found.old (unless (kinds.allows (sorts_of wanted) Int) (fault.kind (sorts.expression_at (expression_tree e.now))) ++ spec.number_faults (scope_of scope.now) (expression_tree e.now)) found.new }
+    ensures { Finds found.old
+        (unless (kinds.allows (sorts_of wanted) Int) (fault.kind (sorts.expression_at (expression_tree e.now))) ++
+        spec.number_faults (scope_of scope.now) (expression_tree e.now)) found.new }
 {
     note_unless(
         found,
@@ -37,7 +39,8 @@ fn number(found: &mut Found, scope: &Scope, wanted: Wanted, e: &Expression)
 
 /// An argument that is an expression.
 fn value(found: &mut Found, scope: &Scope, wanted: Wanted, e: &Expression)
-    ensures { Finds found.old (spec.argument_faults (scope_of scope.now) (sorts_of wanted) (tree.value (expression_tree e.now))) found.new }
+    ensures { Finds found.old
+        (spec.argument_faults (scope_of scope.now) (sorts_of wanted) (tree.value (expression_tree e.now))) found.new }
 {
     match e {
         Expression::Named { name, index } => match index {
@@ -54,7 +57,8 @@ fn value(found: &mut Found, scope: &Scope, wanted: Wanted, e: &Expression)
 /// An argument that is a message and no bare name.
 #[tactic(auto, using(file_scope::proofs::Finds::finds_both))]
 fn content(found: &mut Found, scope: &Scope, wanted: Wanted, b: &Built)
-    ensures { Finds found.old (spec.argument_faults (scope_of scope.now) (sorts_of wanted) (tree.content (built_tree b.now))) found.new }
+    ensures { Finds found.old
+        (spec.argument_faults (scope_of scope.now) (sorts_of wanted) (tree.content (built_tree b.now))) found.new }
 {
     let holds = may_be(wanted, built_sort(scope, b));
     note_unless(found, holds, Cause::Kind, built_at(b));
@@ -63,7 +67,8 @@ fn content(found: &mut Found, scope: &Scope, wanted: Wanted, b: &Built)
 
 /// An argument, which is to be of a wanted sort.
 pub fn argument(found: &mut Found, scope: &Scope, wanted: Wanted, a: &Argument)
-    ensures { Finds found.old (spec.argument_faults (scope_of scope.now) (sorts_of wanted) (argument_tree a.now)) found.new }
+    ensures { Finds found.old (spec.argument_faults (scope_of scope.now) (sorts_of wanted) (argument_tree a.now))
+        found.new }
 {
     match a {
         Argument::Value(e) => value(found, scope, wanted, e),

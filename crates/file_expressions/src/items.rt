@@ -37,7 +37,8 @@ fn message_in(items: &Items) -> Option<Sort>
 
 /// The sort of the message of the rows that a declaration declares.
 fn declared_message(d: &Declaration) -> Option<Sort>
-    ensures { result ≡ option_map (λ i. i.sort) (find (λ i. allows a_message i.sort) (items_of (declaration_tree d.now))) }
+    ensures { result ≡ option_map (λ i. i.sort)
+        (find (λ i. allows a_message i.sort) (items_of (declaration_tree d.now))) }
 {
     match d {
         Declaration::Queue { items, .. } | Declaration::Queues { items, .. } => message_in(items),
@@ -67,7 +68,8 @@ fn label_among(items: &[Item], label: &Word) -> Option<Sort>
 
 /// The sort of an item of a row.
 fn label_in(items: &Items, label: &Word) -> Option<Sort>
-    ensures { result ≡ option_map (λ i. i.sort) (find (λ i. bytes_eq i.name.word label.now) (items_in (items_tree items.now))) }
+    ensures { result ≡ option_map (λ i. i.sort)
+        (find (λ i. bytes_eq i.name.word label.now) (items_in (items_tree items.now))) }
 {
     if is_same(&items.first.name.word, label) {
         Some(items.first.sort)
@@ -78,7 +80,8 @@ fn label_in(items: &Items, label: &Word) -> Option<Sort>
 
 /// The sort of an item of the rows that a declaration declares.
 fn declared_label(d: &Declaration, label: &Word) -> Option<Sort>
-    ensures { result ≡ option_map (λ i. i.sort) (find (λ i. bytes_eq i.name.word label.now) (items_of (declaration_tree d.now))) }
+    ensures { result ≡ option_map (λ i. i.sort)
+        (find (λ i. bytes_eq i.name.word label.now) (items_of (declaration_tree d.now))) }
 {
     match d {
         Declaration::Queue { items, .. } | Declaration::Queues { items, .. } => label_in(

@@ -1,5 +1,6 @@
 -- Lines that are ended.
-use Rattle.std.proofs.Common.{◌≡◌, ℕ, zero, suc, ◌+◌, ◌<◌, nat_eq, true, false, List, [], ◌∷◌, ◌++◌, length, replicate, refl, sym, ap, subst, ◌∙◌, arith, append_assoc, true≢false}
+use Rattle.std.proofs.Common.{◌≡◌, ℕ, zero, suc, ◌+◌, ◌<◌, nat_eq, true, false, List, [], ◌∷◌, ◌++◌, length, replicate}
+use Rattle.std.proofs.Common.{refl, sym, ap, subst, ◌∙◌, arith, append_assoc, true≢false}
 use Rattle.std.proofs.lemmas.Bool.{ne_eqb}
 use Rattle.std.proofs.lemmas.List.{replicate_more}
 use Rattle.std.proofs.Math.Seq.{take-length}
@@ -57,9 +58,11 @@ one_at_least zero r none some = none refl
 one_at_least (suc n) r none some = some (omega arith)
 
 -- one byte more of many
-pub filled_more : (old now new : List ℕ) (n y : ℕ) → now ≡ old ++ replicate n y → new ≡ now ++ y ∷ [] → new ≡ old ++ replicate (n + 1) y
+pub filled_more : (old now new : List ℕ) (n y : ℕ) → now ≡ old ++ replicate n y → new ≡ now ++ y ∷ [] →
+    new ≡ old ++ replicate (n + 1) y
 filled_more old now new n y is more =
-    more ∙ (ap (λ xs. xs ++ y ∷ []) is ∙ (append_assoc old (replicate n y) (y ∷ []) ∙ ap (λ xs. old ++ xs) (replicate_more n y)))
+    more ∙ (ap (λ xs. xs ++ y ∷ []) is ∙
+    (append_assoc old (replicate n y) (y ∷ []) ∙ ap (λ xs. old ++ xs) (replicate_more n y)))
 
 -- what is bare has no byte
 pub bare_is : (xs : List ℕ) → nat_eq (length xs) 0 ≡ is_bare xs
@@ -67,5 +70,6 @@ bare_is [] = refl
 bare_is (x ∷ xs) = ne_eqb (length (x ∷ xs)) 0 (λ is. omega (arith, is))
 
 -- where memory runs out behind the line that a piece ends
-pub put_cut : (a b : Tells) (t : Begun) (p : Piece) (n : ℕ) → n ≡ feeds_before t p → Gains a b (ended t.line n) → Begins a b (concat (lines_at t p))
+pub put_cut : (a b : Tells) (t : Begun) (p : Piece) (n : ℕ) → n ≡ feeds_before t p → Gains a b (ended t.line n) →
+    Begins a b (concat (lines_at t p))
 put_cut a b t p n is gained = gains_begun a b (lines_at t p) (subst (λ n. Gains a b (ended t.line n)) is gained)

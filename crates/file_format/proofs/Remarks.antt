@@ -1,5 +1,6 @@
 -- The last byte of a line that is no blank, byte by byte.
-use Rattle.std.proofs.Common.{◌≡◌, ℕ, zero, suc, ◌+◌, ◌≤◌, nat_eq, Bool, true, false, cond, List, [], ◌∷◌, length, refl, sym, ap, ◌∙◌, arith}
+use Rattle.std.proofs.Common.{◌≡◌, ℕ, zero, suc, ◌+◌, ◌≤◌, nat_eq, Bool, true, false, cond, List, [], ◌∷◌, length, refl}
+use Rattle.std.proofs.Common.{sym, ap, ◌∙◌, arith}
 use Rattle.layer_ast.specs.Spelling.{is_blank}
 use Rattle.format_mean.specs.Pieces.{one_more, comment_length}
 
@@ -21,7 +22,8 @@ none_seen (suc n) = omega arith
 pub at_first : (bytes : List ℕ) → Counting bytes 0 0 bytes
 at_first bytes = record { same = none_seen (comment_length bytes); size = omega arith; most = omega arith }
 
-module _ (bytes : List ℕ) (last seen first : ℕ) (rest behind : List ℕ) (split : rest ≡ first ∷ behind) (c : Counting bytes last seen rest) where
+module _ (bytes : List ℕ) (last seen first : ℕ) (rest behind : List ℕ) (split : rest ≡ first ∷ behind)
+    (c : Counting bytes last seen rest) where
   same_here : so_far last seen (comment_length (first ∷ behind)) ≡ comment_length bytes
   same_here = ap (λ xs. so_far last seen (comment_length xs)) (sym split) ∙ c.same
 
@@ -37,21 +39,25 @@ module _ (bytes : List ℕ) (last seen first : ℕ) (rest behind : List ℕ) (sp
   after_byte (suc n) = omega arith
 
   module _ (no_feed : nat_eq first 10 ≡ false) (next : ℕ) (next_is : next ≡ seen + 1) where
-    one_is : (t : Bool) → is_blank first ≡ t → so_far last seen (one_more t (comment_length behind)) ≡ comment_length bytes
+    one_is : (t : Bool) → is_blank first ≡ t → so_far last seen (one_more t (comment_length behind)) ≡
+        comment_length bytes
     one_is t is =
         ap (λ t. so_far last seen (one_more t (comment_length behind))) (sym is)
-        ∙ (ap (λ e. so_far last seen (cond e 0 (one_more (is_blank first) (comment_length behind)))) (sym no_feed) ∙ same_here)
+        ∙ (ap (λ e. so_far last seen (cond e 0 (one_more (is_blank first) (comment_length behind)))) (sym no_feed) ∙
+        same_here)
 
     pub past_blank : is_blank first ≡ true → Counting bytes last next behind
     past_blank is = record {
-      same = ap (λ n. so_far last n (comment_length behind)) next_is ∙ (after_blank (comment_length behind) ∙ one_is true is);
+      same = ap (λ n. so_far last n (comment_length behind)) next_is ∙
+          (after_blank (comment_length behind) ∙ one_is true is);
       size = omega (arith, next_is, sizes);
       most = omega (arith, next_is, c.most);
     }
 
     pub past_byte : is_blank first ≡ false → Counting bytes next next behind
     past_byte is = record {
-      same = ap (λ n. so_far n n (comment_length behind)) next_is ∙ (after_byte (comment_length behind) ∙ one_is false is);
+      same = ap (λ n. so_far n n (comment_length behind)) next_is ∙
+          (after_byte (comment_length behind) ∙ one_is false is);
       size = omega (arith, next_is, sizes);
       most = omega arith;
     }
@@ -60,7 +66,8 @@ module _ (bytes : List ℕ) (last seen first : ℕ) (rest behind : List ℕ) (sp
   at_feed is =
       ap (λ e. so_far last seen (cond e 0 (one_more (is_blank first) (comment_length behind)))) (sym is) ∙ same_here
 
-pub at_end : (bytes : List ℕ) (last seen : ℕ) (rest : List ℕ) → Counting bytes last seen rest → length rest ≡ 0 → last ≡ comment_length bytes
+pub at_end : (bytes : List ℕ) (last seen : ℕ) (rest : List ℕ) → Counting bytes last seen rest → length rest ≡ 0 →
+    last ≡ comment_length bytes
 at_end bytes last seen [] c none = c.same
 at_end bytes last seen (b ∷ bs) c none = absurd (omega (arith, none))
 

@@ -41,7 +41,8 @@ impl Line {
     ) -> Result<(), SinkError>
         ensures wrote { Wrote (spec.lines_at (begun_of self.old) (piece_of feeds spelling.now))
             (tells_of O.Sink out.old) (tells_of O.Sink out.new) result }
-        ensures begun { OnOk result (begun_of self.new ≡ spec.begun_at (begun_of self.old) (piece_of feeds spelling.now)) }
+        ensures begun { OnOk result
+            (begun_of self.new ≡ spec.begun_at (begun_of self.old) (piece_of feeds spelling.now)) }
     {
         let class = class_of(spelling);
         let feeds = feeds_before(is_bare(&self.bytes), self.stand, class, feeds);
@@ -82,7 +83,8 @@ fn end_line<O: Sink>(line: &mut Vec<u8>, feeds: usize, out: &mut O) -> Result<()
 /// Puts a line with the line feeds that end it, and leaves none of it.
 #[tactic(auto, using(outside::proofs::Gaining::begins_none))]
 fn put_ended<O: Sink>(line: &mut Vec<u8>, feeds: usize, out: &mut O) -> Result<(), SinkError>
-    ensures wrote { Wrote ((line.old.items ++ replicate feeds 10) ∷ []) (tells_of O.Sink out.old) (tells_of O.Sink out.new) result }
+    ensures wrote { Wrote ((line.old.items ++ replicate feeds 10) ∷ []) (tells_of O.Sink out.old)
+        (tells_of O.Sink out.new) result }
     ensures left { OnOk result (line.new.items ≡ []) }
 {
     push_many(line, b'\n', feeds)?;

@@ -11,16 +11,19 @@ use Rattle.file_jobs.specs.declared.stack.StackFile.{StackFile}
 use Rattle.file_jobs.specs.Stack.{IsText, StopsAt, Fetches, FetchesFile, Refused, JudgesStack, JudgesFile}
 
 module _ (name : Text) (told : Option Shelved) (reads reads_after : ℕ) (text : List ℕ) where
-  stopped : (end : Ended) → IsText name told reads reads_after text → Refused text end → StopsAt name told reads reads_after end
+  stopped : (end : Ended) → IsText name told reads reads_after text → Refused text end →
+      StopsAt name told reads reads_after end
   stopped (file_refused fault) t j = record { file = text; found = t.found; refused = j; sound = t.sound }
   stopped no_memory t j = tt
   stopped _ t j = absurd j
 
-  pub fetched : (r : Result Stack Ending) → IsText name told reads reads_after text → JudgesStack text r → Fetches name told reads reads_after r
+  pub fetched : (r : Result Stack Ending) → IsText name told reads reads_after text → JudgesStack text r →
+      Fetches name told reads reads_after r
   fetched (Ok stack) t j = record { file = text; found = t.found; means = j; sound = t.sound }
   fetched (Err ending) t j = stopped (shown ending) t j
 
   pub fetched_file : (r : Result StackFile Ending) → IsText name told reads reads_after text → JudgesFile text r →
       FetchesFile name told reads reads_after r
-  fetched_file (Ok f) t j = record { is = record { file = text; found = t.found; means = j.means; sound = t.sound }; tree = j.tree }
+  fetched_file (Ok f) t j =
+      record { is = record { file = text; found = t.found; means = j.means; sound = t.sound }; tree = j.tree }
   fetched_file (Err ending) t j = stopped (shown ending) t j

@@ -26,10 +26,12 @@ use Rattle.file_jobs.specs.Second.{IsLarge, Unread, StopsAt, Fetches, Refused, J
 
 -- A text of too many bytes.
 pub large : (name : Text) (told : Option Shelved) (reads reads_after : ℕ) →
-    IfSome told (λ shelf. IsSomeAnd (found_in shelf name) (λ text. longest_second < length text)) → reads_after ≡ reads →
+    IfSome told (λ shelf. IsSomeAnd (found_in shelf name) (λ text. longest_second < length text)) →
+    reads_after ≡ reads →
     IsLarge name told reads reads_after
 large name told reads reads_after h sound =
-    let l = longer told name longest_second h in record { text = l.0; large = l.2; is = record { found = l.1; sound = sound } }
+    let l = longer told name longest_second h in
+    record { text = l.0; large = l.2; is = record { found = l.1; sound = sound } }
 
 -- It is refused.
 pub too_large : (text : List ℕ) → longest_second < length text → is_too_long text ≡ true
@@ -39,8 +41,10 @@ pub large_script : (text : List ℕ) → longest_second < length text → script
 large_script text more = ap (λ b. if b then Err too_long else script_of_lines (said_lines text)) (too_large text more)
 
 -- A job that stopped as it read its second file stopped at it.
-pub stops_unread : {A : Type 0} (spelled : List ℕ → Result A ScriptFault) → ((text : List ℕ) → longest_second < length text → spelled text ≡ Err too_long) →
-    (name : Text) (told : Option Shelved) (reads reads_after : ℕ) (end : Ended) → Unread name told reads reads_after end →
+pub stops_unread : {A : Type 0} (spelled : List ℕ → Result A ScriptFault) →
+    ((text : List ℕ) → longest_second < length text → spelled text ≡ Err too_long) →
+    (name : Text) (told : Option Shelved) (reads reads_after : ℕ) (end : Ended) →
+    Unread name told reads reads_after end →
     StopsAt spelled name told reads reads_after end
 stops_unread spelled long name told reads reads_after (second_refused (misspelled too_long)) l =
     record { text = l.text; found = l.is.found; refused = long l.text l.large; sound = l.is.sound }
@@ -52,7 +56,8 @@ stops_unread spelled long name told reads reads_after no_memory l = l
 stops_unread spelled long name told reads reads_after _ l = absurd l
 
 -- A text that a reader refuses.
-pub refused_so : {A : Type 0} (spelled : List ℕ → Result A ScriptFault) (text : List ℕ) (error : ScriptError) → Answers (spelled text) (Err error) →
+pub refused_so : {A : Type 0} (spelled : List ℕ → Result A ScriptFault) (text : List ℕ) (error : ScriptError) →
+    Answers (spelled text) (Err error) →
     Refused spelled text (refused_as error)
 refused_so spelled text TooLong is = is
 refused_so spelled text (BadLine line) is = is
@@ -60,8 +65,10 @@ refused_so spelled text (NoMember line) is = is
 refused_so spelled text Memory is = tt
 
 -- What was read and judged.
-pub fetches : {A : Type 0} (spelled : List ℕ → Result A ScriptFault) (Runs : A → Type 0) (name : Text) (told : Option Shelved)
-    (reads reads_after : ℕ) (text : List ℕ) (r : Result A Ending) → IsText name told reads reads_after text → Judges spelled Runs text r →
+pub fetches : {A : Type 0} (spelled : List ℕ → Result A ScriptFault) (Runs : A → Type 0) (name : Text)
+    (told : Option Shelved)
+    (reads reads_after : ℕ) (text : List ℕ) (r : Result A Ending) → IsText name told reads reads_after text →
+    Judges spelled Runs text r →
     Fetches spelled Runs name told reads reads_after r
 fetches spelled Runs name told reads reads_after text (Ok value) t j =
     record { text = text; found = t.found; spells = j.0; runs = j.1; sound = t.sound }
@@ -74,10 +81,14 @@ fetches spelled Runs name told reads reads_after text (Err ending) t j = refused
 
 -- A job whose second file is a script: its file is good, and it stopped at that.
 module _ (job : Job) (script : Text) (a : Around)
-    (beside : (found : Option (List ℕ)) → IfSome (option_map after_read a.told) (λ shelf. found_in shelf script ≡ found) → Beside job a.told found)
-    (judges : (stack : List LayerTree) (text : List ℕ) → second_fault job stack text ≡ after_script stack (script_of text)) where
-  stops_there : (between : ℕ) (stack : List LayerTree) (end : Ended) → IsStack (file_name job) a.told a.reads between stack →
-      StopsAt script_of script (option_map after_read a.told) between a.reads_after end → a.output_after ≡ a.output → Comes job a end
+    (beside : (found : Option (List ℕ)) →
+    IfSome (option_map after_read a.told) (λ shelf. found_in shelf script ≡ found) → Beside job a.told found)
+    (judges : (stack : List LayerTree) (text : List ℕ) → second_fault job stack text ≡
+    after_script stack (script_of text)) where
+  stops_there : (between : ℕ) (stack : List LayerTree) (end : Ended) →
+      IsStack (file_name job) a.told a.reads between stack →
+      StopsAt script_of script (option_map after_read a.told) between a.reads_after end → a.output_after ≡ a.output →
+      Comes job a end
   stops_there between stack (second_refused (misspelled fault)) f s same = record {
     cause = record {
       file = f.file;
@@ -92,7 +103,14 @@ module _ (job : Job) (script : Text) (a : Around)
     untouched = same;
   }
   stops_there between stack read_failed f s same = record {
-    unfound = inr (inl (record { file = f.file; found = f.found; stack = stack; means = f.means; none = beside None s.none }));
+    unfound = inr (inl (record {
+      file = f.file;
+      found = f.found;
+      stack = stack;
+      means = f.means;
+      none =
+          beside None s.none;
+    }));
     rose = subst (λ n. Rose n a.reads_after) f.sound s.rose;
     untouched = same;
   }
@@ -100,17 +118,24 @@ module _ (job : Job) (script : Text) (a : Around)
   stops_there between stack _ f s same = absurd s
 
 -- So it is of a replay, by the stack's own bypasses and by those of a file, and of an explanation.
-pub stops : (name script : Text) (mode : Mode) (wire count : Bool) (a : Around) (between : ℕ) (stack : List LayerTree) (end : Ended) →
-    IsStack name a.told a.reads between stack → StopsAt script_of script (option_map after_read a.told) between a.reads_after end →
+pub stops : (name script : Text) (mode : Mode) (wire count : Bool) (a : Around) (between : ℕ) (stack : List LayerTree)
+    (end : Ended) →
+    IsStack name a.told a.reads between stack →
+    StopsAt script_of script (option_map after_read a.told) between a.reads_after end →
     a.output_after ≡ a.output → Comes (replay name script mode wire count) a end
-stops name script mode wire count a = stops_there (replay name script mode wire count) script a (λ found is. is) (λ stack text. refl)
+stops name script mode wire count a = stops_there (replay name script mode wire count) script a (λ found is. is)
+    (λ stack text. refl)
 
-pub with_stops : (name script given : Text) (wire count : Bool) (a : Around) (between : ℕ) (stack : List LayerTree) (end : Ended) →
-    IsStack name a.told a.reads between stack → StopsAt script_of script (option_map after_read a.told) between a.reads_after end →
+pub with_stops : (name script given : Text) (wire count : Bool) (a : Around) (between : ℕ) (stack : List LayerTree)
+    (end : Ended) →
+    IsStack name a.told a.reads between stack →
+    StopsAt script_of script (option_map after_read a.told) between a.reads_after end →
     a.output_after ≡ a.output → Comes (replay_with name script given wire count) a end
-with_stops name script given wire count a = stops_there (replay_with name script given wire count) script a (λ found is. is) (λ stack text. refl)
+with_stops name script given wire count a = stops_there (replay_with name script given wire count) script a
+    (λ found is. is) (λ stack text. refl)
 
 pub explain_stops : (name script : Text) (a : Around) (between : ℕ) (stack : List LayerTree) (end : Ended) →
-    IsStack name a.told a.reads between stack → StopsAt script_of script (option_map after_read a.told) between a.reads_after end →
+    IsStack name a.told a.reads between stack →
+    StopsAt script_of script (option_map after_read a.told) between a.reads_after end →
     a.output_after ≡ a.output → Comes (explain name script) a end
 explain_stops name script a = stops_there (explain name script) script a (λ found is. is) (λ stack text. refl)

@@ -20,7 +20,8 @@ said_is (Ok s) t is = let same : s ≡ t = cc is in ap Ok same
 said_is (Err refusal) t is = absurd (cc is)
 
 -- a file that means a stack has no fault, and its own stack is accepted as that
-judged_so : (file : FileTree) (t : List LayerTree) (fault : Option faults.FileFault) → file_fault file ≡ fault → judged_by file fault ≡ Ok t →
+judged_so : (file : FileTree) (t : List LayerTree) (fault : Option faults.FileFault) → file_fault file ≡ fault →
+    judged_by file fault ≡ Ok t →
     (file_fault file ≡ None) × (accepted (stack_of file) ≡ Ok t)
 judged_so file t (Some fault) found is = absurd (cc is)
 judged_so file t None none is = (none, said_is (accepted (stack_of file)) t is)

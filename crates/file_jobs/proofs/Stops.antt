@@ -20,7 +20,8 @@ use Rattle.file_jobs.specs.Stack.{StopsAt, IsRefused}
 use Rattle.file_jobs.specs.Report as report
 
 -- A job that stopped at its stack file came to that.
-pub stops : (job : Job) (a : Around) (end : Ended) → ReadsStack job → StopsAt (file_name job) a.told a.reads a.reads_after end →
+pub stops : (job : Job) (a : Around) (end : Ended) → ReadsStack job →
+    StopsAt (file_name job) a.told a.reads a.reads_after end →
     a.output_after ≡ a.output → Comes job a end
 stops job a (file_refused fault) reads s same = record {
   cause = record { file = s.file; found = s.found; reads = reads; refused = s.refused };
@@ -39,7 +40,8 @@ large_file name told reads reads_after h sound =
     let l = longer told name longest_file h in record { file = l.0; found = l.1; refused = l.2; sound = sound }
 
 -- An audit that stopped at its file came to that.
-pub audit_stops : (name : Text) (law : Law) (a : Around) (end : Ended) → report.StopsAt name law a.told a.reads a.reads_after end →
+pub audit_stops : (name : Text) (law : Law) (a : Around) (end : Ended) →
+    report.StopsAt name law a.told a.reads a.reads_after end →
     a.output_after ≡ a.output → Comes (audit name law) a end
 audit_stops name law a (report_refused fault) s same =
     record { cause = record { file = s.file; found = s.found; refused = s.refused }; sound = s.sound; untouched = same }
@@ -49,11 +51,13 @@ audit_stops name law a _ s same = absurd s
 
 -- A report of too many bytes.
 pub large_report : (name : Text) (law : Law) (told : Option Shelved) (reads reads_after : ℕ) →
-    IfSome told (λ shelf. IsSomeAnd (found_in shelf name) (λ file. LONGEST_REPORT < length file)) → reads_after ≡ reads →
+    IfSome told (λ shelf. IsSomeAnd (found_in shelf name) (λ file. LONGEST_REPORT < length file)) →
+    reads_after ≡ reads →
     report.IsNone name law told reads reads_after finding.too_large
 large_report name law told reads reads_after h sound = let l = longer told name LONGEST_REPORT h in record {
   file = l.0;
   found = l.1;
-  refused = ap (λ b. if b then Err finding.too_large else finding.judged law (report_from running 1 (lines_of l.0))) (lt-ltb LONGEST_REPORT (length l.0) l.2);
+  refused = ap (λ b. if b then Err finding.too_large else finding.judged law (report_from running 1 (lines_of l.0)))
+      (lt-ltb LONGEST_REPORT (length l.0) l.2);
   sound = sound;
 }

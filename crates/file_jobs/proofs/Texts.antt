@@ -8,5 +8,6 @@ pub four_joined : (a x b y : List ℕ) → a ++ (x ++ (b ++ y)) ≡ a ++ x ++ b 
 four_joined a x b y = sym (append_assoc (a ++ x) b y ∙ append_assoc a x (b ++ y))
 
 -- the line of an accepted stack
-pub accepted_as : (n : ℕ) → (codes "accepted " ++ decimal n ++ codes "\n") ∷ [] ≡ line (codes "accepted" ∷ decimal n ∷ []) ∷ []
+pub accepted_as : (n : ℕ) → (codes "accepted " ++ decimal n ++ codes "\n") ∷ [] ≡
+    line (codes "accepted" ∷ decimal n ∷ []) ∷ []
 accepted_as n = search rules

@@ -29,14 +29,16 @@ Judges law text (Ok o) = Finds law text o
 Judges law text (Err ending) = Refused law text (shown ending)
 
 -- The next read of this name found a report on which the law comes to this output.
-pub record IsReport (name : Text) (law : Law) (told : Option Shelved) (reads reads_after : ℕ) (o : Output) : Type 0 where
-  pub file : List ℕ
-  pub found : IfSome told (λ shelf. found_in shelf name ≡ Some file)
-  pub finds : Finds law file o
-  pub sound : reads_after ≡ reads
+pub record IsReport (name : Text) (law : Law) (told : Option Shelved) (reads reads_after : ℕ) (o : Output) : Type 0
+  where
+    pub file : List ℕ
+    pub found : IfSome told (λ shelf. found_in shelf name ≡ Some file)
+    pub finds : Finds law file o
+    pub sound : reads_after ≡ reads
 
 -- It found a file that is no report, for this fault.
-pub record IsNone (name : Text) (law : Law) (told : Option Shelved) (reads reads_after : ℕ) (fault : AuditFault) : Type 0 where
+pub record IsNone (name : Text) (law : Law) (told : Option Shelved) (reads reads_after : ℕ) (fault : AuditFault) : Type
+    0 where
   pub file : List ℕ
   pub found : IfSome told (λ shelf. found_in shelf name ≡ Some file)
   pub refused : audit_of law file ≡ Err fault

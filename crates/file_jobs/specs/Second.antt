@@ -36,7 +36,8 @@ Reads name told reads reads_after (Ok text) = IsText name told reads reads_after
 Reads name told reads reads_after (Err ending) = Unread name told reads reads_after (shown ending)
 
 -- The next read of this name found a text that spells this, and that can be run.
-pub record IsSpelled {A : Type 0} (spelled : List ℕ → Result A ScriptFault) (Runs : A → Type 0) (name : Text) (told : Option Shelved)
+pub record IsSpelled {A : Type 0} (spelled : List ℕ → Result A ScriptFault) (Runs : A → Type 0) (name : Text)
+    (told : Option Shelved)
     (reads reads_after : ℕ) (value : A) : Type 0 where
   pub text : List ℕ
   pub found : IfSome told (λ shelf. found_in shelf name ≡ Some text)
@@ -45,7 +46,8 @@ pub record IsSpelled {A : Type 0} (spelled : List ℕ → Result A ScriptFault) 
   pub sound : reads_after ≡ reads
 
 -- It found a text that spells none, for this fault.
-pub record IsRefused {A : Type 0} (spelled : List ℕ → Result A ScriptFault) (name : Text) (told : Option Shelved) (reads reads_after : ℕ)
+pub record IsRefused {A : Type 0} (spelled : List ℕ → Result A ScriptFault) (name : Text) (told : Option Shelved)
+    (reads reads_after : ℕ)
     (fault : ScriptFault) : Type 0 where
   pub text : List ℕ
   pub found : IfSome told (λ shelf. found_in shelf name ≡ Some text)
@@ -53,17 +55,21 @@ pub record IsRefused {A : Type 0} (spelled : List ℕ → Result A ScriptFault) 
   pub sound : reads_after ≡ reads
 
 -- A job ends so at its second file.
-abbrev pub StopsAt : {A : Type 0} → (List ℕ → Result A ScriptFault) → Text → Option Shelved → (reads reads_after : ℕ) → Ended → Type 0
-StopsAt spelled name told reads reads_after (second_refused (misspelled fault)) = IsRefused spelled name told reads reads_after fault
+abbrev pub StopsAt : {A : Type 0} → (List ℕ → Result A ScriptFault) → Text → Option Shelved → (reads reads_after : ℕ) →
+    Ended → Type 0
+StopsAt spelled name told reads reads_after (second_refused (misspelled fault)) =
+    IsRefused spelled name told reads reads_after fault
 StopsAt spelled name told reads reads_after read_failed = IsMissed name told reads reads_after
 StopsAt spelled name told reads reads_after no_memory = Unit {0}
 StopsAt spelled name told reads reads_after _ = ⊥
 
 -- What was read, or how the job ends.
-abbrev pub Fetches : {A : Type 0} → (List ℕ → Result A ScriptFault) → (A → Type 0) → Text → Option Shelved → (reads reads_after : ℕ) →
+abbrev pub Fetches : {A : Type 0} → (List ℕ → Result A ScriptFault) → (A → Type 0) → Text → Option Shelved →
+    (reads reads_after : ℕ) →
     Result A Ending → Type 0
 Fetches spelled Runs name told reads reads_after (Ok value) = IsSpelled spelled Runs name told reads reads_after value
-Fetches spelled Runs name told reads reads_after (Err ending) = StopsAt spelled name told reads reads_after (shown ending)
+Fetches spelled Runs name told reads reads_after (Err ending) =
+    StopsAt spelled name told reads reads_after (shown ending)
 
 -- What a text spells, or its fault.
 abbrev pub Refused : {A : Type 0} → (List ℕ → Result A ScriptFault) → List ℕ → Ended → Type 0

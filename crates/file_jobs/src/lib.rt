@@ -1,5 +1,5 @@
-//! The jobs that read one file and write one line: `check` judges a stack file, and `audit` a law on a report; and the read of a stack
-//! file and of a second file, a script or a plan, for every job that has one.
+//! The jobs that read one file and write one line: `check` judges a stack file, and `audit` a law on a report; and the
+//! read of a stack file and of a second file, a script or a plan, for every job that has one.
 #![tactic(auto)]
 
 mod audit;

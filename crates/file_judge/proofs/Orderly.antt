@@ -9,4 +9,5 @@ use Rattle.file_judge.specs.Answer.{IsStackOf}
 
 pub stack_is_orderly : (text : List ℕ) (stack : List LayerTree) → IsStackOf text stack → IsOrderly stack
 stack_is_orderly text stack s =
-    subst IsOrderly (sym s.means) (typed_is_orderly (stack_of s.file) (texts_are_typed text s.file s.is_file s.faultless))
+    subst IsOrderly (sym s.means)
+    (typed_is_orderly (stack_of s.file) (texts_are_typed text s.file s.is_file s.faultless))

@@ -13,7 +13,9 @@ use Rattle.output_mean.specs.Judged.{Means, Refuses}
 use Rattle.event_graph.specs.Answer.{stack_tree}
 use Rattle.event_graph.specs.declared.stack.Stack.{Stack}
 use Rattle.file_judge.specs.declared.error.FileError.{FileError}
-use Rattle.file_judge.specs.declared.error.FileError.TheVariants.{TooLarge, BadToken, Unexpected, Unknown, Twice, OverLimit, Kind, Arity, Direction, Header, Initial, Cycle, TooMany, TooManyJoins, Memory}
+use Rattle.file_judge.specs.declared.error.FileError.TheVariants.{TooLarge, BadToken, Unexpected, Unknown, Twice}
+use Rattle.file_judge.specs.declared.error.FileError.TheVariants.{OverLimit, Kind, Arity, Direction, Header, Initial}
+use Rattle.file_judge.specs.declared.error.FileError.TheVariants.{Cycle, TooMany, TooManyJoins, Memory}
 
 -- The accepted stack that the bytes mean; the very cause for which they are refused; or want of memory.
 abbrev pub Judges : List ℕ → Result Stack FileError → Type 0

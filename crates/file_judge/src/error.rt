@@ -7,8 +7,9 @@ use layer_ast::{At, Kind};
 use std::alloc::AllocError;
 use thiserror::Error;
 
-/// Why a file is refused: the first cause, in the order in which they stand here but that those at places in the text are told from
-/// each other by where they stand. The text is read first, then its names are judged, then its types, then the stack.
+/// Why a file is refused: the first cause, in the order in which they stand here but that those at places in the text
+/// are told from each other by where they stand. The text is read first, then its names are judged, then its types,
+/// then the stack.
 #[derive(Clone, Copy, PartialEq, Eq, Debug, Error)]
 pub enum FileError {
     #[error("too large")]

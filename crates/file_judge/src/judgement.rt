@@ -18,7 +18,8 @@ use layer_ast::File;
 use std::alloc::Global;
 use typed_layer::Typed;
 
-/// The tree of the file that these bytes spell, with the layers that the library brings it; or the first cause for which they spell none.
+/// The tree of the file that these bytes spell, with the layers that the library brings it; or the first cause for
+/// which they spell none.
 pub fn read_file(alloc: Global, text: &[u8]) -> Result<File, FileError>
     ensures { Reads text.now result }
 {

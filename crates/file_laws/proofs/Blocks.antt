@@ -49,7 +49,8 @@ mutual
   grows (ast.each at name below most block) names = grows_all block (with_numbers (name ∷ []) names)
   grows (ast.emit at dir kind arguments pushed) names = omega arith
 
-  pub grows_all : (xs : ast.StatementTrees) (names : Names) → names.taken.messages ≤ (behind_all xs names).taken.messages
+  pub grows_all : (xs : ast.StatementTrees) (names : Names) →
+      names.taken.messages ≤ (behind_all xs names).taken.messages
   grows_all ast.none names = omega arith
   grows_all (ast.more x rest) names =
       let one = grows x names in
@@ -64,7 +65,8 @@ pub record Under (names : Names) (locals : List Local) (sorts : List Sort) : Typ
   pub free : Free sorts names.taken.messages
 
 -- behind a block as before it, with more slots taken
-under_behind : (names inner : Names) (locals : List Local) (sorts : List Sort) → names.taken.messages ≤ inner.taken.messages →
+under_behind : (names inner : Names) (locals : List Local) (sorts : List Sort) →
+    names.taken.messages ≤ inner.taken.messages →
     Under names locals sorts → Under (after_block names inner) locals sorts
 under_behind names inner locals sorts more u = record {
   placed = u.placed;
@@ -89,7 +91,8 @@ scope_of names locals = record { layer = names.place.layer; locals = locals }
 abbrev Block : Names → List Sort → ast.StatementTrees → Type 0
 Block names sorts xs = TypedAll (layer_of names.place) names.place.blank sorts (statements_of names xs)
 
-pub block_typed : (xs : ast.StatementTrees) (names : Names) (locals : List Local) (sorts : List Sort) → Under names locals sorts →
+pub block_typed : (xs : ast.StatementTrees) (names : Names) (locals : List Local) (sorts : List Sort) →
+    Under names locals sorts →
     (behind_all xs names).taken.messages ≤ length sorts →
     AllByRecursion Good (standing_in (record { layer = names.place.layer; locals = locals }) xs) →
     TypedAll (layer_of names.place) names.place.blank sorts (statements_of names xs)
@@ -106,7 +109,8 @@ block_typed (ast.more (ast.set_square at name row column e) rest) names locals s
 block_typed (ast.more (ast.push at q items otherwise) rest) names locals sorts u bound h =
     let scope = scope_of names locals in
     let args = arguments_in (Some items) in
-    let faults = nils (row_type_faults scope at q (length args)) (arguments_faults scope (row_sorts names.place.layer q) args) h.0.types in
+    let faults = nils (row_type_faults scope at q (length args))
+    (arguments_faults scope (row_sorts names.place.layer q) args) h.0.types in
     let parts = each_parts Good (standing_in scope otherwise) (standing_in scope rest) h.1 in
     let inner = behind_all otherwise names in
     let later = after_block names inner in
@@ -115,34 +119,44 @@ block_typed (ast.more (ast.push at q items otherwise) rest) names locals sorts u
         push_is names locals sorts u.agree u.rows u.placed at q args faults.0 faults.1 h.0.literal.1,
         block_typed otherwise names locals sorts u (omega (arith, end, bound)) parts.0,
       ),
-      block_typed rest later locals sorts (under_behind names inner locals sorts (grows_all otherwise names) u) bound parts.1,
+      block_typed rest later locals sorts (under_behind names inner locals sorts (grows_all otherwise names) u) bound
+          parts.1,
     )
 block_typed (ast.more (ast.take at q new block otherwise) rest) names locals sorts u bound h =
     let scope = scope_of names locals in
     let fresh_names = names_in (Some new) in
     let inner = with_taken q fresh_names names in
-    let further = locals_as (map (λ (i : ast.ItemTree). i.sort) (row_of names.place.layer (queue_name q).word)) fresh_names in
+    let further = locals_as (map (λ (i : ast.ItemTree). i.sort) (row_of names.place.layer (queue_name q).word))
+    fresh_names in
     let first = behind_all block inner in
     let between = after_block names first in
     let second = behind_all otherwise between in
     let later = after_block names second in
-    let outer = each_parts Good (standing_in (record { layer = names.place.layer; locals = locals ++ further }) block ++ standing_in scope otherwise)
+    let outer = each_parts Good (standing_in (record { layer = names.place.layer; locals = locals ++ further }) block ++
+    standing_in scope otherwise)
     (standing_in scope rest) h.1 in
-    let parts = each_parts Good (standing_in (record { layer = names.place.layer; locals = locals ++ further }) block) (standing_in scope otherwise) outer.0 in
-    let named = nils (uses_faults scope (statement_uses (ast.take at q new block otherwise)) ++ twice_among (visible scope) fresh_names) [] h.0.named in
-    let fresh = nils (uses_faults scope (statement_uses (ast.take at q new block otherwise))) (twice_among (visible scope) fresh_names) named.0 in
+    let parts = each_parts Good (standing_in (record { layer = names.place.layer; locals = locals ++ further }) block)
+    (standing_in scope otherwise) outer.0 in
+    let named = nils (uses_faults scope (statement_uses (ast.take at q new block otherwise)) ++
+    twice_among (visible scope) fresh_names) [] h.0.named in
+    let fresh = nils (uses_faults scope (statement_uses (ast.take at q new block otherwise)))
+    (twice_among (visible scope) fresh_names) named.0 in
     let zero_le = grows (ast.take at q new ast.none ast.none) names in
     let one = grows_all block inner in
     let two = grows_all otherwise between in
     let end = grows_all rest later in
-    let taken = take_is names locals sorts u.agree u.rows u.free at q new.first new.rest h.0.types fresh.1 (omega (arith, one, two, end, bound)) in (
+    let taken = take_is names locals sorts u.agree u.rows u.free at q new.first new.rest h.0.types fresh.1
+    (omega (arith, one, two, end, bound)) in (
       (
         taken.takes,
-        block_typed block inner (locals ++ further) _ (record { placed = u.placed; rows = u.rows; agree = taken.agree; free = taken.free })
+        block_typed block inner (locals ++ further) _
+            (record { placed = u.placed; rows = u.rows; agree = taken.agree; free = taken.free })
             (omega (arith, two, end, bound, taken.same_length)) parts.0,
-        block_typed otherwise between locals sorts (under_behind names first locals sorts (omega (arith, zero_le, one)) u) (omega (arith, end, bound)) parts.1,
+        block_typed otherwise between locals sorts
+            (under_behind names first locals sorts (omega (arith, zero_le, one)) u) (omega (arith, end, bound)) parts.1,
       ),
-      block_typed rest later locals sorts (under_behind names second locals sorts (omega (arith, zero_le, one, two)) u) bound outer.1,
+      block_typed rest later locals sorts (under_behind names second locals sorts (omega (arith, zero_le, one, two)) u)
+          bound outer.1,
     )
 block_typed (ast.more (ast.when at likely e block) rest) names locals sorts u bound h =
     let scope = scope_of names locals in
@@ -151,7 +165,8 @@ block_typed (ast.more (ast.when at likely e block) rest) names locals sorts u bo
     let later = after_block names inner in
     let end = grows_all rest later in (
       (block_typed block names locals sorts u (omega (arith, end, bound)) parts.0, tt),
-      block_typed rest later locals sorts (under_behind names inner locals sorts (grows_all block names) u) bound parts.1,
+      block_typed rest later locals sorts (under_behind names inner locals sorts (grows_all block names) u) bound
+          parts.1,
     )
 block_typed (ast.more (ast.choose at likely e block otherwise) rest) names locals sorts u bound h =
     let scope = scope_of names locals in
@@ -166,9 +181,11 @@ block_typed (ast.more (ast.choose at likely e block otherwise) rest) names local
     let end = grows_all rest later in (
       (
         block_typed block names locals sorts u (omega (arith, two, end, bound)) parts.0,
-        block_typed otherwise between locals sorts (under_behind names first locals sorts one u) (omega (arith, end, bound)) parts.1,
+        block_typed otherwise between locals sorts (under_behind names first locals sorts one u)
+            (omega (arith, end, bound)) parts.1,
       ),
-      block_typed rest later locals sorts (under_behind names second locals sorts (omega (arith, one, two)) u) bound outer.1,
+      block_typed rest later locals sorts (under_behind names second locals sorts (omega (arith, one, two)) u) bound
+          outer.1,
     )
 block_typed (ast.more (ast.each at name below most block) rest) names locals sorts u bound h =
     let scope = scope_of names locals in
@@ -180,11 +197,14 @@ block_typed (ast.more (ast.each at name below most block) rest) names locals sor
     let end = grows_all rest later in (
       (
         number_small names u.placed below h.0.literal.0,
-        block_typed block inner (locals ++ locals_as [] (name ∷ [])) sorts (under_number names locals sorts name u) (omega (arith, end, bound)) parts.0,
+        block_typed block inner (locals ++ locals_as [] (name ∷ [])) sorts (under_number names locals sorts name u)
+            (omega (arith, end, bound)) parts.0,
       ),
-      block_typed rest later locals sorts (under_behind names first locals sorts (grows_all block inner) u) bound parts.1,
+      block_typed rest later locals sorts (under_behind names first locals sorts (grows_all block inner) u) bound
+          parts.1,
     )
 block_typed (ast.more (ast.emit at dir kind arguments pushed) rest) names locals sorts u bound h = (
-  emission_is names locals sorts u.agree u.rows u.placed at dir kind (arguments_in (Some arguments)) pushed h.0.types h.0.literal.0 h.0.literal.1,
+  emission_is names locals sorts u.agree u.rows u.placed at dir kind (arguments_in (Some arguments)) pushed h.0.types
+      h.0.literal.0 h.0.literal.1,
   block_typed rest names locals sorts u bound h.1,
 )

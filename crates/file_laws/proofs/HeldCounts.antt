@@ -1,5 +1,6 @@
 -- How long lists are that no fault is beyond, and the rows and headers of what a layer declares.
-use Rattle.std.proofs.Common.{◌≡◌, ℕ, zero, suc, ◌+◌, ◌≤◌, Bool, true, false, List, [], ◌∷◌, length, Option, Some, None, refl, ap, arith}
+use Rattle.std.proofs.Common.{◌≡◌, ℕ, zero, suc, ◌+◌, ◌≤◌, Bool, true, false, List, [], ◌∷◌, length, Option, Some, None}
+use Rattle.std.proofs.Common.{refl, ap, arith}
 use Rattle.std.specs.Prelude.{drop, is_some, if◌then◌else◌, option_and_then, option_map, option_to_list, unwrap_or}
 use Rattle.std.specs.List.{filter, last_or, position}
 use Rattle.std.specs.Option.{option_map_or}
@@ -37,7 +38,8 @@ front_length [] = omega arith
 front_length (x ∷ []) = omega arith
 front_length (x ∷ y ∷ xs) = let rest = front_length (y ∷ xs) in omega (arith, rest)
 
-pub front_same : {A B : Type 0} (xs : List A) (ys : List B) → length xs ≡ length ys → length (front xs) ≡ length (front ys)
+pub front_same : {A B : Type 0} (xs : List A) (ys : List B) → length xs ≡ length ys →
+    length (front xs) ≡ length (front ys)
 front_same [] [] same = refl
 front_same [] (y ∷ ys) same = absurd (omega (arith, same))
 front_same (x ∷ xs) [] same = absurd (omega (arith, same))
@@ -46,11 +48,13 @@ front_same (x ∷ []) (y ∷ z ∷ ys) same = absurd (omega (arith, same))
 front_same (x ∷ w ∷ xs) (y ∷ []) same = absurd (omega (arith, same))
 front_same (x ∷ w ∷ xs) (y ∷ z ∷ ys) same = ap suc (front_same (w ∷ xs) (z ∷ ys) (omega (arith, same)))
 
-last_split : {A : Type 0} (x : A) (xs : List A) → length (front (x ∷ xs)) + length (option_to_list (last_or (Some x) xs)) ≡ suc (length xs)
+last_split : {A : Type 0} (x : A) (xs : List A) →
+    length (front (x ∷ xs)) + length (option_to_list (last_or (Some x) xs)) ≡ suc (length xs)
 last_split x [] = refl
 last_split x (y ∷ xs) = let rest = last_split y xs in omega (arith, rest)
 
-pub split : {A : Type 0} (b : Bool) (xs : List A) → length (numbers_among b xs) + length (option_to_list (message_among b xs)) ≡ length xs
+pub split : {A : Type 0} (b : Bool) (xs : List A) →
+    length (numbers_among b xs) + length (option_to_list (message_among b xs)) ≡ length xs
 split {A} true [] = let e = ap length (front_is {A = A} []) in omega (arith, e)
 split true (x ∷ xs) = let e = ap length (front_is (x ∷ xs)) in let whole = last_split x xs in omega (arith, e, whole)
 split false xs = omega arith
@@ -64,7 +68,8 @@ pub record Row (items : List ast.ItemTree) : Type 0 where
   pub inner : messages_inside items ≡ []
   pub few : numbers_in items ≤ 4
 
-number_first : (x : ast.ItemTree) (kept : List ast.ItemTree) (b : Bool) → b ≡ true → length (if b then x ∷ kept else kept) ≡ suc (length kept)
+number_first : (x : ast.ItemTree) (kept : List ast.ItemTree) (b : Bool) → b ≡ true →
+    length (if b then x ∷ kept else kept) ≡ suc (length kept)
 number_first x kept true is = refl
 number_first x kept false is = absurd (cc is)
 
@@ -73,7 +78,8 @@ front_counted [] h = omega arith
 front_counted (x ∷ []) h = omega arith
 front_counted (x ∷ y ∷ items) h =
     let parts = nils (if allows a_number x.sort then [] else x ∷ []) (messages_inside (y ∷ items)) h in
-    let first = number_first x (filter (λ (i : ast.ItemTree). allows a_number i.sort) (y ∷ items)) (allows a_number x.sort)
+    let first = number_first x (filter (λ (i : ast.ItemTree). allows a_number i.sort) (y ∷ items))
+    (allows a_number x.sort)
     (inner_number x (allows a_number x.sort) refl parts.0) in
     let rest = front_counted (y ∷ items) parts.1 in
     omega (arith, first, rest)
@@ -90,12 +96,14 @@ all_counted blank (x ∷ []) o h is =
     let first = number_first x [] (allows a_number x.sort) (no_message blank x.sort is) in omega (arith, first)
 all_counted blank (x ∷ y ∷ items) o h is =
     let parts = nils (if allows a_number x.sort then [] else x ∷ []) (messages_inside (y ∷ items)) h in
-    let first = number_first x (filter (λ (i : ast.ItemTree). allows a_number i.sort) (y ∷ items)) (allows a_number x.sort)
+    let first = number_first x (filter (λ (i : ast.ItemTree). allows a_number i.sort) (y ∷ items))
+    (allows a_number x.sort)
     (inner_number x (allows a_number x.sort) refl parts.0) in
     let rest = all_counted blank (y ∷ items) (Some x) parts.1 is in
     omega (arith, first, rest)
 
-pub row_numbers : {A : Type 0} (p : Placed) (items : List ast.ItemTree) (xs : List A) → Row items → length items ≡ length xs →
+pub row_numbers : {A : Type 0} (p : Placed) (items : List ast.ItemTree) (xs : List A) → Row items →
+    length items ≡ length xs →
     (b : Bool) → is_some (carried_in p items) ≡ b → length (numbers_among b xs) ≤ 4
 row_numbers p items xs row same true is =
     let e = ap length (front_is xs) in
@@ -114,7 +122,8 @@ row_items_few items row =
 
 -- the place of what is found, counted from 1
 
-pub place_few : {A : Type 0} (p : A → Bool) (xs : List A) → unwrap_or (option_map (λ k. k + 1) (position p xs)) 0 ≤ length xs
+pub place_few : {A : Type 0} (p : A → Bool) (xs : List A) →
+    unwrap_or (option_map (λ k. k + 1) (position p xs)) 0 ≤ length xs
 place_few p [] = omega arith
 place_few p (x ∷ xs) = go (position p (x ∷ xs)) refl where
   go : (o : Option ℕ) → position p (x ∷ xs) ≡ o → unwrap_or (option_map (λ k. k + 1) o) 0 ≤ length (x ∷ xs)
@@ -122,6 +131,7 @@ place_few p (x ∷ xs) = go (position p (x ∷ xs)) refl where
   go (Some k) is = let below = (position-Some p (x ∷ xs) k x is).0 in omega (arith, below)
 
 -- what is made of what is found
-pub or_where : {A B : Type 0} (Q : B → Type 0) (f : A → B) (d : B) (o : Option A) → Q d → Where (λ x. Q (f x)) o → Q (option_map_or f o d)
+pub or_where : {A B : Type 0} (Q : B → Type 0) (f : A → B) (d : B) (o : Option A) → Q d → Where (λ x. Q (f x)) o →
+    Q (option_map_or f o d)
 or_where Q f d None none h = none
 or_where Q f d (Some x) none h = h

@@ -39,16 +39,22 @@ option_few : (make : ast.LayerTree → Placed) (o : Option ast.LayerTree) → Ho
 option_few make None h = absurd h
 option_few make (Some layer) h = layer_few (make layer) h
 
-stack_few : (file : ast.FileTree) (n : ℕ) (places : List ast.PlaceTree) → AllByRecursion (λ x. HoldsPlaced (placed_at file x.0 x.1)) (enumerate_from n places) →
+stack_few : (file : ast.FileTree) (n : ℕ) (places : List ast.PlaceTree) →
+    AllByRecursion (λ x. HoldsPlaced (placed_at file x.0 x.1)) (enumerate_from n places) →
     AllByRecursion (λ layer. length layer.headers ≤ 7) (map (λ x. placed_layer file x.0 x.1) (enumerate_from n places))
 stack_few file n [] h = tt
-stack_few file n (place ∷ places) h = (option_few (λ layer. record { layer = layer; given = place.given; blank = blank_above n (length file.places) }) (layer_at file place) h.0, stack_few file (n + 1) places h.1)
+stack_few file n (place ∷ places) h = (
+  option_few (λ layer. record { layer = layer; given = place.given; blank = blank_above n (length file.places) })
+      (layer_at file place) h.0,
+  stack_few file (n + 1) places h.1,
+)
 
 pub stacks_have_few_headers : StacksHaveFewHeaders
 unfolding stack_of
 stacks_have_few_headers file h = stack_few file 0 file.places h.layers_are
 
-typed_few : (layers : List (Rc TypedLayer Global)) → AllByRecursion (λ layer. length layer.headers ≤ 7) (map rc_tree layers) → All HasFewHeaders layers
+typed_few : (layers : List (Rc TypedLayer Global)) →
+    AllByRecursion (λ layer. length layer.headers ≤ 7) (map rc_tree layers) → All HasFewHeaders layers
 typed_few [] h = All-nil HasFewHeaders
 typed_few (x ∷ xs) h =
     let same = length-map (rc_value x).headers.items header_tree in
@@ -56,4 +62,5 @@ typed_few (x ∷ xs) h =
 
 pub typed_have_few_headers : TypedHaveFewHeaders
 typed_have_few_headers file layers h is =
-    typed_few layers (subst (λ stack. AllByRecursion (λ layer. length layer.headers ≤ 7) stack) (sym is) (stacks_have_few_headers file h))
+    typed_few layers (subst (λ stack. AllByRecursion (λ layer. length layer.headers ≤ 7) stack) (sym is)
+    (stacks_have_few_headers file h))

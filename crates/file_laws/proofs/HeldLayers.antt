@@ -1,5 +1,6 @@
 -- Layers and files without faults are within the bounds.
-use Rattle.std.proofs.Common.{◌≡◌, ◌≢◌, ℕ, ◌+◌, ◌<◌, ◌≤◌, List, [], ◌∷◌, ◌++◌, length, map, Option, Some, None, refl, arith}
+use Rattle.std.proofs.Common.{◌≡◌, ◌≢◌, ℕ, ◌+◌, ◌<◌, ◌≤◌, List, [], ◌∷◌, ◌++◌, length, map, Option, Some, None, refl}
+use Rattle.std.proofs.Common.{arith}
 use Rattle.std.specs.Prelude.{drop, flat_map}
 use Rattle.std.specs.List.{AllByRecursion, enumerate_from, filter}
 use Rattle.std.specs.Option.{option_map_or}
@@ -11,7 +12,8 @@ use Rattle.fault_mean.specs.Faults.{too_many, twice}
 use Rattle.fault_mean.specs.Forms.{items_of, labels_of}
 use Rattle.fault_mean.specs.Limits.{capacity_in, messages_inside, numbers_beyond}
 use Rattle.fault_mean.specs.NameFaults as naming
-use Rattle.fault_mean.specs.Scope.{brought, handler_names as all_names, handler_statements, head_names, head_scope, layer_scope, popped_names, visible}
+use Rattle.fault_mean.specs.Scope.{brought, handler_names as all_names, handler_statements, head_names, head_scope}
+use Rattle.fault_mean.specs.Scope.{layer_scope, popped_names, visible}
 use Rattle.fault_mean.specs.Uses.{of_name}
 use Rattle.file_mean.specs.Layers.{handler_names, handler_of, popped_tag}
 use Rattle.file_mean.specs.Names.{Placed, capacity_declared, numbers_among}
@@ -41,12 +43,14 @@ capacity_few p (ast.header at name fields end) h = omega arith
 row_is : (items : List ast.ItemTree) → naming.row_faults items ≡ [] → Row items
 row_is items h =
     let a = naming.twice_among [] (map (λ (i : ast.ItemTree). i.name) items) in
-    let parts = nils a (map (λ (i : ast.ItemTree). too_many i.name.at) (numbers_beyond items ++ messages_inside items)) h in
+    let parts = nils a (map (λ (i : ast.ItemTree). too_many i.name.at) (numbers_beyond items ++ messages_inside items))
+    h in
     let none = nils (numbers_beyond items) (messages_inside items)
     (map_nil (λ (i : ast.ItemTree). too_many i.name.at) (numbers_beyond items ++ messages_inside items) parts.1) in
     record { inner = none.1; few = drop_few 4 _ none.0 }
 
-kept : (p : Placed) (d : ast.DeclarationTree) → Declared p d × (naming.declaration_name_faults p.layer d ≡ []) → Kept p d
+kept : (p : Placed) (d : ast.DeclarationTree) → Declared p d × (naming.declaration_name_faults p.layer d ≡ []) →
+    Kept p d
 kept p d h =
     let a = naming.uses_faults (layer_scope p.layer) (naming.declaration_uses d) in
     let b = flat_map naming.size_faults (capacity_in d) in
@@ -67,7 +71,8 @@ declaration_held p (ast.rows_cell at name capacity items) k = (omega (arith, k.c
 declaration_held p (ast.rows_array at name capacity items) k = (omega (arith, k.capacity), row_items_few _ k.row)
 declaration_held p (ast.header at name fields end) k = k.labels
 
-bounded : (p : Placed) → AllByRecursion (Kept p) p.layer.declarations → length (filter is_header p.layer.declarations) ≤ 7 → Bounded p
+bounded : (p : Placed) → AllByRecursion (Kept p) p.layer.declarations →
+    length (filter is_header p.layer.declarations) ≤ 7 → Bounded p
 bounded p h few = record {
   capacities = λ word. or_where (λ n. n ≤ 64) (capacity_declared p) 0 (declaration_of p.layer word) (omega arith)
       (find_where (λ d. capacity_declared p d ≤ 64) (declares word) p.layer.declarations
@@ -87,16 +92,19 @@ popped_held : (p : Placed) (popped : Option ast.PoppedTree) → Bounded p → po
 popped_held p None b = omega arith
 popped_held p (Some x) b = tag_held p x.name b
 
-names_are_few : (layer : ast.LayerTree) (h : ast.HandlerTree) → naming.handler_name_faults layer h ≡ [] → length (all_names layer h) ≤ 64
+names_are_few : (layer : ast.LayerTree) (h : ast.HandlerTree) → naming.handler_name_faults layer h ≡ [] →
+    length (all_names layer h) ≤ 64
 names_are_few layer h named =
     let statements = handler_statements layer h in
     let d = naming.uses_faults (layer_scope layer) (option_map_or (λ x. of_name x.name ∷ []) h.popped []) in
     let e = naming.twice_among (visible (layer_scope layer)) (head_names h) in
     let f = naming.uses_faults (head_scope layer h) (naming.expected_uses h.expected) in
     names_few 64 (all_names layer h)
-    (nils (d ++ e ++ f ++ flat_map naming.statement_name_faults statements) (naming.too_many_of 64 (all_names layer h)) named).1
+    (nils (d ++ e ++ f ++ flat_map naming.statement_name_faults statements) (naming.too_many_of 64 (all_names layer h))
+    named).1
 
-handler_held : (p : Placed) (h : ast.HandlerTree) → Bounded p → Handled p h × (naming.handler_name_faults p.layer h ≡ []) → HoldsHandler p h
+handler_held : (p : Placed) (h : ast.HandlerTree) → Bounded p →
+    Handled p h × (naming.handler_name_faults p.layer h ≡ []) → HoldsHandler p h
 unfolding handler_of
 handler_held p h b is =
     let entry = handler_names p h in
@@ -130,22 +138,27 @@ layer_held p named parts =
     let x = naming.too_many_of 16 (naming.names_where is_param layer) in
     let y = naming.too_many_of 16 (naming.names_where is_cell layer) in
     let z = naming.too_many_of 7 (naming.names_where is_header layer) in
-    let declared_nil = nils (w ++ x ++ y ++ z) (flat_map (naming.declaration_name_faults layer) layer.declarations) (nils a b two.0).0 in
+    let declared_nil = nils (w ++ x ++ y ++ z) (flat_map (naming.declaration_name_faults layer) layer.declarations)
+    (nils a b two.0).0 in
     let three = nils (w ++ x ++ y) z declared_nil.0 in
     let cells = names_few 16 (naming.names_where is_cell layer) (nils (w ++ x) y three.0).1 in
     let headers = names_few 7 (naming.names_where is_header layer) three.1 in
     let cells_same = length-map (filter is_cell layer.declarations) declared_name in
     let headers_same = length-map (filter is_header layer.declarations) declared_name in
-    let known = each_so (λ d. Declared p d × (naming.declaration_name_faults p.layer d ≡ [])) (Kept p) (kept p) layer.declarations
-    (each_both (Declared p) (λ d. naming.declaration_name_faults p.layer d ≡ []) layer.declarations parts.declarations_are
+    let known = each_so (λ d. Declared p d × (naming.declaration_name_faults p.layer d ≡ [])) (Kept p) (kept p)
+    layer.declarations
+    (each_both (Declared p) (λ d. naming.declaration_name_faults p.layer d ≡ []) layer.declarations
+    parts.declarations_are
     (each_nil (naming.declaration_name_faults layer) layer.declarations declared_nil.1)) in
     let own = bounded p known (omega (arith, headers, headers_same)) in
     record {
       cells = omega (arith, cells, cells_same);
       headers = omega (arith, headers, headers_same);
-      handlers = drop_few 64 layer.handlers (map_nil (λ (h : ast.HandlerTree). too_many h.at) (drop 64 layer.handlers) two.1);
+      handlers = drop_few 64 layer.handlers
+          (map_nil (λ (h : ast.HandlerTree). too_many h.at) (drop 64 layer.handlers) two.1);
       declarations_are = each_so (Kept p) (HoldsDeclaration p) (declaration_held p) layer.declarations known;
-      handlers_are = each_so (λ h. Handled p h × (naming.handler_name_faults p.layer h ≡ [])) (HoldsHandler p) (λ h. handler_held p h own) layer.handlers
+      handlers_are = each_so (λ h. Handled p h × (naming.handler_name_faults p.layer h ≡ [])) (HoldsHandler p)
+          (λ h. handler_held p h own) layer.handlers
           (each_both (Handled p) (λ h. naming.handler_name_faults p.layer h ≡ []) layer.handlers parts.handlers_are
           (each_nil (naming.handler_name_faults layer) layer.handlers one.1));
     }

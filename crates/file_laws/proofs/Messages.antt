@@ -1,5 +1,6 @@
 -- Messages and arguments without faults are of the sorts that the types of names say.
-use Rattle.std.proofs.Common.{◌≡◌, ◌∙◌, ℕ, Bool, true, false, List, [], ◌∷◌, ◌++◌, map, Option, Some, None, refl, sym, ap, subst}
+use Rattle.std.proofs.Common.{◌≡◌, ◌∙◌, ℕ, Bool, true, false, List, [], ◌∷◌, ◌++◌, map, Option, Some, None, refl, sym}
+use Rattle.std.proofs.Common.{ap, subst}
 use Rattle.std.specs.Prelude.{not, bytes_eq, is_some, slice_get, unwrap_or, option_map, if◌then◌else◌}
 use Rattle.std.specs.List.{find, last_or}
 use Rattle.std.specs.Map.{lookup}
@@ -18,8 +19,10 @@ use Rattle.fault_mean.specs.Forms.{declared_as, is_queue, is_queue_array, items_
 use Rattle.fault_mean.specs.Kinds.{allows, a_number, a_message, a_msg, a_part}
 use Rattle.fault_mean.specs.Limits.{messages_inside}
 use Rattle.fault_mean.specs.Scope.{Local, Scope}
-use Rattle.fault_mean.specs.Sorts.{is_number, name_sort, held_sort, built_sort, message_sort, argument_sort, expression_at, argument_at, message_at}
-use Rattle.fault_mean.specs.ExpressionFaults.{may_be, must_be, number_faults, queue_faults, message_faults, built_faults, argument_faults}
+use Rattle.fault_mean.specs.Sorts.{is_number, name_sort, held_sort, built_sort, message_sort, argument_sort}
+use Rattle.fault_mean.specs.Sorts.{expression_at, argument_at, message_at}
+use Rattle.fault_mean.specs.ExpressionFaults.{may_be, must_be, number_faults, queue_faults, message_faults}
+use Rattle.fault_mean.specs.ExpressionFaults.{built_faults, argument_faults}
 use Rattle.file_mean.specs.Names.{Placed, Names, capacity_declared, carried_as, carried_in, message_slot}
 use Rattle.file_mean.specs.Values.{queue_row, queue_cell, message_of, built_of, argument_message}
 use Rattle.file_mean.specs.Layers.{row_items, layer_of}
@@ -61,11 +64,13 @@ number_no_message Int h = refl
 number_no_message Msg h = absurd (cc h)
 number_no_message Part h = absurd (cc h)
 
-pub inner_number : (i : ast.ItemTree) (b : Bool) → allows a_number i.sort ≡ b → (if b then [] else i ∷ []) ≡ [] → allows a_number i.sort ≡ true
+pub inner_number : (i : ast.ItemTree) (b : Bool) → allows a_number i.sort ≡ b → (if b then [] else i ∷ []) ≡ [] →
+    allows a_number i.sort ≡ true
 inner_number i true is h = is
 inner_number i false is h = absurd (cc h)
 
-found_last : (x : ast.ItemTree) (rest : Option ast.ItemTree) (i : ast.ItemTree) (b : Bool) → (if b then Some x else rest) ≡ Some i → b ≡ false →
+found_last : (x : ast.ItemTree) (rest : Option ast.ItemTree) (i : ast.ItemTree) (b : Bool) →
+    (if b then Some x else rest) ≡ Some i → b ≡ false →
     rest ≡ Some i
 found_last x rest i true is other = absurd (cc other)
 found_last x rest i false is other = is
@@ -75,7 +80,8 @@ only_found x i true is = cc is
 only_found x i false is = absurd (cc is)
 
 -- the message that is found among items is the last item
-pub last_message : (items : List ast.ItemTree) (o : Option ast.ItemTree) (i : ast.ItemTree) → IsLastMessage items → find has_a_message items ≡ Some i →
+pub last_message : (items : List ast.ItemTree) (o : Option ast.ItemTree) (i : ast.ItemTree) → IsLastMessage items →
+    find has_a_message items ≡ Some i →
     last_or o items ≡ Some i
 last_message [] o i h is = absurd (cc is)
 last_message (x ∷ []) o i h is = ap Some (only_found x i (has_a_message x) is)
@@ -96,14 +102,16 @@ carried_sort blank Part is = (part, refl, refl, tt)
 pub found_passes : {A : Type 0} (p : A → Bool) (xs : List A) (x : A) → find p xs ≡ Some x → p x ≡ true
 found_passes p [] x is = absurd (cc is)
 found_passes p (y ∷ xs) x is = go (p y) refl is (found_passes p xs x) where
-  go : (b : Bool) → p y ≡ b → (if b then Some y else find p xs) ≡ Some x → (find p xs ≡ Some x → p x ≡ true) → p x ≡ true
+  go : (b : Bool) → p y ≡ b → (if b then Some y else find p xs) ≡ Some x → (find p xs ≡ Some x → p x ≡ true) →
+      p x ≡ true
   go true here is later = let e : y ≡ x = cc is in ap p (sym e) ∙ here
   go false other is later = later is
 
 -- the label of a last item
 label_last : (items : List ast.ItemTree) (i : ast.ItemTree) → last_or None items ≡ Some i →
     last_or None (map (λ i. i.name.word) items) ≡ Some i.name.word
-label_last items i is = last_map (λ (i : ast.ItemTree). i.name.word) items None ∙ ap (option_map (λ (i : ast.ItemTree). i.name.word)) is
+label_last items i is = last_map (λ (i : ast.ItemTree). i.name.word) items None ∙
+    ap (option_map (λ (i : ast.ItemTree). i.name.word)) is
 
 -- what a queue's rows carry, where they have a message
 pub record RowCarries (p : Placed) (items : List ast.ItemTree) (i : ast.ItemTree) : Type 0 where
@@ -114,7 +122,8 @@ pub record RowCarries (p : Placed) (items : List ast.ItemTree) (i : ast.ItemTree
   pub blanks : HasBlank p.blank carried
   pub items_are : option_map (λ item. sort_of item.1) (row_items p items).message ≡ Some (sort_of carried)
 
-pub row_carries : (p : Placed) (items : List ast.ItemTree) (i : ast.ItemTree) → last_or None items ≡ Some i → allows a_message i.sort ≡ true →
+pub row_carries : (p : Placed) (items : List ast.ItemTree) (i : ast.ItemTree) → last_or None items ≡ Some i →
+    allows a_message i.sort ≡ true →
     RowCarries p items i
 row_carries p items i last is =
     let made = carried_sort p.blank i.sort is in
@@ -135,30 +144,36 @@ queue_declared scope at (ast.queue name) h =
     rows_of_queue scope.layer name.word (declares_it is_queue scope.layer name.word
     (unless_nil (declared_as is_queue scope.layer name.word) (kind at) h))
 queue_declared scope at (ast.queue_at name index) h =
-    let parts = nils (unless (declared_as is_queue_array scope.layer name.word) (kind at)) (number_faults scope index) h in
+    let parts = nils (unless (declared_as is_queue_array scope.layer name.word) (kind at)) (number_faults scope index) h
+    in
     rows_of_array scope.layer name.word (declares_it is_queue_array scope.layer name.word
     (unless_nil (declared_as is_queue_array scope.layer name.word) (kind at) parts.0))
 
-pub row_items_are : (layer : ast.LayerTree) (word : Word) (h : Declares is_rows layer word) → row_of layer word ≡ items_of h.declaration
+pub row_items_are : (layer : ast.LayerTree) (word : Word) (h : Declares is_rows layer word) →
+    row_of layer word ≡ items_of h.declaration
 row_items_are layer word h = rw h.found refl
 
 -- what a queue of a layer carries
-pub queue_is : (names : Names) (q : ast.QueueTree) (i : ast.ItemTree) → Declares is_rows names.place.layer (queue_name q).word →
-    (h : RowCarries names.place (queue_row names q) i) → Carries (layer_of names.place) names.place.blank (queue_cell names q) h.carried
+pub queue_is : (names : Names) (q : ast.QueueTree) (i : ast.ItemTree) →
+    Declares is_rows names.place.layer (queue_name q).word →
+    (h : RowCarries names.place (queue_row names q) i) →
+    Carries (layer_of names.place) names.place.blank (queue_cell names q) h.carried
 queue_is names q i d h = record {
   rows = record {
     capacity = capacity_declared names.place d.declaration;
     items = row_items names.place (items_of d.declaration);
   };
   listed = queue_listed names.place (queue_name q) d.declaration d.found d.passes;
-  sort = subst (λ items. option_map (λ item. sort_of item.1) (row_items names.place items).message ≡ Some (sort_of h.carried))
+  sort = subst (λ items. option_map (λ item. sort_of item.1) (row_items names.place items).message ≡
+      Some (sort_of h.carried))
       (row_items_are names.place.layer (queue_name q).word d) h.items_are;
   blanks = h.blanks;
 }
 
 -- cases of a known sort
 
-finds_sort : (P : Sort → Type 0) (o : Option Sort) (sort : Sort) → o ≡ Some sort → allows a_message sort ≡ true → P sort → Finds P o
+finds_sort : (P : Sort → Type 0) (o : Option Sort) (sort : Sort) → o ≡ Some sort → allows a_message sort ≡ true →
+    P sort → Finds P o
 finds_sort P o Int is allowed h = absurd (cc allowed)
 finds_sort P o Msg is allowed h = rw is h
 finds_sort P o Part is allowed h = rw is h
@@ -175,9 +190,11 @@ join_is P (Some Int) h is = absurd h
 join_is P (Some Msg) h is = h
 join_is P (Some Part) h is = absurd (cc is)
 
-found_slot : (sorts : List Sort) (wanted : List Sort) (o : Option Sort) (b : Bool) (k : ℕ) → allows wanted Int ≡ false → Slot sorts o k →
+found_slot : (sorts : List Sort) (wanted : List Sort) (o : Option Sort) (b : Bool) (k : ℕ) → allows wanted Int ≡ false →
+    Slot sorts o k →
     must_be wanted (option_or o (if b then Some Int else None)) ≡ true →
-    Finds (λ sort. (allows wanted sort ≡ true) × (slice_get sorts k ≡ Some sort)) (option_or o (if b then Some Int else None))
+    Finds (λ sort. (allows wanted sort ≡ true) × (slice_get sorts k ≡ Some sort))
+    (option_or o (if b then Some Int else None))
 found_slot sorts wanted None true k none slot is = absurd (cc (none, is))
 found_slot sorts wanted None false k none slot is = absurd (cc is)
 found_slot sorts wanted (Some Int) b k none slot is = absurd (cc (none, is))
@@ -205,36 +222,45 @@ some_found f (Some x) is = (x, refl)
 abbrev pub LastMessages : ast.LayerTree → Type 0
 LastMessages layer = (word : Word) → IsLastMessage (row_of layer word)
 
-module _ (names : Names) (locals : List Local) (sorts : List Sort) (agree : Agree sorts locals names.messages) (rows : LastMessages names.place.layer) where
+module _ (names : Names) (locals : List Local) (sorts : List Sort) (agree : Agree sorts locals names.messages)
+    (rows : LastMessages names.place.layer) where
   abbrev scope : Scope
   scope = record { layer = names.place.layer; locals = locals }
 
   abbrev IsOf : ast.MessageTree → Sort → Type 0
   IsOf m sort = Sorted (layer_of names.place) names.place.blank sorts sort (message_of names m)
 
-  name_found : (wanted : List Sort) (name : Name) → allows wanted Int ≡ false → must_be wanted (name_sort scope name.word) ≡ true →
-      Finds (λ sort. (allows wanted sort ≡ true) × (slice_get sorts (message_slot names name) ≡ Some sort)) (name_sort scope name.word)
-  name_found wanted name none is = found_slot sorts wanted (sort_among locals name.word) (declared_as is_number names.place.layer name.word)
+  name_found : (wanted : List Sort) (name : Name) → allows wanted Int ≡ false →
+      must_be wanted (name_sort scope name.word) ≡ true →
+      Finds (λ sort. (allows wanted sort ≡ true) × (slice_get sorts (message_slot names name) ≡ Some sort))
+      (name_sort scope name.word)
+  name_found wanted name none is = found_slot sorts wanted (sort_among locals name.word)
+      (declared_as is_number names.place.layer name.word)
       (message_slot names name) none (agree name.word) is
 
   held_found : (at : At) (q : ast.QueueTree) (row : ast.ExpressionTree) → built_faults scope (ast.held at q row) ≡ [] →
-      Finds (λ sort. Sorted (layer_of names.place) names.place.blank sorts sort (built_of names (ast.held at q row))) (held_sort scope q)
+      Finds (λ sort. Sorted (layer_of names.place) names.place.blank sorts sort (built_of names (ast.held at q row)))
+      (held_sort scope q)
   held_found at q row h =
-      let outer = nils (queue_faults scope at q ++ unless (is_some (held_sort scope q)) (kind at)) (number_faults scope row) h in
+      let outer = nils (queue_faults scope at q ++ unless (is_some (held_sort scope q)) (kind at))
+      (number_faults scope row) h in
       let inner = nils (queue_faults scope at q) (unless (is_some (held_sort scope q)) (kind at)) outer.0 in
       let items = queue_row names q in
-      let found = some_found (λ (i : ast.ItemTree). i.sort) (find has_a_message items) (unless_nil (is_some (held_sort scope q)) (kind at) inner.1) in
+      let found = some_found (λ (i : ast.ItemTree). i.sort) (find has_a_message items)
+      (unless_nil (is_some (held_sort scope q)) (kind at) inner.1) in
       let allowed = found_passes has_a_message items found.0 found.1 in
       let carries = row_carries names.place items found.0
       (last_message items None found.0 (rows (queue_name q).word) found.1) allowed in
       let is = queue_is names q found.0 (queue_declared scope at q inner.0) carries in
-      finds_sort (λ sort. Sorted (layer_of names.place) names.place.blank sorts sort (built_of names (ast.held at q row))) (held_sort scope q)
+      finds_sort (λ sort. Sorted (layer_of names.place) names.place.blank sorts sort
+      (built_of names (ast.held at q row))) (held_sort scope q)
       found.0.sort (ap (option_map (λ (i : ast.ItemTree). i.sort)) found.1) allowed
       (rw carries.is (is, sym carries.sort))
 
   mutual
     pub message_found : (m : ast.MessageTree) → message_faults scope m ≡ [] →
-        Finds (λ sort. Sorted (layer_of names.place) names.place.blank sorts sort (message_of names m)) (message_sort scope m)
+        Finds (λ sort. Sorted (layer_of names.place) names.place.blank sorts sort (message_of names m))
+        (message_sort scope m)
     message_found (ast.bare name) h = finds_so
         (λ sort. (allows a_message sort ≡ true) × (slice_get sorts (message_slot names name) ≡ Some sort))
         (λ sort. slice_get sorts (message_slot names name) ≡ Some sort) (name_sort scope name.word) (λ sort is. is.1)
@@ -242,13 +268,16 @@ module _ (names : Names) (locals : List Local) (sorts : List Sort) (agree : Agre
     message_found (ast.built b) h = built_found b h
 
     pub built_found : (b : ast.BuiltTree) → built_faults scope b ≡ [] →
-        Finds (λ sort. Sorted (layer_of names.place) names.place.blank sorts sort (built_of names b)) (built_sort scope b)
+        Finds (λ sort. Sorted (layer_of names.place) names.place.blank sorts sort (built_of names b))
+        (built_sort scope b)
     built_found (ast.nothing at) h = refl
     built_found (ast.held at q row) h = held_found at q row h
     built_found (ast.cut at m from n) h = refl
     built_found (ast.tail at m from) h =
-        let outer = nils (unless (not (must_be a_part (message_sort scope m))) (kind at) ++ message_faults scope m) (number_faults scope from) h in
-        let inner = nils (unless (not (must_be a_part (message_sort scope m))) (kind at)) (message_faults scope m) outer.0 in
+        let outer = nils (unless (not (must_be a_part (message_sort scope m))) (kind at) ++ message_faults scope m)
+        (number_faults scope from) h in
+        let inner = nils (unless (not (must_be a_part (message_sort scope m))) (kind at)) (message_faults scope m)
+        outer.0 in
         tail_is (IsOf m) (message_sort scope m) (message_found m inner.1)
         (unless_nil (not (must_be a_part (message_sort scope m))) (kind at) inner.0)
     built_found (ast.join at first second) h =
@@ -262,18 +291,26 @@ module _ (names : Names) (locals : List Local) (sorts : List Sort) (agree : Agre
 
   abbrev ArgumentIs : List Sort → ast.ArgumentTree → Type 0
   ArgumentIs wanted a =
-      Finds (λ sort. (allows wanted sort ≡ true) × Sorted (layer_of names.place) names.place.blank sorts sort (argument_message names a))
+      Finds (λ sort. (allows wanted sort ≡ true) × Sorted (layer_of names.place) names.place.blank sorts sort
+      (argument_message names a))
       (argument_sort scope a)
 
-  pub argument_found : (wanted : List Sort) (a : ast.ArgumentTree) → allows wanted Int ≡ false → argument_faults scope wanted a ≡ [] →
-      Finds (λ sort. (allows wanted sort ≡ true) × Sorted (layer_of names.place) names.place.blank sorts sort (argument_message names a))
+  pub argument_found : (wanted : List Sort) (a : ast.ArgumentTree) → allows wanted Int ≡ false →
+      argument_faults scope wanted a ≡ [] →
+      Finds (λ sort. (allows wanted sort ≡ true) × Sorted (layer_of names.place) names.place.blank sorts sort
+      (argument_message names a))
       (argument_sort scope a)
   argument_found wanted (ast.value (ast.named name)) none h =
       name_found wanted name none (unless_nil (must_be wanted (name_sort scope name.word)) (kind name.at) h)
   argument_found wanted (ast.content b) none h =
       let o = argument_sort scope (ast.content b) in
       let parts = nils (unless (may_be wanted o) (kind (argument_at (ast.content b)))) (built_faults scope b) h in
-      finds_allowed (λ sort. Sorted (layer_of names.place) names.place.blank sorts sort (built_of names b)) wanted o (built_found b parts.1)
+      finds_allowed (λ sort. Sorted (layer_of names.place) names.place.blank sorts sort (built_of names b)) wanted o
+      (built_found b parts.1)
       (unless_nil (may_be wanted o) (kind (argument_at (ast.content b))) parts.0)
   argument_found wanted (ast.value e) none h =
-      absurd (cc (none, unless_nil (allows wanted Int) (kind (expression_at e)) (nils (unless (allows wanted Int) (kind (expression_at e))) (number_faults scope e) h).0))
+      absurd (cc (
+        none,
+        unless_nil (allows wanted Int) (kind (expression_at e))
+            (nils (unless (allows wanted Int) (kind (expression_at e))) (number_faults scope e) h).0,
+      ))

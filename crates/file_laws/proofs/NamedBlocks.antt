@@ -1,5 +1,6 @@
 -- What blocks without faults name is there.
-use Rattle.std.proofs.Common.{◌≡◌, ◌∙◌, ℕ, zero, suc, ◌+◌, ◌<◌, ◌≤◌, Bool, true, false, List, [], ◌∷◌, ◌++◌, length, map, Option, Some, None, refl, sym, subst, arith}
+use Rattle.std.proofs.Common.{◌≡◌, ◌∙◌, ℕ, zero, suc, ◌+◌, ◌<◌, ◌≤◌, Bool, true, false, List, [], ◌∷◌, ◌++◌, length}
+use Rattle.std.proofs.Common.{map, Option, Some, None, refl, sym, subst, arith}
 use Rattle.std.specs.Prelude.{◌==◌, ◌&&◌, is_some, flat_map, option_map, option_and_then, if◌then◌else◌}
 use Rattle.std.specs.List.{AllByRecursion, AllZip, last_or, range_with_len}
 use Rattle.std.specs.Option.{option_map_or}
@@ -21,7 +22,8 @@ use Rattle.fault_mean.specs.Limits.{messages_inside}
 use Rattle.fault_mean.specs.Scope.{Local, Scope}
 use Rattle.fault_mean.specs.Uses.{arguments_in}
 use Rattle.fault_mean.specs.ExpressionFaults.{argument_faults, arguments_faults}
-use Rattle.fault_mean.specs.TypeFaults.{pushes, suits, ends_with, sent_sort, with_faults, pushed_faults, emission_faults, row_sorts}
+use Rattle.fault_mean.specs.TypeFaults.{pushes, suits, ends_with, sent_sort, with_faults, pushed_faults}
+use Rattle.fault_mean.specs.TypeFaults.{emission_faults, row_sorts}
 use Rattle.file_mean.specs.Names.{Names, Placed, carried_as, carried_in, numbers_among, message_among}
 use Rattle.file_mean.specs.Values.{queue_row, queue_carries, argument_number, argument_message}
 use Rattle.file_mean.specs.Statements.{pushed_tag, pushed_fields, emission_of, pushed_row}
@@ -41,12 +43,15 @@ message_sort_is blank Int h = absurd (cc h)
 message_sort_is blank Msg h = tt
 message_sort_is blank Part h = tt
 
-pub last_sort : (p : Placed) (items : List ast.ItemTree) (b : Bool) → is_some (carried_in p items) ≡ b → LastSort b (map (λ i. i.sort) items)
+pub last_sort : (p : Placed) (items : List ast.ItemTree) (b : Bool) → is_some (carried_in p items) ≡ b →
+    LastSort b (map (λ i. i.sort) items)
 last_sort p items false is = tt
-last_sort p items true is = subst IsMessageSort (sym (last_map (λ (i : ast.ItemTree). i.sort) items None)) (go (last_or None items) is) where
-  go : (o : Option ast.ItemTree) → is_some (option_and_then (λ i. carried_as p.blank i.sort) o) ≡ true → IsMessageSort (option_map (λ i. i.sort) o)
-  go None h = tt
-  go (Some i) h = message_sort_is p.blank i.sort h
+last_sort p items true is = subst IsMessageSort (sym (last_map (λ (i : ast.ItemTree). i.sort) items None))
+    (go (last_or None items) is) where
+      go : (o : Option ast.ItemTree) → is_some (option_and_then (λ i. carried_as p.blank i.sort) o) ≡ true →
+          IsMessageSort (option_map (λ i. i.sort) o)
+      go None h = tt
+      go (Some i) h = message_sort_is p.blank i.sort h
 
 no_message_sort : (blank : List Header) (s : Sort) → is_some (carried_as blank s) ≡ false → s ≡ Int
 no_message_sort blank Int h = refl
@@ -57,12 +62,14 @@ pub range_below : (first n slots : ℕ) → first + n ≤ slots → AllByRecursi
 range_below first zero slots le = tt
 range_below first (suc n) slots le = (omega (arith, le), range_below (first + 1) n slots (omega (arith, le)))
 
-last_where : {A : Type 0} (P : A → Type 0) (xs : List A) (o : Option A) → Where P o → AllByRecursion P xs → Where P (last_or o xs)
+last_where : {A : Type 0} (P : A → Type 0) (xs : List A) (o : Option A) → Where P o → AllByRecursion P xs →
+    Where P (last_or o xs)
 last_where P [] o here h = here
 last_where P (x ∷ xs) o here h = last_where P xs (Some x) h.0 h.1
 
 -- arguments
-module _ (names : Names) (locals : List Local) (slots : ℕ) (sees : Sees names locals) (bound : names.taken.numbers ≤ slots) where
+module _ (names : Names) (locals : List Local) (slots : ℕ) (sees : Sees names locals)
+    (bound : names.taken.numbers ≤ slots) where
   abbrev scope : Scope
   scope = record { layer = names.place.layer; locals = locals }
 
@@ -74,9 +81,11 @@ module _ (names : Names) (locals : List Local) (slots : ℕ) (sees : Sees names 
 
   counts_int : (s : Sort) (a : ast.ArgumentTree) → s ≡ Int →
       argument_faults (record { layer = names.place.layer; locals = locals }) (s ∷ []) a ≡ [] → Counts a
-  counts_int s a is h = subst (λ s. argument_faults (record { layer = names.place.layer; locals = locals }) (s ∷ []) a ≡ []) is h
+  counts_int s a is h =
+      subst (λ s. argument_faults (record { layer = names.place.layer; locals = locals }) (s ∷ []) a ≡ []) is h
 
-  front_counts : (items : List ast.ItemTree) (args : List ast.ArgumentTree) → IsLastMessage items → AllZip Suits items args →
+  front_counts : (items : List ast.ItemTree) (args : List ast.ArgumentTree) → IsLastMessage items →
+      AllZip Suits items args →
       AllByRecursion Counts (front args)
   front_counts [] [] last h = tt
   front_counts [] (a ∷ args) last h = absurd h
@@ -90,8 +99,10 @@ module _ (names : Names) (locals : List Local) (slots : ℕ) (sees : Sees names 
         front_counts (j ∷ items) (b ∷ args) parts.1 h.1,
       )
 
-  all_counts : (items : List ast.ItemTree) (args : List ast.ArgumentTree) (o : Option ast.ItemTree) → IsLastMessage items →
-      is_some (option_and_then (λ i. carried_as names.place.blank i.sort) (last_or o items)) ≡ false → AllZip Suits items args →
+  all_counts : (items : List ast.ItemTree) (args : List ast.ArgumentTree) (o : Option ast.ItemTree) →
+      IsLastMessage items →
+      is_some (option_and_then (λ i. carried_as names.place.blank i.sort) (last_or o items)) ≡ false →
+      AllZip Suits items args →
       AllByRecursion Counts args
   all_counts [] [] o last is h = tt
   all_counts [] (a ∷ args) o last is h = absurd h
@@ -115,16 +126,19 @@ module _ (names : Names) (locals : List Local) (slots : ℕ) (sees : Sees names 
   messages_are [] [] h = tt
   messages_are [] (a ∷ args) h = absurd h
   messages_are (i ∷ items) [] h = absurd h
-  messages_are (i ∷ items) (a ∷ args) h = (argument_messaged names locals slots sees bound (i.sort ∷ []) a h.0, messages_are items args h.1)
+  messages_are (i ∷ items) (a ∷ args) h =
+      (argument_messaged names locals slots sees bound (i.sort ∷ []) a h.0, messages_are items args h.1)
 
-  option_named : (o : Option ast.ArgumentTree) → Where (λ a. NamedMessage (layer_of names.place) slots (argument_message names a)) o →
+  option_named : (o : Option ast.ArgumentTree) →
+      Where (λ a. NamedMessage (layer_of names.place) slots (argument_message names a)) o →
       NamedOption (layer_of names.place) slots (option_map (argument_message names) o)
   option_named None h = tt
   option_named (Some a) h = h
 
   pub row_named : (q : ast.QueueTree) (args : List ast.ArgumentTree) → IsLastMessage (queue_row names q) →
       length (queue_row names q) ≡ length args →
-      arguments_faults (record { layer = names.place.layer; locals = locals }) (row_sorts names.place.layer q) args ≡ [] →
+      arguments_faults (record { layer = names.place.layer; locals = locals }) (row_sorts names.place.layer q) args ≡
+      [] →
       AllByRecursion (Named (layer_of names.place) slots) (pushed_row names q args).numbers
       × NamedOption (layer_of names.place) slots (pushed_row names q args).message
   row_named q args last same h = go (is_some (queue_carries names q)) refl where
@@ -138,7 +152,8 @@ module _ (names : Names) (locals : List Local) (slots : ℕ) (sees : Sees names 
         AllByRecursion (Named (layer_of names.place) slots) (map (argument_number names) (numbers_among b args))
         × NamedOption (layer_of names.place) slots (option_map (argument_message names) (message_among b args))
     go true is = (
-      subst (λ xs. AllByRecursion (Named (layer_of names.place) slots) (map (argument_number names) xs)) (sym (front_is args))
+      subst (λ xs. AllByRecursion (Named (layer_of names.place) slots) (map (argument_number names) xs))
+          (sym (front_is args))
           (numbers_named (front args) (front_counts (queue_row names q) args last zipped)),
       option_named (last_or None args) (last_where _ args None tt (messages_are (queue_row names q) args zipped)),
     )
@@ -156,7 +171,8 @@ module _ (names : Names) (locals : List Local) (slots : ℕ) (sees : Sees names 
   abbrev Fits : List Sort → ast.ArgumentTree → Type 0
   Fits wanted a = argument_faults (record { layer = names.place.layer; locals = locals }) wanted a ≡ []
 
-  zip_counts : (wanted : List (List Sort)) (args : List ast.ArgumentTree) → AllByRecursion (λ w. w ≡ a_number) wanted → AllZip Fits wanted args →
+  zip_counts : (wanted : List (List Sort)) (args : List ast.ArgumentTree) → AllByRecursion (λ w. w ≡ a_number) wanted →
+      AllZip Fits wanted args →
       AllByRecursion Counts args
   zip_counts [] [] are h = tt
   zip_counts [] (a ∷ args) are h = absurd h
@@ -168,9 +184,11 @@ module _ (names : Names) (locals : List Local) (slots : ℕ) (sees : Sees names 
   zip_messages [] [] h = tt
   zip_messages [] (a ∷ args) h = absurd h
   zip_messages (w ∷ wanted) [] h = absurd h
-  zip_messages (w ∷ wanted) (a ∷ args) h = (argument_messaged names locals slots sees bound w a h.0, zip_messages wanted args h.1)
+  zip_messages (w ∷ wanted) (a ∷ args) h =
+      (argument_messaged names locals slots sees bound w a h.0, zip_messages wanted args h.1)
 
-  two_counts : (args : List ast.ArgumentTree) → AllZip Fits (a_number ∷ a_message ∷ []) args → AllByRecursion Counts (front args)
+  two_counts : (args : List ast.ArgumentTree) → AllZip Fits (a_number ∷ a_message ∷ []) args →
+      AllByRecursion Counts (front args)
   two_counts [] h = absurd h
   two_counts (a ∷ []) h = absurd h.1
   two_counts (a ∷ m ∷ []) h = (h.0, tt)
@@ -182,18 +200,25 @@ module _ (names : Names) (locals : List Local) (slots : ℕ) (sees : Sees names 
   fields_named at dir k None h = tt
   fields_named at dir k (Some p) h =
       let args = arguments_in p.fields in
-      let parts = nils (with_faults names.place.layer at p.name (length args) (pushes dir && carries k)) (flat_map (argument_faults scope a_number) args) h in
+      let parts = nils (with_faults names.place.layer at p.name (length args) (pushes dir && carries k))
+      (flat_map (argument_faults scope a_number) args) h in
       numbers_named args (each_nil (argument_faults scope a_number) args parts.1)
 
   content_named : (pushed : Option ast.PushedTree) (o : Option ast.ArgumentTree) →
       Where (λ a. NamedMessage (layer_of names.place) slots (argument_message names a)) o →
       AllByRecursion (Named (layer_of names.place) slots) (pushed_fields names pushed) →
       NamedContent (layer_of names.place) slots
-      (option_map (λ m. record { message = argument_message names m; tag = pushed_tag names pushed; fields = pushed_fields names pushed }) o)
+      (option_map (λ m. record {
+        message = argument_message names m;
+        tag = pushed_tag names pushed;
+        fields =
+            pushed_fields names pushed;
+      }) o)
   content_named pushed None h fields = tt
   content_named pushed (Some a) h fields = (h, fields)
 
-  pub emission_named : (at : At) (dir : Dir) (k : Kind) (args : List ast.ArgumentTree) (pushed : Option ast.PushedTree) →
+  pub emission_named : (at : At) (dir : Dir) (k : Kind) (args : List ast.ArgumentTree)
+      (pushed : Option ast.PushedTree) →
       emission_faults (record { layer = names.place.layer; locals = locals }) at dir k args pushed ≡ [] →
       AllByRecursion (Named (layer_of names.place) slots) (emission_of names dir k args pushed).numbers
       × NamedContent (layer_of names.place) slots (emission_of names dir k args pushed).content
@@ -205,7 +230,8 @@ module _ (names : Names) (locals : List Local) (slots : ℕ) (sees : Sees names 
       let one = nils (a ++ b ++ c) (unless suited (header at)) h in
       let two = nils (a ++ b) c one.0 in
       let three = nils a b two.0 in
-      let count = eqb-true (length args) (length (arguments_of k)) (unless_nil (length args == length (arguments_of k)) (arity at) three.0) in
+      let count = eqb-true (length args) (length (arguments_of k))
+      (unless_nil (length args == length (arguments_of k)) (arity at) three.0) in
       let zipped = zip_each (λ x. argument_faults scope x.0 x.1) (arguments_of k) args (sym count) three.1 in
       go (carries k) refl zipped (fields_named at dir k pushed two.1)
     where
@@ -213,11 +239,19 @@ module _ (names : Names) (locals : List Local) (slots : ℕ) (sees : Sees names 
           AllByRecursion (Named (layer_of names.place) slots) (pushed_fields names pushed) →
           AllByRecursion (Named (layer_of names.place) slots) (map (argument_number names) (numbers_among b args))
           × NamedContent (layer_of names.place) slots (option_map
-          (λ m. record { message = argument_message names m; tag = pushed_tag names pushed; fields = pushed_fields names pushed })
+          (λ m. record {
+            message = argument_message names m;
+            tag = pushed_tag names pushed;
+            fields =
+                pushed_fields names pushed;
+          })
           (message_among b args))
       go true is zipped fields = (
-        subst (λ xs. AllByRecursion (Named (layer_of names.place) slots) (map (argument_number names) xs)) (sym (front_is args))
-            (numbers_named (front args) (two_counts args (subst (λ wanted. AllZip Fits wanted args) (kind_arguments k is) zipped))),
-        content_named pushed (last_or None args) (last_where _ args None tt (zip_messages (arguments_of k) args zipped)) fields,
+        subst (λ xs. AllByRecursion (Named (layer_of names.place) slots) (map (argument_number names) xs))
+            (sym (front_is args))
+            (numbers_named (front args)
+            (two_counts args (subst (λ wanted. AllZip Fits wanted args) (kind_arguments k is) zipped))),
+        content_named pushed (last_or None args) (last_where _ args None tt (zip_messages (arguments_of k) args zipped))
+            fields,
       )
       go false is zipped fields = (numbers_named args (zip_counts (arguments_of k) args (kind_numbers k is) zipped), tt)

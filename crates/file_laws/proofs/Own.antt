@@ -21,10 +21,12 @@ pub record Declares (test : ast.DeclarationTree → Bool) (layer : ast.LayerTree
   pub found : declaration_of layer word ≡ Some declaration
   pub passes : test declaration ≡ true
 
-pub declares_it : (test : ast.DeclarationTree → Bool) (layer : ast.LayerTree) (word : Word) → declared_as test layer word ≡ true →
+pub declares_it : (test : ast.DeclarationTree → Bool) (layer : ast.LayerTree) (word : Word) →
+    declared_as test layer word ≡ true →
     Declares test layer word
 declares_it test layer word is = go (declaration_of layer word) refl is where
-  go : (o : Option ast.DeclarationTree) → declaration_of layer word ≡ o → option_map_or test o false ≡ true → Declares test layer word
+  go : (o : Option ast.DeclarationTree) → declaration_of layer word ≡ o → option_map_or test o false ≡ true →
+      Declares test layer word
   go None found is = absurd (cc is)
   go (Some d) found is = record { declaration = d; found = found; passes = is }
 
@@ -35,22 +37,25 @@ is_rows (ast.rows_array at name capacity items) = true
 is_rows _ = false
 
 pub rows_of_queue : (layer : ast.LayerTree) (word : Word) → Declares is_queue layer word → Declares is_rows layer word
-rows_of_queue layer word h = record { declaration = h.declaration; found = h.found; passes = go h.declaration h.passes } where
-  go : (d : ast.DeclarationTree) → is_queue d ≡ true → is_rows d ≡ true
-  go (ast.rows_cell at name capacity items) is = refl
-  go (ast.param at name value) is = absurd (cc is)
-  go (ast.int at name shape initial) is = absurd (cc is)
-  go (ast.rows_array at name capacity items) is = refl
-  go (ast.header at name fields end) is = absurd (cc is)
+rows_of_queue layer word h = record { declaration = h.declaration; found = h.found; passes = go h.declaration h.passes }
+  where
+    go : (d : ast.DeclarationTree) → is_queue d ≡ true → is_rows d ≡ true
+    go (ast.rows_cell at name capacity items) is = refl
+    go (ast.param at name value) is = absurd (cc is)
+    go (ast.int at name shape initial) is = absurd (cc is)
+    go (ast.rows_array at name capacity items) is = refl
+    go (ast.header at name fields end) is = absurd (cc is)
 
-pub rows_of_array : (layer : ast.LayerTree) (word : Word) → Declares is_queue_array layer word → Declares is_rows layer word
-rows_of_array layer word h = record { declaration = h.declaration; found = h.found; passes = go h.declaration h.passes } where
-  go : (d : ast.DeclarationTree) → is_queue_array d ≡ true → is_rows d ≡ true
-  go (ast.rows_cell at name capacity items) is = refl
-  go (ast.param at name value) is = absurd (cc is)
-  go (ast.int at name shape initial) is = absurd (cc is)
-  go (ast.rows_array at name capacity items) is = refl
-  go (ast.header at name fields end) is = absurd (cc is)
+pub rows_of_array : (layer : ast.LayerTree) (word : Word) → Declares is_queue_array layer word →
+    Declares is_rows layer word
+rows_of_array layer word h = record { declaration = h.declaration; found = h.found; passes = go h.declaration h.passes }
+  where
+    go : (d : ast.DeclarationTree) → is_queue_array d ≡ true → is_rows d ≡ true
+    go (ast.rows_cell at name capacity items) is = refl
+    go (ast.param at name value) is = absurd (cc is)
+    go (ast.int at name shape initial) is = absurd (cc is)
+    go (ast.rows_array at name capacity items) is = refl
+    go (ast.header at name fields end) is = absurd (cc is)
 
 cell_made : (p : Placed) (d : ast.DeclarationTree) → is_some (cell_in p d) ≡ is_cell d
 cell_made p (ast.param at name value) = refl
@@ -66,7 +71,8 @@ header_made (ast.rows_cell at name capacity items) = refl
 header_made (ast.rows_array at name capacity items) = refl
 header_made (ast.header at name fields end) = refl
 
-pub cell_listed : (p : Placed) (name : Name) (d : ast.DeclarationTree) (cell : CellTree) → declaration_of p.layer name.word ≡ Some d →
+pub cell_listed : (p : Placed) (name : Name) (d : ast.DeclarationTree) (cell : CellTree) →
+    declaration_of p.layer name.word ≡ Some d →
     is_cell d ≡ true → cell_in p d ≡ Some cell → slice_get (layer_of p).cells (cell_of p name) ≡ Some cell
 unfolding layer_of
 cell_listed p name d cell found kind made =
@@ -74,8 +80,10 @@ cell_listed p name d cell found kind made =
     (stood (declares name.word) is_cell (cell_in p) (cell_made p) p.layer.declarations d cell found kind made) in
     rw at.0 at.1
 
-pub queue_listed : (p : Placed) (name : Name) (d : ast.DeclarationTree) → declaration_of p.layer name.word ≡ Some d → is_rows d ≡ true →
-    queue_at (layer_of p) (cell_of p name) ≡ Some (record { capacity = capacity_declared p d; items = row_items p (items_of d) })
+pub queue_listed : (p : Placed) (name : Name) (d : ast.DeclarationTree) → declaration_of p.layer name.word ≡ Some d →
+    is_rows d ≡ true →
+    queue_at (layer_of p) (cell_of p name) ≡
+    Some (record { capacity = capacity_declared p d; items = row_items p (items_of d) })
 queue_listed p name (ast.param at name_is value) found is = absurd (cc is)
 queue_listed p name (ast.int at name_is shape initial) found is = absurd (cc is)
 queue_listed p name (ast.rows_cell at name_is capacity items) found is =
@@ -91,7 +99,8 @@ pub record Headed (p : Placed) (name : Name) : Type 0 where
   pub fields : declaration.fields ≡ length (fields_of p.layer name.word)
   pub ends : declaration.ends ≡ declared_as is_end p.layer name.word
 
-tag_listed : (p : Placed) (name : Name) (d : ast.DeclarationTree) (h : HeaderTree) → declaration_of p.layer name.word ≡ Some d →
+tag_listed : (p : Placed) (name : Name) (d : ast.DeclarationTree) (h : HeaderTree) → declaration_of p.layer name.word ≡
+    Some d →
     is_header d ≡ true → header_in d ≡ Some h → declared (layer_of p) (tag_of p name) ≡ Some h
 unfolding layer_of
 tag_listed p name d h found kind made =

@@ -21,7 +21,8 @@ pub record LiteralPlaced (p : Placed) : Type 0 where
   pub declarations_are : AllByRecursion LiteralDeclaration p.layer.declarations
   pub given_are : AllByRecursion (λ g. IsNumber g.value) p.given
 
-value_small : (d : Option ast.DeclarationTree) → Where LiteralDeclaration d → Where IsNumber (option_and_then declared_value d)
+value_small : (d : Option ast.DeclarationTree) → Where LiteralDeclaration d →
+    Where IsNumber (option_and_then declared_value d)
 value_small None h = tt
 value_small (Some (ast.param at name n)) h = h
 value_small (Some (ast.int at name shape initial)) h = tt
@@ -29,18 +30,21 @@ value_small (Some (ast.rows_cell at name capacity items)) h = tt
 value_small (Some (ast.rows_array at name capacity items)) h = tt
 value_small (Some (ast.header at name fields end)) h = tt
 
-given_small : (g : Option ast.GivenTree) (n : ℕ) → Where (λ g. IsNumber g.value) g → IsNumber n → IsNumber (unwrap_or (option_map (λ g. g.value) g) n)
+given_small : (g : Option ast.GivenTree) (n : ℕ) → Where (λ g. IsNumber g.value) g → IsNumber n →
+    IsNumber (unwrap_or (option_map (λ g. g.value) g) n)
 given_small None n h small = small
 given_small (Some g) n h small = h
 
 both_small : (p : Placed) (word : Word) (v : Option ℕ) → LiteralPlaced p → Where IsNumber v →
     Where IsNumber (option_map (λ n. unwrap_or (given_value p.given word) n) v)
 both_small p word None h small = tt
-both_small p word (Some n) h small = given_small (find (λ g. bytes_eq g.name.word word) p.given) n (find_where _ _ p.given h.given_are) small
+both_small p word (Some n) h small = given_small (find (λ g. bytes_eq g.name.word word) p.given) n
+    (find_where _ _ p.given h.given_are) small
 
 pub param_small : (p : Placed) (word : Word) → LiteralPlaced p → Where IsNumber (param_value p.layer p.given word)
 param_small p word h = both_small p word (option_and_then declared_value (declaration_of p.layer word)) h
-    (value_small (declaration_of p.layer word) (find_where LiteralDeclaration (declares word) p.layer.declarations h.declarations_are))
+    (value_small (declaration_of p.layer word)
+    (find_where LiteralDeclaration (declares word) p.layer.declarations h.declarations_are))
 
 or_zero : (v : Option ℕ) → Where IsNumber v → IsNumber (unwrap_or v 0)
 or_zero None h = omega arith
@@ -59,7 +63,8 @@ named_small (Some k) v c h = tt
 module _ (names : Names) (placed : LiteralPlaced names.place) where
   pub number_small : (e : ast.ExpressionTree) → Literal e → Small (number_of names e)
   number_small (ast.number at n) h = h
-  number_small (ast.named name) h = named_small (number_slot names name) (param_value names.place.layer names.place.given name.word)
+  number_small (ast.named name) h =
+      named_small (number_slot names name) (param_value names.place.layer names.place.given name.word)
       (cell_of names.place name) (param_small names.place name.word placed)
   number_small (ast.binary at left operator right) h = (number_small left h.0, number_small right h.1)
   number_small (ast.pick at condition first second) h = (number_small first h.1, number_small second h.2)
@@ -71,6 +76,7 @@ module _ (names : Names) (placed : LiteralPlaced names.place) where
 
   pub arguments_small : (has : Bool) (xs : List ast.ArgumentTree) → AllByRecursion LiteralArgument xs →
       AllByRecursion Small (map (argument_number names) (numbers_among has xs))
-  arguments_small true xs h = each_map LiteralArgument Small (argument_number names) argument_small (take (length xs - 1) xs)
+  arguments_small true xs h = each_map LiteralArgument Small (argument_number names) argument_small
+      (take (length xs - 1) xs)
       (each_take LiteralArgument (length xs - 1) xs h)
   arguments_small false xs h = each_map LiteralArgument Small (argument_number names) argument_small xs h

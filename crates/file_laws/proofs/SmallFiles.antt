@@ -42,7 +42,11 @@ counter_means = refl
 
 pub counter_is_typed : CounterIsTyped
 unfolding file_of
-counter_is_typed = (counter_literal, refl, subst TypedStack counter_means (files_are_typed counter.file counter_literal refl))
+counter_is_typed = (
+  counter_literal,
+  refl,
+  subst TypedStack counter_means (files_are_typed counter.file counter_literal refl),
+)
 
 queues_literal : LiteralFile queues.file
 unfolding file_of
@@ -88,7 +92,11 @@ queues_mean = refl
 
 pub queues_are_typed : QueuesAreTyped
 unfolding file_of
-queues_are_typed = (queues_literal, refl, subst TypedStack queues_mean (files_are_typed queues.file queues_literal refl))
+queues_are_typed = (
+  queues_literal,
+  refl,
+  subst TypedStack queues_mean (files_are_typed queues.file queues_literal refl),
+)
 
 pub small_files_are_named : SmallFilesAreNamed
 unfolding file_of
@@ -97,8 +105,10 @@ small_files_are_named = (
   subst NamedStack queues_mean (files_are_named queues.file refl),
 )
 
-counter_at : (place : ℕ) → place < 1 → IsChainedState counter.stack place (slice_index_or (map (λ layer. fresh layer 0 3 0) counter.stack) place no_state)
-counter_at zero below = fresh_is_chained counter.stack 0 _ _ 0 3 0 (stands_typed counter.stack 0 _ counter_is_typed.2 refl) (omega arith)
+counter_at : (place : ℕ) → place < 1 →
+    IsChainedState counter.stack place (slice_index_or (map (λ layer. fresh layer 0 3 0) counter.stack) place no_state)
+counter_at zero below =
+    fresh_is_chained counter.stack 0 _ _ 0 3 0 (stands_typed counter.stack 0 _ counter_is_typed.2 refl) (omega arith)
     (omega arith) (omega arith)
 counter_at (suc place) below = absurd (omega arith)
 

@@ -1,5 +1,6 @@
 -- The numbers of printed trees are tokens of their text, and those are below 2^32.
-use Rattle.std.proofs.Common.{◌≡◌, ℕ, zero, suc, ◌≤◌, Bool, true, false, List, [], ◌∷◌, length, Option, Some, None, refl, subst, arith}
+use Rattle.std.proofs.Common.{◌≡◌, ℕ, zero, suc, ◌≤◌, Bool, true, false, List, [], ◌∷◌, length, Option, Some, None}
+use Rattle.std.proofs.Common.{refl, subst, arith}
 use Rattle.std.specs.Prelude.{nat_le, nat_lt, nat_eq, not, ◌&&◌, ◌-◌, if◌then◌else◌, take}
 use Rattle.std.specs.Char.{is_ascii_alphabetic, is_ascii_digit}
 use Rattle.std.specs.List.{AllByRecursion, AllZip, prefix_len}
@@ -16,19 +17,26 @@ use Rattle.layer_ast.specs.declared.syntax.Likely.{Likely}
 use Rattle.layer_ast.specs.declared.syntax.Likely.TheVariants as likely_word
 use Rattle.layer_ast.specs.declared.syntax.Shape.{Shape}
 use Rattle.layer_ast.specs.declared.syntax.Shape.TheVariants.{One, Array, Square}
-use Rattle.layer_ast.specs.Cut.{Piece, gap, one, bad, word_piece, number_piece, symbol_piece, piece, place_behind, Tokens, is_numeral, with_piece, cut_from, cut}
+use Rattle.layer_ast.specs.Cut.{Piece, gap, one, bad, word_piece, number_piece, symbol_piece, piece, place_behind}
+use Rattle.layer_ast.specs.Cut.{Tokens, is_numeral, with_piece, cut_from, cut}
 use Rattle.layer_ast.specs.Print as print
 use Rattle.layer_ast.specs.Printed.{Printed}
 use Rattle.layer_ast.specs.Spelling.{is_blank, is_word_byte, reserved, kinds, beside, word_token, symbol_at, number_of}
 use Rattle.layer_ast.specs.Spells.{Fits}
 use Rattle.layer_ast.specs.Tree as tree
-use Rattle.layer_ast.specs.Tree.{ExpressionTree, QueueTree, MessageTree, BuiltTree, ArgumentTree, NamesTree, ArgumentsTree, PoppedTree, PushedTree, SizeTree, StatementTree, StatementTrees, Expected, HandlerTree, ItemTree, ItemsTree, DeclarationTree, LayerTree, GivenTree, PlaceTree, FileTree}
+use Rattle.layer_ast.specs.Tree.{ExpressionTree, QueueTree, MessageTree, BuiltTree, ArgumentTree, NamesTree}
+use Rattle.layer_ast.specs.Tree.{ArgumentsTree, PoppedTree, PushedTree, SizeTree, StatementTree, StatementTrees}
+use Rattle.layer_ast.specs.Tree.{Expected, HandlerTree, ItemTree, ItemsTree, DeclarationTree, LayerTree, GivenTree}
+use Rattle.layer_ast.specs.Tree.{PlaceTree, FileTree}
 use Rattle.packet_mean.specs.ChainedState.{IsNumber}
-use Rattle.fault_mean.specs.Scope.{Scope, Standing, head_scope, scope_behind, taken_scope, with_locals, locals_as, standing_inside, standing_in}
+use Rattle.fault_mean.specs.Scope.{Scope, Standing, head_scope, scope_behind, taken_scope, with_locals, locals_as}
+use Rattle.fault_mean.specs.Scope.{standing_inside, standing_in}
 use Rattle.fault_mean.specs.Uses.{arguments_in}
 use Rattle.file_mean.specs.Library.{SpellsLayer}
 use Rattle.chain_laws.proofs.Lists.{each_append}
-use Rattle.file_laws.specs.Literals.{Literal, LiteralQueue, LiteralMessage, LiteralBuilt, LiteralArgument, LiteralSize, LiteralOption, LiteralPushed, LiteralStatement, LiteralExpected, LiteralHandler, LiteralDeclaration, LiteralLayer, LiteralPlace}
+use Rattle.file_laws.specs.Literals.{Literal, LiteralQueue, LiteralMessage, LiteralBuilt, LiteralArgument, LiteralSize}
+use Rattle.file_laws.specs.Literals.{LiteralOption, LiteralPushed, LiteralStatement, LiteralExpected, LiteralHandler}
+use Rattle.file_laws.specs.Literals.{LiteralDeclaration, LiteralLayer, LiteralPlace}
 use Rattle.file_laws.specs.Texts.{TextsAreLiteral, TextsAreTyped}
 use Rattle.file_laws.specs.Named.{TextsAreNamed}
 use Rattle.file_laws.proofs.Files.{files_are_typed, files_are_named}
@@ -63,7 +71,8 @@ unfolding word_token
 word_small word = sign_or (option_map_or token.Kind (beside kinds word) (token.Name word)) (beside reserved word)
     (kind_or_name word (beside kinds word))
 
-symbol_small : (o : Option (List ℕ × Sign)) → SmallPiece (option_map_or (λ entry. one (token.Sign entry.1) (length entry.0 - 1)) o bad)
+symbol_small : (o : Option (List ℕ × Sign)) →
+    SmallPiece (option_map_or (λ entry. one (token.Sign entry.1) (length entry.0 - 1)) o bad)
 symbol_small None = tt
 symbol_small (Some entry) = tt
 
@@ -71,7 +80,8 @@ number_small : (b : ℕ) (bs : List ℕ) → SmallPiece (number_piece b bs)
 number_small b bs = let n : ℕ = prefix_len is_ascii_digit bs in
     either_piece (nat_eq b 48 && nat_lt 0 n) bad _ (λ _. tt)
     (either_piece (nat_le (number_of (b ∷ take n bs)) 4294967295) (one (token.Number (number_of (b ∷ take n bs))) n) bad
-    (λ e. let le : number_of (b ∷ take n bs) ≤ 4294967295 = leb-true (number_of (b ∷ take n bs)) 4294967295 e in omega (arith, le)) tt)
+    (λ e. let le : number_of (b ∷ take n bs) ≤ 4294967295 = leb-true (number_of (b ∷ take n bs)) 4294967295 e in
+    omega (arith, le)) tt)
 
 piece_small : (behind_number : Bool) (b : ℕ) (bs : List ℕ) → SmallPiece (piece behind_number b bs)
 unfolding piece
@@ -79,11 +89,14 @@ piece_small behind_number b bs = either_piece (is_blank b) (gap 0) _ (λ _. tt)
     (either_piece (nat_eq b 35) (gap (prefix_len (λ c. not (nat_eq c 10)) bs)) _ (λ _. tt)
     (either_piece (is_ascii_alphabetic b) (if behind_number then bad else word_piece b bs) _
     (λ _. either_piece behind_number bad (word_piece b bs) (λ _. tt)
-    (either_piece (nat_le (prefix_len is_word_byte bs) 31) (one (word_token (b ∷ take (prefix_len is_word_byte bs) bs)) (prefix_len is_word_byte bs)) bad
+    (either_piece (nat_le (prefix_len is_word_byte bs) 31)
+    (one (word_token (b ∷ take (prefix_len is_word_byte bs) bs)) (prefix_len is_word_byte bs)) bad
     (λ _. word_small (b ∷ take (prefix_len is_word_byte bs) bs)) tt))
-    (either_piece (is_ascii_digit b) (number_piece b bs) (symbol_piece (b ∷ bs)) (λ _. number_small b bs) (symbol_small (symbol_at (b ∷ bs))))))
+    (either_piece (is_ascii_digit b) (number_piece b bs) (symbol_piece (b ∷ bs)) (λ _. number_small b bs)
+    (symbol_small (symbol_at (b ∷ bs))))))
 
-behind_piece : (p : Piece) (at : At) (rest : Bool → ℕ → Tokens) → SmallPiece p → ((b : Bool) (n : ℕ) → Lexes (rest b n).tokens) →
+behind_piece : (p : Piece) (at : At) (rest : Bool → ℕ → Tokens) → SmallPiece p →
+    ((b : Bool) (n : ℕ) → Lexes (rest b n).tokens) →
     Lexes (with_piece p at rest).tokens
 behind_piece (gap behind) at rest h all = all false behind
 behind_piece (one t behind) at rest h all = (h, all (is_numeral t) behind)
@@ -181,7 +194,8 @@ argument_said : (a : ArgumentTree) (k : List Printed) → Said (print.argument a
 argument_said (tree.value e) k h = expression_said e k h
 argument_said (tree.content b) k h = built_said b k h
 
-more_said : (es : List ArgumentTree) (k : List Printed) → Said (print.more_arguments es k) → AllByRecursion LiteralArgument es × Said k
+more_said : (es : List ArgumentTree) (k : List Printed) → Said (print.more_arguments es k) →
+    AllByRecursion LiteralArgument es × Said k
 more_said [] k h = (tt, h)
 more_said (e ∷ rest) k h =
     let a = argument_said e _ h.1 in
@@ -302,17 +316,20 @@ more_items_said : (is : List ItemTree) (k : List Printed) → Said (print.more_i
 more_items_said [] k h = h
 more_items_said (i ∷ rest) k h = more_items_said rest k h.1.1.1.1
 
-rows_said : (capacity : SizeTree) (is : ItemsTree) (k : List Printed) → Said (print.rows capacity is k) → LiteralSize capacity × Said k
+rows_said : (capacity : SizeTree) (is : ItemsTree) (k : List Printed) → Said (print.rows capacity is k) →
+    LiteralSize capacity × Said k
 rows_said capacity is k h = (size_said capacity h.1.0, (more_items_said is.rest _ h.1.1.1.1.1.1.1.1).1.1)
 
-declaration_said : (d : DeclarationTree) (k : List Printed) → Said (print.declaration d k) → LiteralDeclaration d × Said k
+declaration_said : (d : DeclarationTree) (k : List Printed) → Said (print.declaration d k) →
+    LiteralDeclaration d × Said k
 declaration_said (tree.param at n value) k h = (h.1.1.1.0, h.1.1.1.1.1)
 declaration_said (tree.int at n s value) k h = let a = initial_said value _ (shape_said s _ h.1.1.1) in (a.0, a.1.1)
 declaration_said (tree.rows_cell at n capacity is) k h = rows_said capacity is k h.1.1.1
 declaration_said (tree.rows_array at n capacity is) k h = rows_said capacity is k h.1.1.1.1.1.1
 declaration_said (tree.header at n fields ending) k h = (tt, (some_names_said fields _ h.1.1.1).1.1.1)
 
-declarations_said : (ds : List DeclarationTree) (k : List Printed) → Said (print.declarations ds k) → AllByRecursion LiteralDeclaration ds × Said k
+declarations_said : (ds : List DeclarationTree) (k : List Printed) → Said (print.declarations ds k) →
+    AllByRecursion LiteralDeclaration ds × Said k
 declarations_said [] k h = (tt, h)
 declarations_said (d ∷ rest) k h =
     let a = declaration_said d _ h in
@@ -325,29 +342,34 @@ layer_said l k h =
     let b = handlers_said l l.handlers _ a.1 in
     (record { declarations_are = a.0; handlers_are = b.0 }, b.1.1)
 
-layers_said : (ls : List LayerTree) (k : List Printed) → Said (print.layers ls k) → AllByRecursion LiteralLayer ls × Said k
+layers_said : (ls : List LayerTree) (k : List Printed) → Said (print.layers ls k) → AllByRecursion LiteralLayer ls ×
+    Said k
 layers_said [] k h = (tt, h)
 layers_said (l ∷ rest) k h =
     let a = layer_said l _ h in
     let b = layers_said rest k a.1 in
     ((a.0, b.0), b.1)
 
-more_given_said : (gs : List GivenTree) (k : List Printed) → Said (print.more_given gs k) → AllByRecursion (λ g. IsNumber g.value) gs × Said k
+more_given_said : (gs : List GivenTree) (k : List Printed) → Said (print.more_given gs k) →
+    AllByRecursion (λ g. IsNumber g.value) gs × Said k
 more_given_said [] k h = (tt, h)
 more_given_said (g ∷ rest) k h = let a = more_given_said rest k h.1.1.1.1 in ((h.1.1.1.0, a.0), a.1)
 
-given_said : (gs : List GivenTree) (k : List Printed) → Said (print.all_given gs k) → AllByRecursion (λ g. IsNumber g.value) gs × Said k
+given_said : (gs : List GivenTree) (k : List Printed) → Said (print.all_given gs k) →
+    AllByRecursion (λ g. IsNumber g.value) gs × Said k
 given_said [] k h = (tt, h)
 given_said (g ∷ rest) k h = let a = more_given_said rest _ h.1.1.1.1 in ((h.1.1.1.0, a.0), a.1.1)
 
-places_said : (ps : List PlaceTree) (k : List Printed) → Said (print.places ps k) → AllByRecursion LiteralPlace ps × Said k
+places_said : (ps : List PlaceTree) (k : List Printed) → Said (print.places ps k) → AllByRecursion LiteralPlace ps ×
+    Said k
 places_said [] k h = (tt, h)
 places_said (p ∷ rest) k h =
     let a = given_said p.given _ h.1 in
     let b = places_said rest k a.1.1 in
     ((a.0, b.0), b.1)
 
-library_said : (texts : List (List ℕ)) (ls : List LayerTree) → AllZip SpellsLayer texts ls → AllByRecursion LiteralLayer ls
+library_said : (texts : List (List ℕ)) (ls : List LayerTree) → AllZip SpellsLayer texts ls →
+    AllByRecursion LiteralLayer ls
 library_said [] [] h = tt
 library_said [] (l ∷ ls) h = absurd h
 library_said (text ∷ texts) [] h = absurd h

@@ -1,10 +1,11 @@
--- What a layer has to be at its place so that members can run it: each number that members keep in a byte fits there, and no list is
--- longer than they keep.
+-- What a layer has to be at its place so that members can run it: each number that members keep in a byte fits there,
+-- and no list is longer than they keep.
 use Rattle.std.specs.Prelude.{◌≡◌, ℕ, ◌≤◌, ◌<◌, length, Option, Some, None, option_map}
 use Rattle.std.specs.List.{AllByRecursion, enumerate_from}
 use Rattle.layer_ast.specs.Spells.{HasPlace}
 use Rattle.layer_ast.specs.Tree as ast
-use Rattle.layer_mean.specs.Tree.{Carried, ContentTree, StatementTree, bind, push, take, branch, each, emit, StatementTrees, none, more}
+use Rattle.layer_mean.specs.Tree.{Carried, ContentTree, StatementTree, bind, push, take, branch, each, emit}
+use Rattle.layer_mean.specs.Tree.{StatementTrees, none, more}
 use Rattle.fault_mean.specs.Declared.{cells_of, headers_of, items_in, names_in}
 use Rattle.fault_mean.specs.FileFault.{file_fault}
 use Rattle.fault_mean.specs.Places.{layer_at}
@@ -30,10 +31,12 @@ HoldsContent None = Unit {0}
 HoldsContent (Some c) = (c.tag < most_tags) × (length c.fields ≤ most_fields)
 
 abbrev mutual
-  -- A statement whose slots and sizes are bytes, and whose rows and events have at most four numbers; and a block of such.
+  -- A statement whose slots and sizes are bytes, and whose rows and events have at most four numbers; and a block of
+  -- such.
   pub HoldsStatement : StatementTree → Type 0
   HoldsStatement (bind k e) = IsByte k
-  HoldsStatement (push c i capacity row otherwise) = IsByte capacity × (length row.numbers ≤ most_fields) × HoldsBlock otherwise
+  HoldsStatement (push c i capacity row otherwise) = IsByte capacity × (length row.numbers ≤ most_fields) ×
+      HoldsBlock otherwise
   HoldsStatement (take c i taken block otherwise) =
       AllByRecursion IsByte taken.numbers × HoldsSlot taken.message × HoldsBlock block × HoldsBlock otherwise
   HoldsStatement (branch likely e block otherwise) = HoldsBlock block × HoldsBlock otherwise
@@ -53,10 +56,13 @@ pub record HoldsHandler (p : Placed) (h : ast.HandlerTree) : Type 0 where
   pub messages : IsByte (handler_of p h).messages
   pub block : HoldsBlock (handler_of p h).block
 
--- A queue whose capacity is a byte and whose rows have at most four numbers and a message; a header of at most four fields.
+-- A queue whose capacity is a byte and whose rows have at most four numbers and a message; a header of at most four
+-- fields.
 abbrev pub HoldsDeclaration : Placed → ast.DeclarationTree → Type 0
-HoldsDeclaration p (ast.rows_cell at name capacity items) = IsByte (size_value p capacity) × (length (items_in items) ≤ 5)
-HoldsDeclaration p (ast.rows_array at name capacity items) = IsByte (size_value p capacity) × (length (items_in items) ≤ 5)
+HoldsDeclaration p (ast.rows_cell at name capacity items) = IsByte (size_value p capacity) ×
+    (length (items_in items) ≤ 5)
+HoldsDeclaration p (ast.rows_array at name capacity items) = IsByte (size_value p capacity) ×
+    (length (items_in items) ≤ 5)
 HoldsDeclaration p (ast.header at name fields ending) = length (names_in fields) ≤ most_fields
 HoldsDeclaration p _ = Unit {0}
 

@@ -11,9 +11,11 @@ use Rattle.typed_layer.specs.Places.{rc_tree}
 use Rattle.file_laws.specs.Bounds.{HoldsFile}
 use Rattle.msg_core.specs.Headers.{most_declared}
 
--- Each layer of the stack that such a file means declares at most seven headers; so does each of the typed layers that are this stack.
+-- Each layer of the stack that such a file means declares at most seven headers; so does each of the typed layers that
+-- are this stack.
 abbrev pub StacksHaveFewHeaders : Type 0
-StacksHaveFewHeaders = (file : FileTree) → HoldsFile file → AllByRecursion (λ layer. length layer.headers ≤ most_declared) (stack_of file)
+StacksHaveFewHeaders = (file : FileTree) → HoldsFile file →
+    AllByRecursion (λ layer. length layer.headers ≤ most_declared) (stack_of file)
 
 abbrev pub TypedHaveFewHeaders : Type 0
 TypedHaveFewHeaders =

@@ -1,7 +1,12 @@
 -- Files of which every number that is written is below 2^32, as a text's numbers are.
 use Rattle.std.specs.Prelude.{Option, Some, None}
 use Rattle.std.specs.List.{AllByRecursion}
-use Rattle.layer_ast.specs.Tree.{ExpressionTree, number, element, square, rows, item, size, binary, apply, pick, QueueTree, queue, queue_at, MessageTree, bare, built, BuiltTree, nothing, held, cut, tail, join, ArgumentTree, value, content, SizeTree, fixed, sized, StatementTree, bind, set, set_square, push, take, when, choose, each, emit, Expected, common, HandlerTree, DeclarationTree, param, int, rows_cell, rows_array, LayerTree, PlaceTree, FileTree, PushedTree}
+use Rattle.layer_ast.specs.Tree.{ExpressionTree, number, element, square, rows, item, size, binary, apply, pick}
+use Rattle.layer_ast.specs.Tree.{QueueTree, queue, queue_at, MessageTree, bare, built, BuiltTree, nothing, held, cut}
+use Rattle.layer_ast.specs.Tree.{tail, join, ArgumentTree, value, content, SizeTree, fixed, sized, StatementTree, bind}
+use Rattle.layer_ast.specs.Tree.{set, set_square, push, take, when, choose, each, emit, Expected, common, HandlerTree}
+use Rattle.layer_ast.specs.Tree.{DeclarationTree, param, int, rows_cell, rows_array, LayerTree, PlaceTree, FileTree}
+use Rattle.layer_ast.specs.Tree.{PushedTree}
 use Rattle.packet_mean.specs.ChainedState.{IsNumber}
 use Rattle.fault_mean.specs.Scope.{handler_statements}
 use Rattle.fault_mean.specs.Uses.{arguments_in}
@@ -56,7 +61,8 @@ abbrev pub LiteralStatement : StatementTree → Type 0
 LiteralStatement (bind at name e) = Literal e
 LiteralStatement (set at name index e) = LiteralOption index × Literal e
 LiteralStatement (set_square at name row column e) = Literal row × Literal column × Literal e
-LiteralStatement (push at q items otherwise) = LiteralQueue q × AllByRecursion LiteralArgument (arguments_in (Some items))
+LiteralStatement (push at q items otherwise) = LiteralQueue q ×
+    AllByRecursion LiteralArgument (arguments_in (Some items))
 LiteralStatement (take at q names block otherwise) = LiteralQueue q
 LiteralStatement (when at likely condition block) = Literal condition
 LiteralStatement (choose at likely condition block otherwise) = Literal condition
@@ -71,7 +77,8 @@ LiteralExpected _ = Unit {0}
 -- Those in a handler, a declaration, a layer, a place, and a file with what the library brings to it.
 abbrev pub LiteralHandler : LayerTree → HandlerTree → Type 0
 LiteralHandler layer handler =
-    LiteralExpected handler.expected × AllByRecursion (λ s. LiteralStatement s.statement) (handler_statements layer handler)
+    LiteralExpected handler.expected ×
+    AllByRecursion (λ s. LiteralStatement s.statement) (handler_statements layer handler)
 
 abbrev pub LiteralDeclaration : DeclarationTree → Type 0
 LiteralDeclaration (param at name n) = IsNumber n

@@ -1,5 +1,5 @@
--- Stacks in which each cell, item of a row and slot of a number that is named is there, in the form in which it is used. (A value that
--- stands for "not there" names a cell of another form, or none.)
+-- Stacks in which each cell, item of a row and slot of a number that is named is there, in the form in which it is
+-- used. (A value that stands for "not there" names a cell of another form, or none.)
 use Rattle.std.specs.Prelude.{◌≡◌, ℕ, ◌+◌, ◌<◌, ◌≤◌, ◌⊎◌, List, length, slice_get, Option, Some, None, option_and_then}
 use Rattle.std.specs.List.{AllByRecursion}
 use Rattle.std.specs.Option.{option_map_or}
@@ -9,7 +9,10 @@ use Rattle.layer_ast.specs.declared.tokens.Kind.{Kind}
 use Rattle.layer_ast.specs.declared.tokens.Kind.TheVariants.{Stable, Ack}
 use Rattle.layer_ast.specs.Tree.{FileTree}
 use Rattle.layer_mean.specs.Headers.{declared}
-use Rattle.layer_mean.specs.Tree.{ExpressionTree, number, local, element, square, rows, item, size, binary, apply, pick, MessageTree, held, cut, tail, join, ContentTree, ItemsTree, Form, numbers, queue, queues, StatementTree, bind, assign, assign_square, push, take, branch, each, emit, StatementTrees, none, more, Expected, common, HandlerTree, LayerTree, no_layer}
+use Rattle.layer_mean.specs.Tree.{ExpressionTree, number, local, element, square, rows, item, size, binary, apply, pick}
+use Rattle.layer_mean.specs.Tree.{MessageTree, held, cut, tail, join, ContentTree, ItemsTree, Form, numbers, queue}
+use Rattle.layer_mean.specs.Tree.{queues, StatementTree, bind, assign, assign_square, push, take, branch, each, emit}
+use Rattle.layer_mean.specs.Tree.{StatementTrees, none, more, Expected, common, HandlerTree, LayerTree, no_layer}
 use Rattle.fault_mean.specs.FileFault.{file_fault}
 use Rattle.file_mean.specs.Library.{IsFile}
 use Rattle.file_mean.specs.Stack.{stack_of}
@@ -33,14 +36,16 @@ form_at f layer c = option_and_then (λ cell. f cell.form) (slice_get layer.cell
 
 -- A cell is named as one number by the index 0, or as an array by any; and as a square.
 abbrev pub NamesNumber : LayerTree → ℕ → ExpressionTree → Type 0
-NamesNumber layer c i = ((form_at shape_in layer c ≡ Some One) × (i ≡ number 0)) ⊎ (form_at shape_in layer c ≡ Some Array)
+NamesNumber layer c i = ((form_at shape_in layer c ≡ Some One) × (i ≡ number 0)) ⊎
+    (form_at shape_in layer c ≡ Some Array)
 
 abbrev pub NamesSquare : LayerTree → ℕ → Type 0
 NamesSquare layer c = form_at shape_in layer c ≡ Some Square
 
 -- A queue is named as one that is alone by the index 0, or as one of an array by any; it has these items.
 abbrev pub NamesRows : LayerTree → ℕ → ExpressionTree → ItemsTree → Type 0
-NamesRows layer c i items = ((form_at alone_in layer c ≡ Some items) × (i ≡ number 0)) ⊎ (form_at among_in layer c ≡ Some items)
+NamesRows layer c i items = ((form_at alone_in layer c ≡ Some items) × (i ≡ number 0)) ⊎
+    (form_at among_in layer c ≡ Some items)
 
 pub record NamesQueue (layer : LayerTree) (c : ℕ) (i : ExpressionTree) : Type 0 where
   pub items : ItemsTree
@@ -93,15 +98,19 @@ abbrev mutual
   NamedStatement layer slots (assign_square c row column e) =
       NamesSquare layer c × Named layer slots row × Named layer slots column × Named layer slots e
   NamedStatement layer slots (push c i capacity row otherwise) =
-      NamesQueue layer c i × Named layer slots i × AllByRecursion (Named layer slots) row.numbers × NamedOption layer slots row.message
+      NamesQueue layer c i × Named layer slots i × AllByRecursion (Named layer slots) row.numbers ×
+      NamedOption layer slots row.message
       × NamedAll layer slots otherwise
   NamedStatement layer slots (take c i taken block otherwise) =
-      NamesQueue layer c i × Named layer slots i × AllByRecursion (λ k. k < slots) taken.numbers × NamedAll layer slots block
+      NamesQueue layer c i × Named layer slots i × AllByRecursion (λ k. k < slots) taken.numbers ×
+      NamedAll layer slots block
       × NamedAll layer slots otherwise
   NamedStatement layer slots (branch likely e block otherwise) =
       Named layer slots e × NamedAll layer slots block × NamedAll layer slots otherwise
-  NamedStatement layer slots (each k below most block) = (k < slots) × Named layer slots below × IsSize longest_loop most × NamedAll layer slots block
-  NamedStatement layer slots (emit e) = AllByRecursion (Named layer slots) e.numbers × NamedContent layer slots e.content
+  NamedStatement layer slots (each k below most block) = (k < slots) × Named layer slots below ×
+      IsSize longest_loop most × NamedAll layer slots block
+  NamedStatement layer slots (emit e) = AllByRecursion (Named layer slots) e.numbers ×
+      NamedContent layer slots e.content
 
   pub NamedAll : LayerTree → ℕ → StatementTrees → Type 0
   NamedAll layer slots none = Unit {0}
@@ -111,8 +120,8 @@ abbrev pub NamedExpected : LayerTree → ℕ → Expected → Type 0
 NamedExpected layer slots (common e) = Named layer slots e
 NamedExpected layer slots _ = Unit {0}
 
--- How many numbers an event of a kind brings; and how many a handler's scope has: those, the fields of the header that it takes off, and
--- those of its own.
+-- How many numbers an event of a kind brings; and how many a handler's scope has: those, the fields of the header that
+-- it takes off, and those of its own.
 abbrev pub brought : Kind → ℕ
 brought Stable = 2
 brought Ack = 2
@@ -143,4 +152,5 @@ abbrev pub FilesAreNamed : Type 0
 FilesAreNamed = (file : FileTree) → file_fault file ≡ None → NamedStack (stack_of file)
 
 abbrev pub TextsAreNamed : Type 0
-TextsAreNamed = (text : List ℕ) (file : FileTree) → IsFile text file → file_fault file ≡ None → NamedStack (stack_of file)
+TextsAreNamed = (text : List ℕ) (file : FileTree) → IsFile text file → file_fault file ≡ None →
+    NamedStack (stack_of file)

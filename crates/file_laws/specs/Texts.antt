@@ -13,4 +13,5 @@ TextsAreLiteral = (text : List ℕ) (file : FileTree) → IsFile text file → L
 
 -- A text that is a file with no fault of names or types means a typed stack.
 abbrev pub TextsAreTyped : Type 0
-TextsAreTyped = (text : List ℕ) (file : FileTree) → IsFile text file → file_fault file ≡ None → TypedStack (stack_of file)
+TextsAreTyped = (text : List ℕ) (file : FileTree) → IsFile text file → file_fault file ≡ None →
+    TypedStack (stack_of file)

@@ -1,5 +1,5 @@
-//! Laws of files without faults, each the contract of a function that does nothing: they mean typed stacks, of layers within the bounds
-//! of what members keep.
+//! Laws of files without faults, each the contract of a function that does nothing: they mean typed stacks, of layers
+//! within the bounds of what members keep.
 #![tactic(auto)]
 
 pub mod samples;
@@ -35,8 +35,8 @@ pub fn texts_are_named()
     ensures { TextsAreNamed }
 {}
 
-/// A file with a place and no fault of names or types means layers that members can run: each number that they keep in a byte fits
-/// there, and no list is longer than they keep.
+/// A file with a place and no fault of names or types means layers that members can run: each number that they keep in
+/// a byte fits there, and no list is longer than they keep.
 pub fn files_are_held()
     ensures { FilesAreHeld }
 {}

@@ -1,12 +1,14 @@
 -- Numbers of a row in the slots of a scope.
-use Rattle.std.proofs.Common.{◌≡◌, ℕ, zero, suc, ◌≤◌, List, [], ◌∷◌, length, drop, set, length-set, refl, sym, ap, ◌∙◌, arith}
+use Rattle.std.proofs.Common.{◌≡◌, ℕ, zero, suc, ◌≤◌, List, [], ◌∷◌, length, drop, set, length-set, refl, sym, ap, ◌∙◌}
+use Rattle.std.proofs.Common.{arith}
 use Rattle.msg_core.specs.Chain.{Content}
 use Rattle.layer_mean.specs.Effect.{with_slots}
 use Rattle.file_layer.specs.Taken.{numbers_filled}
 
 -- The messages of the scope stay as they are.
 pub slots_beside : (slots values ns : List ℕ) (ms : List Content) →
-    with_slots slots values (record { numbers = ns; messages = ms }) ≡ record { numbers = numbers_filled slots values ns; messages = ms }
+    with_slots slots values (record { numbers = ns; messages = ms }) ≡
+    record { numbers = numbers_filled slots values ns; messages = ms }
 slots_beside [] values ns ms = refl
 slots_beside (k ∷ slots) [] ns ms = refl
 slots_beside (k ∷ slots) (v ∷ values) ns ms = slots_beside slots values (set ns k v) ms
@@ -32,4 +34,5 @@ module _ (slots values start : List ℕ) where
   Left k ns = numbers_filled (drop k slots) (drop k values) ns ≡ numbers_filled slots values start
 
   pub all_filled : (k : ℕ) (ns : List ℕ) → length values ≤ k → Left k ns → ns ≡ numbers_filled slots values start
-  all_filled k ns past left = sym (no_values (drop k slots) ns) ∙ ap (λ vs. numbers_filled (drop k slots) vs ns) (sym (drop_past k values past)) ∙ left
+  all_filled k ns past left = sym (no_values (drop k slots) ns) ∙
+      ap (λ vs. numbers_filled (drop k slots) vs ns) (sym (drop_past k values past)) ∙ left

@@ -22,21 +22,30 @@ use Rattle.file_layer.proofs.Parts.{parts}
 
 -- The references of a desk beside those of what it sends.
 own_few : (l : Layout) (s : Stock) (i : ℕ) → StockFits l s →
-    times i (kept_refs s.kept) + (times i (flat_map refs s.messages) + (times i (refs_if s.arrived) + times i (flat_map refs s.hand))) ≤ 15728638
+    times i (kept_refs s.kept) +
+    (times i (flat_map refs s.messages) + (times i (refs_if s.arrived) + times i (flat_map refs s.hand))) ≤ 15728638
 own_few l s i fits =
     let rows = cells_few s.kept.cells fits.cells in let made = ap rows_most fits.rows in
     let messages = each_few refs (λ (m : PoolMessage). body_few m.body) s.messages in
     let arrived = any_few s.arrived in
     let hand = each_few refs (λ (m : PoolMessage). body_few m.body) s.hand in
     let one = fits.messages in let two = fits.hand in let all = fits.few in
-    omega (arith, times-most i (kept_refs s.kept), times-most i (flat_map refs s.messages), times-most i (refs_if s.arrived), times-most i (flat_map refs s.hand))
+    omega (
+      arith,
+      times-most i (kept_refs s.kept),
+      times-most i (flat_map refs s.messages),
+      times-most i (refs_if s.arrived),
+      times-most i (flat_map refs s.hand),
+    )
 
 -- What is sent has the references of what was sent before, and one each of the others.
-sent_few : (sent : List (Dir × PoolEvent)) (first i : ℕ) → times i (sent_refs sent) ≤ times i (sent_refs (take first sent)) + (length sent - first)
+sent_few : (sent : List (Dir × PoolEvent)) (first i : ℕ) →
+    times i (sent_refs sent) ≤ times i (sent_refs (take first sent)) + (length sent - first)
 sent_few sent first i =
     let parts = ap (λ events. times i (sent_refs events)) (take-append-drop first sent) in
     let both = times-both (λ (e : Dir × PoolEvent). event_refs e.1) i (take first sent) (drop first sent) in
-    let few = each_few (λ (e : Dir × PoolEvent). event_refs e.1) (λ (e : Dir × PoolEvent). any_few e.1.message) (drop first sent) in
+    let few = each_few (λ (e : Dir × PoolEvent). event_refs e.1) (λ (e : Dir × PoolEvent). any_few e.1.message)
+    (drop first sent) in
     let most = times-most i (sent_refs (drop first sent)) in
     let long = length-drop first sent in omega arith
 

@@ -22,7 +22,8 @@ module _ (p : List Held) (k : Kept PoolRow) (c i r : ℕ) where
   not_found : kept_row k c i r ≡ None → row_at (state_of (row_seen p) k) c i r ≡ None
   not_found is = row_at_seen (row_seen p) k c i r ∙ ap (option_map (row_seen p)) is
 
-  pub item_found : (n : ℕ) (row : PoolRow) → kept_row k c i r ≡ Some row → slice_index row.numbers n ≡ number_in n (row_at (state_of (row_seen p) k) c i r)
+  pub item_found : (n : ℕ) (row : PoolRow) → kept_row k c i r ≡ Some row → slice_index row.numbers n ≡ number_in
+      n (row_at (state_of (row_seen p) k) c i r)
   item_found n row is = sym (ap (number_in n) (found row is))
 
   pub item_none : (n : ℕ) → kept_row k c i r ≡ None → 0 ≡ number_in n (row_at (state_of (row_seen p) k) c i r)
@@ -36,16 +37,22 @@ module _ (p : List Held) (k : Kept PoolRow) (c i r : ℕ) where
   none_long part = refl
   none_long (whole blank) = refl
 
-  pub size_found : (carried : Carried) (row : PoolRow) (m : PoolMessage) (n : ℕ) → AllByRecursion (CellLies p) k.cells → kept_row k c i r ≡ Some row →
+  pub size_found : (carried : Carried) (row : PoolRow) (m : PoolMessage) (n : ℕ) → AllByRecursion (CellLies p) k.cells →
+      kept_row k c i r ≡ Some row →
       row.message ≡ Some m → Counts m n → n ≡ length (message_in carried (row_at (state_of (row_seen p) k) c i r)).body
   size_found carried row m n lie is has counts =
       let lies : Lies p m = subst (LiesIf p) has (row_lies lie row is) in
-      sym (ap (λ o. length (message_in carried o).body) (found row is ∙ (λ j. Some (record { numbers = row.numbers; message = option_map (seen p) (has j) }))) ∙ counts.bytes p lies)
+      sym (ap (λ o. length (message_in carried o).body)
+      (found row is ∙ (λ j. Some (record { numbers = row.numbers; message = option_map (seen p) (has j) }))) ∙
+      counts.bytes p lies)
 
   pub size_bare : (carried : Carried) (row : PoolRow) → kept_row k c i r ≡ Some row → row.message ≡ None →
       0 ≡ length (message_in carried (row_at (state_of (row_seen p) k) c i r)).body
   size_bare carried row is has =
-      none_long carried ∙ sym (ap (λ o. length (message_in carried o).body) (found row is ∙ (λ j. Some (record { numbers = row.numbers; message = option_map (seen p) (has j) }))))
+      none_long carried ∙ sym
+      (ap (λ o. length (message_in carried o).body)
+      (found row is ∙ (λ j. Some (record { numbers = row.numbers; message = option_map (seen p) (has j) }))))
 
-  pub size_none : (carried : Carried) → kept_row k c i r ≡ None → 0 ≡ length (message_in carried (row_at (state_of (row_seen p) k) c i r)).body
+  pub size_none : (carried : Carried) → kept_row k c i r ≡ None →
+      0 ≡ length (message_in carried (row_at (state_of (row_seen p) k) c i r)).body
   size_none carried is = none_long carried ∙ sym (ap (λ o. length (message_in carried o).body) (not_found is))

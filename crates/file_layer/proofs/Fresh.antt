@@ -1,5 +1,6 @@
 -- A desk that was made for a layer is at rest.
-use Rattle.std.proofs.Common.{◌≡◌, ℕ, zero, suc, ◌+◌, ◌-◌, ◌≤◌, List, [], ◌∷◌, ◌++◌, map, length, min, replicate, flat_map, vec_capacity, Option, refl, sym, ap, subst, ◌∙◌, arith}
+use Rattle.std.proofs.Common.{◌≡◌, ℕ, zero, suc, ◌+◌, ◌-◌, ◌≤◌, List, [], ◌∷◌, ◌++◌, map, length, min, replicate}
+use Rattle.std.proofs.Common.{flat_map, vec_capacity, Option, refl, sym, ap, subst, ◌∙◌, arith}
 use Rattle.std.specs.List.{AllByRecursion}
 use Rattle.std.proofs.Math.Nat.{min-eq_left}
 use Rattle.circular_buffer.specs.Buffer.{Buffer}
@@ -54,15 +55,19 @@ module _ (me n ltime : ℕ) where
   first_fits few (tree.queue capacity items) = (omega arith, (record { few = omega arith; short = tt }, tt))
   first_fits few (tree.queues capacity items) = let same = long n in (omega arith, none_fit capacity n)
 
-  all_refs : (cells : List CellTree) → flat_map cell_refs (map (λ (c : CellTree). kept_first me n ltime c.form) cells) ≡ []
+  all_refs : (cells : List CellTree) → flat_map cell_refs (map (λ (c : CellTree). kept_first me n ltime c.form) cells) ≡
+      []
   all_refs [] = refl
-  all_refs (c ∷ cells) = ap (λ r. r ++ flat_map cell_refs (map (λ (c : CellTree). kept_first me n ltime c.form) cells)) (first_refs c.form) ∙ all_refs cells
+  all_refs (c ∷ cells) = ap (λ r. r ++ flat_map cell_refs (map (λ (c : CellTree). kept_first me n ltime c.form) cells))
+      (first_refs c.form) ∙ all_refs cells
 
-  all_lie : (p : List Held) (cells : List CellTree) → AllByRecursion (CellLies p) (map (λ (c : CellTree). kept_first me n ltime c.form) cells)
+  all_lie : (p : List Held) (cells : List CellTree) →
+      AllByRecursion (CellLies p) (map (λ (c : CellTree). kept_first me n ltime c.form) cells)
   all_lie p [] = tt
   all_lie p (c ∷ cells) = (first_lies p c.form, all_lie p cells)
 
-  all_fit : n ≤ 32 → (cells : List CellTree) → AllByRecursion CellFits (map (λ (c : CellTree). kept_first me n ltime c.form) cells)
+  all_fit : n ≤ 32 → (cells : List CellTree) →
+      AllByRecursion CellFits (map (λ (c : CellTree). kept_first me n ltime c.form) cells)
   all_fit few [] = tt
   all_fit few (c ∷ cells) = (first_fits few c.form, all_fit few cells)
 
@@ -72,11 +77,13 @@ module _ (me n ltime : ℕ) where
   first_rows (tree.queues capacity items) = refl
 
   pub all_rows : (cells : List CellTree) →
-      map (capacity_of {R = PoolRow}) (map (λ (c : CellTree). kept_first me n ltime c.form) cells) ≡ map (λ (c : CellTree). room.rows_kept c.form) cells
+      map (capacity_of {R = PoolRow}) (map (λ (c : CellTree). kept_first me n ltime c.form) cells) ≡
+      map (λ (c : CellTree). room.rows_kept c.form) cells
   all_rows [] = refl
   all_rows (c ∷ cells) = λ j. first_rows c.form j ∷ all_rows cells j
 
-  pub empty_at_rest : (layer : LayerTree) (d : FileDesk) → n ≤ 32 → KeepsFew (room.layout_of layer 0) → IsMadeFor layer (room.layout_of layer 0) →
+  pub empty_at_rest : (layer : LayerTree) (d : FileDesk) → n ≤ 32 → KeepsFew (room.layout_of layer 0) →
+      IsMadeFor layer (room.layout_of layer 0) →
       IsEmpty layer me n ltime d → IsFresh layer me n ltime d
   empty_at_rest layer d few keeps made is = record {
     rest = λ p. record {
@@ -98,15 +105,18 @@ module _ (me n ltime : ℕ) where
   }
 
 -- The rows that the cells of a layer keep.
-form_rows : (cell : KeptCell PoolRow) (form : tree.Form) → kept_form cell ≡ tree_form form → capacity_of cell ≡ room.rows_kept form
+form_rows : (cell : KeptCell PoolRow) (form : tree.Form) → kept_form cell ≡ tree_form form →
+    capacity_of cell ≡ room.rows_kept form
 form_rows (numbers shape ns) (tree.numbers shape' initial) same = refl
 form_rows (numbers shape ns) (tree.queue capacity items) same = absurd (cc (ap (λ (p : Shape × Option ℕ). p.1) same))
 form_rows (numbers shape ns) (tree.queues capacity items) same = absurd (cc (ap (λ (p : Shape × Option ℕ). p.1) same))
-form_rows (queues shape capacity qs) (tree.numbers shape' initial) same = absurd (cc (ap (λ (p : Shape × Option ℕ). p.1) same))
+form_rows (queues shape capacity qs) (tree.numbers shape' initial) same =
+    absurd (cc (ap (λ (p : Shape × Option ℕ). p.1) same))
 form_rows (queues shape capacity qs) (tree.queue capacity' items) same = cc (ap (λ (p : Shape × Option ℕ). p.1) same)
 form_rows (queues shape capacity qs) (tree.queues capacity' items) same = cc (ap (λ (p : Shape × Option ℕ). p.1) same)
 
-layer_rows : (cells : List (KeptCell PoolRow)) (trees : List CellTree) → map kept_form cells ≡ map (λ (c : CellTree). tree_form c.form) trees →
+layer_rows : (cells : List (KeptCell PoolRow)) (trees : List CellTree) →
+    map kept_form cells ≡ map (λ (c : CellTree). tree_form c.form) trees →
     map capacity_of cells ≡ map (λ (c : CellTree). room.rows_kept c.form) trees
 layer_rows [] [] same = refl
 layer_rows [] (t ∷ trees) same = absurd (cc same)
@@ -143,12 +153,15 @@ begins_again layer p me n ltime d e is few new = subst (IsFresh layer me n ltime
         (layer_rows d.cells.cells layer.cells is.forms ∙ sym (all_rows me n ltime layer.cells))
 
 -- The layout of a desk with this room.
-pub layout_at_first : (layer : LayerTree) (me n ltime : ℕ) (d : FileDesk) → KeepsFew (room.layout_of layer 0) → d.cells ≡ kept_fresh layer me n ltime n →
-    vec_capacity d.numbers ≡ (room.layout_of layer 0).numbers + 6 → d.tray.messages.capacity ≡ (room.layout_of layer 0).messages + 1 →
+pub layout_at_first : (layer : LayerTree) (me n ltime : ℕ) (d : FileDesk) → KeepsFew (room.layout_of layer 0) →
+    d.cells ≡ kept_fresh layer me n ltime n →
+    vec_capacity d.numbers ≡ (room.layout_of layer 0).numbers + 6 →
+    d.tray.messages.capacity ≡ (room.layout_of layer 0).messages + 1 →
     d.hand.capacity ≡ min (room.layout_of layer 0).hand 4294967295 → d.places ≡ 0 → layout_of d ≡ room.layout_of layer 0
 layout_at_first layer me n ltime d keeps cells for_numbers messages in_hand places =
     let own = keeps.own in
-    let rows : map capacity_of d.cells.cells ≡ (room.layout_of layer 0).rows = ap (λ (k : Kept PoolRow). map capacity_of k.cells) cells ∙ all_rows me n ltime layer.cells in
+    let rows : map capacity_of d.cells.cells ≡ (room.layout_of layer 0).rows =
+    ap (λ (k : Kept PoolRow). map capacity_of k.cells) cells ∙ all_rows me n ltime layer.cells in
     let one : vec_capacity d.numbers - 6 ≡ (room.layout_of layer 0).numbers = omega arith in
     let two : d.tray.messages.capacity - 1 ≡ (room.layout_of layer 0).messages = omega arith in
     let three : d.hand.capacity ≡ (room.layout_of layer 0).hand = in_hand ∙ min-eq_left (omega arith) in

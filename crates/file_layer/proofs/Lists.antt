@@ -1,5 +1,7 @@
 -- Lists whose items have references, and what holds of each item.
-use Rattle.std.proofs.Common.{◌≡◌, ℕ, zero, suc, ◌+◌, ◌-◌, ◌<◌, ◌≤◌, take, List, [], ◌∷◌, ◌++◌, map, reverse, length, get_or, set, slice_get, Bor, Option, Some, None, option_copied, flat_map, refl, sym, ap, subst, ◌∙◌, arith}
+use Rattle.std.proofs.Common.{◌≡◌, ℕ, zero, suc, ◌+◌, ◌-◌, ◌<◌, ◌≤◌, take, List, [], ◌∷◌, ◌++◌, map, reverse, length}
+use Rattle.std.proofs.Common.{get_or, set, slice_get, Bor, Option, Some, None, option_copied, flat_map, refl, sym, ap}
+use Rattle.std.proofs.Common.{subst, ◌∙◌, arith}
 use Rattle.std.specs.List.{AllByRecursion}
 use Rattle.std.specs.Prelude.{IfSome, IfNone}
 use Rattle.std.proofs.lemmas.Grind.{flat_map-append}
@@ -37,7 +39,8 @@ module _ {A : Type 0} (P : A → Type 0) where
   all-at (y ∷ xs) (suc k) x is a = all-at xs k x is a.1
 
 module _ {A : Type 0} (f : A → List ℕ) where
-  pub times-both : (i : ℕ) (xs ys : List A) → times i (flat_map f (xs ++ ys)) ≡ times i (flat_map f xs) + times i (flat_map f ys)
+  pub times-both : (i : ℕ) (xs ys : List A) → times i (flat_map f (xs ++ ys)) ≡
+      times i (flat_map f xs) + times i (flat_map f ys)
   times-both i xs ys = ap (times i) (flat_map-append f xs ys) ∙ times-append i (flat_map f xs) (flat_map f ys)
 
   pub times-one : (i : ℕ) (x : A) → times i (flat_map f (x ∷ [])) ≡ times i (f x)
@@ -53,18 +56,23 @@ module _ {A : Type 0} (f : A → List ℕ) where
       omega (arith, times-append i (f y) (flat_map f (set xs k x)), times-append i (f y) (flat_map f xs))
 
 -- An item's references are among those of its list.
-pub times-at : {A : Type 0} (f : A → List ℕ) (i : ℕ) (xs : List A) (k : ℕ) (x : A) → slice_get xs k ≡ Some x → times i (f x) ≤ times i (flat_map f xs)
+pub times-at : {A : Type 0} (f : A → List ℕ) (i : ℕ) (xs : List A) (k : ℕ) (x : A) → slice_get xs k ≡ Some x →
+    times i (f x) ≤ times i (flat_map f xs)
 times-at f i [] k x is = absurd (cc)
-times-at f i (y ∷ xs) zero x is = let same : y ≡ x = cc in let one = ap (λ z. times i (f z)) same in omega (arith, times-append i (f y) (flat_map f xs))
-times-at f i (y ∷ xs) (suc k) x is = let rest = times-at f i xs k x is in omega (arith, times-append i (f y) (flat_map f xs))
+times-at f i (y ∷ xs) zero x is = let same : y ≡ x = cc in let one = ap (λ z. times i (f z)) same in
+    omega (arith, times-append i (f y) (flat_map f xs))
+times-at f i (y ∷ xs) (suc k) x is = let rest = times-at f i xs k x is in
+    omega (arith, times-append i (f y) (flat_map f xs))
 
 -- What is seen of an item.
-pub seen_at : {A B : Type 0} (f : A → B) (xs : List A) (k : ℕ) (x : A) (d : B) → slice_get xs k ≡ Some x → get_or (map f xs) k d ≡ f x
+pub seen_at : {A B : Type 0} (f : A → B) (xs : List A) (k : ℕ) (x : A) (d : B) → slice_get xs k ≡ Some x →
+    get_or (map f xs) k d ≡ f x
 seen_at f [] k x d is = absurd (cc)
 seen_at f (y ∷ xs) zero x d is = let same : y ≡ x = cc in ap f same
 seen_at f (y ∷ xs) (suc k) x d is = seen_at f xs k x d is
 
-pub seen_none : {A B : Type 0} (f : A → B) (xs : List A) (k : ℕ) (d : B) → slice_get xs k ≡ None → get_or (map f xs) k d ≡ d
+pub seen_none : {A B : Type 0} (f : A → B) (xs : List A) (k : ℕ) (d : B) → slice_get xs k ≡ None →
+    get_or (map f xs) k d ≡ d
 seen_none f [] k d is = refl
 seen_none f (y ∷ xs) zero d is = absurd (cc)
 seen_none f (y ∷ xs) (suc k) d is = seen_none f xs k d is
@@ -75,10 +83,12 @@ set-set (z ∷ xs) zero x y = refl
 set-set (z ∷ xs) (suc k) x y = ap (λ ys. z ∷ ys) (set-set xs k x y)
 
 -- An item that is there is within, and is the one that stands there.
-pub item_there : {A : Type 0} (xs : List A) (k : ℕ) (x : A) → slice_get xs k ≡ Some x → (k < length xs) × (set xs k x ≡ xs)
+pub item_there : {A : Type 0} (xs : List A) (k : ℕ) (x : A) → slice_get xs k ≡ Some x →
+    (k < length xs) × (set xs k x ≡ xs)
 item_there [] k x is = absurd (cc)
 item_there (y ∷ xs) zero x is = let same : x ≡ y = cc in (omega arith, ap (λ z. z ∷ xs) same)
-item_there (y ∷ xs) (suc k) x is = let rest = item_there xs k x is in let below = rest.0 in (omega arith, ap (λ ys. y ∷ ys) rest.1)
+item_there (y ∷ xs) (suc k) x is = let rest = item_there xs k x is in let below = rest.0 in
+    (omega arith, ap (λ ys. y ∷ ys) rest.1)
 
 pub item_within : {A : Type 0} (xs : List A) (k : ℕ) (d : A) → k < length xs → slice_get xs k ≡ Some (get_or xs k d)
 item_within [] k d below = absurd (omega (arith, below))
@@ -86,7 +96,8 @@ item_within (y ∷ xs) zero d below = refl
 item_within (y ∷ xs) (suc k) d below = item_within xs k d (omega (arith, below))
 
 -- An item that was read stands there.
-pub read_there : {A : Type 0} (xs : List A) (k : ℕ) (d : A) (o : Option (Bor A)) (x : Bor A) → option_copied o ≡ slice_get xs k → o ≡ Some x →
+pub read_there : {A : Type 0} (xs : List A) (k : ℕ) (d : A) (o : Option (Bor A)) (x : Bor A) →
+    option_copied o ≡ slice_get xs k → o ≡ Some x →
     slice_get xs k ≡ Some (get_or xs k d)
 read_there xs k d o x is some = item_within xs k d (item_there xs k x.now (sym is ∙ ap option_copied some)).0
 
@@ -95,7 +106,8 @@ pub items_are : {A : Type 0} (b : Buffer A) (xs : List A) (n : ℕ) → b ≡ bu
 items_are b xs n is = ap (λ c. c.items) is
 
 -- The last one, behind those in front of it.
-last_at : {A : Type 0} (xs : List A) (n : ℕ) (x : A) → n + 1 ≡ length xs → slice_get xs n ≡ Some x → xs ≡ take n xs ++ x ∷ []
+last_at : {A : Type 0} (xs : List A) (n : ℕ) (x : A) → n + 1 ≡ length xs → slice_get xs n ≡ Some x →
+    xs ≡ take n xs ++ x ∷ []
 last_at [] n x long is = absurd (cc)
 last_at (y ∷ []) zero x long is = let same : y ≡ x = cc in ap (λ z. z ∷ []) same
 last_at (y ∷ z ∷ xs) zero x long is = absurd (omega (arith, long))
@@ -119,14 +131,19 @@ module _ {A : Type 0} (b c : Buffer A) where
   pub some_off : (o : Option A) → o ≡ last_item b.items → c ≡ buffer (take (length b.items - 1) b.items) b.capacity →
       IfSome o (λ x. b.items ≡ c.items ++ x ∷ [])
   some_off None is rest = tt
-  some_off (Some x) is rest = last_off b.items x (sym is) ∙ ap (λ xs. xs ++ x ∷ []) (sym (items_are c (take (length b.items - 1) b.items) b.capacity rest))
+  some_off (Some x) is rest = last_off b.items x (sym is) ∙
+      ap (λ xs. xs ++ x ∷ []) (sym (items_are c (take (length b.items - 1) b.items) b.capacity rest))
 
   pub none_off : (o : Option A) → o ≡ last_item b.items → c ≡ buffer (take (length b.items - 1) b.items) b.capacity →
       IfNone o ((b.items ≡ []) × (c ≡ b))
   none_off None is rest =
-      let empty = no_last b.items (sym is) in
-      (empty, rest ∙ ap (λ xs. buffer (take (length xs - 1) xs) b.capacity) empty ∙ ap (λ xs. buffer xs b.capacity) (sym empty))
+      let empty = no_last b.items (sym is) in (
+        empty,
+        rest ∙ ap (λ xs. buffer (take (length xs - 1) xs) b.capacity) empty ∙
+            ap (λ xs. buffer xs b.capacity) (sym empty),
+      )
   none_off (Some x) is rest = tt
 
-pub last_first : {A B : Type 0} (f : A → B) (xs : List A) (x : A) → reverse (map f (xs ++ x ∷ [])) ≡ f x ∷ reverse (map f xs)
+pub last_first : {A B : Type 0} (f : A → B) (xs : List A) (x : A) → reverse (map f (xs ++ x ∷ [])) ≡ f x ∷
+    reverse (map f xs)
 last_first f xs x = ap reverse (map-append f xs (x ∷ [])) ∙ reverse-append (map f xs) (f x ∷ [])

@@ -1,5 +1,7 @@
 -- A layer whose own cells a caller changes.
-use Rattle.std.proofs.Common.{◌≡◌, ℕ, zero, suc, ◌-◌, ◌≤◌, ◌<◌, true, List, [], ◌∷◌, ◌++◌, Option, Some, None, IfSome, map, length, take, drop, get_or, set, slice_get, flat_map, refl, sym, ap, subst, ◌∙◌, arith}
+use Rattle.std.proofs.Common.{◌≡◌, ℕ, zero, suc, ◌-◌, ◌≤◌, ◌<◌, true, List, [], ◌∷◌, ◌++◌, Option, Some, None, IfSome}
+use Rattle.std.proofs.Common.{map, length, take, drop, get_or, set, slice_get, flat_map, refl, sym, ap, subst, ◌∙◌}
+use Rattle.std.proofs.Common.{arith}
 use Rattle.std.specs.List.{AllByRecursion}
 use Rattle.std.proofs.Math.ListN.{get_or-map}
 use Rattle.std.proofs.Math.Seq.{map-set_same}
@@ -9,7 +11,10 @@ use Rattle.slot_pool.specs.Times.{times}
 use Rattle.slot_pool.proofs.Times.{times-append}
 use Rattle.layer_mean.specs.State.{has_room}
 use Rattle.layer_mean.specs.Tree.{LayerTree}
-use Rattle.cell_store.specs.Kept.{KeptCell, numbers, queues, Kept, nothing_kept, queues_kept, capacity_of, kept_at, kept_rows, kept_row, kept_capacity, keeps_room, number_set, rows_set, with_kept_number, with_kept_rows, with_last, with_first, without_first, without_last, first_row, last_row, state_of}
+use Rattle.cell_store.specs.Kept.{KeptCell, numbers, queues, Kept, nothing_kept, queues_kept, capacity_of, kept_at}
+use Rattle.cell_store.specs.Kept.{kept_rows, kept_row, kept_capacity, keeps_room, number_set, rows_set}
+use Rattle.cell_store.specs.Kept.{with_kept_number, with_kept_rows, with_last, with_first, without_first, without_last}
+use Rattle.cell_store.specs.Kept.{first_row, last_row, state_of}
 use Rattle.cell_store.specs.Fresh.{IsFor}
 use Rattle.cell_store.proofs.Seen.{room_seen, number_for, rows_for}
 use Rattle.pool_message.specs.Seen.{row_refs, row_seen, RowLies}
@@ -25,7 +30,8 @@ use Rattle.file_layer.specs.declared.layer.FileLayer.{FileLayer}
 use Rattle.file_layer.proofs.Found.{row_lies}
 use Rattle.file_layer.proofs.Held.{times_get}
 use Rattle.file_layer.proofs.Lists.{all-append, all-at, all-get, all-set, times-at, times-both, times-one}
-use Rattle.file_layer.proofs.ReadyCells.{refs_same, there_with_room, rows_set_fits, rows_set_capacity, set_refs, set_lies, set_fits, set_capacity}
+use Rattle.file_layer.proofs.ReadyCells.{refs_same, there_with_room, rows_set_fits, rows_set_capacity, set_refs}
+use Rattle.file_layer.proofs.ReadyCells.{set_lies, set_fits, set_capacity}
 use Rattle.file_layer.proofs.Rows.{rows_times, last_times, first_times, rows_lie, rows_set_lie}
 
 -- ---- lists with one row less
@@ -82,10 +88,12 @@ module _ {A : Type 0} where
 -- ---- a desk at rest with other cells
 
 module _ (layer : LayerTree) (p : List Held) (d : FileDesk) (is : IsAtRest layer p d) where
-  with_cells : (k : Kept PoolRow) → AllByRecursion (CellLies p) k.cells → AllByRecursion CellFits k.cells → IsFor layer k →
+  with_cells : (k : Kept PoolRow) → AllByRecursion (CellLies p) k.cells → AllByRecursion CellFits k.cells →
+      IsFor layer k →
       map capacity_of k.cells ≡ map capacity_of d.cells.cells → IsAtRest layer p (record d { cells = k })
   with_cells k lie fit forms same =
-      let layout : layout_of d ≡ layout_of (record d { cells = k }) = λ j. record (layout_of d) { rows = sym same j } in record {
+      let layout : layout_of d ≡ layout_of (record d { cells = k }) = λ j. record (layout_of d) { rows = sym same j } in
+      record {
         lie = lie;
         cells = fit;
         forms = forms;
@@ -105,18 +113,21 @@ module _ (layer : LayerTree) (p : List Held) (d : FileDesk) (is : IsAtRest layer
 
   queue_fits : (c i : ℕ) → QueueFits (kept_capacity d.cells c) (kept_rows d.cells c i)
   queue_fits c i =
-      all-get (QueueFits (kept_capacity d.cells c)) (queues_kept (kept_at d.cells c)) i [] (cell_fit c).1 (record { few = omega arith; short = tt })
+      all-get (QueueFits (kept_capacity d.cells c)) (queues_kept (kept_at d.cells c)) i [] (cell_fit c).1
+      (record { few = omega arith; short = tt })
 
   pub number_rest : (c i v : ℕ) → IsAtRest layer p (record d { cells = with_kept_number d.cells c i v })
   number_rest c i v =
       let cell = kept_at d.cells c in
       with_cells (with_kept_number d.cells c i v)
-      (all-set (CellLies p) d.cells.cells c (number_set i v cell) is.lie (set_lies p i v cell (all-get (CellLies p) d.cells.cells c nothing_kept is.lie tt)))
+      (all-set (CellLies p) d.cells.cells c (number_set i v cell) is.lie
+      (set_lies p i v cell (all-get (CellLies p) d.cells.cells c nothing_kept is.lie tt)))
       (all-set CellFits d.cells.cells c (number_set i v cell) is.cells (set_fits i v cell (cell_fit c)))
       (number_for layer d.cells c i v is.forms)
       (map-set_same capacity_of d.cells.cells c (number_set i v cell) nothing_kept (set_capacity i v cell))
 
-  rows_rest : (c i : ℕ) (rows : List PoolRow) → AllByRecursion (RowLies p) rows → QueueFits (kept_capacity d.cells c) rows →
+  rows_rest : (c i : ℕ) (rows : List PoolRow) → AllByRecursion (RowLies p) rows →
+      QueueFits (kept_capacity d.cells c) rows →
       IsAtRest layer p (record d { cells = with_kept_rows d.cells c i rows })
   rows_rest c i rows lie fit =
       let cell = kept_at d.cells c in
@@ -127,55 +138,75 @@ module _ (layer : LayerTree) (p : List Held) (d : FileDesk) (is : IsAtRest layer
       (map-set_same capacity_of d.cells.cells c (rows_set i rows cell) nothing_kept (rows_set_capacity i rows cell))
 
   module _ (c i : ℕ) where
-    pub last_rest : (row : PoolRow) → length (kept_rows d.cells c i) < kept_capacity d.cells c → CanBeOwn p row.message →
+    pub last_rest : (row : PoolRow) → length (kept_rows d.cells c i) < kept_capacity d.cells c →
+        CanBeOwn p row.message →
         IsAtRest layer p (record d { cells = with_last d.cells c i row })
     last_rest row room own =
         rows_rest c i (kept_rows d.cells c i ++ row ∷ [])
         (all-append (RowLies p) (kept_rows d.cells c i) (row ∷ []) (rows_lie p d.cells c i is.lie) (own.lies, tt))
         (record {
           few = omega (arith, length-append (kept_rows d.cells c i) (row ∷ []));
-          short = all-append (λ (r : PoolRow). IsShortIf r.message) (kept_rows d.cells c i) (row ∷ []) (queue_fits c i).short (own.short, tt);
+          short = all-append (λ (r : PoolRow). IsShortIf r.message) (kept_rows d.cells c i) (row ∷ [])
+              (queue_fits c i).short (own.short, tt);
         })
 
-    pub first_rest : (row : PoolRow) → length (kept_rows d.cells c i) < kept_capacity d.cells c → CanBeOwn p row.message →
+    pub first_rest : (row : PoolRow) → length (kept_rows d.cells c i) < kept_capacity d.cells c →
+        CanBeOwn p row.message →
         IsAtRest layer p (record d { cells = with_first d.cells c i row })
     first_rest row room own =
         rows_rest c i (row ∷ kept_rows d.cells c i) (own.lies, rows_lie p d.cells c i is.lie)
         (record { few = omega arith; short = (own.short, (queue_fits c i).short) })
 
-    pub without_first_rest : (k : Kept PoolRow) → k ≡ without_first d.cells c i → IsAtRest layer p (record d { cells = k })
+    pub without_first_rest : (k : Kept PoolRow) → k ≡ without_first d.cells c i →
+        IsAtRest layer p (record d { cells = k })
     without_first_rest k new =
         let queue = queue_fits c i in let few = rest_few (kept_rows d.cells c i) in let all = queue.few in
         subst (λ k. IsAtRest layer p (record d { cells = k })) (sym new)
-        (rows_rest c i (drop 1 (kept_rows d.cells c i)) (all-rest (RowLies p) (kept_rows d.cells c i) (rows_lie p d.cells c i is.lie))
-        (record { few = omega arith; short = all-rest (λ (r : PoolRow). IsShortIf r.message) (kept_rows d.cells c i) queue.short }))
+        (rows_rest c i (drop 1 (kept_rows d.cells c i))
+        (all-rest (RowLies p) (kept_rows d.cells c i) (rows_lie p d.cells c i is.lie))
+        (record {
+          few = omega arith;
+          short = all-rest (λ (r : PoolRow). IsShortIf r.message) (kept_rows d.cells c i)
+              queue.short;
+        }))
 
-    pub without_last_rest : (k : Kept PoolRow) → k ≡ without_last d.cells c i → IsAtRest layer p (record d { cells = k })
+    pub without_last_rest : (k : Kept PoolRow) → k ≡ without_last d.cells c i →
+        IsAtRest layer p (record d { cells = k })
     without_last_rest k new =
         let queue = queue_fits c i in let n = length (kept_rows d.cells c i) - 1 in
         let few = taken_few n (kept_rows d.cells c i) in let all = queue.few in
         subst (λ k. IsAtRest layer p (record d { cells = k })) (sym new)
-        (rows_rest c i (take n (kept_rows d.cells c i)) (all-taken (RowLies p) n (kept_rows d.cells c i) (rows_lie p d.cells c i is.lie))
-        (record { few = omega arith; short = all-taken (λ (r : PoolRow). IsShortIf r.message) n (kept_rows d.cells c i) queue.short }))
+        (rows_rest c i (take n (kept_rows d.cells c i))
+        (all-taken (RowLies p) n (kept_rows d.cells c i) (rows_lie p d.cells c i is.lie))
+        (record {
+          few = omega arith;
+          short = all-taken (λ (r : PoolRow). IsShortIf r.message) n (kept_rows d.cells c i)
+              queue.short;
+        }))
 
     -- A row that is there has a message, if any, that it may have.
     pub row_own : (r : ℕ) (o : Option PoolRow) → o ≡ kept_row d.cells c i r → IfSome o (λ row. CanBeOwn p row.message)
     row_own r None there = tt
     row_own r (Some row) there = record {
       lies = row_lies p d.cells c i r is.lie row (sym there);
-      short = all-at (λ (x : PoolRow). IsShortIf x.message) (kept_rows d.cells c i) r row (sym there) (queue_fits c i).short;
+      short = all-at (λ (x : PoolRow). IsShortIf x.message) (kept_rows d.cells c i) r row (sym there)
+          (queue_fits c i).short;
     }
 
 -- ---- what stays of a layer
 
-capacities : (old k : Kept PoolRow) → map capacity_of k.cells ≡ map capacity_of old.cells → (c : ℕ) → kept_capacity k c ≡ kept_capacity old c
+capacities : (old k : Kept PoolRow) → map capacity_of k.cells ≡ map capacity_of old.cells → (c : ℕ) →
+    kept_capacity k c ≡ kept_capacity old c
 capacities old k same c =
-    sym (get_or-map capacity_of k.cells c nothing_kept) ∙ ap (λ ns. get_or ns c 0) same ∙ get_or-map capacity_of old.cells c nothing_kept
+    sym (get_or-map capacity_of k.cells c nothing_kept) ∙ ap (λ ns. get_or ns c 0) same ∙
+    get_or-map capacity_of old.cells c nothing_kept
 
-as_before : (s : FileLayer) (k : Kept PoolRow) → k.most ≡ s.desk.cells.most → map capacity_of k.cells ≡ map capacity_of s.desk.cells.cells →
+as_before : (s : FileLayer) (k : Kept PoolRow) → k.most ≡ s.desk.cells.most →
+    map capacity_of k.cells ≡ map capacity_of s.desk.cells.cells →
     IsAsBefore s (record s { desk = record s.desk { cells = k } })
 unfolding place_of tree_of most_of taken_by capacity_at
-as_before s k most same = record { place = refl; tree = refl; most = most; taken = refl; capacity = capacities s.desk.cells k same }
+as_before s k most same =
+    record { place = refl; tree = refl; most = most; taken = refl; capacity = capacities s.desk.cells k same }
 
 pub number_before : (s : FileLayer) (c i v : ℕ) (k : Kept PoolRow) → k ≡ with_kept_number s.desk.cells c i v →
     IsAsBefore s (record s { desk = record s.desk { cells = k } })
@@ -185,7 +216,8 @@ number_before s c i v k new =
     (ap (λ (k : Kept PoolRow). map capacity_of k.cells) new ∙
     map-set_same capacity_of s.desk.cells.cells c (number_set i v cell) nothing_kept (set_capacity i v cell))
 
-pub rows_before : (s : FileLayer) (c i : ℕ) (rows : List PoolRow) (k : Kept PoolRow) → k ≡ with_kept_rows s.desk.cells c i rows →
+pub rows_before : (s : FileLayer) (c i : ℕ) (rows : List PoolRow) (k : Kept PoolRow) →
+    k ≡ with_kept_rows s.desk.cells c i rows →
     IsAsBefore s (record s { desk = record s.desk { cells = k } })
 rows_before s c i rows k new =
     let cell = kept_at s.desk.cells c in
@@ -196,7 +228,8 @@ rows_before s c i rows k new =
 -- ---- references
 
 pub number_refs : (old k : Kept PoolRow) (c i v : ℕ) → k ≡ with_kept_number old c i v → kept_refs k ≡ kept_refs old
-number_refs old k c i v new = ap kept_refs new ∙ refs_same old.cells c (number_set i v (kept_at old c)) (set_refs i v (kept_at old c))
+number_refs old k c i v new = ap kept_refs new ∙ refs_same old.cells c (number_set i v (kept_at old c))
+    (set_refs i v (kept_at old c))
 
 set_back : (i : ℕ) (cell : KeptCell PoolRow) → rows_set i (get_or (queues_kept cell) i []) cell ≡ cell
 set_back i (numbers shape ns) = refl
@@ -206,13 +239,15 @@ set_back i (queues shape capacity qs) = ap (λ qs. queues shape capacity qs) (se
 as_it_was : (k : Kept PoolRow) (c i : ℕ) (rows : List PoolRow) → rows ≡ kept_rows k c i → with_kept_rows k c i rows ≡ k
 as_it_was k c i rows same =
     ap (with_kept_rows k c i) same ∙
-    ap (λ cells. record k { cells = cells }) (ap (set k.cells c) (set_back i (kept_at k c)) ∙ set-get_or k.cells c nothing_kept)
+    ap (λ cells. record k { cells = cells })
+    (ap (set k.cells c) (set_back i (kept_at k c)) ∙ set-get_or k.cells c nothing_kept)
 
 module _ (old k : Kept PoolRow) (c i : ℕ) where
   pub last_together : (row : PoolRow) → keeps_room old c i (kept_capacity old c) ≡ true → k ≡ with_last old c i row →
       AreTogether (kept_refs k) (row_refs row) (kept_refs old)
   last_together row room new = record {
-    times = λ j. ap (λ (k : Kept PoolRow). times j (kept_refs k)) new ∙ last_times old c i (there_with_room old c i (kept_capacity old c) room).0 row j;
+    times = λ j. ap (λ (k : Kept PoolRow). times j (kept_refs k)) new ∙
+        last_times old c i (there_with_room old c i (kept_capacity old c) room).0 row j;
   }
 
   pub first_together : (row : PoolRow) → keeps_room old c i (kept_capacity old c) ≡ true → k ≡ with_first old c i row →
@@ -220,39 +255,50 @@ module _ (old k : Kept PoolRow) (c i : ℕ) where
   first_together row room new = record {
     times = λ j.
         let same = ap (λ (k : Kept PoolRow). times j (kept_refs k)) new in
-        let all = rows_times old c i (there_with_room old c i (kept_capacity old c) room).0 j (row ∷ kept_rows old c i) in
+        let all = rows_times old c i (there_with_room old c i (kept_capacity old c) room).0 j (row ∷ kept_rows old c i)
+        in
         let both = times-append j (row_refs row) (flat_map row_refs (kept_rows old c i)) in omega arith;
   }
 
   -- The rows of a queue that has none stay, whatever is taken.
-  none_together : (rows : List PoolRow) → rows ≡ kept_rows old c i → k ≡ with_kept_rows old c i rows → AreTogether (kept_refs old) [] (kept_refs k)
+  none_together : (rows : List PoolRow) → rows ≡ kept_rows old c i → k ≡ with_kept_rows old c i rows →
+      AreTogether (kept_refs old) [] (kept_refs k)
   none_together rows none new = record {
-    times = λ j. let same = ap (λ (k : Kept PoolRow). times j (kept_refs k)) (new ∙ as_it_was old c i rows none) in omega arith;
+    times = λ j. let same = ap (λ (k : Kept PoolRow). times j (kept_refs k)) (new ∙ as_it_was old c i rows none) in
+        omega arith;
   }
 
-  pub front_together : (o : Option PoolRow) → o ≡ first_row old c i → k ≡ without_first old c i → AreTogether (kept_refs old) (row_refs_if o) (kept_refs k)
-  front_together None none new = none_together (drop 1 (kept_rows old c i)) (none_first (kept_rows old c i) (sym none)) new
+  pub front_together : (o : Option PoolRow) → o ≡ first_row old c i → k ≡ without_first old c i →
+      AreTogether (kept_refs old) (row_refs_if o) (kept_refs k)
+  front_together None none new = none_together (drop 1 (kept_rows old c i)) (none_first (kept_rows old c i) (sym none))
+      new
   front_together (Some row) there new = record {
     times = λ j.
         let same = ap (λ (k : Kept PoolRow). times j (kept_refs k)) new in
-        let out = first_times old c i (within_row (queues_kept (kept_at old c)) i 0 row (sym there)) row (drop 1 (kept_rows old c i))
+        let out = first_times old c i (within_row (queues_kept (kept_at old c)) i 0 row (sym there)) row
+        (drop 1 (kept_rows old c i))
         (split_first (kept_rows old c i) row (sym there)) j in omega arith;
   }
 
-  pub back_together : (o : Option PoolRow) → o ≡ last_row old c i → k ≡ without_last old c i → AreTogether (kept_refs old) (row_refs_if o) (kept_refs k)
+  pub back_together : (o : Option PoolRow) → o ≡ last_row old c i → k ≡ without_last old c i →
+      AreTogether (kept_refs old) (row_refs_if o) (kept_refs k)
   back_together None none new =
-      none_together (take (length (kept_rows old c i) - 1) (kept_rows old c i)) (none_last (kept_rows old c i) _ refl (sym none)) new
+      none_together (take (length (kept_rows old c i) - 1) (kept_rows old c i))
+      (none_last (kept_rows old c i) _ refl (sym none)) new
   back_together (Some row) there new = record {
     times = λ j.
         let front = take (length (kept_rows old c i) - 1) (kept_rows old c i) in
         let same = ap (λ (k : Kept PoolRow). times j (kept_refs k)) new in
-        let out = rows_times old c i (within_row (queues_kept (kept_at old c)) i (length (kept_rows old c i) - 1) row (sym there)) j front in
-        let whole = ap (λ rows. times j (flat_map row_refs rows)) (split_last (kept_rows old c i) _ row refl (sym there)) in
+        let out = rows_times old c i
+        (within_row (queues_kept (kept_at old c)) i (length (kept_rows old c i) - 1) row (sym there)) j front in
+        let whole = ap (λ rows. times j (flat_map row_refs rows))
+        (split_last (kept_rows old c i) _ row refl (sym there)) in
         let both = times-both row_refs j front (row ∷ []) in let one = times-one row_refs j row in omega arith;
   }
 
 -- A row's references are among those of the layer.
-pub row_among : (k : Kept PoolRow) (c i r : ℕ) (row : PoolRow) → kept_row k c i r ≡ Some row → (j : ℕ) → times j (row_refs row) ≤ times j (kept_refs k)
+pub row_among : (k : Kept PoolRow) (c i r : ℕ) (row : PoolRow) → kept_row k c i r ≡ Some row → (j : ℕ) →
+    times j (row_refs row) ≤ times j (kept_refs k)
 row_among k c i r row at j =
     let one = times-at row_refs j (kept_rows k c i) r row at in
     let queue = times_get (flat_map row_refs) j (queues_kept (kept_at k c)) i [] refl in
@@ -261,11 +307,13 @@ row_among k c i r row at j =
 -- ---- room
 
 -- Room in the words of the state is room in those of the cells.
-pub room_kept : (k : Kept PoolRow) (c i : ℕ) → ((p : List Held) → has_room (state_of (row_seen p) k) c i (kept_capacity k c) ≡ true) →
+pub room_kept : (k : Kept PoolRow) (c i : ℕ) →
+    ((p : List Held) → has_room (state_of (row_seen p) k) c i (kept_capacity k c) ≡ true) →
     keeps_room k c i (kept_capacity k c) ≡ true
 room_kept k c i room = sym (room_seen (row_seen []) k c i (kept_capacity k c)) ∙ room []
 
-pub room_behind : (k : Kept PoolRow) (c i : ℕ) (o : Option PoolRow) → IfSome o (λ row. keeps_room k c i (kept_capacity k c) ≡ true) →
+pub room_behind : (k : Kept PoolRow) (c i : ℕ) (o : Option PoolRow) →
+    IfSome o (λ row. keeps_room k c i (kept_capacity k c) ≡ true) →
     IfSome o (λ row. (p : List Held) → has_room (state_of (row_seen p) k) c i (kept_capacity k c) ≡ true)
 room_behind k c i None room = tt
 room_behind k c i (Some row) room = λ p. room_seen (row_seen p) k c i (kept_capacity k c) ∙ room

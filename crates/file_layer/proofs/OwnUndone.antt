@@ -1,12 +1,15 @@
 -- What is seen of a layer's own cells that a caller changes, and that changes are undone.
-use Rattle.std.proofs.Common.{◌≡◌, ℕ, zero, suc, ◌-◌, true, List, [], ◌∷◌, Some, option_map, map, length, take, get_or, set, slice_index, refl, sym, ap, subst, ◌∙◌, Option}
+use Rattle.std.proofs.Common.{◌≡◌, ℕ, zero, suc, ◌-◌, true, List, [], ◌∷◌, Some, option_map, map, length, take, get_or}
+use Rattle.std.proofs.Common.{set, slice_index, refl, sym, ap, subst, ◌∙◌, Option}
 use Rattle.std.proofs.lemmas.Iterator.Adapters.{option_map_id}
 use Rattle.std.proofs.lemmas.List.{length-map, map-id, set-get_or, set-set}
 use Rattle.layer_ast.specs.declared.syntax.Shape.TheVariants.{One}
 use Rattle.layer_mean.specs.State as state
-use Rattle.layer_mean.specs.State.{State, Contents, no_cell, numbers_in, cell_at, number_at, rows_at, row_at, has_room, written, with_number, with_rows, with_row, without_front}
+use Rattle.layer_mean.specs.State.{State, Contents, no_cell, numbers_in, cell_at, number_at, rows_at, row_at, has_room}
+use Rattle.layer_mean.specs.State.{written, with_number, with_rows, with_row, without_front}
 use Rattle.layer_mean.specs.declared.run.Row.{Row}
-use Rattle.cell_store.specs.Kept.{KeptCell, numbers, queues, Kept, kept_rows, kept_row, with_last, with_first, without_first, without_last, first_row, last_row, contents_seen, state_of}
+use Rattle.cell_store.specs.Kept.{KeptCell, numbers, queues, Kept, kept_rows, kept_row, with_last, with_first}
+use Rattle.cell_store.specs.Kept.{without_first, without_last, first_row, last_row, contents_seen, state_of}
 use Rattle.cell_store.proofs.Seen.{rows_set_seen, rows_seen, row_seen, room_seen, last_seen, front_seen}
 use Rattle.cell_store.proofs.Undone.{first_undone, last_undone}
 use Rattle.file_layer.specs.OwnCells.{last_row_at, without_back, with_front_row, OwnChangesAreUndone}
@@ -19,9 +22,11 @@ module _ {R : Type 0} (see : R → Row) where
   taken_seen (suc n) [] = refl
   taken_seen (suc n) (x ∷ xs) = ap (λ ys. see x ∷ ys) (taken_seen n xs)
 
-  pub put_seen : (k : Kept R) (c i : ℕ) (row : R) → state_of see (with_first k c i row) ≡ with_front_row (state_of see k) c i (see row)
+  pub put_seen : (k : Kept R) (c i : ℕ) (row : R) → state_of see (with_first k c i row) ≡
+      with_front_row (state_of see k) c i (see row)
   put_seen k c i row =
-      rows_set_seen see k c i (row ∷ kept_rows k c i) ∙ ap (λ rows. with_rows (state_of see k) c i (see row ∷ rows)) (sym (rows_seen see k c i))
+      rows_set_seen see k c i (row ∷ kept_rows k c i) ∙ ap (λ rows. with_rows (state_of see k) c i (see row ∷ rows))
+      (sym (rows_seen see k c i))
 
   long_seen : (k : Kept R) (c i : ℕ) → length (rows_at (state_of see k) c i) ≡ length (kept_rows k c i)
   long_seen k c i = ap length (rows_seen see k c i) ∙ length-map (kept_rows k c i) see
@@ -30,24 +35,30 @@ module _ {R : Type 0} (see : R → Row) where
   back_seen k c i =
       rows_set_seen see k c i (take (length (kept_rows k c i) - 1) (kept_rows k c i)) ∙
       ap (with_rows (state_of see k) c i)
-      (taken_seen (length (kept_rows k c i) - 1) (kept_rows k c i) ∙ (λ j. take (sym (long_seen k c i) j - 1) (sym (rows_seen see k c i) j)))
+      (taken_seen (length (kept_rows k c i) - 1) (kept_rows k c i) ∙
+      (λ j. take (sym (long_seen k c i) j - 1) (sym (rows_seen see k c i) j)))
 
   last_seen_at : (k : Kept R) (c i : ℕ) → last_row_at (state_of see k) c i ≡ option_map see (last_row k c i)
   last_seen_at k c i =
-      ap (λ n. row_at (state_of see k) c i (n - 1)) (long_seen k c i) ∙ row_seen see k c i (length (kept_rows k c i) - 1)
+      ap (λ n. row_at (state_of see k) c i (n - 1)) (long_seen k c i) ∙
+      row_seen see k c i (length (kept_rows k c i) - 1)
 
   -- The front row and the last, as they are taken.
-  pub front_read : (k : Kept R) (c i : ℕ) (o : Option R) → o ≡ first_row k c i → option_map see o ≡ row_at (state_of see k) c i 0
+  pub front_read : (k : Kept R) (c i : ℕ) (o : Option R) → o ≡ first_row k c i →
+      option_map see o ≡ row_at (state_of see k) c i 0
   front_read k c i o is = ap (option_map see) is ∙ sym (row_seen see k c i 0)
 
-  pub last_read : (k : Kept R) (c i : ℕ) (o : Option R) → o ≡ last_row k c i → option_map see o ≡ last_row_at (state_of see k) c i
+  pub last_read : (k : Kept R) (c i : ℕ) (o : Option R) → o ≡ last_row k c i →
+      option_map see o ≡ last_row_at (state_of see k) c i
   last_read k c i o is = ap (option_map see) is ∙ sym (last_seen_at k c i)
 
   -- What is left.
-  pub front_left : (old k : Kept R) (c i : ℕ) → k ≡ without_first old c i → state_of see k ≡ without_front (state_of see old) c i
+  pub front_left : (old k : Kept R) (c i : ℕ) → k ≡ without_first old c i →
+      state_of see k ≡ without_front (state_of see old) c i
   front_left old k c i new = ap (state_of see) new ∙ front_seen see old c i
 
-  pub back_left : (old k : Kept R) (c i : ℕ) → k ≡ without_last old c i → state_of see k ≡ without_back (state_of see old) c i
+  pub back_left : (old k : Kept R) (c i : ℕ) → k ≡ without_last old c i →
+      state_of see k ≡ without_back (state_of see old) c i
   back_left old k c i new = ap (state_of see) new ∙ back_seen old c i
 
 -- ---- a state is that of cells whose rows are as they are seen
@@ -83,8 +94,10 @@ module _ (k : Kept Row) (c i : ℕ) where
   front_kept : (row : Row) → row_at (state_of as_seen k) c i 0 ≡ Some row →
       with_front_row (without_front (state_of as_seen k) c i) c i row ≡ state_of as_seen k
   front_kept row is =
-      ap (λ s. with_front_row s c i row) (sym (front_seen as_seen k c i)) ∙ sym (put_seen as_seen (without_first k c i) c i row) ∙
-      ap (state_of as_seen) (first_undone k c i row (sym (option_map_id (kept_row k c i 0)) ∙ sym (row_seen as_seen k c i 0) ∙ is))
+      ap (λ s. with_front_row s c i row) (sym (front_seen as_seen k c i)) ∙
+      sym (put_seen as_seen (without_first k c i) c i row) ∙
+      ap (state_of as_seen)
+      (first_undone k c i row (sym (option_map_id (kept_row k c i 0)) ∙ sym (row_seen as_seen k c i 0) ∙ is))
 
   back_kept : (capacity : ℕ) (row : Row) → has_room (state_of as_seen k) c i capacity ≡ true →
       (last_row_at (with_row (state_of as_seen k) c i row) c i ≡ Some row) ×
@@ -92,12 +105,15 @@ module _ (k : Kept Row) (c i : ℕ) where
   back_kept capacity row room =
       let undone = last_undone k c i capacity row (sym (room_seen as_seen k c i capacity) ∙ room) in
       let pushed = sym (last_seen as_seen k c i row) in (
-        ap (λ s. last_row_at s c i) pushed ∙ last_seen_at as_seen (with_last k c i row) c i ∙ option_map_id (last_row (with_last k c i row) c i) ∙ undone.0,
-        ap (λ s. without_back s c i) pushed ∙ sym (back_seen as_seen (with_last k c i row) c i) ∙ ap (state_of as_seen) undone.1,
+        ap (λ s. last_row_at s c i) pushed ∙ last_seen_at as_seen (with_last k c i row) c i ∙
+            option_map_id (last_row (with_last k c i row) c i) ∙ undone.0,
+        ap (λ s. without_back s c i) pushed ∙ sym (back_seen as_seen (with_last k c i row) c i) ∙
+            ap (state_of as_seen) undone.1,
       )
 
 written_back : (cell : Contents) (i v : ℕ) → written i (slice_index (numbers_in cell) i) (written i v cell) ≡ cell
-written_back (state.numbers ns) i v = ap (λ ns. state.numbers ns) (set-set ns i v (slice_index ns i) ∙ set-get_or ns i 0)
+written_back (state.numbers ns) i v =
+    ap (λ ns. state.numbers ns) (set-set ns i v (slice_index ns i) ∙ set-get_or ns i 0)
 written_back (state.queues qs) i v = refl
 
 -- Cells with the number of one written, and written back.
@@ -111,8 +127,10 @@ pub own_undone : OwnChangesAreUndone
 own_undone = record {
   number = λ s c i v. ap (λ cells. record s { cells = cells }) (cells_back s.cells c i v);
   front = λ s c i row.
-      subst (λ s. row_at s c i 0 ≡ Some row → with_front_row (without_front s c i) c i row ≡ s) (state_same s) (front_kept (kept_of s) c i row);
+      subst (λ s. row_at s c i 0 ≡ Some row → with_front_row (without_front s c i) c i row ≡ s) (state_same s)
+      (front_kept (kept_of s) c i row);
   back = λ s c i capacity row.
-      subst (λ s. has_room s c i capacity ≡ true → (last_row_at (with_row s c i row) c i ≡ Some row) × (without_back (with_row s c i row) c i ≡ s))
+      subst (λ s. has_room s c i capacity ≡ true → (last_row_at (with_row s c i row) c i ≡ Some row) ×
+      (without_back (with_row s c i row) c i ≡ s))
       (state_same s) (back_kept (kept_of s) c i capacity row);
 }

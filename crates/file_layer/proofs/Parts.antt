@@ -1,5 +1,6 @@
 -- The parts of a desk: what is taken out of one of them is taken out of the desk.
-use Rattle.std.proofs.Common.{◌≡◌, ℕ, ◌+◌, ◌<◌, ◌≤◌, List, [], ◌∷◌, ◌++◌, Option, None, length, set, flat_map, ap, arith}
+use Rattle.std.proofs.Common.{◌≡◌, ℕ, ◌+◌, ◌<◌, ◌≤◌, List, [], ◌∷◌, ◌++◌, Option, None, length, set, flat_map, ap}
+use Rattle.std.proofs.Common.{arith}
 use Rattle.slot_pool.specs.Times.{times}
 use Rattle.slot_pool.proofs.Times.{times-append}
 use Rattle.layer_ast.specs.declared.tokens.Dir.{Dir}
@@ -15,10 +16,13 @@ use Rattle.file_layer.proofs.Lists.{times-both, times-one, times-set}
 
 -- Five parts.
 pub parts : (i : ℕ) (s : Stock) → times i (stock_refs s) ≡
-    times i (kept_refs s.kept) + (times i (flat_map refs s.messages) + (times i (refs_if s.arrived) + (times i (flat_map refs s.hand) + times i (sent_refs s.sent))))
+    times i (kept_refs s.kept) +
+    (times i (flat_map refs s.messages) +
+    (times i (refs_if s.arrived) + (times i (flat_map refs s.hand) + times i (sent_refs s.sent))))
 parts i s = omega (
   arith,
-  times-append i (kept_refs s.kept) (flat_map refs s.messages ++ (refs_if s.arrived ++ (flat_map refs s.hand ++ sent_refs s.sent))),
+  times-append i (kept_refs s.kept)
+      (flat_map refs s.messages ++ (refs_if s.arrived ++ (flat_map refs s.hand ++ sent_refs s.sent))),
   times-append i (flat_map refs s.messages) (refs_if s.arrived ++ (flat_map refs s.hand ++ sent_refs s.sent)),
   times-append i (refs_if s.arrived) (flat_map refs s.hand ++ sent_refs s.sent),
   times-append i (flat_map refs s.hand) (sent_refs s.sent),
@@ -41,7 +45,8 @@ both_out s t u xs ys one two = record {
 }
 
 module _ (s : Stock) where
-  pub hand_out : (rest ms : List PoolMessage) → TakesOut (record s { hand = rest ++ ms }) (record s { hand = rest }) (flat_map refs ms)
+  pub hand_out : (rest ms : List PoolMessage) →
+      TakesOut (record s { hand = rest ++ ms }) (record s { hand = rest }) (flat_map refs ms)
   hand_out rest ms = record {
     times = λ i.
         let whole = parts i (record s { hand = rest ++ ms }) in let left = parts i (record s { hand = rest }) in
@@ -61,18 +66,22 @@ module _ (s : Stock) where
       TakesOut (record s { messages = set ms k m }) (record s { messages = set ms k bare }) (refs m)
   message_out ms k m bare none within = record {
     times = λ i.
-        let whole = parts i (record s { messages = set ms k m }) in let left = parts i (record s { messages = set ms k bare }) in
+        let whole = parts i (record s { messages = set ms k m }) in let left =
+        parts i (record s { messages = set ms k bare }) in
         let one = times-set refs i ms k m bare within in let two = times-set refs i ms k bare bare within in
         let nothing = ap (times i) none in omega arith;
   }
 
-  pub arrived_out : (m : Option PoolMessage) → TakesOut (record s { arrived = m }) (record s { arrived = None }) (refs_if m)
+  pub arrived_out : (m : Option PoolMessage) →
+      TakesOut (record s { arrived = m }) (record s { arrived = None }) (refs_if m)
   arrived_out m = record {
     times = λ i.
-        let whole = parts i (record s { arrived = m }) in let left = parts i (record s { arrived = None }) in omega arith;
+        let whole = parts i (record s { arrived = m }) in let left = parts i (record s { arrived = None }) in
+        omega arith;
   }
 
-  pub sent_out : (dir : Dir) (event : PoolEvent) → TakesOut (record s { sent = s.sent ++ (dir, event) ∷ [] }) s (event_refs event)
+  pub sent_out : (dir : Dir) (event : PoolEvent) →
+      TakesOut (record s { sent = s.sent ++ (dir, event) ∷ [] }) s (event_refs event)
   sent_out dir event = record {
     times = λ i.
         let whole = parts i (record s { sent = s.sent ++ (dir, event) ∷ [] }) in let left = parts i s in
@@ -80,9 +89,11 @@ module _ (s : Stock) where
         let one = times-one (λ (e : Dir × PoolEvent). event_refs e.1) i (dir, event) in omega arith;
   }
 
-  pub kept_out : (k l : Kept PoolRow) (xs : List ℕ) → ((i : ℕ) → times i (kept_refs k) ≡ times i xs + times i (kept_refs l)) →
+  pub kept_out : (k l : Kept PoolRow) (xs : List ℕ) →
+      ((i : ℕ) → times i (kept_refs k) ≡ times i xs + times i (kept_refs l)) →
       TakesOut (record s { kept = k }) (record s { kept = l }) xs
   kept_out k l xs out = record {
     times = λ i.
-        let whole = parts i (record s { kept = k }) in let left = parts i (record s { kept = l }) in let one = out i in omega arith;
+        let whole = parts i (record s { kept = k }) in let left = parts i (record s { kept = l }) in let one = out i in
+        omega arith;
   }

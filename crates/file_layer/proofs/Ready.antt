@@ -1,5 +1,6 @@
 -- Steps of a desk that has no more than it is made for.
-use Rattle.std.proofs.Common.{◌≡◌, ℕ, ◌+◌, ◌≤◌, Bool, true, false, if◌then◌else◌, nat_le, List, [], ◌∷◌, ◌++◌, Some, None, map, get_or, slice_get, length, refl, sym, ap, subst, ◌∙◌, arith}
+use Rattle.std.proofs.Common.{◌≡◌, ℕ, ◌+◌, ◌≤◌, Bool, true, false, if◌then◌else◌, nat_le, List, [], ◌∷◌, ◌++◌, Some}
+use Rattle.std.proofs.Common.{None, map, get_or, slice_get, length, refl, sym, ap, subst, ◌∙◌, arith}
 use Rattle.std.specs.List.{AllByRecursion}
 use Rattle.std.proofs.lemmas.List.{append_assoc, length-append}
 use Rattle.slot_pool.specs.Held.{Held}
@@ -24,7 +25,8 @@ use Rattle.file_layer.proofs.Parts.{hand_out, messages_within}
 use Rattle.file_layer.proofs.Steps.{covered}
 
 -- Other messages in hand, no more than there may be.
-pub fits_hand : (l : Layout) (s : Stock) (hand : List PoolMessage) → StockFits l s → length hand ≤ l.hand → AllByRecursion IsShort hand →
+pub fits_hand : (l : Layout) (s : Stock) (hand : List PoolMessage) → StockFits l s → length hand ≤ l.hand →
+    AllByRecursion IsShort hand →
     StockFits l (record s { hand = hand })
 fits_hand l s hand fits few short = record {
   rows = fits.rows;
@@ -47,7 +49,8 @@ join_headers x y = go (nat_le (length x.body + length y.body) longest_body)
 
 module _ (b : Begun) (p q : List Held) (s : Stock) (is : InPool b p s) (fits : StockFits b.layout s) where
   -- The message in front becomes another with no more headers.
-  pub changed_fits : (f : Content → Content) (rest : List PoolMessage) (x y : PoolMessage) (hand : List PoolMessage) → s.hand ≡ rest ++ x ∷ [] →
+  pub changed_fits : (f : Content → Content) (rest : List PoolMessage) (x y : PoolMessage) (hand : List PoolMessage) →
+      s.hand ≡ rest ++ x ∷ [] →
       hand ≡ rest ++ y ∷ [] → Derived f x y → length (f (seen [] x)).headers ≤ length x.headers →
       InPool b p (record s { hand = hand }) × StockFits b.layout (record s { hand = hand })
   changed_fits f rest x y hand at new made few =
@@ -57,33 +60,42 @@ module _ (b : Begun) (p q : List Held) (s : Stock) (is : InPool b p s) (fits : S
       let long = ap length at in let all = fits.hand in
       subst (λ hand. InPool b p (record s { hand = hand }) × StockFits b.layout (record s { hand = hand })) (sym new) (
         (changed_step b p s is f rest x y at made).0,
-        fits_hand b.layout s (rest ++ y ∷ []) fits (omega (arith, length-append rest (x ∷ []), length-append rest (y ∷ [])))
+        fits_hand b.layout s (rest ++ y ∷ []) fits
+            (omega (arith, length-append rest (x ∷ []), length-append rest (y ∷ [])))
             (all-append IsShort rest (y ∷ []) (all-front IsShort rest (x ∷ []) short) (omega arith, tt)),
       )
 
   -- A message of the desk is kept, and the new one taken into the hand.
-  pub lifted_fits : (m : PoolMessage) (hand : List PoolMessage) → hand ≡ s.hand ++ m ∷ [] → length s.hand + 1 ≤ b.layout.hand → IsShort m →
+  pub lifted_fits : (m : PoolMessage) (hand : List PoolMessage) → hand ≡ s.hand ++ m ∷ [] →
+      length s.hand + 1 ≤ b.layout.hand → IsShort m →
       Covers p (refs m) → Lies p m → Kept p q (refs m) →
       InPool b q (record s { hand = hand }) × StockFits b.layout (record s { hand = hand }) ×
       (laid q (record s { hand = hand }) ≡ lifted (seen p m) (laid p s))
   lifted_fits m hand new few short covers lies kept =
       let step = lifted_step b p q s is m covers lies kept in
-      subst (λ hand. InPool b q (record s { hand = hand }) × StockFits b.layout (record s { hand = hand }) × (laid q (record s { hand = hand }) ≡ lifted (seen p m) (laid p s)))
+      subst (λ hand. InPool b q (record s { hand = hand }) × StockFits b.layout (record s { hand = hand }) ×
+      (laid q (record s { hand = hand }) ≡ lifted (seen p m) (laid p s)))
       (sym new) (
         step.0,
-        fits_hand b.layout s (s.hand ++ m ∷ []) fits (omega (arith, length-append s.hand (m ∷ []))) (all-append IsShort s.hand (m ∷ []) fits.hand_short (short, tt)),
+        fits_hand b.layout s (s.hand ++ m ∷ []) fits (omega (arith, length-append s.hand (m ∷ [])))
+            (all-append IsShort s.hand (m ∷ []) fits.hand_short (short, tt)),
         step.1,
       )
 
   -- A message of the scope is in order.
-  pub scope_there : (k : ℕ) (m : PoolMessage) → slice_get s.messages k ≡ Some m → Covers p (refs m) × Lies p m × IsShort m
+  pub scope_there : (k : ℕ) (m : PoolMessage) → slice_get s.messages k ≡ Some m → Covers p (refs m) × Lies p m ×
+      IsShort m
   scope_there k m there = (
-    record { covers = λ i. let all = (covered b p s is).covers i in let own = messages_within i s in let one = times-at refs i s.messages k m there in omega arith },
+    record {
+      covers = λ i. let all = (covered b p s is).covers i in let own = messages_within i s in let one =
+          times-at refs i s.messages k m there in omega arith;
+    },
     all-at (Lies p) s.messages k m there is.lies.messages,
     all-at IsShort s.messages k m there fits.short,
   )
 
-  pub scope_lifted : (k : ℕ) (m n : PoolMessage) (hand : List PoolMessage) (d : Content) → slice_get s.messages k ≡ Some m → n ≡ m → hand ≡ s.hand ++ n ∷ [] →
+  pub scope_lifted : (k : ℕ) (m n : PoolMessage) (hand : List PoolMessage) (d : Content) →
+      slice_get s.messages k ≡ Some m → n ≡ m → hand ≡ s.hand ++ n ∷ [] →
       length s.hand + 1 ≤ b.layout.hand → Kept p q (refs m) →
       InPool b q (record s { hand = hand }) × StockFits b.layout (record s { hand = hand }) ×
       (laid q (record s { hand = hand }) ≡ lifted (get_or (map (seen p) s.messages) k d) (laid p s))
@@ -92,10 +104,12 @@ module _ (b : Begun) (p q : List Held) (s : Stock) (is : InPool b p s) (fits : S
       let step = lifted_fits m hand (new ∙ ap (λ x. s.hand ++ x ∷ []) same) few own.2 own.0 own.1 kept in
       (step.0, step.1, step.2 ∙ ap (λ c. lifted c (laid p s)) (sym (seen_at (seen p) s.messages k m d there)))
 
-  pub nothing_lifted : (k : ℕ) (m : PoolMessage) (hand : List PoolMessage) → slice_get s.messages k ≡ None → m ≡ bodiless [] → hand ≡ s.hand ++ m ∷ [] →
+  pub nothing_lifted : (k : ℕ) (m : PoolMessage) (hand : List PoolMessage) → slice_get s.messages k ≡ None →
+      m ≡ bodiless [] → hand ≡ s.hand ++ m ∷ [] →
       laid p (record s { hand = hand }) ≡ lifted (get_or (map (seen p) s.messages) k (plain [])) (laid p s)
   nothing_lifted k m hand there bare new =
-      ap (λ hand. laid p (record s { hand = hand })) (new ∙ ap (λ x. s.hand ++ x ∷ []) bare) ∙ (bare_step b p s is (bodiless []) refl tt).1 ∙
+      ap (λ hand. laid p (record s { hand = hand })) (new ∙ ap (λ x. s.hand ++ x ∷ []) bare) ∙
+      (bare_step b p s is (bodiless []) refl tt).1 ∙
       ap (λ c. lifted c (laid p s)) (sym (seen_none (seen p) s.messages k (plain []) there))
 
   module _ (rest : List PoolMessage) (part m : PoolMessage) (at : s.hand ≡ (rest ++ part ∷ []) ++ m ∷ []) where
@@ -105,8 +119,10 @@ module _ (b : Begun) (p q : List Held) (s : Stock) (is : InPool b p s) (fits : S
       covers = λ i.
           let all = (covered b p s is).covers i in
           let out = (hand_out s rest (part ∷ m ∷ [])).times i in
-          let whole = ap (λ hand. times i (stock_refs (record s { hand = hand }))) (at ∙ append_assoc rest (part ∷ []) (m ∷ [])) in
-          let two = times-append i (refs part) (refs m) in let three = times-append i (refs part) (refs m ++ []) in let four = times-append i (refs m) [] in
+          let whole = ap (λ hand. times i (stock_refs (record s { hand = hand })))
+          (at ∙ append_assoc rest (part ∷ []) (m ∷ [])) in
+          let two = times-append i (refs part) (refs m) in let three = times-append i (refs part) (refs m ++ []) in
+          let four = times-append i (refs m) [] in
           omega arith;
     }
 
@@ -123,40 +139,55 @@ module _ (b : Begun) (p q : List Held) (s : Stock) (is : InPool b p s) (fits : S
     -- They are joined.
     pub joined_fits : (x : PoolMessage) (hand : List PoolMessage) → hand ≡ rest ++ x ∷ [] →
         Made p q (refs part ++ refs m) (parts.join (seen p part) (seen p m)) x →
-        InPool b q (record s { hand = hand }) × StockFits b.layout (record s { hand = hand }) × (laid q (record s { hand = hand }) ≡ joined (laid p s))
+        InPool b q (record s { hand = hand }) × StockFits b.layout (record s { hand = hand }) ×
+        (laid q (record s { hand = hand }) ≡ joined (laid p s))
     joined_fits x hand new made =
         let step = joined_step b p q s is rest part m x at made in
         let one : IsShort m = (all-behind IsShort (rest ++ part ∷ []) (m ∷ []) shorts).0 in
-        let headers = ap (λ (c : Content). length c.headers) made.shows in let same = ap length (join_headers (seen p part) (seen p m)) in
+        let headers = ap (λ (c : Content). length c.headers) made.shows in let same =
+        ap length (join_headers (seen p part) (seen p m)) in
         let long = ap length at in let all = fits.hand in
-        subst (λ hand. InPool b q (record s { hand = hand }) × StockFits b.layout (record s { hand = hand }) × (laid q (record s { hand = hand }) ≡ joined (laid p s)))
+        subst (λ hand. InPool b q (record s { hand = hand }) × StockFits b.layout (record s { hand = hand }) ×
+        (laid q (record s { hand = hand }) ≡ joined (laid p s)))
         (sym new) (
           step.0,
           fits_hand b.layout s (rest ++ x ∷ []) fits
-              (omega (arith, length-append rest (x ∷ []), length-append rest (part ∷ []), length-append (rest ++ part ∷ []) (m ∷ [])))
-              (all-append IsShort rest (x ∷ []) (all-front IsShort rest (part ∷ []) (all-front IsShort (rest ++ part ∷ []) (m ∷ []) shorts)) (omega arith, tt)),
+              (omega (
+                arith,
+                length-append rest (x ∷ []),
+                length-append rest (part ∷ []),
+                length-append (rest ++ part ∷ []) (m ∷ []),
+              ))
+              (all-append IsShort rest (x ∷ [])
+              (all-front IsShort rest (part ∷ []) (all-front IsShort (rest ++ part ∷ []) (m ∷ []) shorts))
+              (omega arith, tt)),
           step.1,
         )
 
     -- They are given back.
-    pub gone_fits : Returned p q (refs part ++ refs m) → InPool b q (record s { hand = rest }) × StockFits b.layout (record s { hand = rest })
+    pub gone_fits : Returned p q (refs part ++ refs m) → InPool b q (record s { hand = rest }) ×
+        StockFits b.layout (record s { hand = rest })
     gone_fits gone =
         let long = ap length at in let all = fits.hand in (
           gone_step b p q s is rest part m at gone,
-          fits_hand b.layout s rest fits (omega (arith, length-append rest (part ∷ []), length-append (rest ++ part ∷ []) (m ∷ [])))
+          fits_hand b.layout s rest fits
+              (omega (arith, length-append rest (part ∷ []), length-append (rest ++ part ∷ []) (m ∷ [])))
               (all-front IsShort rest (part ∷ []) (all-front IsShort (rest ++ part ∷ []) (m ∷ []) shorts)),
         )
 
 -- A message without bytes is taken into the hand.
-pub bare_fits : (b : Begun) (p : List Held) (s : Stock) → InPool b p s → StockFits b.layout s → (m : PoolMessage) (hand : List PoolMessage) →
+pub bare_fits : (b : Begun) (p : List Held) (s : Stock) → InPool b p s → StockFits b.layout s →
+    (m : PoolMessage) (hand : List PoolMessage) →
     hand ≡ s.hand ++ m ∷ [] → length s.hand + 1 ≤ b.layout.hand → IsShort m → refs m ≡ [] → Lies p m →
     InPool b p (record s { hand = hand }) × StockFits b.layout (record s { hand = hand }) ×
     (laid p (record s { hand = hand }) ≡ lifted (seen p m) (laid p s))
 bare_fits b p s is fits m hand new few short none lies =
     let step = bare_step b p s is m none lies in
-    subst (λ hand. InPool b p (record s { hand = hand }) × StockFits b.layout (record s { hand = hand }) × (laid p (record s { hand = hand }) ≡ lifted (seen p m) (laid p s)))
+    subst (λ hand. InPool b p (record s { hand = hand }) × StockFits b.layout (record s { hand = hand }) ×
+    (laid p (record s { hand = hand }) ≡ lifted (seen p m) (laid p s)))
     (sym new) (
       step.0,
-      fits_hand b.layout s (s.hand ++ m ∷ []) fits (omega (arith, length-append s.hand (m ∷ []))) (all-append IsShort s.hand (m ∷ []) fits.hand_short (short, tt)),
+      fits_hand b.layout s (s.hand ++ m ∷ []) fits (omega (arith, length-append s.hand (m ∷ [])))
+          (all-append IsShort s.hand (m ∷ []) fits.hand_short (short, tt)),
       step.1,
     )

@@ -1,5 +1,6 @@
 -- Messages as they are sent.
-use Rattle.std.proofs.Common.{◌≡◌, suc, ◌-◌, ◌<◌, ◌==◌, Bool, false, List, [], ◌∷◌, Option, Some, None, option_map, slice_get, take, length, refl, sym, ap, subst, ◌∙◌, arith}
+use Rattle.std.proofs.Common.{◌≡◌, suc, ◌-◌, ◌<◌, ◌==◌, Bool, false, List, [], ◌∷◌, Option, Some, None, option_map}
+use Rattle.std.proofs.Common.{slice_get, take, length, refl, sym, ap, subst, ◌∙◌, arith}
 use Rattle.circular_buffer.specs.Buffer.{last_item}
 use Rattle.msg_core.specs.declared.message.Header.{Header}
 use Rattle.slot_pool.specs.Held.{Held}
@@ -14,7 +15,8 @@ use Rattle.pool_message.specs.declared.message.PoolMessage.{PoolMessage}
 use Rattle.file_layer.specs.Fits.{IsShort}
 use Rattle.file_layer.specs.Sent.{last_behind, TakesLast}
 
-pub is_derived : (dir : Dir) (header : Header) (m : PoolMessage) → Derived (sent_as dir header) m (sent_behind dir header m)
+pub is_derived : (dir : Dir) (header : Header) (m : PoolMessage) →
+    Derived (sent_as dir header) m (sent_behind dir header m)
 is_derived Up header m = record { slots = refl; lies = λ p lies. lies; shows = λ p. refl }
 is_derived Down header m = record { slots = refl; lies = λ p lies. lies; shows = λ p. refl }
 
@@ -24,13 +26,15 @@ can_pass Up m short = tt
 can_pass Down m short = omega (arith, short)
 
 -- it refers to the same, lies where the other lies, and shows what is sent, if it is there
-pub same_refs : (dir : Dir) (header : Header) (m : Option PoolMessage) → refs_if (option_map (sent_behind dir header) m) ≡ refs_if m
+pub same_refs : (dir : Dir) (header : Header) (m : Option PoolMessage) →
+    refs_if (option_map (sent_behind dir header) m) ≡ refs_if m
 same_refs Up header None = refl
 same_refs Up header (Some m) = refl
 same_refs Down header None = refl
 same_refs Down header (Some m) = refl
 
-pub still_lies : (p : List Held) (dir : Dir) (header : Header) (m : Option PoolMessage) → LiesIf p m → LiesIf p (option_map (sent_behind dir header) m)
+pub still_lies : (p : List Held) (dir : Dir) (header : Header) (m : Option PoolMessage) → LiesIf p m →
+    LiesIf p (option_map (sent_behind dir header) m)
 still_lies p Up header None lies = tt
 still_lies p Up header (Some m) lies = lies
 still_lies p Down header None lies = tt
@@ -44,11 +48,14 @@ shows_sent p Down header None = refl
 shows_sent p Down header (Some m) = refl
 
 -- the last one is taken out, once it is as it is sent
-behind_one : (f : PoolMessage → PoolMessage) (x : PoolMessage) (xs zs : List PoolMessage) (o : Option PoolMessage) → TakesLast f xs zs o → TakesLast f (x ∷ xs) (x ∷ zs) o
+behind_one : (f : PoolMessage → PoolMessage) (x : PoolMessage) (xs zs : List PoolMessage) (o : Option PoolMessage) →
+    TakesLast f xs zs o → TakesLast f (x ∷ xs) (x ∷ zs) o
 behind_one f x xs zs None taken = absurd taken
-behind_one f x xs zs (Some y) taken = record { last = taken.last; before = ap (λ ys. x ∷ ys) taken.before; made = taken.made }
+behind_one f x xs zs (Some y) taken =
+    record { last = taken.last; before = ap (λ ys. x ∷ ys) taken.before; made = taken.made }
 
-one_more : (f : PoolMessage → PoolMessage) (x : PoolMessage) (xs ys : List PoolMessage) → 0 < length ys → TakesLast f xs (without_last ys) (last_item ys) →
+one_more : (f : PoolMessage → PoolMessage) (x : PoolMessage) (xs ys : List PoolMessage) → 0 < length ys →
+    TakesLast f xs (without_last ys) (last_item ys) →
     TakesLast f (x ∷ xs) (without_last (x ∷ ys)) (last_item (x ∷ ys))
 one_more f x xs [] some taken = absurd (omega (arith, some))
 one_more f x xs (y ∷ ys) some taken =
@@ -56,25 +63,30 @@ one_more f x xs (y ∷ ys) some taken =
     subst (λ n. TakesLast f (x ∷ xs) (take n (x ∷ y ∷ ys)) (slice_get (x ∷ y ∷ ys) n)) long
     (behind_one f x xs (without_last (y ∷ ys)) (last_item (y ∷ ys)) taken)
 
-some_headed : (header : Header) (x : PoolMessage) (xs : List PoolMessage) → 0 < length (with_header_last header (x ∷ xs))
+some_headed : (header : Header) (x : PoolMessage) (xs : List PoolMessage) →
+    0 < length (with_header_last header (x ∷ xs))
 some_headed header x [] = omega arith
 some_headed header x (y ∷ xs) = omega arith
 
 last_taken : (dir : Dir) (header : Header) (xs : List PoolMessage) → 0 < length xs →
-    TakesLast (sent_behind dir header) xs (without_last (last_behind dir header xs)) (last_item (last_behind dir header xs))
+    TakesLast (sent_behind dir header) xs (without_last (last_behind dir header xs))
+    (last_item (last_behind dir header xs))
 last_taken dir header [] some = absurd (omega (arith, some))
 last_taken Up header (x ∷ []) some = record { last = x; before = refl; made = refl }
 last_taken Down header (x ∷ []) some = record { last = x; before = refl; made = refl }
-last_taken Up header (x ∷ y ∷ xs) some = one_more (sent_behind Up header) x (y ∷ xs) (y ∷ xs) (omega arith) (last_taken Up header (y ∷ xs) (omega arith))
+last_taken Up header (x ∷ y ∷ xs) some = one_more (sent_behind Up header) x (y ∷ xs) (y ∷ xs) (omega arith)
+    (last_taken Up header (y ∷ xs) (omega arith))
 last_taken Down header (x ∷ y ∷ xs) some =
-    one_more (sent_behind Down header) x (y ∷ xs) (with_header_last header (y ∷ xs)) (some_headed header y xs) (last_taken Down header (y ∷ xs) (omega arith))
+    one_more (sent_behind Down header) x (y ∷ xs) (with_header_last header (y ∷ xs)) (some_headed header y xs)
+    (last_taken Down header (y ∷ xs) (omega arith))
 
 -- a hand that isn't empty gives it
 some_there : (xs : List PoolMessage) → (length xs == 0) ≡ false → 0 < length xs
 some_there [] some = absurd (cc)
 some_there (x ∷ xs) some = omega arith
 
-pub taken_off : (dir : Dir) (header : Header) (xs ms zs : List PoolMessage) (empty : Bool) → empty ≡ (length xs == 0) → empty ≡ false →
+pub taken_off : (dir : Dir) (header : Header) (xs ms zs : List PoolMessage) (empty : Bool) → empty ≡ (length xs == 0) →
+    empty ≡ false →
     ms ≡ last_behind dir header xs → zs ≡ without_last ms → TakesLast (sent_behind dir header) xs zs (last_item ms)
 taken_off dir header xs ms zs empty is some behind off =
     subst (λ zs. TakesLast (sent_behind dir header) xs zs (last_item ms)) (sym off)

@@ -14,7 +14,8 @@ use Rattle.file_layer.specs.Stock.{Stock, kept_refs, stock_refs, laid, StockLies
 module _ (p q : List Held) (a b : List ℕ) (moved : Moved p q a b) where
   -- One of five parts, beside the references that move.
   module _ (v w x y z : List ℕ) (covers : Covers p (a ++ (v ++ (w ++ (x ++ (y ++ z)))))) where
-    part : (k : List ℕ) → ((i : ℕ) → times i k ≤ times i v + (times i w + (times i x + (times i y + times i z)))) → Covers p (a ++ k)
+    part : (k : List ℕ) → ((i : ℕ) → times i k ≤ times i v + (times i w + (times i x + (times i y + times i z)))) →
+        Covers p (a ++ k)
     part k within = record {
       covers = λ i.
           let there = covers.covers i in let few = within i in
@@ -25,11 +26,14 @@ module _ (p q : List Held) (a b : List ℕ) (moved : Moved p q a b) where
 
   pub stock_stays : (s : Stock) → Covers p (a ++ stock_refs s) → StockLies p s → StockLies q s × (laid q s ≡ laid p s)
   stock_stays s covers lies =
-      let of = part (kept_refs s.kept) (flat_map refs s.messages) (refs_if s.arrived) (flat_map refs s.hand) (sent_refs s.sent) covers in
+      let of = part (kept_refs s.kept) (flat_map refs s.messages) (refs_if s.arrived) (flat_map refs s.hand)
+      (sent_refs s.sent) covers in
       let kept = cells_stay p q a b moved s.kept.cells (of (kept_refs s.kept) (λ i. omega arith)) lies.kept in
-      let messages = each_stays refs (Lies p) (Lies q) (seen p) (seen q) p a (message_stays p q a b moved) s.messages (of (flat_map refs s.messages) (λ i. omega arith)) lies.messages in
+      let messages = each_stays refs (Lies p) (Lies q) (seen p) (seen q) p a (message_stays p q a b moved) s.messages
+      (of (flat_map refs s.messages) (λ i. omega arith)) lies.messages in
       let arrived = any_stays p q a b moved s.arrived (of (refs_if s.arrived) (λ i. omega arith)) lies.arrived in
-      let hand = each_stays refs (Lies p) (Lies q) (seen p) (seen q) p a (message_stays p q a b moved) s.hand (of (flat_map refs s.hand) (λ i. omega arith)) lies.hand in
+      let hand = each_stays refs (Lies p) (Lies q) (seen p) (seen q) p a (message_stays p q a b moved) s.hand
+      (of (flat_map refs s.hand) (λ i. omega arith)) lies.hand in
       let sent = sent_stay p q a b moved s.sent (of (sent_refs s.sent) (λ i. omega arith)) lies.sent in (
         record { kept = kept.0; messages = messages.0; arrived = arrived.0; hand = hand.0; sent = sent.0 },
         λ k. record {

@@ -9,15 +9,18 @@ use Rattle.file_layer.specs.Ready.{stock_of, layout_of, IsReady}
 use Rattle.file_layer.specs.declared.desk.FileDesk.{FileDesk}
 
 -- A desk that is in order stays so where its tray has as many places as before, and sends behind what was sent.
-pub tray_ready : (b : Begun) (p q : List Held) (d : FileDesk) (t new : OnTray) → IsReady b p d → new ≡ t → InPool b q (stock_of (record d { tray = t })) →
-    StockFits b.layout (stock_of (record d { tray = t })) → t.messages.capacity ≡ d.tray.messages.capacity → SentGrows b.refs b.list d.first d.places t.sent →
+pub tray_ready : (b : Begun) (p q : List Held) (d : FileDesk) (t new : OnTray) → IsReady b p d → new ≡ t →
+    InPool b q (stock_of (record d { tray = t })) →
+    StockFits b.layout (stock_of (record d { tray = t })) → t.messages.capacity ≡ d.tray.messages.capacity →
+    SentGrows b.refs b.list d.first d.places t.sent →
     IsReady b q (record d { tray = new })
-tray_ready b p q d t new is same pool fits capacity sent = subst (λ t. IsReady b q (record d { tray = t })) (sym same) record {
-  pool = pool;
-  layout = (λ j. record (layout_of d) { messages = capacity j - 1 }) ∙ is.layout;
-  fits = fits;
-  numbers = is.numbers;
-  messages = subst (λ n. 1 ≤ n) (sym capacity) is.messages;
-  forms = is.forms;
-  sent = sent;
-}
+tray_ready b p q d t new is same pool fits capacity sent = subst (λ t. IsReady b q (record d { tray = t })) (sym same)
+    record {
+      pool = pool;
+      layout = (λ j. record (layout_of d) { messages = capacity j - 1 }) ∙ is.layout;
+      fits = fits;
+      numbers = is.numbers;
+      messages = subst (λ n. 1 ≤ n) (sym capacity) is.messages;
+      forms = is.forms;
+      sent = sent;
+    }

@@ -1,5 +1,6 @@
 -- A visit at a desk: it is ready where only rows lay on it, and behind the visit it is so again.
-use Rattle.std.proofs.Common.{◌≡◌, ℕ, ◌+◌, ◌≤◌, List, [], ◌∷◌, ◌++◌, Option, Some, None, map, reverse, length, flat_map, refl, sym, ap, subst, ◌∙◌, arith}
+use Rattle.std.proofs.Common.{◌≡◌, ℕ, ◌+◌, ◌≤◌, List, [], ◌∷◌, ◌++◌, Option, Some, None, map, reverse, length, flat_map}
+use Rattle.std.proofs.Common.{refl, sym, ap, subst, ◌∙◌, arith}
 use Rattle.std.specs.List.{AllByRecursion}
 use Rattle.std.proofs.Math.Seq.{take-length}
 use Rattle.std.proofs.lemmas.List.{length-map, length-reverse}
@@ -31,25 +32,40 @@ use Rattle.file_layer.proofs.Parts.{parts}
 
 -- How a visit at a desk begins.
 abbrev pub begun_at : List Held → FileDesk → Begun
-begun_at p d = record { pool = p; refs = stock_refs (stock_of d); layout = layout_of d; list = d.tray.sent.capacity; forms = forms_of d }
+begun_at p d = record {
+  pool = p;
+  refs = stock_refs (stock_of d);
+  layout = layout_of d;
+  list =
+      d.tray.sent.capacity;
+  forms = forms_of d;
+}
 
 -- The references of a desk on which there are rows, a message that arrived and what was sent.
 refs_at : (i : ℕ) (s : Stock) → s.messages ≡ [] → s.hand ≡ [] →
     times i (stock_refs s) ≡ times i (kept_refs s.kept) + (times i (refs_if s.arrived) + times i (sent_refs s.sent))
 refs_at i s messages hand =
-    let all = parts i s in let one = ap (λ ms. times i (flat_map refs ms)) messages in let two = ap (λ ms. times i (flat_map refs ms)) hand in omega arith
+    let all = parts i s in let one = ap (λ ms. times i (flat_map refs ms)) messages in let two =
+    ap (λ ms. times i (flat_map refs ms)) hand in omega arith
 
-module _ (layer : LayerTree) (p : List Held) (d : FileDesk) (rest : IsAtRest layer p d) (event : PoolEvent) (out : Buffer (Dir × PoolEvent)) (dir : Dir)
+module _ (layer : LayerTree) (p : List Held) (d : FileDesk) (rest : IsAtRest layer p d) (event : PoolEvent)
+    (out : Buffer (Dir × PoolEvent)) (dir : Dir)
     (within : length out.items ≤ out.capacity) (few : out.capacity ≤ most_sent) where
   abbrev first : FileDesk
   first = begins event.message out d
 
-  same_refs : (i : ℕ) → times i (stock_refs (stock_of first)) ≡ times i (kept_refs d.cells ++ (event_refs event ++ sent_refs out.items))
+  same_refs : (i : ℕ) → times i (stock_refs (stock_of first)) ≡
+      times i (kept_refs d.cells ++ (event_refs event ++ sent_refs out.items))
   same_refs i =
       let all = refs_at i (stock_of first) rest.messages rest.hand in
-      omega (arith, times-append i (kept_refs d.cells) (event_refs event ++ sent_refs out.items), times-append i (event_refs event) (sent_refs out.items))
+      omega (
+        arith,
+        times-append i (kept_refs d.cells) (event_refs event ++ sent_refs out.items),
+        times-append i (event_refs event) (sent_refs out.items),
+      )
 
-  pub begins_ready : EventLies p event → SentLie p out.items → Covers p (kept_refs d.cells ++ (event_refs event ++ sent_refs out.items)) →
+  pub begins_ready : EventLies p event → SentLie p out.items →
+      Covers p (kept_refs d.cells ++ (event_refs event ++ sent_refs out.items)) →
       CountsWithin most_counted p → IsReady (begun_at p first) p first
   begins_ready lies lie covers counts = record {
     pool = record {
@@ -90,10 +106,12 @@ module _ (layer : LayerTree) (p : List Held) (d : FileDesk) (rest : IsAtRest lay
     };
   }
 
-  pub begins_with_room : headers_met dir (event_seen p event) ≤ most_above → slots_needed layer dir (event_seen p event) ≤ spare p →
+  pub begins_with_room : headers_met dir (event_seen p event) ≤ most_above →
+      slots_needed layer dir (event_seen p event) ≤ spare p →
       length out.items + places_needed layer dir (event_seen p event) ≤ out.capacity →
       Suffices (room_of p first)
-      (visit_need (layout_of first) (handler_for layer dir event.kind (met dir (seen_if p event.message)).tag) (met dir (seen_if p event.message)))
+      (visit_need (layout_of first) (handler_for layer dir event.kind (met dir (seen_if p event.message)).tag)
+      (met dir (seen_if p event.message)))
   begins_with_room headers slots places =
       let m = met dir (seen_if p event.message) in
       let hand = rest.made.hand first.places dir event.kind m in
@@ -118,19 +136,22 @@ no_message : (q : List Held) (m : Option PoolMessage) → seen_if q m ≡ None �
 no_message q None none = refl
 no_message q (Some m) none = absurd (cc)
 
-empty_hand : (q : List Held) (ms : List PoolMessage) (old : List PoolMessage) (p : List Held) → old ≡ [] → reverse (map (seen q) ms) ≡ reverse (map (seen p) old) → ms ≡ []
+empty_hand : (q : List Held) (ms : List PoolMessage) (old : List PoolMessage) (p : List Held) → old ≡ [] →
+    reverse (map (seen q) ms) ≡ reverse (map (seen p) old) → ms ≡ []
 empty_hand q [] old p none same = refl
 empty_hand q (m ∷ ms) old p none same =
     let long = ap length same in
     let one = length-reverse (map (seen q) (m ∷ ms)) in let two = length-reverse (map (seen p) old) in
     let three = length-map old (seen p) in let four = ap length none in absurd (omega arith)
 
-module _ (layer : LayerTree) (p q : List Held) (d e : FileDesk) (rest : IsAtRest layer p d) (event : PoolEvent) (out : Buffer (Dir × PoolEvent))
+module _ (layer : LayerTree) (p q : List Held) (d e : FileDesk) (rest : IsAtRest layer p d) (event : PoolEvent)
+    (out : Buffer (Dir × PoolEvent))
     (ready : IsReady (begun_at p (begins event.message out d)) q e)
     (shown : Laid) (is : laid q (stock_of e) ≡ shown) (scope : shown.scope ≡ no_scope) (arrived : shown.arrived ≡ None)
     (hand : shown.hand ≡ reverse (map (seen p) d.hand.items)) where
   pub messages_gone : e.tray.messages.items ≡ []
-  messages_gone = no_messages q e.tray.messages.items (ap (λ (l : Laid). l.scope.messages) is ∙ ap (λ (l : Scope). l.messages) scope)
+  messages_gone = no_messages q e.tray.messages.items
+      (ap (λ (l : Laid). l.scope.messages) is ∙ ap (λ (l : Scope). l.messages) scope)
 
   pub arrived_gone : e.tray.arrived ≡ None
   arrived_gone = no_message q e.tray.arrived (ap (λ (l : Laid). l.arrived) is ∙ arrived)
@@ -151,20 +172,28 @@ module _ (layer : LayerTree) (p q : List Held) (d e : FileDesk) (rest : IsAtRest
         sent = empty;
         numbers_room = ready.numbers;
         messages_room = ready.messages;
-        few = subst KeepsFew (sym (ap (λ (l : Layout). record l { places = 0 }) made)) (record { rows = rest.few.rows; own = rest.few.own });
+        few = subst KeepsFew (sym (ap (λ (l : Layout). record l { places = 0 }) made))
+            (record { rows = rest.few.rows; own = rest.few.own });
         made = subst (IsMadeFor layer) (sym (ap (λ (l : Layout). record l { places = 0 }) made))
             (record { misfits = rest.made.misfits; hand = rest.made.hand });
       }
 
   pub ends_moved : Moved p q (stock_refs (stock_of (begins event.message out d))) (stock_refs (stock_of e)) →
-      Moved p q (kept_refs d.cells ++ (event_refs event ++ sent_refs out.items)) (kept_refs e.cells ++ sent_refs e.tray.sent.items)
+      Moved p q (kept_refs d.cells ++ (event_refs event ++ sent_refs out.items))
+      (kept_refs e.cells ++ sent_refs e.tray.sent.items)
   ends_moved moved =
       moved-reordered p q (stock_refs (stock_of (begins event.message out d))) (stock_refs (stock_of e))
-      (kept_refs d.cells ++ (event_refs event ++ sent_refs out.items)) (kept_refs e.cells ++ sent_refs e.tray.sent.items)
+      (kept_refs d.cells ++ (event_refs event ++ sent_refs out.items))
+      (kept_refs e.cells ++ sent_refs e.tray.sent.items)
       (λ i.
       let all = refs_at i (stock_of (begins event.message out d)) rest.messages rest.hand in
-      omega (arith, times-append i (kept_refs d.cells) (event_refs event ++ sent_refs out.items), times-append i (event_refs event) (sent_refs out.items)))
+      omega (
+        arith,
+        times-append i (kept_refs d.cells) (event_refs event ++ sent_refs out.items),
+        times-append i (event_refs event) (sent_refs out.items),
+      ))
       (λ i.
-      let all = refs_at i (stock_of e) messages_gone hand_gone in let none = ap (λ m. times i (refs_if m)) arrived_gone in
+      let all = refs_at i (stock_of e) messages_gone hand_gone in let none =
+      ap (λ m. times i (refs_if m)) arrived_gone in
       omega (arith, times-append i (kept_refs e.cells) (sent_refs e.tray.sent.items)))
       moved

@@ -11,7 +11,8 @@ use Rattle.file_layer.specs.declared.desk.FileDesk.{FileDesk}
 use Rattle.file_layer.specs.Few.{cells_few}
 use Rattle.file_layer.specs.Stays.{cells_stay}
 
-pub at_rest_stays : (layer : LayerTree) (p q : List Held) (a b : List ℕ) (d : FileDesk) → Moved p q a b → Covers p (a ++ kept_refs d.cells) → IsAtRest layer p d →
+pub at_rest_stays : (layer : LayerTree) (p q : List Held) (a b : List ℕ) (d : FileDesk) → Moved p q a b →
+    Covers p (a ++ kept_refs d.cells) → IsAtRest layer p d →
     IsAtRest layer q d × (state_of (row_seen q) d.cells ≡ state_of (row_seen p) d.cells)
 at_rest_stays layer p q a b d moved covers is =
     let stays = cells_stay p q a b moved d.cells.cells covers is.lie in (
@@ -32,5 +33,6 @@ at_rest_stays layer p q a b d moved covers is =
       λ k. record { me = d.cells.me; count = d.cells.count; ltime = d.cells.ltime; cells = stays.1 k },
     )
 
-pub keeps_few : (layer : LayerTree) (p : List Held) (d : FileDesk) → IsAtRest layer p d → length (kept_refs d.cells) ≤ 32768
+pub keeps_few : (layer : LayerTree) (p : List Held) (d : FileDesk) → IsAtRest layer p d →
+    length (kept_refs d.cells) ≤ 32768
 keeps_few layer p d is = let all = cells_few d.cells.cells is.cells in let few = is.few.rows in omega arith

@@ -23,4 +23,5 @@ with_arrived l = record l {
 
 -- So many messages more, without bytes.
 abbrev pub with_bare : ℕ → Laid → Laid
-with_bare count l = record l { scope = record { numbers = l.scope.numbers; messages = with_room count (plain []) l.scope.messages } }
+with_bare count l = record l
+    { scope = record { numbers = l.scope.numbers; messages = with_room count (plain []) l.scope.messages } }

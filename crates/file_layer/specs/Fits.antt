@@ -20,8 +20,8 @@ most_desk_rows = 32768
 abbrev pub most_own : ℕ
 most_own = 15728638
 
--- The most numbers that a scope has before its block declares any: those of the event, and the fields of a header. Of messages it has
--- one at most.
+-- The most numbers that a scope has before its block declares any: those of the event, and the fields of a header. Of
+-- messages it has one at most.
 abbrev pub most_bound : ℕ
 most_bound = 6
 
@@ -40,7 +40,8 @@ pub record QueueFits (capacity : ℕ) (rows : List PoolRow) : Type 0 where
 
 -- A cell has no more queues than there are members.
 abbrev pub CellFits : KeptCell PoolRow → Type 0
-CellFits cell = (length (queues_kept cell) ≤ most_members) × AllByRecursion (QueueFits (capacity_of cell)) (queues_kept cell)
+CellFits cell = (length (queues_kept cell) ≤ most_members) ×
+    AllByRecursion (QueueFits (capacity_of cell)) (queues_kept cell)
 
 -- How many rows cells keep at most whose queues keep so many each.
 abbrev pub rows_most : List ℕ → ℕ
@@ -59,8 +60,8 @@ pub record StockFits (l : Layout) (s : Stock) : Type 0 where
   pub sent : length s.sent ≤ l.places
   pub few : rows_most l.rows + (l.messages + (2 + l.hand)) ≤ most_own
 
--- What is sent is added to a list that keeps so many: so many events were there before, whose references are among those of the beginning, and
--- there may be so many, which are no more than any list of events has.
+-- What is sent is added to a list that keeps so many: so many events were there before, whose references are among
+-- those of the beginning, and there may be so many, which are no more than any list of events has.
 pub record SentGrows (from : List ℕ) (list first places : ℕ) (sent : Buffer (Dir × PoolEvent)) : Type 0 where
   pub kept : sent.capacity ≡ list
   pub before : first ≤ length sent.items

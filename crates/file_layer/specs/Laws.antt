@@ -1,4 +1,5 @@
--- What callers of a desk use: the messages in hand and the places left, and the events that were sent and the places left.
+-- What callers of a desk use: the messages in hand and the places left, and the events that were sent and the places
+-- left.
 use Rattle.std.specs.Prelude.{◌≡◌, ◌+◌, List, map, length}
 use Rattle.std.proofs.Common.{ap, arith}
 use Rattle.std.proofs.lemmas.List.{length-map, length-reverse}
@@ -14,12 +15,15 @@ use Rattle.file_layer.specs.Stock.{laid}
 use Rattle.file_layer.specs.Ready.{stock_of, room_of, IsReady}
 use Rattle.file_layer.specs.declared.desk.FileDesk.{FileDesk}
 
-pub hand_left : (b : Begun) (p : List Held) (d : FileDesk) → IsReady b p d → (room_of p d).hand + length (laid p (stock_of d)).hand ≡ b.layout.hand
+pub hand_left : (b : Begun) (p : List Held) (d : FileDesk) → IsReady b p d →
+    (room_of p d).hand + length (laid p (stock_of d)).hand ≡ b.layout.hand
 hand_left b p d is =
     let made = ap (λ (l : Layout). l.hand) is.layout in let few = is.fits.hand in
-    let turned = length-reverse (map (seen p) d.hand.items) in let shown = length-map d.hand.items (seen p) in omega arith
+    let turned = length-reverse (map (seen p) d.hand.items) in let shown = length-map d.hand.items (seen p) in
+    omega arith
 
-pub places_left : (b : Begun) (p : List Held) (d : FileDesk) → IsReady b p d → (room_of p d).places + length (laid p (stock_of d)).sent ≡ b.layout.places
+pub places_left : (b : Begun) (p : List Held) (d : FileDesk) → IsReady b p d →
+    (room_of p d).places + length (laid p (stock_of d)).sent ≡ b.layout.places
 places_left b p d is =
     let made = ap (λ (l : Layout). l.places) is.layout in let few = is.fits.sent in
     let shown : length (sent_seen p d.tray.sent.items) ≡ length d.tray.sent.items =

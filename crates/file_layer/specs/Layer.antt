@@ -38,8 +38,8 @@ most_of s = s.desk.cells.most
 unfoldable pub taken_by : FileLayer → ℕ
 taken_by s = s.taken
 
--- The layer at a place of a stack has seen no event, at the member of rank `me` of `count`: it is in order in any pool, refers to nothing, and its
--- state is that of the layer at first.
+-- The layer at a place of a stack has seen no event, at the member of rank `me` of `count`: it is in order in any pool,
+-- refers to nothing, and its state is that of the layer at first.
 pub record IsBegun (stack : List LayerTree) (at me count ltime : ℕ) (s : FileLayer) : Type 0 where
   pub place : place_of s ≡ at
   pub tree : tree_of s ≡ slice_index_or stack at no_layer

@@ -3,7 +3,8 @@ use Rattle.std.specs.Prelude.{◌≡◌, ℕ, ◌+◌, ◌-◌, true, List, [], 
 use Rattle.slot_pool.specs.Held.{Held}
 use Rattle.slot_pool.specs.Times.{times}
 use Rattle.msg_core.specs.Chain.{Content}
-use Rattle.layer_mean.specs.State.{State, number_at, with_number, has_room, rows_at, row_at, with_rows, with_row, without_front}
+use Rattle.layer_mean.specs.State.{State, number_at, with_number, has_room, rows_at, row_at, with_rows, with_row}
+use Rattle.layer_mean.specs.State.{without_front}
 use Rattle.layer_mean.specs.declared.run.Row.{Row}
 use Rattle.cell_store.specs.Kept.{kept_capacity}
 use Rattle.pool_message.specs.Seen.{LiesIf, row_refs}
@@ -13,7 +14,8 @@ use Rattle.file_layer.specs.Fits.{IsShortIf}
 use Rattle.file_layer.specs.Layer.{place_of, tree_of, state_in, most_of, taken_by}
 use Rattle.file_layer.specs.declared.layer.FileLayer.{FileLayer}
 
--- The last row of queue i of cell c, where there is one; a state without it, and one with a row in front of those of a queue.
+-- The last row of queue i of cell c, where there is one; a state without it, and one with a row in front of those of a
+-- queue.
 abbrev pub last_row_at : State → ℕ → ℕ → Option Row
 last_row_at s c i = row_at s c i (length (rows_at s c i) - 1)
 
@@ -36,7 +38,8 @@ capacity_at s c = kept_capacity s.desk.cells c
 abbrev pub HasRoom : FileLayer → ℕ → ℕ → Type 0
 HasRoom s c i = (p : List Held) → has_room (state_in p s) c i (capacity_at s c) ≡ true
 
--- A row may have this message, or none: it lies in the pool, and has no more headers than there are places above a layer.
+-- A row may have this message, or none: it lies in the pool, and has no more headers than there are places above a
+-- layer.
 pub record CanBeOwn (p : List Held) (m : Option PoolMessage) : Type 0 where
   pub lies : LiesIf p m
   pub short : IsShortIf m
@@ -58,9 +61,11 @@ pub record IsAsBefore (old new : FileLayer) : Type 0 where
   pub taken : taken_by new ≡ taken_by old
   pub capacity : (c : ℕ) → capacity_at new c ≡ capacity_at old c
 
--- A number that is set as it was, a row that is put back in front, and one that is taken back leave the state that was before.
+-- A number that is set as it was, a row that is put back in front, and one that is taken back leave the state that was
+-- before.
 pub record OwnChangesAreUndone : Type 0 where
   pub number : (s : State) (c i v : ℕ) → with_number (with_number s c i v) c i (number_at s c i) ≡ s
-  pub front : (s : State) (c i : ℕ) (row : Row) → row_at s c i 0 ≡ Some row → with_front_row (without_front s c i) c i row ≡ s
+  pub front : (s : State) (c i : ℕ) (row : Row) → row_at s c i 0 ≡ Some row →
+      with_front_row (without_front s c i) c i row ≡ s
   pub back : (s : State) (c i capacity : ℕ) (row : Row) → has_room s c i capacity ≡ true →
       (last_row_at (with_row s c i row) c i ≡ Some row) × (without_back (with_row s c i row) c i ≡ s)

@@ -10,7 +10,8 @@ use Rattle.file_layer.specs.Keeps.{cells_keep}
 use Rattle.file_layer.specs.Layer.{refs_of, state_in, IsInOrder}
 use Rattle.file_layer.specs.declared.layer.FileLayer.{FileLayer}
 
-pub layer_stays : (p q : List Held) (a b : List ℕ) (s : FileLayer) → Moved p q a b → Covers p (a ++ refs_of s) → IsInOrder p s →
+pub layer_stays : (p q : List Held) (a b : List ℕ) (s : FileLayer) → Moved p q a b → Covers p (a ++ refs_of s) →
+    IsInOrder p s →
     IsInOrder q s × (state_in q s ≡ state_in p s)
 unfolding refs_of state_in IsInOrder
 layer_stays p q a b s moved covers is = at_rest_stays (layer_tree (rc_value s.layer)) p q a b s.desk moved covers is

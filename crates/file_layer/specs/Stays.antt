@@ -18,7 +18,8 @@ module _ (p q : List Held) (a b : List ℕ) (moved : Moved p q a b) where
 
   queues_stay : (qs : List (List PoolRow)) → Covers p (a ++ queues_refs qs) → QueuesLie p qs →
       QueuesLie q qs × (map (map (row_seen q)) qs ≡ map (map (row_seen p)) qs)
-  queues_stay = each_stays (flat_map row_refs) (AllByRecursion (RowLies p)) (AllByRecursion (RowLies q)) (map (row_seen p)) (map (row_seen q)) p a queue_stays
+  queues_stay = each_stays (flat_map row_refs) (AllByRecursion (RowLies p)) (AllByRecursion (RowLies q))
+      (map (row_seen p)) (map (row_seen q)) p a queue_stays
 
   cell_stays : (cell : KeptCell PoolRow) → Covers p (a ++ cell_refs cell) → CellLies p cell →
       CellLies q cell × (contents_seen (row_seen q) cell ≡ contents_seen (row_seen p) cell)
@@ -26,6 +27,9 @@ module _ (p q : List Held) (a b : List ℕ) (moved : Moved p q a b) where
   cell_stays (queues shape capacity qs) covers lies =
       let kept = queues_stay qs covers lies in (kept.0, ap (λ seen. state.queues seen) kept.1)
 
-  pub cells_stay : (cells : List (KeptCell PoolRow)) → Covers p (a ++ flat_map cell_refs cells) → AllByRecursion (CellLies p) cells →
-      AllByRecursion (CellLies q) cells × (map (contents_seen (row_seen q)) cells ≡ map (contents_seen (row_seen p)) cells)
-  cells_stay = each_stays cell_refs (CellLies p) (CellLies q) (contents_seen (row_seen p)) (contents_seen (row_seen q)) p a cell_stays
+  pub cells_stay : (cells : List (KeptCell PoolRow)) → Covers p (a ++ flat_map cell_refs cells) →
+      AllByRecursion (CellLies p) cells →
+      AllByRecursion (CellLies q) cells ×
+      (map (contents_seen (row_seen q)) cells ≡ map (contents_seen (row_seen p)) cells)
+  cells_stay = each_stays cell_refs (CellLies p) (CellLies q) (contents_seen (row_seen p)) (contents_seen (row_seen q))
+      p a cell_stays

@@ -11,8 +11,8 @@ use Rattle.pool_message.specs.declared.message.PoolMessage.{PoolMessage}
 use Rattle.pool_message.specs.declared.row.PoolRow.{PoolRow}
 use Rattle.layer_desk.specs.Laid.{Laid}
 
--- The state's cells; the numbers and the messages of the scope; the message that arrived; the messages in hand, the newest last; and
--- what was sent.
+-- The state's cells; the numbers and the messages of the scope; the message that arrived; the messages in hand, the
+-- newest last; and what was sent.
 pub record Stock : Type 0 where
   pub kept : Kept PoolRow
   pub numbers : List ℕ
@@ -32,7 +32,8 @@ abbrev pub kept_refs : Kept PoolRow → List ℕ
 kept_refs kept = flat_map cell_refs kept.cells
 
 abbrev pub stock_refs : Stock → List ℕ
-stock_refs s = kept_refs s.kept ++ (flat_map refs s.messages ++ (refs_if s.arrived ++ (flat_map refs s.hand ++ sent_refs s.sent)))
+stock_refs s = kept_refs s.kept ++
+    (flat_map refs s.messages ++ (refs_if s.arrived ++ (flat_map refs s.hand ++ sent_refs s.sent)))
 
 -- What lies on the desk, with the bodies that the pool holds.
 abbrev pub laid : List Held → Stock → Laid

@@ -15,8 +15,9 @@ pub(crate) const MOST_DESK_ROWS: u32 = 32_768;
 /// The most rows, messages of the scope and messages in hand of a desk.
 pub(crate) const MOST_OWN: u32 = 15_728_638;
 
-/// What a layer of a member works at: its cells, the numbers of the scope of the handler's block, a tray with the messages of that scope, the
-/// message that arrived and what it sends, and the messages in hand, the newest last. Bodies of messages stand in the pool beside it.
+/// What a layer of a member works at: its cells, the numbers of the scope of the handler's block, a tray with the
+/// messages of that scope, the message that arrived and what it sends, and the messages in hand, the newest last.
+/// Bodies of messages stand in the pool beside it.
 pub struct FileDesk {
     pub(crate) cells: Cells<PoolRow>,
     pub(crate) numbers: Vec<u32>,

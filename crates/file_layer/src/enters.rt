@@ -71,7 +71,8 @@ fn bind_numbers<K: Start>(
     requires ready { IsReady K.begun pool.now desk.old }
     requires room { count + most_bound ≤ vec_capacity desk.old.numbers }
     ensures ready { IsReady K.begun pool.now desk.new }
-    ensures shown { laid pool.now (stock_of desk.new) ≡ with_numbers (entry_numbers envelope fields.now count) (laid pool.now (stock_of desk.old)) }
+    ensures shown { laid pool.now (stock_of desk.new) ≡ with_numbers (entry_numbers envelope fields.now count)
+        (laid pool.now (stock_of desk.old)) }
     ensures free { room_of pool.now desk.new ≡ room_of pool.now desk.old }
     ensures messages { desk.new.tray.messages ≡ desk.old.tray.messages }
     ensures arrived { desk.new.tray.arrived ≡ desk.old.tray.arrived }
@@ -115,9 +116,11 @@ pub(crate) fn enter<K: Start>(
     messages: u8,
 )
     requires ready { IsReady K.begun pool.old desk.old }
-    requires room { Suffices (room_of pool.old desk.old) (entry_need K.begun.layout numbers messages (laid pool.old (stock_of desk.old)).arrived) }
+    requires room { Suffices (room_of pool.old desk.old)
+        (entry_need K.begun.layout numbers messages (laid pool.old (stock_of desk.old)).arrived) }
     ensures ready { IsReady K.begun pool.new desk.new }
-    ensures shown { laid pool.new (stock_of desk.new) ≡ enters envelope fields.now numbers messages (laid pool.old (stock_of desk.old)) }
+    ensures shown { laid pool.new (stock_of desk.new) ≡
+        enters envelope fields.now numbers messages (laid pool.old (stock_of desk.old)) }
     ensures spent { SpentAtMost (room_of pool.old desk.old) (room_of pool.new desk.new)
         (entry_need K.begun.layout numbers messages (laid pool.old (stock_of desk.old)).arrived) }
 {

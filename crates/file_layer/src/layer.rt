@@ -37,9 +37,9 @@ impl FileLayer {
     ghost use Rattle.file_layer.specs.Layer.{refs_of, state_in, most_of, IsInOrder, BeginsAgain};
     ghost use Rattle.file_layer.specs.Making.{making, Makes};
 
-    /// The layer at a place of the maker's stack before its first event, at the member of rank `me` of `count`. All memory is taken
-    /// here. A layer whose rows or hand would be more than a desk may have is answered as want of memory; the language's limits never
-    /// come to it for rows.
+    /// The layer at a place of the maker's stack before its first event, at the member of rank `me` of `count`. All
+    /// memory is taken here. A layer whose rows or hand would be more than a desk may have is answered as want of
+    /// memory; the language's limits never come to it for rows.
     #[tactic(auto, unfolding(crate::specs::Making::making))]
     pub fn fresh(
         alloc: Global,
@@ -67,7 +67,8 @@ impl FileLayer {
         })
     }
 
-    /// Begins again, at the member of rank `me` of `count`, of whom there are no more than there is room for. Its rows go back.
+    /// Begins again, at the member of rank `me` of `count`, of whom there are no more than there is room for. Its rows
+    /// go back.
     #[tactic(auto, unfolding(crate::specs::Layer::refs_of, crate::specs::Layer::most_of, crate::specs::Layer::IsInOrder))]
     pub fn reset(&mut self, pool: &mut Pool, me: u32, count: u32, ltime: u32)
         requires order { IsInOrder pool.old self.old }
@@ -139,7 +140,8 @@ impl FileLayer {
     /// A row of a queue, the front being 0.
     #[tactic(auto, unfolding(crate::specs::Layer::state_in, crate::specs::Layer::IsInOrder))]
     pub fn row(&self, cell: u8, index: u32, row: u32) -> Option<&PoolRow>
-        ensures row { (p : List Held) → option_map (λ r. row_seen p r.now) result ≡ row_at (state_in p self.now) cell index row }
+        ensures row { (p : List Held) → option_map (λ r. row_seen p r.now) result ≡
+            row_at (state_in p self.now) cell index row }
         ensures lies { (p : List Held) → IsInOrder p self.now → IfSome result (λ r. RowLies p r.now) }
     {
         self.desk.cells.row(cell, index, row)

@@ -20,7 +20,8 @@ pub(crate) fn forget_messages<K: Start>(desk: &mut FileDesk, pool: &mut Pool)
     ensures shown { laid pool.new (stock_of desk.new) ≡ without_messages (laid pool.old (stock_of desk.old)) }
     ensures spent { SpentAtMost (room_of pool.old desk.old) (room_of pool.new desk.new) nothing_needed }
     ensures empty { desk.new.tray.messages.items ≡ [] }
-    ensures places { (desk.new.tray.messages.capacity ≡ desk.old.tray.messages.capacity) × (desk.new.numbers ≡ desk.old.numbers) × (desk.new.tray.arrived ≡ desk.old.tray.arrived) }
+    ensures places { (desk.new.tray.messages.capacity ≡ desk.old.tray.messages.capacity) ×
+        (desk.new.numbers ≡ desk.old.numbers) × (desk.new.tray.arrived ≡ desk.old.tray.arrived) }
 {
     desk.tray.clear_messages(pool);
 }

@@ -1,4 +1,5 @@
-//! The desk at which a layer of a file works: its cells, its scope, the messages in hand and what it sends, with bodies in a pool.
+//! The desk at which a layer of a file works: its cells, its scope, the messages in hand and what it sends, with bodies
+//! in a pool.
 #![tactic(auto)]
 
 mod at_desk;

@@ -28,7 +28,8 @@ pub(crate) fn lift<K: Start>(desk: &mut FileDesk, pool: &mut Pool, slot: u8) -> 
     requires { IsReady K.begun pool.old desk.old }
     ensures ready { IsReady K.begun pool.new desk.new }
     ensures shown { OnOk result (laid pool.new (stock_of desk.new) ≡
-        lifted (slice_index_or (laid pool.old (stock_of desk.old)).scope.messages slot (plain [])) (laid pool.old (stock_of desk.old))) }
+        lifted (slice_index_or (laid pool.old (stock_of desk.old)).scope.messages slot (plain []))
+        (laid pool.old (stock_of desk.old))) }
     ensures spent { Lifted (room_of pool.old desk.old) (room_of pool.new desk.new) one_in_hand result }
 {
     if desk.hand.len() >= desk.hand.capacity() {
@@ -49,7 +50,8 @@ pub(crate) fn lift<K: Start>(desk: &mut FileDesk, pool: &mut Pool, slot: u8) -> 
 pub(crate) fn lift_nothing<K: Start>(desk: &mut FileDesk, pool: &Pool) -> Result<(), NoRoom>
     requires { IsReady K.begun pool.now desk.old }
     ensures ready { IsReady K.begun pool.now desk.new }
-    ensures shown { OnOk result (laid pool.now (stock_of desk.new) ≡ lifted (plain []) (laid pool.now (stock_of desk.old))) }
+    ensures shown { OnOk result
+        (laid pool.now (stock_of desk.new) ≡ lifted (plain []) (laid pool.now (stock_of desk.old))) }
     ensures spent { Lifted (room_of pool.now desk.old) (room_of pool.now desk.new) one_in_hand result }
 {
     if desk.hand.len() >= desk.hand.capacity() {
@@ -62,7 +64,8 @@ pub(crate) fn lift_nothing<K: Start>(desk: &mut FileDesk, pool: &Pool) -> Result
 pub(crate) fn cut<K: Start>(desk: &mut FileDesk, pool: &Pool, from: u32, count: u32)
     requires { IsReady K.begun pool.now desk.old }
     ensures ready { IsReady K.begun pool.now desk.new }
-    ensures shown { laid pool.now (stock_of desk.new) ≡ changed (λ m. parts.cut m from count) (laid pool.now (stock_of desk.old)) }
+    ensures shown { laid pool.now (stock_of desk.new) ≡
+        changed (λ m. parts.cut m from count) (laid pool.now (stock_of desk.old)) }
     ensures free { room_of pool.now desk.new ≡ room_of pool.now desk.old }
 {
     if let Some(message) = take_last(&mut desk.hand) {
@@ -73,7 +76,8 @@ pub(crate) fn cut<K: Start>(desk: &mut FileDesk, pool: &Pool, from: u32, count: 
 pub(crate) fn tail<K: Start>(desk: &mut FileDesk, pool: &Pool, from: u32)
     requires { IsReady K.begun pool.now desk.old }
     ensures ready { IsReady K.begun pool.now desk.new }
-    ensures shown { laid pool.now (stock_of desk.new) ≡ changed (λ m. parts.tail m from) (laid pool.now (stock_of desk.old)) }
+    ensures shown { laid pool.now (stock_of desk.new) ≡
+        changed (λ m. parts.tail m from) (laid pool.now (stock_of desk.old)) }
     ensures free { room_of pool.now desk.new ≡ room_of pool.now desk.old }
 {
     if let Some(message) = take_last(&mut desk.hand) {

@@ -32,7 +32,9 @@ struct Lists {
 
 impl Lists {
     fn fresh(alloc: Global, messages: usize, hand: usize) -> Result<Lists, Memory>
-        ensures { IfOk result (λ l. (l.tray ≡ record { arrived = None; messages = buffer [] messages; sent = buffer [] 0 }) × (l.hand ≡ buffer [] hand)) }
+        ensures { IfOk result
+            (λ l. (l.tray ≡ record { arrived = None; messages = buffer [] messages; sent = buffer [] 0 }) ×
+            (l.hand ≡ buffer [] hand)) }
     {
         let tray = Tray::fresh(alloc, messages)?;
         match Messages::fresh(alloc, hand) {
@@ -45,7 +47,8 @@ impl Lists {
     }
 
     fn close(self)
-        requires { (self.tray.arrived ≡ None) × (self.tray.messages.items ≡ []) × (self.tray.sent.items ≡ []) × (self.hand.items ≡ []) }
+        requires { (self.tray.arrived ≡ None) × (self.tray.messages.items ≡ []) × (self.tray.sent.items ≡ []) ×
+            (self.hand.items ≡ []) }
     {
         let Lists { tray, hand } = self;
         tray.close();

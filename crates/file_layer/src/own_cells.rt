@@ -1,5 +1,5 @@
-//! A layer's own cells, as a caller changes them and undoes its changes. A row comes and goes with its message and the reference of that, so
-//! no slot and no memory is taken.
+//! A layer's own cells, as a caller changes them and undoes its changes. A row comes and goes with its message and the
+//! reference of that, so no slot and no memory is taken.
 
 ghost use Rattle.file_layer.specs.OwnCells.{OwnChangesAreUndone};
 
@@ -17,13 +17,15 @@ impl FileLayer {
     ghost use Rattle.pool_message.specs.Moves.{CanKeep, Kept};
     ghost use Rattle.pool_message.specs.Seen.{seen, refs_if, row_refs, row_seen};
     ghost use Rattle.file_layer.specs.Layer.{tree_of, refs_of, state_in, IsInOrder};
-    ghost use Rattle.file_layer.specs.OwnCells.{last_row_at, without_back, with_front_row, message_if, capacity_at, HasRoom, CanBeOwn, row_refs_if, AreTogether, IsAsBefore};
+    ghost use Rattle.file_layer.specs.OwnCells.{last_row_at, without_back, with_front_row, message_if, capacity_at};
+    ghost use Rattle.file_layer.specs.OwnCells.{HasRoom, CanBeOwn, row_refs_if, AreTogether, IsAsBefore};
 
     /// How many rows each queue of a cell keeps; 0 where it has none.
     #[tactic(auto, unfolding(crate::specs::OwnCells::capacity_at))]
     pub fn capacity(&self, cell: u8) -> u8
         ensures capacity { result ≡ capacity_at self.now cell }
-        ensures layer { (p : List Held) → IsInOrder p self.now → result ≡ slice_index (map (λ c. capacity_in c.form) (tree_of self.now).cells) cell }
+        ensures layer { (p : List Held) → IsInOrder p self.now →
+            result ≡ slice_index (map (λ c. capacity_in c.form) (tree_of self.now).cells) cell }
     {
         self.desk.cells.capacity(cell)
     }
@@ -61,7 +63,8 @@ impl FileLayer {
     pub fn held(&self, pool: &mut Pool, cell: u8, index: u32, row: u32) -> Option<PoolMessage>
         requires there { Covers pool.old (refs_of self.now) }
         requires room { CanKeep pool.old (refs_of self.now) }
-        ensures same { (p : List Held) → option_map (seen p) result ≡ message_if (row_at (state_in p self.now) cell index row) }
+        ensures same { (p : List Held) → option_map (seen p) result ≡
+            message_if (row_at (state_in p self.now) cell index row) }
         ensures own { (p : List Held) → IsInOrder p self.now → CanBeOwn p result }
         ensures among { (i : ℕ) → times i (refs_if result) ≤ times i (refs_of self.now) }
         ensures kept { Kept pool.old pool.new (refs_if result) }
@@ -75,7 +78,8 @@ impl FileLayer {
     /// Puts a row at the back of a queue.
     pub fn push(&mut self, cell: u8, index: u32, row: PoolRow)
         requires room { HasRoom self.old cell index }
-        ensures state { (p : List Held) → state_in p self.new ≡ with_row (state_in p self.old) cell index (row_seen p row) }
+        ensures state { (p : List Held) →
+            state_in p self.new ≡ with_row (state_in p self.old) cell index (row_seen p row) }
         ensures refs { AreTogether (refs_of self.new) (row_refs row) (refs_of self.old) }
         ensures order { (p : List Held) → IsInOrder p self.old → CanBeOwn p row.message → IsInOrder p self.new }
         ensures others { IsAsBefore self.old self.new }
@@ -86,7 +90,8 @@ impl FileLayer {
     /// Puts a row in front of a queue.
     pub fn put_front(&mut self, cell: u8, index: u32, row: PoolRow)
         requires room { HasRoom self.old cell index }
-        ensures state { (p : List Held) → state_in p self.new ≡ with_front_row (state_in p self.old) cell index (row_seen p row) }
+        ensures state { (p : List Held) →
+            state_in p self.new ≡ with_front_row (state_in p self.old) cell index (row_seen p row) }
         ensures refs { AreTogether (refs_of self.new) (row_refs row) (refs_of self.old) }
         ensures order { (p : List Held) → IsInOrder p self.old → CanBeOwn p row.message → IsInOrder p self.new }
         ensures others { IsAsBefore self.old self.new }
@@ -121,7 +126,8 @@ impl FileLayer {
     }
 }
 
-/// A number that is set as it was, a row that is put back in front, and one that is taken back leave the state that was before.
+/// A number that is set as it was, a row that is put back in front, and one that is taken back leave the state that was
+/// before.
 pub fn own_changes_are_undone()
     ensures { OwnChangesAreUndone }
 {}

@@ -26,8 +26,11 @@ pub(crate) fn push<K: Start>(
     requires ready { IsReady K.begun pool.now desk.old }
     requires room { has_room (laid pool.now (stock_of desk.old)).state cell index capacity ≡ true }
     ensures ready { IsReady K.begun pool.now desk.new }
-    ensures shown { OnOk result (laid pool.now (stock_of desk.new) ≡ queued cell index (record { numbers = numbers; message = None }) (laid pool.now (stock_of desk.old))) }
-    ensures spent { Spent (room_of pool.now desk.old) (room_of pool.now desk.new) (room_need K.begun.layout cell capacity) result }
+    ensures shown { OnOk result
+        (laid pool.now (stock_of desk.new) ≡ queued cell index (record { numbers = numbers; message = None })
+        (laid pool.now (stock_of desk.old))) }
+    ensures spent { Spent (room_of pool.now desk.old) (room_of pool.now desk.new)
+        (room_need K.begun.layout cell capacity) result }
 {
     if desk.cells.capacity(cell) < capacity {
         return Err(NoRoom::Misfit);
@@ -51,8 +54,10 @@ pub(crate) fn push_first<K: Start>(
     requires ready { IsReady K.begun pool.now desk.old }
     requires room { has_room (laid pool.now (stock_of desk.old)).state cell index capacity ≡ true }
     ensures ready { IsReady K.begun pool.now desk.new }
-    ensures shown { OnOk result (laid pool.now (stock_of desk.new) ≡ queued_first cell index numbers (laid pool.now (stock_of desk.old))) }
-    ensures spent { Spent (room_of pool.now desk.old) (room_of pool.now desk.new) (room_need K.begun.layout cell capacity) result }
+    ensures shown { OnOk result
+        (laid pool.now (stock_of desk.new) ≡ queued_first cell index numbers (laid pool.now (stock_of desk.old))) }
+    ensures spent { Spent (room_of pool.now desk.old) (room_of pool.now desk.new)
+        (room_need K.begun.layout cell capacity) result }
 {
     if desk.cells.capacity(cell) < capacity {
         return Err(NoRoom::Misfit);

@@ -55,7 +55,8 @@ pub(crate) fn number<K: Start>(desk: &FileDesk, pool: &Pool, cell: u8, index: u3
 #[tactic(auto, using(crate::proofs::Queues::number_seen))]
 pub(crate) fn square<K: Start>(desk: &FileDesk, pool: &Pool, cell: u8, row: u32, column: u32) -> u32
     requires { IsReady K.begun pool.now desk.now }
-    ensures { result ≡ number_at (laid pool.now (stock_of desk.now)).state cell (flat_index (laid pool.now (stock_of desk.now)).state.count row column) }
+    ensures { result ≡ number_at (laid pool.now (stock_of desk.now)).state cell
+        (flat_index (laid pool.now (stock_of desk.now)).state.count row column) }
 {
     desk.cells.square(cell, row, column)
 }
@@ -118,7 +119,8 @@ pub(crate) fn row_size<K: Start>(
     carried: Carried,
 ) -> u32
     requires { IsReady K.begun pool.now desk.now }
-    ensures { result ≡ length (message_in (carried_tree carried) (row_at (laid pool.now (stock_of desk.now)).state cell index row)).body }
+    ensures { result ≡ length
+        (message_in (carried_tree carried) (row_at (laid pool.now (stock_of desk.now)).state cell index row)).body }
 {
     match desk.cells.row(cell, index, row) {
         Some(row) => match &row.message {

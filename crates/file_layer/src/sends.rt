@@ -59,7 +59,9 @@ pub(crate) fn send<K: Start>(
 ) -> Result<(), NoRoom>
     requires { IsReady K.begun pool.now desk.old }
     ensures ready { IsReady K.begun pool.now desk.new }
-    ensures shown { OnOk result (laid pool.now (stock_of desk.new) ≡ sends direction (event_in envelope None) (laid pool.now (stock_of desk.old))) }
+    ensures shown { OnOk result
+        (laid pool.now (stock_of desk.new) ≡
+        sends direction (event_in envelope None) (laid pool.now (stock_of desk.old))) }
     ensures spent { Spent (room_of pool.now desk.old) (room_of pool.now desk.new) one_place result }
 {
     if desk.tray.len() >= desk.places {
@@ -78,7 +80,8 @@ pub(crate) fn send_first<K: Start>(
 ) -> Result<(), NoRoom>
     requires { IsReady K.begun pool.now desk.old }
     ensures ready { IsReady K.begun pool.now desk.new }
-    ensures shown { OnOk result (laid pool.now (stock_of desk.new) ≡ sends_first direction envelope header (laid pool.now (stock_of desk.old))) }
+    ensures shown { OnOk result
+        (laid pool.now (stock_of desk.new) ≡ sends_first direction envelope header (laid pool.now (stock_of desk.old))) }
     ensures spent { Spent (room_of pool.now desk.old) (room_of pool.now desk.new) one_place result }
 {
     if desk.tray.len() >= desk.places {
@@ -132,7 +135,8 @@ fn send_missing<K: Start>(
     requires none { slice_get desk.old.tray.messages.items slot ≡ None }
     ensures ready { IsReady K.begun pool.now desk.new }
     ensures shown { laid pool.now (stock_of desk.new) ≡ sends direction
-        (event_in envelope (Some (sent_as direction header (slice_index_or (laid pool.now (stock_of desk.old)).scope.messages slot (plain [])))))
+        (event_in envelope (Some
+        (sent_as direction header (slice_index_or (laid pool.now (stock_of desk.old)).scope.messages slot (plain [])))))
         (laid pool.now (stock_of desk.old)) }
     ensures spent { SpentAtMost (room_of pool.now desk.old) (room_of pool.now desk.new) one_place }
 {
@@ -150,7 +154,8 @@ pub(crate) fn send_local<K: Start>(
     requires { IsReady K.begun pool.old desk.old }
     ensures ready { IsReady K.begun pool.new desk.new }
     ensures shown { OnOk result (laid pool.new (stock_of desk.new) ≡ sends direction
-        (event_in envelope (Some (sent_as direction header (slice_index_or (laid pool.old (stock_of desk.old)).scope.messages slot (plain [])))))
+        (event_in envelope (Some
+        (sent_as direction header (slice_index_or (laid pool.old (stock_of desk.old)).scope.messages slot (plain [])))))
         (laid pool.old (stock_of desk.old))) }
     ensures spent { Spent (room_of pool.old desk.old) (room_of pool.new desk.new) one_place result }
 {
@@ -185,7 +190,8 @@ fn send_last_local<K: Start>(
     requires some { slot < length desk.old.tray.messages.items }
     ensures ready { IsReady K.begun pool.new desk.new }
     ensures shown { laid pool.new (stock_of desk.new) ≡ without_messages (sends direction
-        (event_in envelope (Some (sent_as direction header (slice_index_or (laid pool.old (stock_of desk.old)).scope.messages slot (plain [])))))
+        (event_in envelope (Some
+        (sent_as direction header (slice_index_or (laid pool.old (stock_of desk.old)).scope.messages slot (plain [])))))
         (laid pool.old (stock_of desk.old))) }
     ensures spent { SpentAtMost (room_of pool.old desk.old) (room_of pool.new desk.new) one_place }
 {
@@ -204,7 +210,8 @@ pub(crate) fn send_local_and_leave<K: Start>(
     requires { IsReady K.begun pool.old desk.old }
     ensures ready { IsReady K.begun pool.new desk.new }
     ensures shown { OnOk result (laid pool.new (stock_of desk.new) ≡ left (sends direction
-        (event_in envelope (Some (sent_as direction header (slice_index_or (laid pool.old (stock_of desk.old)).scope.messages slot (plain [])))))
+        (event_in envelope (Some
+        (sent_as direction header (slice_index_or (laid pool.old (stock_of desk.old)).scope.messages slot (plain [])))))
         (laid pool.old (stock_of desk.old)))) }
     ensures spent { Spent (room_of pool.old desk.old) (room_of pool.new desk.new) one_place result }
 {
@@ -252,8 +259,10 @@ pub(crate) fn pass_on<K: Start>(
 ) -> Result<(), NoRoom>
     requires { IsReady K.begun pool.now desk.old }
     ensures ready { IsReady K.begun pool.now desk.new }
-    ensures shown { OnOk result (laid pool.now (stock_of desk.new) ≡ passes_on direction envelope header (laid pool.now (stock_of desk.old))) }
-    ensures spent { Spent (room_of pool.now desk.old) (room_of pool.now desk.new) (passing_need (laid pool.now (stock_of desk.old)).arrived) result }
+    ensures shown { OnOk result
+        (laid pool.now (stock_of desk.new) ≡ passes_on direction envelope header (laid pool.now (stock_of desk.old))) }
+    ensures spent { Spent (room_of pool.now desk.old) (room_of pool.now desk.new)
+        (passing_need (laid pool.now (stock_of desk.old)).arrived) result }
 {
     if desk.tray.len() >= desk.places {
         return Err(NoRoom::Place);

@@ -14,7 +14,8 @@ ghost use Rattle.pool_message.specs.Moves.{Returned};
 ghost use Rattle.pool_message.specs.Seen.{refs};
 ghost use Rattle.file_layer.specs.Stock.{laid};
 ghost use Rattle.file_layer.specs.Ready.{stock_of, room_of, IsReady};
-ghost use Rattle.file_layer.specs.Taken.{message_of, CanStandIn, JudgesBlank, JudgesWidth, JudgesTaken, StandsIn, message_left, numbers_filled};
+ghost use Rattle.file_layer.specs.Taken.{message_of, CanStandIn, JudgesBlank, JudgesWidth, JudgesTaken, StandsIn};
+ghost use Rattle.file_layer.specs.Taken.{message_left, numbers_filled};
 
 use crate::desk::{FileDesk, MOST_ABOVE};
 use cell_store::Cells;
@@ -79,8 +80,10 @@ pub(crate) fn lift_row<K: Start>(
     requires { IsReady K.begun pool.old desk.old }
     ensures ready { IsReady K.begun pool.new desk.new }
     ensures shown { OnOk result (laid pool.new (stock_of desk.new) ≡
-        lifted (message_in (carried_tree carried) (row_at (laid pool.old (stock_of desk.old)).state cell index row)) (laid pool.old (stock_of desk.old))) }
-    ensures spent { Lifted (room_of pool.old desk.old) (room_of pool.new desk.new) (held_need (carried_tree carried)) result }
+        lifted (message_in (carried_tree carried) (row_at (laid pool.old (stock_of desk.old)).state cell index row))
+        (laid pool.old (stock_of desk.old))) }
+    ensures spent { Lifted (room_of pool.old desk.old) (room_of pool.new desk.new) (held_need (carried_tree carried))
+        result }
 {
     if desk.hand.len() >= desk.hand.capacity() {
         return Err(NoRoom::Hand);
@@ -100,7 +103,8 @@ pub(crate) fn lift_row<K: Start>(
     }
 }
 
-/// The message of a taken row, or the one that stands in for it, takes the place of one of the scope, whose reference goes back.
+/// The message of a taken row, or the one that stands in for it, takes the place of one of the scope, whose reference
+/// goes back.
 fn put_message(
     tray: &mut Tray,
     slot: u8,
@@ -109,9 +113,16 @@ fn put_message(
     pool: &mut Pool,
 )
     requires blank { CanStandIn carried }
-    requires there { Covers pool.old (refs (slice_index_or tray.old.messages.items slot (message_left (carried_tree carried) message))) }
-    ensures set { tray.new ≡ record tray.old { messages = buffer (slice_set tray.old.messages.items slot (message_left (carried_tree carried) message)) tray.old.messages.capacity } }
-    ensures returned { Returned pool.old pool.new (refs (slice_index_or tray.old.messages.items slot (message_left (carried_tree carried) message))) }
+    requires there { Covers pool.old
+        (refs (slice_index_or tray.old.messages.items slot (message_left (carried_tree carried) message))) }
+    ensures set { tray.new ≡
+        record tray.old {
+          messages =
+              buffer (slice_set tray.old.messages.items slot (message_left (carried_tree carried) message))
+              tray.old.messages.capacity;
+        } }
+    ensures returned { Returned pool.old pool.new
+        (refs (slice_index_or tray.old.messages.items slot (message_left (carried_tree carried) message))) }
 {
     match message {
         Some(mut message) => {
@@ -156,9 +167,13 @@ pub(crate) fn take<K: Start>(
 ) -> Result<bool, NoRoom>
     requires { IsReady K.begun pool.old desk.old }
     ensures ready { IsReady K.begun pool.new desk.new }
-    ensures found { IfOk result (λ found. found ≡ is_found (row_at (laid pool.old (stock_of desk.old)).state cell index 0)) }
-    ensures shown { OnOk result (laid pool.new (stock_of desk.new) ≡ taken_row cell index (taken_tree taken.now) (laid pool.old (stock_of desk.old))) }
-    ensures spent { Spent (room_of pool.old desk.old) (room_of pool.new desk.new) (taken_need (taken_tree taken.now)) result }
+    ensures found { IfOk result
+        (λ found. found ≡ is_found (row_at (laid pool.old (stock_of desk.old)).state cell index 0)) }
+    ensures shown { OnOk result
+        (laid pool.new (stock_of desk.new) ≡
+        taken_row cell index (taken_tree taken.now) (laid pool.old (stock_of desk.old))) }
+    ensures spent { Spent (room_of pool.old desk.old) (room_of pool.new desk.new) (taken_need (taken_tree taken.now))
+        result }
 {
     if is_misfit(taken) {
         return Err(NoRoom::Misfit);

@@ -24,11 +24,14 @@ use pool_message::Events;
 use slot_pool::Pool;
 use typed_layer::TypedLayer;
 
-/// Lays the first event on the desk, with its message, and says its direction and its envelope. What the desk sends comes behind the others.
+/// Lays the first event on the desk, with its message, and says its direction and its envelope. What the desk sends
+/// comes behind the others.
 fn begin(desk: &mut FileDesk, events: &mut Events) -> (Dir, Envelope)
     requires some { 0 < length events.old.items }
     requires idle { (desk.old.tray.arrived ≡ None) × (desk.old.tray.messages.items ≡ []) }
-    ensures desk { desk.new ≡ begins (first_sent events.old.items).1.message (buffer (behind_first events.old.items) (events.old.capacity - 1)) desk.old }
+    ensures desk { desk.new ≡
+        begins (first_sent events.old.items).1.message
+        (buffer (behind_first events.old.items) (events.old.capacity - 1)) desk.old }
     ensures events { events.new ≡ buffer desk.old.tray.sent.items (desk.old.tray.sent.capacity + 1) }
     ensures within { length (behind_first events.old.items) ≤ events.old.capacity - 1 }
     ensures few { events.old.capacity - 1 ≤ most_sent }
@@ -51,7 +54,8 @@ fn end(desk: &mut FileDesk, events: &mut Events)
     desk.tray.end(events);
 }
 
-/// The layer at a place takes the first of the events at its desk. That one goes, and what the layer sends comes behind the others.
+/// The layer at a place takes the first of the events at its desk. That one goes, and what the layer sends comes behind
+/// the others.
 pub(crate) fn visit(
     place: u8,
     layer: &TypedLayer,
@@ -67,17 +71,23 @@ pub(crate) fn visit(
         ++ (event_refs (first_sent events.old.items).1 ++ sent_refs (behind_first events.old.items))) }
     requires counts { CountsWithin most_counted pool.old }
     requires headers { headers_met (first_way events.old.items) (first_seen pool.old events.old.items) ≤ most_above }
-    requires slots { slots_needed (layer_tree layer.now) (first_way events.old.items) (first_seen pool.old events.old.items) ≤ spare pool.old }
+    requires slots { slots_needed (layer_tree layer.now) (first_way events.old.items)
+        (first_seen pool.old events.old.items) ≤ spare pool.old }
     requires places { length events.old.items
-        + places_needed (layer_tree layer.now) (first_way events.old.items) (first_seen pool.old events.old.items) ≤ events.old.capacity }
+        + places_needed (layer_tree layer.now) (first_way events.old.items) (first_seen pool.old events.old.items) ≤
+        events.old.capacity }
     ensures state { state_of (row_seen pool.new) desk.new.cells ≡
-        (step place (layer_tree layer.now) (state_of (row_seen pool.old) desk.old.cells) (first_way events.old.items) (first_seen pool.old events.old.items)).state }
+        (step place (layer_tree layer.now) (state_of (row_seen pool.old) desk.old.cells) (first_way events.old.items)
+        (first_seen pool.old events.old.items)).state }
     ensures sent { sent_seen pool.new events.new.items ≡ sent_seen pool.old (behind_first events.old.items)
-        ++ (step place (layer_tree layer.now) (state_of (row_seen pool.old) desk.old.cells) (first_way events.old.items) (first_seen pool.old events.old.items)).sent }
+        ++ (step place (layer_tree layer.now) (state_of (row_seen pool.old) desk.old.cells) (first_way events.old.items)
+        (first_seen pool.old events.old.items)).sent }
     ensures predicted { result ≡ as_predicted
-        (step place (layer_tree layer.now) (state_of (row_seen pool.old) desk.old.cells) (first_way events.old.items) (first_seen pool.old events.old.items)).decided }
+        (step place (layer_tree layer.now) (state_of (row_seen pool.old) desk.old.cells) (first_way events.old.items)
+        (first_seen pool.old events.old.items)).decided }
     ensures moved { Moved pool.old pool.new
-        (kept_refs desk.old.cells ++ (event_refs (first_sent events.old.items).1 ++ sent_refs (behind_first events.old.items)))
+        (kept_refs desk.old.cells ++
+        (event_refs (first_sent events.old.items).1 ++ sent_refs (behind_first events.old.items)))
         (kept_refs desk.new.cells ++ sent_refs events.new.items) }
     ensures spent { spare pool.old ≤ spare pool.new
         + slots_needed (layer_tree layer.now) (first_way events.old.items) (first_seen pool.old events.old.items) }

@@ -40,7 +40,8 @@ pub(crate) fn assign_square<K: Start>(
 )
     requires { IsReady K.begun pool.now desk.old }
     ensures ready { IsReady K.begun pool.now desk.new }
-    ensures shown { laid pool.now (stock_of desk.new) ≡ assigned_square cell row column value (laid pool.now (stock_of desk.old)) }
+    ensures shown { laid pool.now (stock_of desk.new) ≡
+        assigned_square cell row column value (laid pool.now (stock_of desk.old)) }
     ensures free { room_of pool.now desk.new ≡ room_of pool.now desk.old }
 {
     desk.cells.set_square(cell, row, column, value);

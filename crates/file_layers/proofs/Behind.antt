@@ -1,5 +1,6 @@
 -- The names behind statements: those in front of them stay visible, and new ones stand in front of them.
-use Rattle.std.proofs.Common.{◌≡◌, ℕ, ◌-◌, List, [], ◌∷◌, ◌++◌, drop, length, refl, sym, ap, ◌∙◌, arith, append_assoc, length-append}
+use Rattle.std.proofs.Common.{◌≡◌, ℕ, ◌-◌, List, [], ◌∷◌, ◌++◌, drop, length, refl, sym, ap, ◌∙◌, arith, append_assoc}
+use Rattle.std.proofs.Common.{length-append}
 use Rattle.std.proofs.Math.Seq.{drop-append_seam}
 use Rattle.layer_ast.specs.Tree as ast
 use Rattle.layer_ast.specs.declared.names.Name.{Name}
@@ -16,10 +17,12 @@ same : (names : Names) (taken : Slots) → Extends names (record names { taken =
 same names taken = record { place = refl; numbers = ([], refl); messages = ([], refl) }
 
 pub extends_numbers : (new : List Name) (names : Names) → Extends names (with_numbers new names)
-extends_numbers new names = record { place = refl; numbers = (in_slots names.taken.numbers new, refl); messages = ([], refl) }
+extends_numbers new names =
+    record { place = refl; numbers = (in_slots names.taken.numbers new, refl); messages = ([], refl) }
 
 extends_messages : (new : List Name) (names : Names) → Extends names (with_messages new names)
-extends_messages new names = record { place = refl; numbers = ([], refl); messages = (in_slots names.taken.messages new, refl) }
+extends_messages new names =
+    record { place = refl; numbers = ([], refl); messages = (in_slots names.taken.messages new, refl) }
 
 further : (a b c : List (Word × ℕ)) → (f : List (Word × ℕ)) × (b ≡ f ++ a) → (g : List (Word × ℕ)) × (c ≡ g ++ b) →
     (h : List (Word × ℕ)) × (c ≡ h ++ a)
@@ -50,9 +53,11 @@ behind_one (ast.emit at direction kind arguments pushed) names = same names name
 pub extends_all : (all : ast.StatementTrees) (names : Names) → Extends names (behind_all all names)
 extends_all ast.none names = same names names.taken
 extends_all (ast.more s rest) names =
-    extends_further names (behind s names) (behind_all rest (behind s names)) (behind_one s names) (extends_all rest (behind s names))
+    extends_further names (behind s names) (behind_all rest (behind s names)) (behind_one s names)
+    (extends_all rest (behind s names))
 
-back_to : (all front back : List (Word × ℕ)) (n : ℕ) → all ≡ front ++ back → n ≡ length back → drop (length all - n) all ≡ back
+back_to : (all front back : List (Word × ℕ)) (n : ℕ) → all ≡ front ++ back → n ≡ length back →
+    drop (length all - n) all ≡ back
 back_to all front back n is count =
     let left : length (front ++ back) - length back ≡ length front = omega (arith, length-append front back) in
     ap (λ l. drop (length l - n) l) is
@@ -60,7 +65,8 @@ back_to all front back n is count =
     ∙ (ap (λ k. drop k (front ++ back)) left ∙ drop-append_seam front back))
 
 -- a block that is left
-pub left : (names inner after : Names) (n m : ℕ) → Extends names inner → n ≡ length names.numbers → m ≡ length names.messages →
+pub left : (names inner after : Names) (n m : ℕ) → Extends names inner → n ≡ length names.numbers →
+    m ≡ length names.messages →
     after ≡ record inner {
       numbers = drop (length inner.numbers - n) inner.numbers;
       messages = drop (length inner.messages - m) inner.messages;

@@ -1,5 +1,6 @@
 -- The statements of a block, one statement further.
-use Rattle.std.proofs.Common.{◌≡◌, ℕ, zero, suc, ◌+◌, ◌<◌, List, [], ◌∷◌, ◌++◌, map, take, drop, length, get_or, refl, sym, ap, ◌∙◌, arith, subst}
+use Rattle.std.proofs.Common.{◌≡◌, ℕ, zero, suc, ◌+◌, ◌<◌, List, [], ◌∷◌, ◌++◌, map, take, drop, length, get_or, refl}
+use Rattle.std.proofs.Common.{sym, ap, ◌∙◌, arith, subst}
 use Rattle.layer_ast.specs.Tree as ast
 use Rattle.layer_ast.specs.View as written
 use Rattle.layer_ast.specs.declared.syntax.Statement as rust
@@ -16,7 +17,8 @@ trees_behind : (xs : List ast.StatementTree) (x : ast.StatementTree) (names : Na
 trees_behind [] x names = refl
 trees_behind (y ∷ xs) x names = trees_behind xs x (behind y names)
 
-made_behind : (xs : List ast.StatementTree) (x : ast.StatementTree) (names : Names) (made : List StatementTree) (m : StatementTree) →
+made_behind : (xs : List ast.StatementTree) (x : ast.StatementTree) (names : Names) (made : List StatementTree)
+    (m : StatementTree) →
     trees made ≡ statements_of names (written.trees xs) → m ≡ statement_of (behind_all (written.trees xs) names) x →
     trees (made ++ m ∷ []) ≡ statements_of names (written.trees (xs ++ x ∷ []))
 made_behind [] x names [] m so_far is = ap (λ s. more s none) is
@@ -28,13 +30,15 @@ made_behind (y ∷ xs) x names (n ∷ made) m so_far is =
     ap (λ s. more s (trees (made ++ m ∷ []))) first
     ∙ ap (more (statement_of names y)) (made_behind xs x (behind y names) made m rest is)
 
-drop_at : {X : Type 0} (xs : List X) (k : ℕ) (x : X) → k < length xs → x ≡ get_or xs k x → drop k xs ≡ x ∷ drop (suc k) xs
+drop_at : {X : Type 0} (xs : List X) (k : ℕ) (x : X) → k < length xs → x ≡ get_or xs k x →
+    drop k xs ≡ x ∷ drop (suc k) xs
 drop_at [] k x less is = absurd (omega (arith, less))
 drop_at (y ∷ rest) zero x less is = ap (λ z. z ∷ rest) (sym is)
 drop_at (y ∷ rest) (suc k) x less is = drop_at rest k x (omega (arith, less)) is
 
 -- what members can keep of the statements that are left: the first, and the rest
-pub holds_next : (all : List rust.Statement) (i : ℕ) (s : rust.Statement) (names : Names) → i < length all → s ≡ get_or all i s →
+pub holds_next : (all : List rust.Statement) (i : ℕ) (s : rust.Statement) (names : Names) → i < length all →
+    s ≡ get_or all i s →
     HoldsBlock (statements_of names (written.statement_trees (drop i all))) →
     HoldsStatement (statement_of names (written.statement_tree s))
     × HoldsBlock (statements_of (behind (written.statement_tree s) names) (written.statement_trees (drop (suc i) all)))
@@ -56,7 +60,8 @@ statements_next all i s outer names after made pushed m within is holds so_far n
     let one : suc i ≡ i + 1 = omega arith in
     let before = map written.statement_tree (take i all) in
     let x = written.statement_tree s in
-    let more_trees : map written.statement_tree (take (i + 1) all) ≡ before ++ x ∷ [] = trees_more written.statement_tree all i s within is in (
+    let more_trees : map written.statement_tree (take (i + 1) all) ≡ before ++ x ∷ [] =
+    trees_more written.statement_tree all i s within is in (
       subst (λ n. HoldsBlock (statements_of after (written.statement_trees (drop n all)))) one
           (subst (λ n. HoldsBlock (statements_of n (written.statement_trees (drop (suc i) all)))) (sym after_is)
           (holds_next all i s names within is holds).1),
@@ -70,6 +75,7 @@ statements_next all i s outer names after made pushed m within is holds so_far n
           ∙ (sym (trees_behind before x outer) ∙ ap (λ l. behind_all (written.trees l) outer) (sym more_trees))),
     )
   where
-    map_snoc : (xs : List Statement) (y : Statement) → map statement_tree (xs ++ y ∷ []) ≡ map statement_tree xs ++ statement_tree y ∷ []
+    map_snoc : (xs : List Statement) (y : Statement) → map statement_tree (xs ++ y ∷ []) ≡ map statement_tree xs ++
+        statement_tree y ∷ []
     map_snoc [] y = refl
     map_snoc (z ∷ xs) y = ap (λ l. statement_tree z ∷ l) (map_snoc xs y)

@@ -1,5 +1,7 @@
 -- The names and slots of a taken row.
-use Rattle.std.proofs.Common.{◌≡◌, ℕ, zero, suc, ◌+◌, ◌-◌, ◌≤◌, Bool, true, false, List, [], ◌∷◌, ◌++◌, map, take, drop, length, is_some, Option, Some, None, option_map, option_to_list, if◌then◌else◌, refl, sym, ap, ◌∙◌, arith, subst, length-take-le}
+use Rattle.std.proofs.Common.{◌≡◌, ℕ, zero, suc, ◌+◌, ◌-◌, ◌≤◌, Bool, true, false, List, [], ◌∷◌, ◌++◌, map, take, drop}
+use Rattle.std.proofs.Common.{length, is_some, Option, Some, None, option_map, option_to_list, if◌then◌else◌, refl, sym}
+use Rattle.std.proofs.Common.{ap, ◌∙◌, arith, subst, length-take-le}
 use Rattle.std.specs.List.{AllByRecursion, last_or, range_with_len}
 use Rattle.std.proofs.lemmas.List.{length-map}
 use Rattle.layer_ast.specs.Tree.{ItemTree}
@@ -32,7 +34,8 @@ drop_all : {A : Type 0} (xs : List A) → drop (length xs) xs ≡ []
 drop_all [] = refl
 drop_all (x ∷ xs) = drop_all xs
 
-last_is : {A : Type 0} (o : Option A) (x : A) (xs : List A) → option_to_list (last_or o (x ∷ xs)) ≡ drop (length xs) (x ∷ xs)
+last_is : {A : Type 0} (o : Option A) (x : A) (xs : List A) → option_to_list (last_or o (x ∷ xs)) ≡
+    drop (length xs) (x ∷ xs)
 last_is o x [] = refl
 last_is o x (y ∷ xs) = last_is (Some x) y xs
 
@@ -56,7 +59,8 @@ slots_fit t zero all within = omega (arith, within)
 slots_fit t (suc n) all within =
     let rest = slots_fit (t + 1) n all.1 (omega (arith, all.0)) in omega (arith, rest)
 
-pub slot_fits : {A : Type 0} (t : ℕ) (carried : Option Carried) (xs : List A) → HoldsSlot (option_map (λ c. (t, c)) carried) →
+pub slot_fits : {A : Type 0} (t : ℕ) (carried : Option Carried) (xs : List A) →
+    HoldsSlot (option_map (λ c. (t, c)) carried) →
     t ≤ 256 → t + length (option_to_list (message_among (is_some carried) xs)) ≤ 256
 slot_fits {A = A} t None xs holds within = omega (arith, within)
 slot_fits {A = A} t (Some c) xs holds within = few (last_or None xs) where
@@ -64,7 +68,8 @@ slot_fits {A = A} t (Some c) xs holds within = few (last_or None xs) where
   few None = omega (arith, within)
   few (Some x) = omega (arith, holds)
 
-count_is : {A : Type 0} (has : Bool) (xs : List A) → length (numbers_among has xs) ≡ (if has then length xs - 1 else length xs)
+count_is : {A : Type 0} (has : Bool) (xs : List A) → length (numbers_among has xs) ≡
+    (if has then length xs - 1 else length xs)
 count_is true xs = length-take-le (length xs - 1) xs (omega arith)
 count_is false xs = refl
 
@@ -83,7 +88,8 @@ some_map f (Some x) = refl
 
 -- the words of a row's numbers
 pub words_are : (all front : List Item) (items : List ItemTree) (words : List (List ℕ)) (n count : ℕ) (b has : Bool) →
-    map item_tree all ≡ items → count ≡ length all → n ≡ (if b then count - 1 else count) → b ≡ has → front ≡ take n all →
+    map item_tree all ≡ items → count ≡ length all → n ≡ (if b then count - 1 else count) → b ≡ has →
+    front ≡ take n all →
     words ≡ map (λ i. i.name.word) (map item_tree front) → words ≡ numbers_among has (map (λ i. i.name.word) items)
 words_are all front items words n count b has shown counts number same is made =
     let word : ItemTree → List ℕ = λ i. i.name.word in
@@ -95,23 +101,28 @@ words_are all front items words n count b has shown counts number same is made =
     ∙ (map_take word n (map item_tree all)
     ∙ (ap (λ l. take n (map word l)) shown
     ∙ numbers_are has (map word items) n
-    (number ∙ (ap (λ k. if b then k - 1 else k) (counts ∙ many) ∙ ap (λ x. if x then length (map word items) - 1 else length (map word items)) same))))))
+    (number ∙ (ap (λ k. if b then k - 1 else k) (counts ∙ many) ∙
+    ap (λ x. if x then length (map word items) - 1 else length (map word items)) same))))))
 
 -- the slots that a taken row needs, as they are counted
 pub row_fits : {A : Type 0} (t first n count : ℕ) (b has : Bool) (items xs : List A) →
-    AllByRecursion IsByte (range_with_len t (length (numbers_among has xs))) → first ≡ t → first ≤ 256 → b ≡ has → items ≡ xs →
+    AllByRecursion IsByte (range_with_len t (length (numbers_among has xs))) → first ≡ t → first ≤ 256 → b ≡ has →
+    items ≡ xs →
     count ≡ length items → n ≡ (if b then count - 1 else count) → first + n ≤ 256
 row_fits t first n count b has items xs all is within same are counts number =
     let moved = subst (λ k. AllByRecursion IsByte (range_with_len k (length (numbers_among has xs)))) (sym is) all in
     numbers_fit first n has xs moved within
-    (number ∙ (ap (λ k. if b then k - 1 else k) (counts ∙ ap length are) ∙ ap (λ x. if x then length xs - 1 else length xs) same))
+    (number ∙ (ap (λ k. if b then k - 1 else k) (counts ∙ ap length are) ∙
+    ap (λ x. if x then length xs - 1 else length xs) same))
 
 pub numbers_row_fits : {A : Type 0} (t first : ℕ) (b has : Bool) (items xs : List A) →
-    AllByRecursion IsByte (range_with_len t (length (numbers_among has xs))) → first ≡ t → first ≤ 256 → b ≡ has → items ≡ xs →
+    AllByRecursion IsByte (range_with_len t (length (numbers_among has xs))) → first ≡ t → first ≤ 256 → b ≡ has →
+    items ≡ xs →
     t + length (numbers_among b items) ≤ 256
 numbers_row_fits t first b has items xs all is within same are =
     let fits = slots_fit t (length (numbers_among has xs)) all (omega (arith, is, within)) in
-    subst (λ k. t + k ≤ 256) (sym (ap (λ x. length (numbers_among x items)) same ∙ ap (λ l. length (numbers_among has l)) are)) fits
+    subst (λ k. t + k ≤ 256)
+    (sym (ap (λ x. length (numbers_among x items)) same ∙ ap (λ l. length (numbers_among has l)) are)) fits
 
 pub message_row_fits : {A : Type 0} (t first : ℕ) (carried : Option Carried) (b : Bool) (items : List A) →
     HoldsSlot (option_map (λ c. (t, c)) carried) → first ≡ t → first ≤ 256 → b ≡ is_some carried →

@@ -3,7 +3,8 @@ use Rattle.std.proofs.Common.{◌≡◌, ℕ, sym, ap, ap₂, ◌∙◌}
 use Rattle.layer_ast.specs.declared.syntax.Likely.{Likely}
 use Rattle.layer_mean.specs.Tree as tree
 use Rattle.layer_mean.specs.Tree.{StatementTree, StatementTrees}
-use Rattle.typed_layer.specs.View.{expression_tree, row_tree, taken_tree, emission_tree, statement_of, block_of, statement_tree, block_tree}
+use Rattle.typed_layer.specs.View.{expression_tree, row_tree, taken_tree, emission_tree, statement_of, block_of}
+use Rattle.typed_layer.specs.View.{statement_tree, block_tree}
 use Rattle.typed_layer.specs.declared.tree.Block.{Block}
 use Rattle.typed_layer.specs.declared.tree.Emission.{Emission}
 use Rattle.typed_layer.specs.declared.tree.Expression.{Expression}
@@ -17,7 +18,8 @@ use Rattle.typed_layer.specs.declared.tree.Statement.TheVariants as rust
 block_is : (block : Block) → fold-Block StatementTree StatementTrees statement_of block_of block ≡ block_tree block
 block_is block = fold_out-Block StatementTree StatementTrees statement_of block_of block
 
-pub bind_tree : (slot : ℕ) (value : Expression) → statement_tree (rust.Bind slot value) ≡ tree.bind slot (expression_tree value)
+pub bind_tree : (slot : ℕ) (value : Expression) → statement_tree (rust.Bind slot value) ≡
+    tree.bind slot (expression_tree value)
 bind_tree slot value =
     ap statement_tree (sym (rust.rolls-Bind slot value))
     ∙ fold-roll-Statement StatementTree StatementTrees statement_of block_of (layer.Bind slot value)
@@ -51,7 +53,8 @@ pub push_tree : (cell : ℕ) (index : Expression) (capacity : ℕ) (row : Row) (
     ≡ tree.push cell (expression_tree index) capacity (row_tree row) (block_tree otherwise)
 push_tree cell index capacity row otherwise =
     ap statement_tree (sym (rust.rolls-Push cell index capacity row otherwise))
-    ∙ (fold-roll-Statement StatementTree StatementTrees statement_of block_of (layer.Push cell index capacity row otherwise)
+    ∙ (fold-roll-Statement StatementTree StatementTrees statement_of block_of
+    (layer.Push cell index capacity row otherwise)
     ∙ ap (tree.push cell (expression_tree index) capacity (row_tree row)) (block_is otherwise))
 
 pub take_tree : (cell : ℕ) (index : Expression) (taken : Taken) (block otherwise : Block) →
@@ -59,7 +62,8 @@ pub take_tree : (cell : ℕ) (index : Expression) (taken : Taken) (block otherwi
     ≡ tree.take cell (expression_tree index) (taken_tree taken) (block_tree block) (block_tree otherwise)
 take_tree cell index taken block otherwise =
     ap statement_tree (sym (rust.rolls-Take cell index taken block otherwise))
-    ∙ (fold-roll-Statement StatementTree StatementTrees statement_of block_of (layer.Take cell index taken block otherwise)
+    ∙ (fold-roll-Statement StatementTree StatementTrees statement_of block_of
+    (layer.Take cell index taken block otherwise)
     ∙ ap₂ (tree.take cell (expression_tree index) (taken_tree taken)) (block_is block) (block_is otherwise))
 
 pub branch_tree : (likely : Likely) (condition : Expression) (block otherwise : Block) →
@@ -67,7 +71,8 @@ pub branch_tree : (likely : Likely) (condition : Expression) (block otherwise : 
     ≡ tree.branch likely (expression_tree condition) (block_tree block) (block_tree otherwise)
 branch_tree likely condition block otherwise =
     ap statement_tree (sym (rust.rolls-Branch likely condition block otherwise))
-    ∙ (fold-roll-Statement StatementTree StatementTrees statement_of block_of (layer.Branch likely condition block otherwise)
+    ∙ (fold-roll-Statement StatementTree StatementTrees statement_of block_of
+    (layer.Branch likely condition block otherwise)
     ∙ ap₂ (tree.branch likely (expression_tree condition)) (block_is block) (block_is otherwise))
 
 pub each_tree : (slot : ℕ) (below : Expression) (most : ℕ) (block : Block) →

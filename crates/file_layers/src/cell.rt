@@ -1,6 +1,7 @@
 //! The cells and the headers of a layer at its place.
 
-ghost use Rattle.std.specs.Prelude.{◌≡◌, ◌≤◌, ◌++◌, filter_map, is_some, length, map, option_map, option_to_list, IfOk, OnOk, Some, None};
+ghost use Rattle.std.specs.Prelude.{◌≡◌, ◌≤◌, ◌++◌, filter_map, is_some, length, map, option_map, option_to_list, IfOk};
+ghost use Rattle.std.specs.Prelude.{OnOk, Some, None};
 ghost use Rattle.std.specs.List.{AllByRecursion, last_or};
 ghost use Rattle.std.specs.Option.{option_map_or, option_zip};
 ghost use Rattle.layer_ast.specs.View as written;
@@ -60,7 +61,8 @@ fn item_message(row: &ast::Items, carried: Option<Carried>) -> Option<ItemMessag
 
 /// The items of a queue's rows.
 fn row_items(alloc: Global, place: &Place, row: &ast::Items) -> Result<Items, AllocError>
-    ensures { IfOk result (λ x. items_tree x ≡ spec.row_items (placed_of place.now) (items_in (written.items_tree row.now))) }
+    ensures { IfOk result
+        (λ x. items_tree x ≡ spec.row_items (placed_of place.now) (items_in (written.items_tree row.now))) }
 {
     let carried = place.carried_in(row);
     let all = items(alloc, row)?;
@@ -96,7 +98,8 @@ fn initial_value(
 /// The cell that a declaration declares, if it does.
 fn cell(alloc: Global, place: &Place, declaration: &Declaration) -> Result<Option<Cell>, AllocError>
     requires { HoldsDeclaration (placed_of place.now) (written.declaration_tree declaration.now) }
-    ensures { IfOk result (λ c. option_map cell_tree c ≡ spec.cell_in (placed_of place.now) (written.declaration_tree declaration.now)) }
+    ensures { IfOk result
+        (λ c. option_map cell_tree c ≡ spec.cell_in (placed_of place.now) (written.declaration_tree declaration.now)) }
 {
     match declaration {
         Declaration::Int {
@@ -161,7 +164,9 @@ pub fn cells(
     declarations: &[Declaration],
 ) -> Result<Vec<Cell>, AllocError>
     requires { AllByRecursion (HoldsDeclaration (placed_of place.now)) (map written.declaration_tree declarations.now) }
-    ensures { IfOk result (λ all. map cell_tree all.items ≡ filter_map (spec.cell_in (placed_of place.now)) (map written.declaration_tree declarations.now)) }
+    ensures { IfOk result
+        (λ all. map cell_tree all.items ≡
+        filter_map (spec.cell_in (placed_of place.now)) (map written.declaration_tree declarations.now)) }
 {
     let mut all = Vec::new(alloc);
     for declaration in declarations {
@@ -198,7 +203,8 @@ pub fn headers(
     declarations: &[Declaration],
 ) -> Result<Vec<HeaderForm>, AllocError>
     requires { AllByRecursion (HoldsDeclaration (placed_of _place.now)) (map written.declaration_tree declarations.now) }
-    ensures { IfOk result (λ all. map header_tree all.items ≡ filter_map spec.header_in (map written.declaration_tree declarations.now)) }
+    ensures { IfOk result
+        (λ all. map header_tree all.items ≡ filter_map spec.header_in (map written.declaration_tree declarations.now)) }
 {
     let mut all = Vec::new(alloc);
     for declaration in declarations {

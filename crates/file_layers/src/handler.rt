@@ -1,6 +1,7 @@
 //! Handlers, with numbers in place of names.
 
-ghost use Rattle.std.specs.Prelude.{◌≡◌, ◌≤◌, ◌+◌, ◌-◌, ◌++◌, All, length, map, option_map, option_to_list, vec_len, IfOk, Some};
+ghost use Rattle.std.specs.Prelude.{◌≡◌, ◌≤◌, ◌+◌, ◌-◌, ◌++◌, All, length, map, option_map, option_to_list, vec_len};
+ghost use Rattle.std.specs.Prelude.{IfOk, Some};
 ghost use Rattle.std.specs.List.{AllByRecursion};
 ghost use Rattle.layer_ast.specs.View as written;
 ghost use Rattle.layer_mean.specs.Event as event;
@@ -53,7 +54,8 @@ fn with_fields(
     numbers: &[Name],
     popped: &Option<Popped>,
 ) -> Result<Vec<Name>, AllocError>
-    ensures { IfOk result (λ all. all.items ≡ numbers.now ++ scope.popped_names (option_map written.popped_tree popped.now)) }
+    ensures { IfOk result
+        (λ all. all.items ≡ numbers.now ++ scope.popped_names (option_map written.popped_tree popped.now)) }
 {
     let fields = popped_names(alloc, popped)?;
     let mut all = Vec::with_capacity(alloc, numbers.len())?;
@@ -66,7 +68,8 @@ fn with_fields(
 #[tactic(auto, using(crate::proofs::Rows::numbers_are, crate::proofs::Rows::message_is))]
 fn enter<'a>(alloc: Global, place: &'a Place<'a>, h: &ast::Handler) -> Result<Names<'a>, AllocError>
     requires { length (scope.head_names (written.handler_tree h.now)) ≤ most_names }
-    ensures { IfOk result (λ names. names_of names ≡ spec.handler_names (placed_of place.now) (written.handler_tree h.now)) }
+    ensures { IfOk result
+        (λ names. names_of names ≡ spec.handler_names (placed_of place.now) (written.handler_tree h.now)) }
 {
     let event = written(alloc, &h.names)?;
     let count = numbers_of(carries(h.kind), event.len());
@@ -80,7 +83,8 @@ fn enter<'a>(alloc: Global, place: &'a Place<'a>, h: &ast::Handler) -> Result<Na
 
 /// When a handler goes as predicted.
 fn expected(alloc: Global, names: &Names, expected: &ast::Expected) -> Result<Expected, AllocError>
-    ensures { IfOk result (λ x. expected_tree x ≡ spec.expected_of (names_of names.now) (written.expected_tree expected.now)) }
+    ensures { IfOk result
+        (λ x. expected_tree x ≡ spec.expected_of (names_of names.now) (written.expected_tree expected.now)) }
 {
     match expected {
         ast::Expected::Always => Ok(Expected::Always),
@@ -99,8 +103,12 @@ struct Entered {
 
 /// The block of a handler, before which these names are visible.
 fn whole_block(alloc: Global, names: &mut Names, b: &ast::Block) -> Result<Entered, AllocError>
-    requires numbers { IsByte ((behind_all (written.block_tree b.now) (names_of names.old)).taken.numbers - (names_of names.old).taken.numbers) }
-    requires messages { IsByte ((behind_all (written.block_tree b.now) (names_of names.old)).taken.messages - (names_of names.old).taken.messages) }
+    requires numbers { IsByte
+        ((behind_all (written.block_tree b.now) (names_of names.old)).taken.numbers -
+        (names_of names.old).taken.numbers) }
+    requires messages { IsByte
+        ((behind_all (written.block_tree b.now) (names_of names.old)).taken.messages -
+        (names_of names.old).taken.messages) }
     requires block { HoldsBlock (statements_of (names_of names.old) (written.block_tree b.now)) }
     ensures numbers { IfOk result (λ x. x.numbers
         ≡ (behind_all (written.block_tree b.now) (names_of names.old)).taken.numbers -
@@ -108,7 +116,8 @@ fn whole_block(alloc: Global, names: &mut Names, b: &ast::Block) -> Result<Enter
     ensures messages { IfOk result (λ x. x.messages
         ≡ (behind_all (written.block_tree b.now) (names_of names.old)).taken.messages -
         (names_of names.old).taken.messages) }
-    ensures block { IfOk result (λ x. block_tree x.block ≡ statements_of (names_of names.old) (written.block_tree b.now)) }
+    ensures block { IfOk result
+        (λ x. block_tree x.block ≡ statements_of (names_of names.old) (written.block_tree b.now)) }
 {
     let numbers = names.numbers.taken();
     let messages = names.messages.taken();
@@ -150,7 +159,9 @@ pub fn handlers(
     all: &[ast::Handler],
 ) -> Result<Vec<Handler>, AllocError>
     requires { AllByRecursion (HoldsHandler (placed_of place.now)) (map written.handler_tree all.now) }
-    ensures is { IfOk result (λ made. map handler_tree made.items ≡ map (spec.handler_of (placed_of place.now)) (map written.handler_tree all.now)) }
+    ensures is { IfOk result
+        (λ made. map handler_tree made.items ≡
+        map (spec.handler_of (placed_of place.now)) (map written.handler_tree all.now)) }
     ensures tagged { IfOk result (λ made. All IsTagged made.items) }
 {
     let mut made = Vec::with_capacity(alloc, all.len())?;

@@ -1,5 +1,5 @@
-//! The layers that members run, of a file that is known to be without faults: numbers stand for names, slots for what handlers
-//! declare, and values for params, as each place of the stack gives them.
+//! The layers that members run, of a file that is known to be without faults: numbers stand for names, slots for what
+//! handlers declare, and values for params, as each place of the stack gives them.
 #![tactic(auto)]
 
 mod cell;

@@ -1,6 +1,7 @@
 //! Rows and emissions, with numbers in place of names.
 
-ghost use Rattle.std.specs.Prelude.{◌≡◌, ◌≤◌, ◌<◌, ◌+◌, if◌then◌else◌, drop, length, is_some, map, take, option_map, option_to_list, IfOk, OnOk, Some};
+ghost use Rattle.std.specs.Prelude.{◌≡◌, ◌≤◌, ◌<◌, ◌+◌, if◌then◌else◌, drop, length, is_some, map, take, option_map};
+ghost use Rattle.std.specs.Prelude.{option_to_list, IfOk, OnOk, Some};
 ghost use Rattle.std.specs.List.{AllByRecursion, range_with_len};
 ghost use Rattle.layer_ast.specs.View as written;
 ghost use Rattle.fault_mean.specs.Declared.{names_in};
@@ -56,7 +57,8 @@ fn content(
     message: MessageExpression,
     pushed: &Option<Pushed>,
 ) -> Result<Content, AllocError>
-    requires { length (spec.pushed_fields (names_of names.now) (option_map written.pushed_tree pushed.now)) ≤ most_fields }
+    requires { length (spec.pushed_fields (names_of names.now) (option_map written.pushed_tree pushed.now)) ≤
+        most_fields }
     ensures { IfOk result (λ c. content_tree c ≡ record {
       message = message_tree message;
       tag = spec.pushed_tag (names_of names.now) (option_map written.pushed_tree pushed.now);
@@ -149,7 +151,8 @@ fn slots(alloc: Global, first: u16, count: usize) -> Result<Vec<u8>, AllocError>
     Ok(all)
 }
 
-/// The slots that a taken row fills: so many with numbers from a first one on, and one with a message where it carries one.
+/// The slots that a taken row fills: so many with numbers from a first one on, and one with a message where it carries
+/// one.
 fn taken_row(
     alloc: Global,
     first: u16,
@@ -180,7 +183,8 @@ fn taken_row(
 #[tactic(auto, using(crate::proofs::Rows::numbers_are, crate::proofs::Rows::message_is))]
 fn bring_row(names: &mut Names, has_message: bool, new: &[Name]) -> Result<(), AllocError>
     requires numbers { (names_of names.old).taken.numbers + length (numbers_among has_message new.now) ≤ 256 }
-    requires message { (names_of names.old).taken.messages + length (option_to_list (message_among has_message new.now)) ≤ 256 }
+    requires message { (names_of names.old).taken.messages + length (option_to_list (message_among has_message new.now))
+        ≤ 256 }
     ensures { OnOk result (names_of names.new
         ≡ with_messages (option_to_list (message_among has_message new.now))
         (with_numbers (numbers_among has_message new.now) (names_of names.old))) }
@@ -202,7 +206,9 @@ pub fn take_row(
     requires numbers { AllByRecursion IsByte
         (spec.taken_row (names_of names.old) (written.queue_tree queue.now)
         (names_in (Some (written.names_tree new.now)))).numbers }
-    requires message { HoldsSlot (spec.taken_row (names_of names.old) (written.queue_tree queue.now) (names_in (Some (written.names_tree new.now)))).message }
+    requires message { HoldsSlot
+        (spec.taken_row (names_of names.old) (written.queue_tree queue.now)
+        (names_in (Some (written.names_tree new.now)))).message }
     ensures taken { IfOk result (λ t. taken_tree t
         ≡ spec.taken_row (names_of names.old) (written.queue_tree queue.now)
         (names_in (Some (written.names_tree new.now)))) }

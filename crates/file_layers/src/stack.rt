@@ -26,7 +26,8 @@ fn named<'a>(layers: &'a [Layer], word: &Word) -> Option<&'a Layer>
 
 /// The layer that a place names: one of the file, or else one of the library.
 fn layer_at<'a>(file: &'a File, place: &Place) -> Option<&'a Layer>
-    ensures { option_map (λ l. written.layer_tree l.now) result ≡ places.layer_at (file_tree file.now) (place_tree place.now) }
+    ensures { option_map (λ l. written.layer_tree l.now) result ≡
+        places.layer_at (file_tree file.now) (place_tree place.now) }
 {
     match named(&file.layers, &place.name.word) {
         Some(layer) => Some(layer),
@@ -70,7 +71,8 @@ fn placed_layers(alloc: Global, file: &File) -> Result<Vec<Rc<TypedLayer>>, Allo
     Ok(layers)
 }
 
-/// The layers at the places of a file that is known to be without faults, as members run them. Err only where memory runs out.
+/// The layers at the places of a file that is known to be without faults, as members run them. Err only where memory
+/// runs out.
 pub fn numbered(alloc: Global, file: &File) -> Result<Typed, AllocError>
     requires { HoldsFile (file_tree file.now) }
     ensures { IfOk result (λ typed. typed_tree typed ≡ spec.stack_of (file_tree file.now)) }

@@ -126,7 +126,8 @@ fn emit(
 pub fn block(alloc: Global, names: &mut Names, b: &ast::Block) -> Result<Block, AllocError>
     requires { HoldsBlock (spec.statements_of (names_of names.old) (written.block_tree b.now)) }
     ensures is { IfOk result (λ x. block_tree x ≡ spec.statements_of (names_of names.old) (written.block_tree b.now)) }
-    ensures names { OnOk result (names_of names.new ≡ past (names_of names.old) (names_of names.old) (written.block_tree b.now)) }
+    ensures names { OnOk result
+        (names_of names.new ≡ past (names_of names.old) (names_of names.old) (written.block_tree b.now)) }
 {
     let outer = names.outer();
     let statements = statements(alloc, names, &b.statements)?;
@@ -142,8 +143,11 @@ fn statements(
     all: &[ast::Statement],
 ) -> Result<Vec<Statement>, AllocError>
     requires { HoldsBlock (spec.statements_of (names_of names.old) (written.statement_trees all.now)) }
-    ensures is { IfOk result (λ made. trees (map statement_tree made.items) ≡ spec.statements_of (names_of names.old) (written.statement_trees all.now)) }
-    ensures names { OnOk result (names_of names.new ≡ spec.behind_all (written.statement_trees all.now) (names_of names.old)) }
+    ensures is { IfOk result
+        (λ made. trees (map statement_tree made.items) ≡
+        spec.statements_of (names_of names.old) (written.statement_trees all.now)) }
+    ensures names { OnOk result
+        (names_of names.new ≡ spec.behind_all (written.statement_trees all.now) (names_of names.old)) }
 {
     let mut made = Vec::with_capacity(alloc, all.len())?;
     for s in all {
@@ -156,7 +160,8 @@ fn statements(
 #[cycle(blocks)]
 fn statement(alloc: Global, names: &mut Names, s: &ast::Statement) -> Result<Statement, AllocError>
     requires { HoldsStatement (spec.statement_of (names_of names.old) (written.statement_tree s.now)) }
-    ensures is { IfOk result (λ x. statement_tree x ≡ spec.statement_of (names_of names.old) (written.statement_tree s.now)) }
+    ensures is { IfOk result
+        (λ x. statement_tree x ≡ spec.statement_of (names_of names.old) (written.statement_tree s.now)) }
     ensures names { OnOk result (names_of names.new ≡ spec.behind (written.statement_tree s.now) (names_of names.old)) }
 {
     match s {
@@ -248,7 +253,8 @@ fn push(
         (spec.pushed_row (names_of names.old) (written.queue_tree queue.now)
         (arguments_in (Some (written.arguments_tree items.now))))
         (spec.statements_of (names_of names.old) (written.block_tree otherwise.now))) }
-    ensures names { OnOk result (names_of names.new ≡ past (names_of names.old) (names_of names.old) (written.block_tree otherwise.now)) }
+    ensures names { OnOk result
+        (names_of names.new ≡ past (names_of names.old) (names_of names.old) (written.block_tree otherwise.now)) }
 {
     let cell = names.place.cell(&queue.name);
     let capacity = names.place.capacity(&queue.name);
@@ -301,7 +307,8 @@ fn taken_block(
 /// A take of a row, and what is done where there is none.
 #[tactic(auto, using(crate::proofs::Views::take_tree))]
 fn take(cell: u8, index: Expression, taken: Taken, first: Block, otherwise: Block) -> Statement
-    ensures { statement_tree result ≡ tree.take cell (expression_tree index) (taken_tree taken) (block_tree first) (block_tree otherwise) }
+    ensures { statement_tree result ≡ tree.take cell (expression_tree index) (taken_tree taken) (block_tree first)
+        (block_tree otherwise) }
 {
     Statement::Take {
         cell,
@@ -324,7 +331,8 @@ fn empty(alloc: Global) -> Block
 /// A condition with two ways.
 #[tactic(auto, using(crate::proofs::Views::branch_tree))]
 fn branch(likely: Likely, condition: Expression, first: Block, otherwise: Block) -> Statement
-    ensures { statement_tree result ≡ tree.branch likely (expression_tree condition) (block_tree first) (block_tree otherwise) }
+    ensures { statement_tree result ≡ tree.branch likely (expression_tree condition) (block_tree first)
+        (block_tree otherwise) }
 {
     Statement::Branch {
         likely,
@@ -347,7 +355,8 @@ fn when(
     ensures is { IfOk result (λ s. statement_tree s
         ≡ tree.branch likely (values.number_of (names_of names.old) (written.expression_tree condition.now))
         (spec.statements_of (names_of names.old) (written.block_tree first.now)) tree.none) }
-    ensures names { OnOk result (names_of names.new ≡ past (names_of names.old) (names_of names.old) (written.block_tree first.now)) }
+    ensures names { OnOk result
+        (names_of names.new ≡ past (names_of names.old) (names_of names.old) (written.block_tree first.now)) }
 {
     let condition = number(alloc, names, condition)?;
     let first = made!(block(alloc, names, first), condition);

@@ -1,5 +1,7 @@
 -- Piece after piece, a text is cut.
-use Rattle.std.proofs.Common.{eqb-true, true≢false, ◌≡◌, ℕ, nat_eq, cond, true, false, zero, suc, ◌+◌, ◌≤◌, Bool, List, [], ◌∷◌, ◌++◌, length, take, drop, Option, Some, None, refl, sym, ap, ◌∙◌, subst, arith, append_assoc, length-append, length-drop, length-take-le}
+use Rattle.std.proofs.Common.{eqb-true, true≢false, ◌≡◌, ℕ, nat_eq, cond, true, false, zero, suc, ◌+◌, ◌≤◌, Bool, List}
+use Rattle.std.proofs.Common.{[], ◌∷◌, ◌++◌, length, take, drop, Option, Some, None, refl, sym, ap, ◌∙◌, subst, arith}
+use Rattle.std.proofs.Common.{append_assoc, length-append, length-drop, length-take-le}
 use Rattle.layer_ast.specs.declared.names.At.{At}
 use Rattle.layer_ast.specs.declared.tokens.Lexed.{Lexed}
 use Rattle.std.specs.Prelude.{not, if◌then◌else◌}
@@ -9,14 +11,16 @@ use Rattle.std.specs.Option.{option_map_or}
 use Rattle.layer_ast.specs.declared.tokens.Kind.{Kind}
 use Rattle.layer_ast.specs.declared.tokens.Sign.{Sign}
 use Rattle.layer_ast.specs.declared.tokens.Token.TheVariants as token
-use Rattle.layer_ast.specs.Cut.{is_numeral, Piece, gap, one, bad, Tokens, piece, word_piece, number_piece, symbol_piece, with_piece, cut_from, place_behind}
+use Rattle.layer_ast.specs.Cut.{is_numeral, Piece, gap, one, bad, Tokens, piece, word_piece, number_piece, symbol_piece}
+use Rattle.layer_ast.specs.Cut.{with_piece, cut_from, place_behind}
 use Rattle.layer_ast.specs.Spelling.{is_blank, word_token, beside, reserved, kinds}
 use Rattle.file_lex.specs.Pieces.{GoesOn, in_front, more_of, is_number, is_flat, past}
 use Rattle.file_lex.proofs.Flat.{past_flat}
 
--- what the loop keeps: the whole is the tokens so far and then those of what is left, the place has not run ahead, and no token was
--- added without a byte
-pub record Cutting (whole : Tokens) (most size : ℕ) (rest : List ℕ) (behind_number : Bool) (at : At) (front : List Lexed) : Type 0
+-- what the loop keeps: the whole is the tokens so far and then those of what is left, the place has not run ahead, and
+-- no token was added without a byte
+pub record Cutting (whole : Tokens) (most size : ℕ) (rest : List ℕ) (behind_number : Bool) (at : At)
+    (front : List Lexed) : Type 0
   where
     pub same : in_front front (cut_from behind_number 0 rest at) ≡ whole
     pub line : at.line + length rest ≤ most
@@ -40,12 +44,14 @@ taken bad at old new n rest h = cc
 -- a byte moves the place by at most one line and one column
 place_line : (b : ℕ) (at : At) → (place_behind b at).line ≤ at.line + 1
 place_line b at =
-    elim (nat_eq b 10) as (λ t. (cond t (record { line = at.line + 1; col = 1 }) (record at { col = at.col + 1 })).line ≤ at.line + 1)
+    elim (nat_eq b 10) as
+    (λ t. (cond t (record { line = at.line + 1; col = 1 }) (record at { col = at.col + 1 })).line ≤ at.line + 1)
     [ true ↦ omega arith | false ↦ omega arith ]
 
 place_col : (b : ℕ) (at : At) → (place_behind b at).col ≤ at.col + 1
 place_col b at =
-    elim (nat_eq b 10) as (λ t. (cond t (record { line = at.line + 1; col = 1 }) (record at { col = at.col + 1 })).col ≤ at.col + 1)
+    elim (nat_eq b 10) as
+    (λ t. (cond t (record { line = at.line + 1; col = 1 }) (record at { col = at.col + 1 })).col ≤ at.col + 1)
     [ true ↦ omega arith | false ↦ omega arith ]
 
 -- bytes move it by at most as many
@@ -66,23 +72,39 @@ one_more (one token behind) at old new more h =
     omega (arith, same, length-append old (record { token = token; at = at } ∷ []))
 one_more bad at old new more h = let same : length new ≡ length old = ap length h.0 in omega (arith, same)
 
-module _ (whole : Tokens) (most size : ℕ) (first : ℕ) (behind : List ℕ) (behind_number : Bool) (at : At) (old new : List Lexed) (p : Piece)
-    (is : p ≡ piece behind_number first behind) (c : Cutting whole most size (first ∷ behind) behind_number at old) where
-  -- a piece that is taken goes on
-  pub goes_on : (n : ℕ) → n ≤ length behind → GoesOn p at old new (Some n) →
-      Cutting whole most size (drop n behind) (is_number p) (past (take n behind) (place_behind first at)) new
-  goes_on n le h =
-      let next = place_behind first at in
-      let bytes = take n behind in
-      let rest : Bool → ℕ → Tokens = λ number more. cut_from number more behind next in
-      record {
-        same =
-            ap (in_front new) (sym (passed (is_number p) n behind next le))
-            ∙ (sym (taken p at old new n rest h) ∙ (ap (λ q. in_front old (with_piece q at rest)) is ∙ c.same));
-        line = omega (arith, c.line, past_line bytes next, place_line first at, length-take-le n behind le, length-drop n behind);
-        col = omega (arith, c.col, past_col bytes next, place_col first at, length-take-le n behind le, length-drop n behind);
-        fewer = omega (arith, c.fewer, length-drop n behind, one_more p at old new (Some n) h);
-      }
+module _ (whole : Tokens) (most size : ℕ) (first : ℕ) (behind : List ℕ) (behind_number : Bool) (at : At)
+    (old new : List Lexed) (p : Piece)
+    (is : p ≡ piece behind_number first behind) (c : Cutting whole most size (first ∷ behind) behind_number at old)
+  where
+    -- a piece that is taken goes on
+    pub goes_on : (n : ℕ) → n ≤ length behind → GoesOn p at old new (Some n) →
+        Cutting whole most size (drop n behind) (is_number p) (past (take n behind) (place_behind first at)) new
+    goes_on n le h =
+        let next = place_behind first at in
+        let bytes = take n behind in
+        let rest : Bool → ℕ → Tokens = λ number more. cut_from number more behind next in
+        record {
+          same =
+              ap (in_front new) (sym (passed (is_number p) n behind next le))
+              ∙ (sym (taken p at old new n rest h) ∙ (ap (λ q. in_front old (with_piece q at rest)) is ∙ c.same));
+          line = omega (
+            arith,
+            c.line,
+            past_line bytes next,
+            place_line first at,
+            length-take-le n behind le,
+            length-drop n behind,
+          );
+          col = omega (
+            arith,
+            c.col,
+            past_col bytes next,
+            place_col first at,
+            length-take-le n behind le,
+            length-drop n behind,
+          );
+          fewer = omega (arith, c.fewer, length-drop n behind, one_more p at old new (Some n) h);
+        }
 
 -- a piece that is taken has its own length
 more_is : (p : Piece) (at : At) (old new : List Lexed) (n : ℕ) → GoesOn p at old new (Some n) → n ≡ more_of p
@@ -112,23 +134,30 @@ blank_is number b bs is =
     else symbol_piece (b ∷ bs)) (sym is)
 
 -- a turn of the loop at a blank
-pub past_blank : (whole : Tokens) (most size : ℕ) (rest : List ℕ) (first : ℕ) (behind : List ℕ) (behind_number : Bool) (at next : At) (old : List Lexed) →
-    Cutting whole most size rest behind_number at old → rest ≡ first ∷ behind → is_blank first ≡ true → next ≡ place_behind first at →
+pub past_blank : (whole : Tokens) (most size : ℕ) (rest : List ℕ) (first : ℕ) (behind : List ℕ) (behind_number : Bool)
+    (at next : At) (old : List Lexed) →
+    Cutting whole most size rest behind_number at old → rest ≡ first ∷ behind → is_blank first ≡ true →
+    next ≡ place_behind first at →
     Cutting whole most size behind false next old
 past_blank whole most size rest first behind behind_number at next old c split blank next_is =
     let c' : Cutting whole most size (first ∷ behind) behind_number at old = rw split at c in
     rw next_is (
-    goes_on whole most size first behind behind_number at old old (gap 0) (blank_is behind_number first behind blank) c' 0 (omega arith) (refl, refl)
+    goes_on whole most size first behind behind_number at old old (gap 0) (blank_is behind_number first behind blank) c'
+    0 (omega arith) (refl, refl)
     )
 
 -- a turn of the loop at another piece, which stands in one line
-pub turn : (whole : Tokens) (most size : ℕ) (rest : List ℕ) (first : ℕ) (behind after : List ℕ) (behind_number number : Bool) (at next past_it : At)
+pub turn : (whole : Tokens) (most size : ℕ) (rest : List ℕ) (first : ℕ) (behind after : List ℕ)
+    (behind_number number : Bool) (at next past_it : At)
     (old new : List Lexed) (p : Piece) (more : Option ℕ) (n : ℕ) →
     Cutting whole most size rest behind_number at old → rest ≡ first ∷ behind → p ≡ piece behind_number first behind →
-    more_of p ≤ length behind → is_flat (take (more_of p) behind) ≡ true → number ≡ is_number p → GoesOn p at old new more →
-    more ≡ Some n → next ≡ place_behind first at → past_it ≡ record next { col = next.col + n } → after ≡ drop n behind →
+    more_of p ≤ length behind → is_flat (take (more_of p) behind) ≡ true → number ≡ is_number p →
+    GoesOn p at old new more →
+    more ≡ Some n → next ≡ place_behind first at → past_it ≡ record next { col = next.col + n } →
+    after ≡ drop n behind →
     Cutting whole most size after number past_it new
-turn whole most size rest first behind after behind_number number at next past_it old new p more n c split is within flat number_is goes
+turn whole most size rest first behind after behind_number number at next past_it old new p more n c split is within
+    flat number_is goes
     some next_is past_is after_is =
     let c' : Cutting whole most size (first ∷ behind) behind_number at old = rw split at c in
     let h : GoesOn p at old new (Some n) = rw some at goes in
@@ -145,6 +174,8 @@ turn whole most size rest first behind after behind_number number at next past_i
 pub next_column : (b : ℕ) (at : At) → is_blank b ≡ false → record at { col = at.col + 1 } ≡ place_behind b at
 next_column b at no_blank = no_feed (nat_eq b 10) refl
   where
-    no_feed : (t : Bool) → nat_eq b 10 ≡ t → record at { col = at.col + 1 } ≡ cond t (record { line = at.line + 1; col = 1 }) (record at { col = at.col + 1 })
+    no_feed : (t : Bool) → nat_eq b 10 ≡ t → record at { col = at.col + 1 } ≡
+        cond t (record { line = at.line + 1; col = 1 }) (record at { col = at.col + 1 })
     no_feed false is = refl
-    no_feed true is = let feed : b ≡ 10 = eqb-true b 10 is in let blank : is_blank b ≡ true = ap is_blank feed in absurd (true≢false (sym blank ∙ no_blank))
+    no_feed true is = let feed : b ≡ 10 = eqb-true b 10 is in let blank : is_blank b ≡ true = ap is_blank feed in
+        absurd (true≢false (sym blank ∙ no_blank))

@@ -1,5 +1,6 @@
 -- Bytes in one line move the place by as many columns.
-use Rattle.std.proofs.Common.{◌≡◌, ℕ, suc, ◌+◌, nat_eq, Bool, true, false, cond, not, ◌&&◌, List, [], ◌∷◌, length, take, refl, sym, ap, ◌∙◌, arith, eqb-true, true≢false}
+use Rattle.std.proofs.Common.{◌≡◌, ℕ, suc, ◌+◌, nat_eq, Bool, true, false, cond, not, ◌&&◌, List, [], ◌∷◌, length, take}
+use Rattle.std.proofs.Common.{refl, sym, ap, ◌∙◌, arith, eqb-true, true≢false}
 use Rattle.std.specs.Char.{is_ascii_digit}
 use Rattle.std.specs.List.{prefix_len}
 use Rattle.layer_ast.specs.declared.names.At.{At}
@@ -48,11 +49,13 @@ not_true true is = cc
 not_true false is = refl
 
 -- the place behind such bytes
-pub past_flat : (bytes : List ℕ) (at : At) → is_flat bytes ≡ true → past bytes at ≡ record at { col = at.col + length bytes }
+pub past_flat : (bytes : List ℕ) (at : At) → is_flat bytes ≡ true →
+    past bytes at ≡ record at { col = at.col + length bytes }
 past_flat [] at flat = ap (λ n. record at { col = n }) (omega arith)
 past_flat (b ∷ bytes) at flat =
     let h = both_true (not (nat_eq b 10)) (is_flat bytes) flat in
     let next : place_behind b at ≡ record at { col = at.col + 1 } =
-    ap (λ t. cond t (record { line = at.line + 1; col = 1 }) (record at { col = at.col + 1 })) (not_true (nat_eq b 10) h.0) in
+    ap (λ t. cond t (record { line = at.line + 1; col = 1 }) (record at { col = at.col + 1 }))
+    (not_true (nat_eq b 10) h.0) in
     ap (past bytes) next
     ∙ (past_flat bytes (record at { col = at.col + 1 }) h.1 ∙ ap (λ n. record at { col = n }) (omega arith))

@@ -1,5 +1,6 @@
 -- A table whose entries are grouped by their first byte is searched in one group alone.
-use Rattle.std.proofs.Common.{◌≡◌, ℕ, nat_eq, Bool, true, false, cond, ◌&&◌, ◌||◌, ◌≤◌, List, [], ◌∷◌, length, map, filter, find, Option, Some, None, refl, sym, ap, ◌∙◌, true≢false, eqb-true, arith}
+use Rattle.std.proofs.Common.{◌≡◌, ℕ, nat_eq, Bool, true, false, cond, ◌&&◌, ◌||◌, ◌≤◌, List, [], ◌∷◌, length, map}
+use Rattle.std.proofs.Common.{filter, find, Option, Some, None, refl, sym, ap, ◌∙◌, true≢false, eqb-true, arith}
 use Rattle.std.specs.List.{list_any, list_all}
 use Rattle.std.specs.Borrow.{Bor}
 use Rattle.std.specs.Option.{option_map, option_and_then}
@@ -89,7 +90,8 @@ beside_none groups (entry ∷ table) b bs none covered =
     (skips b bs entry.0 (first_none groups entry.0 b none h.0))
     ∙ beside_none groups table b bs none h.1
 
-found_behind : {X : Type 0} (x : ℕ × List (List ℕ × X)) (groups : List (ℕ × List (List ℕ × X))) (table : List (List ℕ × X)) (b : ℕ)
+found_behind : {X : Type 0} (x : ℕ × List (List ℕ × X)) (groups : List (ℕ × List (List ℕ × X)))
+    (table : List (List ℕ × X)) (b : ℕ)
     (group : ℕ × List (List ℕ × X)) (t : Bool) → nat_eq b x.0 ≡ t →
     (x.1 ∷ map (λ g. g.1) groups) ≡ (starting x.0 table ∷ map (λ g. starting g.0 table) groups) →
     cond t (Some x) (find (λ g. nat_eq b g.0) groups) ≡ Some group →
@@ -104,14 +106,17 @@ found_behind x groups table b group false is same found behind =
     behind (ap list_tail same) found
 
 -- a group has the entries that begin with its byte
-found_group : {X : Type 0} (groups : List (ℕ × List (List ℕ × X))) (table : List (List ℕ × X)) (b : ℕ) (group : ℕ × List (List ℕ × X)) →
+found_group : {X : Type 0} (groups : List (ℕ × List (List ℕ × X))) (table : List (List ℕ × X)) (b : ℕ)
+    (group : ℕ × List (List ℕ × X)) →
     map (λ g. g.1) groups ≡ map (λ g. starting g.0 table) groups → find (λ g. nat_eq b g.0) groups ≡ Some group →
     group.1 ≡ starting b table
 found_group [] table b group same is = cc
-found_group (x ∷ groups) table b group same is = found_behind x groups table b group (nat_eq b x.0) refl same is (found_group groups table b group)
+found_group (x ∷ groups) table b group same is = found_behind x groups table b group (nat_eq b x.0) refl same is
+    (found_group groups table b group)
 
 grouped_found : {X : Type 0} (groups : List (ℕ × List (List ℕ × X))) (table : List (List ℕ × X)) →
-    map (λ g. g.1) groups ≡ map (λ g. starting g.0 table) groups → is_covered groups table ≡ true → (b : ℕ) (bs : List ℕ) →
+    map (λ g. g.1) groups ≡ map (λ g. starting g.0 table) groups → is_covered groups table ≡ true →
+    (b : ℕ) (bs : List ℕ) →
     (found : Option (ℕ × List (List ℕ × X))) → find (λ g. nat_eq b g.0) groups ≡ found →
     option_and_then (λ g. beside g.1 (b ∷ bs)) found ≡ beside table (b ∷ bs)
 grouped_found groups table same covered b bs None is = sym (beside_none groups table b bs is covered)
@@ -124,16 +129,19 @@ pub grouped_is : {X : Type 0} (groups : List (ℕ × List (List ℕ × X))) (tab
     1 ≤ length word → beside_in_group groups word ≡ beside table word
 unfolding beside_in_group
 grouped_is groups table same covered [] some = absurd (omega (arith, some))
-grouped_is groups table same covered (b ∷ bs) some = grouped_found groups table same covered b bs (find (λ g. nat_eq b g.0) groups) refl
+grouped_is groups table same covered (b ∷ bs) some =
+    grouped_found groups table same covered b bs (find (λ g. nat_eq b g.0) groups) refl
 
 -- a search in a grouped table, as the lexer keeps it
 find_group : {X : Type 0} (groups : List (ℕ × Bor (List (Bor (List ℕ) × X)))) (b : ℕ) (word : List ℕ) →
     option_and_then (λ g. beside g.1 word) (find (λ g. nat_eq b g.0) (shown_groups groups))
-    ≡ option_and_then (λ entries. beside (shown entries) word) (option_map (λ g. g.1.now) (find (λ g. nat_eq b g.0) groups))
+    ≡ option_and_then (λ entries. beside (shown entries) word)
+    (option_map (λ g. g.1.now) (find (λ g. nat_eq b g.0) groups))
 find_group [] b word = refl
 find_group (group ∷ groups) b word =
     elim (nat_eq b group.0) as (λ t.
-    option_and_then (λ g. beside g.1 word) (cond t (Some (group.0, shown group.1.now)) (find (λ g. nat_eq b g.0) (shown_groups groups)))
+    option_and_then (λ g. beside g.1 word)
+    (cond t (Some (group.0, shown group.1.now)) (find (λ g. nat_eq b g.0) (shown_groups groups)))
     ≡ option_and_then (λ entries. beside (shown entries) word)
     (option_map (λ g. g.1.now) (cond t (Some group) (find (λ g. nat_eq b g.0) groups)))
     ) [ true ↦ refl | false ↦ find_group groups b word ]
@@ -149,7 +157,8 @@ in_group groups b bs found same =
     ap (option_and_then (λ entries. beside (shown entries) (b ∷ bs))) same ∙ sym (find_group groups b (b ∷ bs))
 
 -- what the search for a word answers, where it has a first byte
-pub found_in_group : {X : Type 0} (groups : List (ℕ × Bor (List (Bor (List ℕ) × X)))) (word : List ℕ) (b : ℕ) (bs : List ℕ)
+pub found_in_group : {X : Type 0} (groups : List (ℕ × Bor (List (Bor (List ℕ) × X)))) (word : List ℕ) (b : ℕ)
+    (bs : List ℕ)
     (found : Option (Bor (List (Bor (List ℕ) × X)))) (result : Option X) → word ≡ b ∷ bs →
     option_map (λ g. g.now) found ≡ option_map (λ g. g.1.now) (find (λ g. nat_eq b g.0) groups) →
     result ≡ option_and_then (λ entries. beside (shown entries) word) (option_map (λ g. g.now) found) →

@@ -1,5 +1,6 @@
 -- A number that grows too large while its digits are read is too large.
-use Rattle.std.proofs.Common.{◌≡◌, ℕ, zero, suc, ◌+◌, ◌-◌, ◌*◌, ◌<◌, ◌≤◌, List, [], ◌∷◌, length, take, get_or, fold, arith, subst}
+use Rattle.std.proofs.Common.{◌≡◌, ℕ, zero, suc, ◌+◌, ◌-◌, ◌*◌, ◌<◌, ◌≤◌, List, [], ◌∷◌, length, take, get_or, fold}
+use Rattle.std.proofs.Common.{arith, subst}
 use Rattle.layer_ast.specs.Spelling.{number_of}
 
 -- further digits don't make a number smaller

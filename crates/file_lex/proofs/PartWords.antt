@@ -1,5 +1,6 @@
 -- The words that begin a part are `layer` and `stack`, and no others.
-use Rattle.std.proofs.Common.{◌≡◌, ℕ, Bool, true, false, cond, not, ◌&&◌, ◌||◌, List, [], ◌∷◌, drop, find, Option, Some, None, refl, sym, ap, ◌∙◌, codes}
+use Rattle.std.proofs.Common.{◌≡◌, ℕ, Bool, true, false, cond, not, ◌&&◌, ◌||◌, List, [], ◌∷◌, drop, find, Option, Some}
+use Rattle.std.proofs.Common.{None, refl, sym, ap, ◌∙◌, codes}
 use Rattle.std.proofs.lemmas.Bool.Decides.{same_from_decides}
 use Rattle.std.proofs.lemmas.Slice.Eq.{bytes_eq-Decides}
 use Rattle.std.specs.List.{list_all}
@@ -29,9 +30,12 @@ found_none word [] (Some kind) none = refl
 found_none word (entry ∷ table) kind none =
     first_or_later (bytes_eq entry.0 word) (begins_part (token.Sign entry.1)) refl none (found_none word table kind)
   where
-    first_or_later : (is_first begins : Bool) → begins_part (token.Sign entry.1) ≡ begins → (not begins && begin_none table) ≡ true →
+    first_or_later : (is_first begins : Bool) → begins_part (token.Sign entry.1) ≡ begins →
+        (not begins && begin_none table) ≡ true →
         (begin_none table ≡ true → begins_part (token_of word (beside table word) kind) ≡ false) →
-        begins_part (token_of word (option_map (λ entry. entry.1) (cond is_first (Some entry) (find (λ entry. bytes_eq entry.0 word) table))) kind) ≡ false
+        begins_part (token_of word
+        (option_map (λ entry. entry.1) (cond is_first (Some entry) (find (λ entry. bytes_eq entry.0 word) table))) kind)
+        ≡ false
     first_or_later true false is all later = is
     first_or_later false false is all later = later all
     first_or_later is_first true is all later = cc
@@ -53,7 +57,11 @@ part_word word is_layer is_stack layer stack =
   where
     by_cases : (l s : Bool) (kind : Option Kind) →
         (l || s)
-        ≡ begins_part (token_of word (option_map (λ entry. entry.1) (cond l (Some (codes "layer", sign.Layer)) (cond s (Some (codes "stack", sign.Stack)) (find (λ entry. bytes_eq entry.0 word) (drop 2 reserved))))) kind)
+        ≡ begins_part (token_of word
+        (option_map (λ entry. entry.1)
+        (cond l (Some (codes "layer", sign.Layer))
+        (cond s (Some (codes "stack", sign.Stack)) (find (λ entry. bytes_eq entry.0 word) (drop 2 reserved)))))
+        kind)
     by_cases true s kind = refl
     by_cases false true kind = refl
     by_cases false false kind = sym (found_none word (drop 2 reserved) kind refl)
@@ -62,9 +70,11 @@ part_word word is_layer is_stack layer stack =
 pub layer_word : (word : List ℕ) (is_layer : Bool) → is_layer ≡ bytes_eq word (codes "layer") → is_layer ≡ true →
     is_layer ≡ begins_part (word_token word)
 layer_word word is_layer layer true_is =
-    true_is ∙ (ap (λ t. t || bytes_eq word (codes "stack")) (sym true_is) ∙ part_word word is_layer (bytes_eq word (codes "stack")) layer refl)
+    true_is ∙ (ap (λ t. t || bytes_eq word (codes "stack")) (sym true_is) ∙
+    part_word word is_layer (bytes_eq word (codes "stack")) layer refl)
 
-pub stack_word : (word : List ℕ) (is_layer is_stack : Bool) → is_layer ≡ bytes_eq word (codes "layer") → is_layer ≡ false →
+pub stack_word : (word : List ℕ) (is_layer is_stack : Bool) → is_layer ≡ bytes_eq word (codes "layer") →
+    is_layer ≡ false →
     is_stack ≡ bytes_eq word (codes "stack") → is_stack ≡ begins_part (word_token word)
 stack_word word is_layer is_stack layer false_is stack =
     ap (λ t. t || is_stack) (sym false_is) ∙ part_word word is_layer is_stack layer stack

@@ -1,5 +1,7 @@
 -- Token after token, a part is cut.
-use Rattle.std.proofs.Common.{◌≡◌, ◌<◌, ◌≤◌, ◌+◌, ℕ, suc, Bool, true, false, not, ◌&&◌, cond, List, [], ◌∷◌, ◌++◌, length, take, drop, Option, Some, None, refl, sym, ap, subst, ◌∙◌, arith, append_assoc, append-nil, length-append}
+use Rattle.std.proofs.Common.{◌≡◌, ◌<◌, ◌≤◌, ◌+◌, ℕ, suc, Bool, true, false, not, ◌&&◌, cond, List, [], ◌∷◌, ◌++◌}
+use Rattle.std.proofs.Common.{length, take, drop, Option, Some, None, refl, sym, ap, subst, ◌∙◌, arith, append_assoc}
+use Rattle.std.proofs.Common.{append-nil, length-append}
 use Rattle.std.proofs.lemmas.List.{append_cancel_left, nil_from_length, take-append-drop}
 use Rattle.std.proofs.lemmas.List.Folds.{list_all-append}
 use Rattle.std.proofs.Math.Seq.{take-append_seam, drop-append_seam}
@@ -27,7 +29,8 @@ pub none_yet : (to_end : Bool) (old : List Lexed) → InPart to_end old old
 none_yet to_end old = record { added = []; grown = sym (append-nil old); inner = λ _. refl }
 
 -- one more is in the part, if it is the first or begins none
-still_in : (added : List Lexed) (l : Lexed) → begin_none (drop 1 added) ≡ true → (begins_part l.token ≡ true → length added ≡ 0) →
+still_in : (added : List Lexed) (l : Lexed) → begin_none (drop 1 added) ≡ true →
+    (begins_part l.token ≡ true → length added ≡ 0) →
     begin_none (drop 1 (added ++ l ∷ [])) ≡ true
 still_in [] l inner first = refl
 still_in (a ∷ rest) l inner first = by_token (begins_part l.token) refl
@@ -39,13 +42,15 @@ still_in (a ∷ rest) l inner first = by_token (begins_part l.token) refl
         ∙ (ap (λ t. t && (not (begins_part l.token) && true)) inner ∙ ap (λ t. not t && true) is)
 
 -- a piece is passed over or taken
-pub piece_more : (to_end : Bool) (old now new : List Lexed) (p : Piece) (at : At) (more : Option ℕ) → InPart to_end old now →
+pub piece_more : (to_end : Bool) (old now new : List Lexed) (p : Piece) (at : At) (more : Option ℕ) →
+    InPart to_end old now →
     GoesOn p at now new more → (to_end ≡ false → begins_at p ≡ true → length now ≤ length old) → InPart to_end old new
 piece_more to_end old now new (gap _) at more so_far h first = rw h.0 so_far
 piece_more to_end old now new bad at more so_far h first = rw h.0 so_far
 piece_more to_end old now new (one token _) at more so_far h first =
     let l : Lexed = record { token = token; at = at } in
-    let count : length now ≡ length old + length so_far.added = ap length so_far.grown ∙ length-append old so_far.added in
+    let count : length now ≡ length old + length so_far.added = ap length so_far.grown ∙
+    length-append old so_far.added in
     record {
       added = so_far.added ++ l ∷ [];
       grown = h.0 ∙ (ap (λ ts. ts ++ l ∷ []) so_far.grown ∙ append_assoc old so_far.added (l ∷ []));
@@ -70,12 +75,15 @@ prefix_is (a ∷ inner) behind none l ends =
 
     by_token : (b : Bool) → begins_part a.token ≡ b → (not b && begin_none inner) ≡ true →
         (begin_none inner ≡ true → prefix_len (λ l. not (begins_part l.token)) (inner ++ behind) ≡ length inner) →
-        cond (not (begins_part a.token)) (1 + prefix_len (λ l. not (begins_part l.token)) (inner ++ behind)) 0 ≡ suc (length inner)
+        cond (not (begins_part a.token)) (1 + prefix_len (λ l. not (begins_part l.token)) (inner ++ behind)) 0 ≡
+        suc (length inner)
     by_token true is none then = cc
     by_token false is none then =
-        ap (λ t. cond (not t) (1 + prefix_len (λ l. not (begins_part l.token)) (inner ++ behind)) 0) is ∙ omega (arith, then none)
+        ap (λ t. cond (not t) (1 + prefix_len (λ l. not (begins_part l.token)) (inner ++ behind)) 0) is ∙
+        omega (arith, then none)
 
-part_is : (added behind : List Lexed) → begin_none (drop 1 added) ≡ true → Ends added behind → part_length (added ++ behind) ≡ length added
+part_is : (added behind : List Lexed) → begin_none (drop 1 added) ≡ true → Ends added behind →
+    part_length (added ++ behind) ≡ length added
 part_is [] [] inner ends = refl
 part_is [] (b ∷ bs) inner ends = absurd (omega (arith, ends.1))
 part_is (a ∷ rest) behind inner ends = ap suc (prefix_is rest behind inner a ends)
@@ -86,7 +94,8 @@ part_cut : (old now added : List Lexed) (t whole : Tokens) → now ≡ old ++ ad
 part_cut old now added t whole grown same inner ends =
     let tokens : added ++ t.tokens ≡ whole.tokens =
     append_cancel_left old (added ++ t.tokens) whole.tokens
-    (sym (append_assoc old added t.tokens) ∙ (ap (λ ts. ts ++ t.tokens) (sym grown) ∙ ap (λ (w : Tokens). w.tokens) same)) in
+    (sym (append_assoc old added t.tokens) ∙
+    (ap (λ ts. ts ++ t.tokens) (sym grown) ∙ ap (λ (w : Tokens). w.tokens) same)) in
     let bad_at : t.bad_at ≡ whole.bad_at = ap (λ (w : Tokens). w.bad_at) same in
     let count : part_length (added ++ t.tokens) ≡ length added = part_is added t.tokens inner ends in
     let front : take (part_length (added ++ t.tokens)) (added ++ t.tokens) ≡ added =
@@ -97,11 +106,13 @@ part_cut old now added t whole grown same inner ends =
       added = grown ∙ ap (λ ts. old ++ ts) (sym front ∙ ap (λ ts. take (part_length ts) ts) tokens);
       rest =
           ap (λ ts. unless_bad ts t.bad_at) (sym back)
-          ∙ (ap (λ ts. unless_bad (drop (part_length ts) ts) t.bad_at) tokens ∙ ap (unless_bad (drop (part_length whole.tokens) whole.tokens)) bad_at);
+          ∙ (ap (λ ts. unless_bad (drop (part_length ts) ts) t.bad_at) tokens ∙
+          ap (unless_bad (drop (part_length whole.tokens) whole.tokens)) bad_at);
     }
 
 -- what begins a part ends the part in front of it
-begins_next : (p : Piece) (at : At) (rest : Bool → ℕ → Tokens) (added : List Lexed) → begins_at p ≡ true → 0 < length added →
+begins_next : (p : Piece) (at : At) (rest : Bool → ℕ → Tokens) (added : List Lexed) → begins_at p ≡ true →
+    0 < length added →
     Ends added (with_piece p at rest).tokens
     × (unless_bad (with_piece p at rest).tokens (with_piece p at rest).bad_at ≡ Some (with_piece p at rest))
     × ((with_piece p at rest).tokens ≡ [] → ⊥)
@@ -128,70 +139,87 @@ module _ (to_end : Bool) (old now : List Lexed) (left : Left) where
   -- in front of the next part
   pub at_next : (next : Left) (first : ℕ) (after : List ℕ) (p : Piece) →
       Cutting whole 4294967295 size next.text.now next.behind_number next.at now → InPart to_end old now →
-      next.text.now ≡ first ∷ after → p ≡ piece next.behind_number first after → begins_at p ≡ true → length old < length now →
+      next.text.now ≡ first ∷ after → p ≡ piece next.behind_number first after → begins_at p ≡ true →
+      length old < length now →
       to_end ≡ false → StopsBefore old now left to_end next
   at_next next first after p c so_far split is begins longer part =
-      let count : length now ≡ length old + length so_far.added = ap length so_far.grown ∙ length-append old so_far.added in
+      let count : length now ≡ length old + length so_far.added = ap length so_far.grown ∙
+      length-append old so_far.added in
       let some : 0 < length so_far.added = omega (arith, count, longer) in
       let rest : Bool → ℕ → Tokens = λ number n. cut_from number n after (place_behind first next.at) in
       let shown : with_piece p next.at rest ≡ left_of next =
       ap (λ q. with_piece q next.at rest) is ∙ ap (λ bytes. cut_from next.behind_number 0 bytes next.at) (sym split) in
       let facts = begins_next p next.at rest so_far.added begins some in
-      let ends : Ends so_far.added (left_of next).tokens = subst (λ (t : Tokens). Ends so_far.added t.tokens) shown facts.0 in
+      let ends : Ends so_far.added (left_of next).tokens = subst (λ (t : Tokens). Ends so_far.added t.tokens) shown
+      facts.0 in
       let good : unless_bad (left_of next).tokens (left_of next).bad_at ≡ Some (left_of next) =
       subst (λ (t : Tokens). unless_bad t.tokens t.bad_at ≡ Some t) shown facts.1 in
       record {
         all = λ to_the_end. cc;
-        part = λ _. subst (CutsPart old now (left_of left)) good (part_cut old now so_far.added (left_of next) (left_of left) so_far.grown c.same (so_far.inner part) ends);
+        part = λ _. subst (CutsPart old now (left_of left)) good
+            (part_cut old now so_far.added (left_of next) (left_of left) so_far.grown c.same (so_far.inner part) ends);
         behind = behind next c (λ none. absurd (facts.2 (ap (λ (t : Tokens). t.tokens) shown ∙ none)));
       }
 
   -- at the end of the text
-  pub at_end : (next : Left) → Cutting whole 4294967295 size next.text.now next.behind_number next.at now → InPart to_end old now →
+  pub at_end : (next : Left) → Cutting whole 4294967295 size next.text.now next.behind_number next.at now →
+      InPart to_end old now →
       length next.text.now ≡ 0 → StopsBefore old now left to_end next
   at_end next c so_far is =
       let none : next.text.now ≡ [] = nil_from_length next.text.now is in
-      let shown : left_of next ≡ record { tokens = []; bad_at = None } = ap (λ bytes. cut_from next.behind_number 0 bytes next.at) none in
-      let same : in_front now record { tokens = []; bad_at = None } ≡ in_front old (left_of left) = ap (in_front now) (sym shown) ∙ c.same in
+      let shown : left_of next ≡ record { tokens = []; bad_at = None } =
+      ap (λ bytes. cut_from next.behind_number 0 bytes next.at) none in
+      let same : in_front now record { tokens = []; bad_at = None } ≡ in_front old (left_of left) =
+      ap (in_front now) (sym shown) ∙ c.same in
       record {
         all = λ _. same;
         part = λ part. subst (λ t. CutsPart old now (left_of left) (Some t)) (sym shown)
-            (part_cut old now so_far.added record { tokens = []; bad_at = None } (left_of left) so_far.grown same (so_far.inner part) tt);
+            (part_cut old now so_far.added record { tokens = []; bad_at = None } (left_of left) so_far.grown same
+            (so_far.inner part) tt);
         behind = behind next c (λ _. none);
       }
 
   -- at a bad token
-  pub at_bad : (new : List Lexed) (bytes : List ℕ) (number : Bool) (at : At) (first : ℕ) (after : List ℕ) (p : Piece) (more : Option ℕ) →
-      Cutting whole 4294967295 size bytes number at now → InPart to_end old now → bytes ≡ first ∷ after → p ≡ piece number first after →
+  pub at_bad : (new : List Lexed) (bytes : List ℕ) (number : Bool) (at : At) (first : ℕ) (after : List ℕ) (p : Piece)
+      (more : Option ℕ) →
+      Cutting whole 4294967295 size bytes number at now → InPart to_end old now → bytes ≡ first ∷ after →
+      p ≡ piece number first after →
       GoesOn p at now new more → more ≡ None → StopsBad old new left to_end at
   at_bad new bytes number at first after p more c so_far split is goes none =
       by_piece p goes (ap (λ q. with_piece q at (λ number n. cut_from number n after (place_behind first at))) is
       ∙ ap (λ bytes. cut_from number 0 bytes at) (sym split))
     where
-      by_piece : (p : Piece) → GoesOn p at now new more → with_piece p at (λ number n. cut_from number n after (place_behind first at)) ≡ cut_from number 0 bytes at →
+      by_piece : (p : Piece) → GoesOn p at now new more →
+          with_piece p at (λ number n. cut_from number n after (place_behind first at)) ≡ cut_from number 0 bytes at →
           StopsBad old new left to_end at
       by_piece (gap n) h shown = cc
       by_piece (one token n) h shown = cc
       by_piece bad h shown =
-          let same : in_front now record { tokens = []; bad_at = Some at } ≡ in_front old (left_of left) = ap (in_front now) shown ∙ c.same in
+          let same : in_front now record { tokens = []; bad_at = Some at } ≡ in_front old (left_of left) =
+          ap (in_front now) shown ∙ c.same in
           rw h.0 record {
             all = same;
-            part = λ part. part_cut old now so_far.added record { tokens = []; bad_at = Some at } (left_of left) so_far.grown same (so_far.inner part) tt;
+            part = λ part. part_cut old now so_far.added record { tokens = []; bad_at = Some at } (left_of left)
+                so_far.grown same (so_far.inner part) tt;
           }
 
 -- tokens that aren't followed by a bad one at once
-not_bad : (tokens : List Lexed) (bad_at : Option At) (t : Tokens) → Some t ≡ unless_bad tokens bad_at → t ≡ record { tokens = tokens; bad_at = bad_at }
+not_bad : (tokens : List Lexed) (bad_at : Option At) (t : Tokens) → Some t ≡ unless_bad tokens bad_at →
+    t ≡ record { tokens = tokens; bad_at = bad_at }
 not_bad [] (Some at) t is = cc
 not_bad [] None t is = cc
 not_bad (l ∷ tokens) bad_at t is = cc
 
 -- a part and what stands behind it make up the whole
-pub made_up : (old new : List Lexed) (whole behind : Tokens) → CutsPart old new whole (Some behind) → in_front new behind ≡ in_front old whole
+pub made_up : (old new : List Lexed) (whole behind : Tokens) → CutsPart old new whole (Some behind) →
+    in_front new behind ≡ in_front old whole
 made_up old new whole behind c =
     let n = part_length whole.tokens in
-    let is : behind ≡ record { tokens = drop n whole.tokens; bad_at = whole.bad_at } = not_bad (drop n whole.tokens) whole.bad_at behind c.rest in
+    let is : behind ≡ record { tokens = drop n whole.tokens; bad_at = whole.bad_at } =
+    not_bad (drop n whole.tokens) whole.bad_at behind c.rest in
     let all : (old ++ take n whole.tokens) ++ drop n whole.tokens ≡ old ++ whole.tokens =
-    append_assoc old (take n whole.tokens) (drop n whole.tokens) ∙ ap (λ ts. old ++ ts) (take-append-drop n whole.tokens) in
+    append_assoc old (take n whole.tokens) (drop n whole.tokens) ∙
+    ap (λ ts. old ++ ts) (take-append-drop n whole.tokens) in
     ap (in_front new) is
     ∙ (ap (λ ts. record { tokens = ts ++ drop n whole.tokens; bad_at = whole.bad_at }) c.added
     ∙ ap (λ ts. record { tokens = ts; bad_at = whole.bad_at }) all)

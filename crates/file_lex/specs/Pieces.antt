@@ -1,5 +1,6 @@
 -- What the lexer's values say.
-use Rattle.std.specs.Prelude.{◌≡◌, ◌<◌, ◌≤◌, ◌+◌, ℕ, suc, length, take, Bool, true, false, not, nat_eq, List, [], ◌∷◌, ◌++◌, fold, Option, Some, None}
+use Rattle.std.specs.Prelude.{◌≡◌, ◌<◌, ◌≤◌, ◌+◌, ℕ, suc, length, take, Bool, true, false, not, nat_eq, List, [], ◌∷◌}
+use Rattle.std.specs.Prelude.{◌++◌, fold, Option, Some, None}
 use Rattle.std.specs.List.{list_all}
 use Rattle.layer_ast.specs.declared.names.At.{At}
 use Rattle.layer_ast.specs.declared.tokens.Lexed.{Lexed}
@@ -77,13 +78,15 @@ pub record HasRoom (left : Left) : Type 0 where
   pub line : left.at.line + length left.text.now < 4294967296
   pub col : left.at.col + length left.text.now < 4294967296
 
--- tokens were added up to here, where this is left: no more of them than there were bytes, and where no token is left, no byte is
+-- tokens were added up to here, where this is left: no more of them than there were bytes, and where no token is left,
+-- no byte is
 pub record IsBehind (old new : List Lexed) (left next : Left) : Type 0 where
   pub room : HasRoom next
   pub fewer : length next.text.now + length new ≤ length left.text.now + length old
   pub ended : (left_of next).tokens ≡ [] → next.text.now ≡ []
 
--- what cutting comes to: the front of what is left was cut, all of it or its first part, or there is a bad token behind it
+-- what cutting comes to: the front of what is left was cut, all of it or its first part, or there is a bad token behind
+-- it
 pub record StopsBefore (old new : List Lexed) (left : Left) (to_end : Bool) (next : Left) : Type 0 where
   pub all : to_end ≡ true → in_front new record { tokens = []; bad_at = None } ≡ in_front old (left_of left)
   pub part : to_end ≡ false → CutsPart old new (left_of left) (Some (left_of next))

@@ -20,4 +20,5 @@ are_in_row b (group ∷ groups) = nat_eq group.0 b && are_in_row (suc b) groups
 -- what stands beside a word in the group of its first byte
 unfoldable pub beside_in_group : {X : Type 0} → List (ℕ × List (List ℕ × X)) → List ℕ → Option X
 beside_in_group groups [] = None
-beside_in_group groups (b ∷ bs) = option_and_then (λ group. beside group.1 (b ∷ bs)) (find (λ group. nat_eq b group.0) groups)
+beside_in_group groups (b ∷ bs) =
+    option_and_then (λ group. beside group.1 (b ∷ bs)) (find (λ group. nat_eq b group.0) groups)

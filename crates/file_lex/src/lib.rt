@@ -6,7 +6,8 @@ ghost use Rattle.layer_ast.specs.Cut.{cut as cut_of, place_behind as next_place}
 ghost use Rattle.layer_ast.specs.Stops.{end_of as end};
 ghost use Rattle.std.specs.Option.{option_map};
 ghost use Rattle.file_lex.specs.Parts.{CutsPart};
-ghost use Rattle.file_lex.specs.Pieces.{found, tokens_of, begins_at, is_number as is_number_piece, past, left_of, GoesOn, IsFront, HasRoom, IsBehind, Stops};
+ghost use Rattle.file_lex.specs.Pieces.{found, tokens_of, begins_at, is_number as is_number_piece, past, left_of};
+ghost use Rattle.file_lex.specs.Pieces.{GoesOn, IsFront, HasRoom, IsBehind, Stops};
 
 mod pieces;
 mod words;
@@ -26,7 +27,8 @@ pub struct Tokens {
     pub bad_at: Option<At>,
 }
 
-/// What is left of a text behind some of its tokens: its bytes, the place of the first, and whether a number stands in front of it.
+/// What is left of a text behind some of its tokens: its bytes, the place of the first, and whether a number stands in
+/// front of it.
 #[derive(Clone, Copy)]
 pub struct Left<'a> {
     text: &'a [u8],
@@ -78,11 +80,14 @@ pub fn cut(alloc: Global, text: &[u8]) -> Result<Tokens, AllocError>
     Ok(Tokens { tokens, bad_at })
 }
 
-/// Cuts off the next part of a text, one layer or the stack: adds the first token that is left, and those behind it up to the next word
-/// `layer` or `stack` or the end. The result is what is left then, or none where the part has a bad token, behind those that were added.
+/// Cuts off the next part of a text, one layer or the stack: adds the first token that is left, and those behind it up
+/// to the next word
+/// `layer` or `stack` or the end. The result is what is left then, or none where the part has a bad token, behind those
+/// that were added.
 pub fn cut_part<'a>(tokens: &mut Vec<Lexed>, left: Left<'a>) -> Result<Option<Left<'a>>, AllocError>
     requires { HasRoom left }
-    ensures part { IfOk result (λ o. CutsPart tokens.old.items tokens.new.items (left_of left.entry) (option_map left_of o)) }
+    ensures part { IfOk result
+        (λ o. CutsPart tokens.old.items tokens.new.items (left_of left.entry) (option_map left_of o)) }
     ensures behind { IfOk result (λ o. IfSome o (λ next. IsBehind tokens.old.items tokens.new.items left.entry next)) }
 {
     match cut_on(tokens, left, false)? {
@@ -147,8 +152,8 @@ fn begins_part(piece: &Piece, text: &[u8]) -> bool
     }
 }
 
-/// Adds the token of a piece at the front of a text to the tokens. The result is how many bytes of the piece stand behind its
-/// first, or none where the piece is bad.
+/// Adds the token of a piece at the front of a text to the tokens. The result is how many bytes of the piece stand
+/// behind its first, or none where the piece is bad.
 fn take_piece(
     tokens: &mut Vec<Lexed>,
     piece: Piece,

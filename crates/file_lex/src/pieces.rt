@@ -1,5 +1,6 @@
 //! The pieces of a text: gaps and tokens.
-ghost use Rattle.std.specs.Prelude.{◌≡◌, ℕ, List, ◌+◌, ◌<◌, ◌≤◌, ◌∷◌, true, false, length, MatchOption, suc, take, not, nat_eq};
+ghost use Rattle.std.specs.Prelude.{◌≡◌, ℕ, List, ◌+◌, ◌<◌, ◌≤◌, ◌∷◌, true, false, length, MatchOption, suc, take, not};
+ghost use Rattle.std.specs.Prelude.{nat_eq};
 ghost use Rattle.std.specs.Char.{is_ascii_digit};
 ghost use Rattle.std.specs.List.{prefix_len};
 ghost use Rattle.layer_ast.specs.Cut.{piece as piece_of, word_piece, number_piece, symbol_piece};
@@ -18,7 +19,8 @@ pub enum Piece {
     Bad,
 }
 
-/// The piece that a text begins with, given also as its first byte, which is no blank, and the bytes behind that. It stands in one line.
+/// The piece that a text begins with, given also as its first byte, which is no blank, and the bytes behind that. It
+/// stands in one line.
 #[tactic(auto, unfolding(layer_ast::specs::Cut::piece), using(crate::proofs::Flat::line_flat))]
 pub fn piece_at(behind_number: bool, first: u8, behind: &[u8], text: &[u8]) -> Piece
     requires text { text.now ≡ first ∷ behind.now }

@@ -1,4 +1,5 @@
-//! The library of protocol layers: fifteen texts in the language of layers, which a stack names without writing them out.
+//! The library of protocol layers: fifteen texts in the language of layers, which a stack names without writing them
+//! out.
 #![tactic(auto)]
 
 mod flow;

@@ -47,7 +47,8 @@ stack =
           record { name = codes "k"; form = mean.numbers One (mean.number 1) }
           ∷ record { name = codes "e"; form = mean.numbers Array (mean.number 0) }
           ∷ [];
-      headers = record { name = codes "a"; fields = 0; ends = false } ∷ record { name = codes "b"; fields = 0; ends = false } ∷ [];
+      headers = record { name = codes "a"; fields = 0; ends = false } ∷
+          record { name = codes "b"; fields = 0; ends = false } ∷ [];
       handlers =
           record {
             direction = Down;
@@ -57,9 +58,11 @@ stack =
             numbers = 0;
             messages = 0;
             block =
-                mean.more (mean.assign 1 (mean.binary BitAnd (mean.element 0 (mean.number 0)) (mean.number 1)) (mean.number 5))
+                mean.more (mean.assign 1 (mean.binary BitAnd (mean.element 0 (mean.number 0)) (mean.number 1))
+                (mean.number 5))
                 (
-                mean.more (mean.assign 0 (mean.number 0) (mean.binary Add (mean.element 0 (mean.number 0)) (mean.number 1))) (
+                mean.more (mean.assign 0 (mean.number 0)
+                (mean.binary Add (mean.element 0 (mean.number 0)) (mean.number 1))) (
                 mean.more (
                 mean.branch First (mean.binary Equal (mean.element 1 (mean.number 0)) (mean.number 5)) (cast_with 1)
                 (cast_with 2))

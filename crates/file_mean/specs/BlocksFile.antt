@@ -28,7 +28,8 @@ text =
 abbrev pub file : FileTree
 file = file_of text
 
--- The stack that it means: `o` and `v` have the slots 0 and 1, the first `x` 2, the second 3, `y` 4 and the third `x` 5.
+-- The stack that it means: `o` and `v` have the slots 0 and 1, the first `x` 2, the second 3, `y` 4 and the third `x`
+-- 5.
 abbrev pub stack : List mean.LayerTree
 stack =
     record {

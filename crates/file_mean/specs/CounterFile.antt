@@ -1,4 +1,5 @@
--- The file of the counter layer: each cast carries the sender's count, and `e` has the number that is due from each member.
+-- The file of the counter layer: each cast carries the sender's count, and `e` has the number that is due from each
+-- member.
 use Rattle.std.specs.Prelude.{ℕ, List, [], ◌∷◌, ◌++◌, codes, false, Some}
 use Rattle.layer_ast.specs.declared.tokens.Dir.TheVariants.{Up, Down}
 use Rattle.layer_ast.specs.declared.tokens.Kind.TheVariants as kind
@@ -53,9 +54,15 @@ stack =
                   direction = Down;
                   kind = kind.Cast;
                   numbers = mean.local 0 ∷ [];
-                  content = Some record { message = mean.message 0; tag = 1; fields = mean.element 0 (mean.number 0) ∷ [] };
+                  content = Some record {
+                    message = mean.message 0;
+                    tag = 1;
+                    fields = mean.element 0 (mean.number 0) ∷
+                        [];
+                  };
                 }) (
-                mean.more (mean.assign 0 (mean.number 0) (mean.binary Add (mean.element 0 (mean.number 0)) (mean.number 1)))
+                mean.more (mean.assign 0 (mean.number 0)
+                (mean.binary Add (mean.element 0 (mean.number 0)) (mean.number 1)))
                 mean.none);
           }
           ∷ record {

@@ -1,5 +1,5 @@
--- A file with the forms of expressions and statements that the other files lack: a square array, a choice, parts in front of
--- messages, and an event of two numbers.
+-- A file with the forms of expressions and statements that the other files lack: a square array, a choice, parts in
+-- front of messages, and an event of two numbers.
 use Rattle.std.specs.Prelude.{ℕ, List, [], ◌∷◌, ◌++◌, codes, true, false, Some, None}
 use Rattle.layer_ast.specs.declared.tokens.Dir.TheVariants.{Up, Down}
 use Rattle.layer_ast.specs.declared.tokens.Kind.TheVariants as kind
@@ -79,7 +79,8 @@ sent = record {
       mean.more (mean.push 1 (mean.number 0) 1 record {
         numbers = [];
         message = Some (
-            mean.join (mean.cut (mean.message 0) (mean.number 0) (mean.number 4)) (mean.tail (mean.message 0) (mean.number 4)));
+            mean.join (mean.cut (mean.message 0) (mean.number 0) (mean.number 4))
+            (mean.tail (mean.message 0) (mean.number 4)));
       } (
       mean.more (mean.emit record {
         direction = Down;
@@ -98,9 +99,14 @@ stack =
       name = codes "sums";
       cells =
           record { name = codes "sum"; form = mean.numbers Square (mean.binary Add (mean.number 4) mean.ltime) }
-          ∷ record { name = codes "kept"; form = mean.queue 1 record { numbers = []; message = Some (codes "m", mean.whole []) } }
+          ∷ record {
+            name = codes "kept";
+            form =
+                mean.queue 1 record { numbers = []; message = Some (codes "m", mean.whole []) };
+          }
           ∷ [];
-      headers = record { name = codes "last"; fields = 0; ends = false } ∷ record { name = codes "some"; fields = 0; ends = true } ∷ [];
+      headers = record { name = codes "last"; fields = 0; ends = false } ∷
+          record { name = codes "some"; fields = 0; ends = true } ∷ [];
       handlers = acknowledged ∷ sent ∷ [];
     }
     ∷ []

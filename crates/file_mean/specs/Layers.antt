@@ -3,11 +3,13 @@ use Rattle.std.specs.Prelude.{ℕ, ◌-◌, List, ◌++◌, map, length, filter_
 use Rattle.std.specs.Option.{option_map_or, option_zip}
 use Rattle.layer_ast.specs.Tree as ast
 use Rattle.layer_mean.specs.Event.{carries}
-use Rattle.layer_mean.specs.Tree.{number, Expected, always, common, rare, HandlerTree, ItemsTree, numbers, queue, queues, CellTree, HeaderTree, LayerTree}
+use Rattle.layer_mean.specs.Tree.{number, Expected, always, common, rare, HandlerTree, ItemsTree, numbers, queue}
+use Rattle.layer_mean.specs.Tree.{queues, CellTree, HeaderTree, LayerTree}
 use Rattle.fault_mean.specs.Declared.{items_in, names_in}
 use Rattle.fault_mean.specs.Forms.{is_end}
 use Rattle.fault_mean.specs.Scope.{popped_names}
-use Rattle.file_mean.specs.Names.{Placed, Names, own_names, with_numbers, with_messages, tag_of, size_value, numbers_among, message_among, carried_in}
+use Rattle.file_mean.specs.Names.{Placed, Names, own_names, with_numbers, with_messages, tag_of, size_value}
+use Rattle.file_mean.specs.Names.{numbers_among, message_among, carried_in}
 use Rattle.file_mean.specs.Values.{number_of}
 use Rattle.file_mean.specs.Statements.{behind_all, statements_of}
 
@@ -15,7 +17,8 @@ use Rattle.file_mean.specs.Statements.{behind_all, statements_of}
 abbrev pub popped_tag : Placed → Option ast.PoppedTree → ℕ
 popped_tag p popped = option_map_or (λ h. tag_of p h.name) popped 0
 
--- The names that a handler brings: its event's numbers, then the fields of the header that it takes off, and its message.
+-- The names that a handler brings: its event's numbers, then the fields of the header that it takes off, and its
+-- message.
 abbrev pub handler_names : Placed → ast.HandlerTree → Names
 handler_names p h =
     let has_message = carries h.kind in
@@ -56,7 +59,10 @@ row_items p items =
 -- The cell that a declaration declares, if it does; an initial value that isn't written is 0.
 abbrev pub cell_in : Placed → ast.DeclarationTree → Option CellTree
 cell_in p (ast.int at name shape initial) =
-    Some (record { name = name.word; form = numbers shape (option_map_or (number_of (own_names p)) initial (number 0)) })
+    Some (record {
+      name = name.word;
+      form = numbers shape (option_map_or (number_of (own_names p)) initial (number 0));
+    })
 cell_in p (ast.rows_cell at name capacity items) =
     Some (record { name = name.word; form = queue (size_value p capacity) (row_items p (items_in items)) })
 cell_in p (ast.rows_array at name capacity items) =
@@ -66,7 +72,12 @@ cell_in p _ = None
 -- The header that a declaration declares, if it does.
 abbrev pub header_in : ast.DeclarationTree → Option HeaderTree
 header_in (ast.header at name fields ending) =
-    Some (record { name = name.word; fields = length (names_in fields); ends = is_end (ast.header at name fields ending) })
+    Some (record {
+      name = name.word;
+      fields = length (names_in fields);
+      ends =
+          is_end (ast.header at name fields ending);
+    })
 header_in _ = None
 
 -- A layer at its place: cells and headers in the order of their declarations, and its handlers.

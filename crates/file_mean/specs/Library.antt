@@ -22,8 +22,8 @@ abbrev pub each_once : List Word → List Word
 each_once [] = []
 each_once (word ∷ rest) = word ∷ filter (λ other. not (bytes_eq other word)) (each_once rest)
 
--- The texts of the library that a file calls for: those of the names that its places name and it lacks, each once, in the order
--- of its places.
+-- The texts of the library that a file calls for: those of the names that its places name and it lacks, each once, in
+-- the order of its places.
 abbrev pub called_for : FileTree → List (List ℕ)
 called_for file = filter_map library_text (each_once (filter (lacks file) (map (λ place. place.name.word) file.places)))
 

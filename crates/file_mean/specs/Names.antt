@@ -1,5 +1,7 @@
--- What the names of a layer file stand for: params and cells of a layer at a place, and the slots of what a handler declares.
-use Rattle.std.specs.Prelude.{ℕ, ◌+◌, ◌-◌, List, [], ◌++◌, map, take, length, zip, Bool, true, false, bytes_eq, Option, Some, None, option_and_then, unwrap_or}
+-- What the names of a layer file stand for: params and cells of a layer at a place, and the slots of what a handler
+-- declares.
+use Rattle.std.specs.Prelude.{ℕ, ◌+◌, ◌-◌, List, [], ◌++◌, map, take, length, zip, Bool, true, false, bytes_eq, Option}
+use Rattle.std.specs.Prelude.{Some, None, option_and_then, unwrap_or}
 use Rattle.std.specs.List.{last_or, position, range_with_len}
 use Rattle.std.specs.Map.{lookup}
 use Rattle.std.specs.Option.{option_map_or}
@@ -8,12 +10,14 @@ use Rattle.layer_ast.specs.declared.names.Name.{Name}
 use Rattle.layer_ast.specs.declared.names.Word.{Word}
 use Rattle.layer_ast.specs.declared.syntax.Sort.{Sort}
 use Rattle.layer_ast.specs.declared.syntax.Sort.TheVariants.{Int, Msg, Part}
-use Rattle.layer_ast.specs.Tree.{DeclarationTree, rows_cell, rows_array, ItemTree, LayerTree, GivenTree, SizeTree, fixed, sized}
+use Rattle.layer_ast.specs.Tree.{DeclarationTree, rows_cell, rows_array, ItemTree, LayerTree, GivenTree, SizeTree}
+use Rattle.layer_ast.specs.Tree.{fixed, sized}
 use Rattle.layer_mean.specs.Tree.{Carried, part, whole}
 use Rattle.fault_mean.specs.Declared.{declaration_of, cell_number, header_tag}
 use Rattle.fault_mean.specs.Places.{param_value}
 
--- A layer at a place of a stack, with the params that the place gives and the header `none` of each place above, lowest first.
+-- A layer at a place of a stack, with the params that the place gives and the header `none` of each place above, lowest
+-- first.
 pub record Placed : Type 0 where
   pub layer : LayerTree
   pub given : List GivenTree
@@ -54,8 +58,8 @@ carried_in p items = option_and_then (λ i. carried_as p.blank i.sort) (last_or 
 abbrev pub item_number : List ItemTree → Name → ℕ
 item_number items label = unwrap_or (position (λ i. bytes_eq i.name.word label.word) items) 0
 
--- Of things that stand for numbers, and the last of them for a message if there is one: those of the numbers, and that of the
--- message.
+-- Of things that stand for numbers, and the last of them for a message if there is one: those of the numbers, and that
+-- of the message.
 abbrev pub numbers_among : {A : Type 0} → Bool → List A → List A
 numbers_among true xs = take (length xs - 1) xs
 numbers_among false xs = xs
@@ -69,8 +73,9 @@ pub record Slots : Type 0 where
   pub numbers : ℕ
   pub messages : ℕ
 
--- The names that are visible at a statement, each with its slot and the newest in front, and the slots that are taken: every
--- name that a handler declares has a slot of its own, in the order of the text, also where it is no longer visible.
+-- The names that are visible at a statement, each with its slot and the newest in front, and the slots that are taken:
+-- every name that a handler declares has a slot of its own, in the order of the text, also where it is no longer
+-- visible.
 pub record Names : Type 0 where
   pub place : Placed
   pub numbers : List (Word × ℕ)

@@ -44,7 +44,8 @@ paced keep = record {
         numbers = 1;
         messages = 0;
         block =
-            mean.more (mean.push 1 (mean.number 0) keep record { numbers = mean.local 0 ∷ []; message = None } mean.none) (
+            mean.more (mean.push 1 (mean.number 0) keep record { numbers = mean.local 0 ∷ []; message = None }
+            mean.none) (
             mean.more (mean.each 1 (mean.number keep) keep (
             mean.more (mean.emit record {
               direction = Down;

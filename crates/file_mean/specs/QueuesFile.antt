@@ -84,9 +84,14 @@ holding blank = record {
         name = codes "early";
         form = mean.queues 16 record { numbers = codes "seq" ∷ []; message = Some (codes "m", mean.whole blank) };
       }
-      ∷ record { name = codes "parts"; form = mean.queue 4 record { numbers = []; message = Some (codes "p", mean.part) } }
+      ∷ record {
+        name = codes "parts";
+        form =
+            mean.queue 4 record { numbers = []; message = Some (codes "p", mean.part) };
+      }
       ∷ [];
-  headers = record { name = codes "num"; fields = 1; ends = false } ∷ record { name = codes "piece"; fields = 0; ends = true } ∷ [];
+  headers = record { name = codes "num"; fields = 1; ends = false } ∷
+      record { name = codes "piece"; fields = 0; ends = true } ∷ [];
   handlers =
       record {
         direction = Up;

@@ -7,11 +7,13 @@ use Rattle.layer_ast.specs.declared.tokens.Dir.{Dir}
 use Rattle.layer_ast.specs.declared.tokens.Kind.{Kind}
 use Rattle.layer_ast.specs.Tree as ast
 use Rattle.layer_mean.specs.Event.{carries}
-use Rattle.layer_mean.specs.Tree.{ExpressionTree, number, EmissionTree, RowTree, TakenTree, StatementTree, bind, assign, assign_square, push, take, branch, each, emit, StatementTrees, none, more}
+use Rattle.layer_mean.specs.Tree.{ExpressionTree, number, EmissionTree, RowTree, TakenTree, StatementTree, bind, assign}
+use Rattle.layer_mean.specs.Tree.{assign_square, push, take, branch, each, emit, StatementTrees, none, more}
 use Rattle.fault_mean.specs.Declared.{names_in}
 use Rattle.fault_mean.specs.Forms.{queue_name}
 use Rattle.fault_mean.specs.Uses.{arguments_in}
-use Rattle.file_mean.specs.Names.{Names, cell_of, tag_of, capacity_of, size_value, numbers_among, message_among, with_numbers, with_messages}
+use Rattle.file_mean.specs.Names.{Names, cell_of, tag_of, capacity_of, size_value, numbers_among, message_among}
+use Rattle.file_mean.specs.Names.{with_numbers, with_messages}
 use Rattle.file_mean.specs.Values.{number_of, queue_carries, queue_cell, queue_index, argument_number, argument_message}
 
 -- The tag and the fields of the header that an emission puts on: without one it is `none`, which has tag 0.
@@ -57,22 +59,25 @@ taken_row names q new = record {
   message = option_map (λ carried. (names.taken.messages, carried)) (queue_carries names q);
 }
 
--- The names behind a block, from those in front of it and those at its end: what it declared is visible no longer, and has its slots.
+-- The names behind a block, from those in front of it and those at its end: what it declared is visible no longer, and
+-- has its slots.
 abbrev pub after_block : Names → Names → Names
 after_block names inner = record names { taken = inner.taken }
 
 abbrev mutual
-  -- The names behind a statement: those that it declares for the rest of its block are visible, and of all that it declares the
-  -- slots are taken.
+  -- The names behind a statement: those that it declares for the rest of its block are visible, and of all that it
+  -- declares the slots are taken.
   pub behind : ast.StatementTree → Names → Names
   behind (ast.bind at name value) names = with_numbers (name ∷ []) names
   behind (ast.push at q items otherwise) names = after_block names (behind_all otherwise names)
   behind (ast.take at q new block otherwise) names =
-      after_block names (behind_all otherwise (after_block names (behind_all block (with_taken q (names_in (Some new)) names))))
+      after_block names (behind_all otherwise
+      (after_block names (behind_all block (with_taken q (names_in (Some new)) names))))
   behind (ast.when at likely condition block) names = after_block names (behind_all block names)
   behind (ast.choose at likely condition block otherwise) names =
       after_block names (behind_all otherwise (after_block names (behind_all block names)))
-  behind (ast.each at name below most block) names = after_block names (behind_all block (with_numbers (name ∷ []) names))
+  behind (ast.each at name below most block) names =
+      after_block names (behind_all block (with_numbers (name ∷ []) names))
   behind _ names = names
 
   -- The names behind the statements of a block.
@@ -93,10 +98,12 @@ abbrev mutual
   statement_of names (ast.set_square at name row column value) = assign_square (cell_of names.place name)
       (number_of names row) (number_of names column) (number_of names value)
   statement_of names (ast.push at q items otherwise) = push (queue_cell names q) (queue_index names q)
-      (capacity_of names.place (queue_name q)) (pushed_row names q (arguments_in (Some items))) (statements_of names otherwise)
+      (capacity_of names.place (queue_name q)) (pushed_row names q (arguments_in (Some items)))
+      (statements_of names otherwise)
   statement_of names (ast.take at q new block otherwise) =
       let inner = with_taken q (names_in (Some new)) names in
-      take (queue_cell names q) (queue_index names q) (taken_row names q (names_in (Some new))) (statements_of inner block)
+      take (queue_cell names q) (queue_index names q) (taken_row names q (names_in (Some new)))
+      (statements_of inner block)
       (statements_of (after_block names (behind_all block inner)) otherwise)
   statement_of names (ast.when at likely condition block) =
       branch likely (number_of names condition) (statements_of names block) none

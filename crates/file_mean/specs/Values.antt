@@ -3,7 +3,8 @@ use Rattle.std.specs.Prelude.{ℕ, List, Option, option_map, unwrap_or}
 use Rattle.std.specs.Option.{option_or}
 use Rattle.layer_ast.specs.declared.names.Name.{Name}
 use Rattle.layer_ast.specs.Tree as ast
-use Rattle.layer_mean.specs.Tree.{Carried, part, ExpressionTree, number, me, count, ltime, local, element, square, rows, item, size, binary, apply, pick, MessageTree, message, nothing, held, cut, tail, join}
+use Rattle.layer_mean.specs.Tree.{Carried, part, ExpressionTree, number, me, count, ltime, local, element, square, rows}
+use Rattle.layer_mean.specs.Tree.{item, size, binary, apply, pick, MessageTree, message, nothing, held, cut, tail, join}
 use Rattle.fault_mean.specs.Forms.{queue_name, row_of}
 use Rattle.fault_mean.specs.Places.{param_value}
 use Rattle.file_mean.specs.Names.{Names, cell_of, carried_in, item_number, number_slot, message_slot}
@@ -11,7 +12,8 @@ use Rattle.file_mean.specs.Names.{Names, cell_of, carried_in, item_number, numbe
 -- The number of a name: one that the handler declares, the value of a param, or a cell of one number.
 abbrev pub named_number : Names → Name → ExpressionTree
 named_number names name = unwrap_or
-    (option_or (option_map local (number_slot names name)) (option_map number (param_value names.place.layer names.place.given name.word)))
+    (option_or (option_map local (number_slot names name))
+    (option_map number (param_value names.place.layer names.place.given name.word)))
     (element (cell_of names.place name) (number 0))
 
 -- The items of the rows of a queue, and what these rows carry.

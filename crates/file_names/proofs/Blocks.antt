@@ -1,5 +1,6 @@
 -- The statements of a block, one statement further.
-use Rattle.std.proofs.Common.{◌≡◌, ℕ, ◌+◌, ◌<◌, List, [], ◌∷◌, ◌++◌, map, flat_map, take, length, get_or, sym, ap, ◌∙◌, subst, append_assoc, append-nil, Some}
+use Rattle.std.proofs.Common.{◌≡◌, ℕ, ◌+◌, ◌<◌, List, [], ◌∷◌, ◌++◌, map, flat_map, take, length, get_or, sym, ap, ◌∙◌}
+use Rattle.std.proofs.Common.{subst, append_assoc, append-nil, Some}
 use Rattle.std.proofs.lemmas.Grind.{flat_map-append}
 use Rattle.std.proofs.lemmas.List.Sums.{fold-append}
 use Rattle.layer_ast.specs.Tree as ast
@@ -15,7 +16,8 @@ use Rattle.fault_mean.specs.Forms.{queue_name, row_of}
 use Rattle.fault_mean.specs.Faults.{NameFault}
 use Rattle.fault_mean.specs.Limits.{maximum_in}
 use Rattle.fault_mean.specs.NameFaults.{size_faults, statement_name_faults, twice_among, uses_faults}
-use Rattle.fault_mean.specs.Scope.{Scope, Local, brought, locals_as, scope_behind, standing_in, standing_inside, visible, with_locals}
+use Rattle.fault_mean.specs.Scope.{Scope, Local, brought, locals_as, scope_behind, standing_in, standing_inside}
+use Rattle.fault_mean.specs.Scope.{visible, with_locals}
 use Rattle.fault_mean.specs.Uses.{statement_uses}
 use Rattle.file_names.specs.Blocks.{block_faults, inner_faults, statement_faults}
 use Rattle.file_scope.specs.Scope.{scope_behind_all}
@@ -43,7 +45,8 @@ block_more outer scope inner a b c xs i x within is so_far scope_is now then_ =
           (subst (λ l. Finds a l c)
           (sym (ap (flat_map statement_name_faults) (standing_more outer before s)
           ∙ (flat_map-append statement_name_faults (standing_in outer (trees before)) _
-          ∙ ap (λ l. block_faults outer (trees before) ++ (statement_name_faults (record { scope = behind; statement = s }) ++ flat_map statement_name_faults l))
+          ∙ ap (λ l. block_faults outer (trees before) ++
+          (statement_name_faults (record { scope = behind; statement = s }) ++ flat_map statement_name_faults l))
           (append-nil (standing_inside behind s)))))
           (finds_both name_shown a b c (block_faults outer (trees before)) this so_far
           (subst (λ z. Finds b (statement_faults z s) c) scope_is now))),
@@ -53,7 +56,8 @@ block_more outer scope inner a b c xs i x within is so_far scope_is now then_ =
 
 -- a statement's uses, what it declares, and what is inside it
 pub statement_parts : (scope : Scope) (x : StatementTree) (a b c : Found) →
-    Finds a (uses_faults scope (statement_uses x)) b → Finds b (inner_faults scope x) c → Finds a (statement_faults scope x) c
+    Finds a (uses_faults scope (statement_uses x)) b → Finds b (inner_faults scope x) c →
+    Finds a (statement_faults scope x) c
 statement_parts scope x a b c uses inner =
     let u = uses_faults scope (statement_uses x) in
     let t = twice_among (visible scope) (brought x) in
@@ -67,30 +71,36 @@ statement_parts scope x a b c uses inner =
 pub with_inner : (outer scope scope' left : Scope) (ls : List Local) (n : ℕ) (blk : StatementTrees) (a b c : Found) →
     n ≡ length outer.locals → Declares outer a ls b scope → Finds b (block_faults scope blk) c → scope' ≡ scope →
     left ≡ record scope' { locals = take n scope'.locals } →
-    Finds a (twice_among (visible outer) (map (λ (l : Local). l.name) ls) ++ block_faults (with_locals outer ls) blk) c × (left ≡ outer)
+    Finds a (twice_among (visible outer) (map (λ (l : Local). l.name) ls) ++ block_faults (with_locals outer ls) blk)
+    c × (left ≡ outer)
 with_inner outer scope scope' left ls n blk a b c count declares inner kept leaves = (
   finds_both name_shown a b c _ _ declares.0 (subst (λ s. Finds b (block_faults s blk) c) declares.1 inner),
   left_is outer scope' left ls n count (kept ∙ declares.1) leaves,
 )
 
 -- a loop, with its name and its limit
-pub each_inner : (outer scope scope' left : Scope) (at : At) (name : Name) (below : ast.ExpressionTree) (most : ast.SizeTree) (blk : StatementTrees)
+pub each_inner : (outer scope scope' left : Scope) (at : At) (name : Name) (below : ast.ExpressionTree)
+    (most : ast.SizeTree) (blk : StatementTrees)
     (n : ℕ) (a b c d : Found) → n ≡ length outer.locals →
-    Declares outer a (record { name = name; sort = Int } ∷ []) b scope → Finds b (size_faults (record { size = most; most = 32 })) c →
+    Declares outer a (record { name = name; sort = Int } ∷ []) b scope →
+    Finds b (size_faults (record { size = most; most = 32 })) c →
     Finds c (block_faults scope blk) d → scope' ≡ scope → left ≡ record scope' { locals = take n scope'.locals } →
     Finds a (inner_faults outer (ast.each at name below most blk)) d × (left ≡ outer)
 each_inner outer scope scope' left at name below most blk n a b c d count declares limit inner kept leaves =
     let ls : List Local = record { name = name; sort = Int } ∷ [] in (
       finds_both name_shown a c d _ _
-          (finds_both name_shown a b c _ _ declares.0 (subst (λ l. Finds b l c) (sym (append-nil (size_faults (record { size = most; most = 32 })))) limit))
+          (finds_both name_shown a b c _ _ declares.0
+          (subst (λ l. Finds b l c) (sym (append-nil (size_faults (record { size = most; most = 32 })))) limit))
           (subst (λ s. Finds c (block_faults s blk) d) declares.1 inner),
       left_is outer scope' left ls n count (kept ∙ declares.1) leaves,
     )
 
 -- a take, with the names of a row
-pub take_inner : (outer scope scope' : Scope) (at : At) (q : ast.QueueTree) (ns : ast.NamesTree) (blk other : StatementTrees) (ls : List Local) (a b c : Found) →
+pub take_inner : (outer scope scope' : Scope) (at : At) (q : ast.QueueTree) (ns : ast.NamesTree)
+    (blk other : StatementTrees) (ls : List Local) (a b c : Found) →
     ls ≡ locals_as (map (λ (i : ast.ItemTree). i.sort) (row_of outer.layer (queue_name q).word)) (names_in (Some ns)) →
-    Finds a (twice_among (visible outer) (map (λ (l : Local). l.name) ls) ++ block_faults (with_locals outer ls) blk) b → scope ≡ outer →
+    Finds a (twice_among (visible outer) (map (λ (l : Local). l.name) ls) ++ block_faults (with_locals outer ls) blk)
+    b → scope ≡ outer →
     Finds b (block_faults scope other) c → scope' ≡ scope →
     Finds a (inner_faults outer (ast.take at q ns blk other)) c × (scope' ≡ outer)
 take_inner outer scope scope' at q ns blk other ls a b c is first kept second kept' =
@@ -106,12 +116,16 @@ take_inner outer scope scope' at q ns blk other ls a b c is first kept second ke
       subst (λ l. Finds a l c)
           (append_assoc t one two
           ∙ (ap (λ l. l ++ (one ++ two)) (sym (append-nil t))
-          ∙ ap (λ l. (t ++ []) ++ l) (sym (flat_map-append statement_name_faults (standing_in (with_locals outer (locals_as sorts (names_in (Some ns)))) blk) (standing_in outer other)))))
-          (finds_both name_shown a b c (t ++ one) two first' (subst (λ s. Finds b (block_faults s other) c) kept second)),
+          ∙ ap (λ l. (t ++ []) ++ l)
+          (sym (flat_map-append statement_name_faults
+          (standing_in (with_locals outer (locals_as sorts (names_in (Some ns)))) blk) (standing_in outer other)))))
+          (finds_both name_shown a b c (t ++ one) two first'
+          (subst (λ s. Finds b (block_faults s other) c) kept second)),
       kept' ∙ kept,
     )
 
-pub choose_inner : (outer scope scope' : Scope) (at : At) (likely : Likely) (condition : ast.ExpressionTree) (blk other : StatementTrees) (a b c : Found) →
+pub choose_inner : (outer scope scope' : Scope) (at : At) (likely : Likely) (condition : ast.ExpressionTree)
+    (blk other : StatementTrees) (a b c : Found) →
     Finds a (block_faults outer blk) b → scope ≡ outer → Finds b (block_faults scope other) c → scope' ≡ scope →
     Finds a (inner_faults outer (ast.choose at likely condition blk other)) c × (scope' ≡ outer)
 choose_inner outer scope scope' at likely condition blk other a b c first kept second kept' = (
@@ -125,6 +139,7 @@ pub let_inner : (outer inner : Scope) (at : At) (name : Name) (e : ast.Expressio
     Finds a (inner_faults outer (ast.bind at name e)) b × (inner ≡ scope_behind outer (ast.bind at name e))
 let_inner outer inner at name e a b declares = (
   subst (λ l. Finds a l b)
-      (sym (append-nil (twice_among (visible outer) (name ∷ []) ++ []) ∙ append-nil (twice_among (visible outer) (name ∷ [])))) declares.0,
+      (sym (append-nil (twice_among (visible outer) (name ∷ []) ++ []) ∙
+      append-nil (twice_among (visible outer) (name ∷ [])))) declares.0,
   declares.1,
 )

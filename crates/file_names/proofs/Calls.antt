@@ -1,5 +1,7 @@
 -- The layers that places name.
-use Rattle.std.proofs.Common.{◌≡◌, ℕ, ◌+◌, ◌<◌, List, [], ◌∷◌, ◌++◌, map, flat_map, filter_map, take, length, get_or, slice_get, Option, Some, None, option_map, is_some, true, if◌then◌else◌, refl, sym, ap, ap₂, ◌∙◌, subst, append-nil}
+use Rattle.std.proofs.Common.{◌≡◌, ℕ, ◌+◌, ◌<◌, List, [], ◌∷◌, ◌++◌, map, flat_map, filter_map, take, length, get_or}
+use Rattle.std.proofs.Common.{slice_get, Option, Some, None, option_map, is_some, true, if◌then◌else◌, refl, sym, ap}
+use Rattle.std.proofs.Common.{ap₂, ◌∙◌, subst, append-nil}
 use Rattle.std.specs.List.{cons_option}
 use Rattle.std.specs.Option.{option_map_or, option_or}
 use Rattle.std.proofs.lemmas.List.Elements.{filter_map-append}
@@ -29,29 +31,39 @@ use Rattle.file_names.specs.Places.{called_faults}
 use Rattle.file_names.specs.declared.library.Called.{Called}
 
 -- a place of a layer of the file, of one of the library, and of none
-pub written_place : (layers library : List Layer) (places : List PlaceTree) (place : PlaceTree) (names : List (List ℕ)) (k : ℕ) (layer : Layer) (a b : Found) →
-    names ≡ map (λ (l : LayerTree). l.name.word) (map layer_tree layers) → Some k ≡ place_of place.name.word names → layer ≡ get_or layers k layer →
+pub written_place : (layers library : List Layer) (places : List PlaceTree) (place : PlaceTree) (names : List (List ℕ))
+    (k : ℕ) (layer : Layer) (a b : Found) →
+    names ≡ map (λ (l : LayerTree). l.name.word) (map layer_tree layers) → Some k ≡ place_of place.name.word names →
+    layer ≡ get_or layers k layer →
     Finds a (place_faults_in place (layer_tree layer)) b →
-    Finds a (place_faults (record { layers = map layer_tree layers; places = places; library = map layer_tree library }) place) b
+    Finds a (place_faults (record { layers = map layer_tree layers; places = places; library = map layer_tree library })
+    place) b
 written_place layers library places place names k layer a b are at is finds =
-    subst (λ (o : Option LayerTree). Finds a (option_map_or (place_faults_in place) (option_or o (layer_among (map layer_tree library) place.name.word)) (unknown place.name.at ∷ [])) b)
+    subst (λ (o : Option LayerTree).
+    Finds a (option_map_or (place_faults_in place)
+    (option_or o (layer_among (map layer_tree library) place.name.word)) (unknown place.name.at ∷ [])) b)
     (sym (found_at layers names place.name.word k layer are at is)) finds
 
-pub library_place : (layers library : List Layer) (places : List PlaceTree) (place : PlaceTree) (names more : List (List ℕ)) (k : ℕ) (layer : Layer) (a b : Found) →
+pub library_place : (layers library : List Layer) (places : List PlaceTree) (place : PlaceTree)
+    (names more : List (List ℕ)) (k : ℕ) (layer : Layer) (a b : Found) →
     names ≡ map (λ (l : LayerTree). l.name.word) (map layer_tree layers) → None ≡ place_of place.name.word names →
-    more ≡ map (λ (l : LayerTree). l.name.word) (map layer_tree library) → Some k ≡ place_of place.name.word more → layer ≡ get_or library k layer →
+    more ≡ map (λ (l : LayerTree). l.name.word) (map layer_tree library) → Some k ≡ place_of place.name.word more →
+    layer ≡ get_or library k layer →
     Finds a (place_faults_in place (layer_tree layer)) b →
-    Finds a (place_faults (record { layers = map layer_tree layers; places = places; library = map layer_tree library }) place) b
+    Finds a (place_faults (record { layers = map layer_tree layers; places = places; library = map layer_tree library })
+    place) b
 library_place layers library places place names more k layer a b are lacks mores at is finds =
     subst (λ (o : Option LayerTree). Finds a (option_map_or (place_faults_in place) o (unknown place.name.at ∷ [])) b)
     (sym (ap₂ (λ (o p : Option LayerTree). option_or o p) (found_nowhere layers names place.name.word are lacks)
     (found_at library more place.name.word k layer mores at is))) finds
 
-pub no_place : (layers library : List Layer) (places : List PlaceTree) (place : PlaceTree) (names more : List (List ℕ)) (a b : Found) →
+pub no_place : (layers library : List Layer) (places : List PlaceTree) (place : PlaceTree) (names more : List (List ℕ))
+    (a b : Found) →
     names ≡ map (λ (l : LayerTree). l.name.word) (map layer_tree layers) → None ≡ place_of place.name.word names →
     more ≡ map (λ (l : LayerTree). l.name.word) (map layer_tree library) → None ≡ place_of place.name.word more →
     Finds a (unknown place.name.at ∷ []) b →
-    Finds a (place_faults (record { layers = map layer_tree layers; places = places; library = map layer_tree library }) place) b
+    Finds a (place_faults (record { layers = map layer_tree layers; places = places; library = map layer_tree library })
+    place) b
 no_place layers library places place names more a b are lacks mores lacks_too finds =
     subst (λ (o : Option LayerTree). Finds a (option_map_or (place_faults_in place) o (unknown place.name.at ∷ [])) b)
     (sym (ap₂ (λ (o p : Option LayerTree). option_or o p) (found_nowhere layers names place.name.word are lacks)
@@ -62,20 +74,26 @@ abbrev calls_if : (place : PlaceTree) (other : Option LayerTree) (own : Option L
 calls_if place other own = option_map_or (faults_of_judged name_fault_at layer_name_faults)
     (if is_some own then None else option_map (called place.name.at) other) []
 
-pub hidden : (layers library : List Layer) (places : List PlaceTree) (place : PlaceTree) (names : List (List ℕ)) (k : ℕ) (a : Found) →
+pub hidden : (layers library : List Layer) (places : List PlaceTree) (place : PlaceTree) (names : List (List ℕ)) (k : ℕ)
+    (a : Found) →
     names ≡ map (λ (l : LayerTree). l.name.word) (map layer_tree layers) → Some k ≡ place_of place.name.word names →
-    Finds a (called_faults (record { layers = map layer_tree layers; places = places; library = map layer_tree library }) place) a
+    Finds a (called_faults
+    (record { layers = map layer_tree layers; places = places; library = map layer_tree library }) place) a
 hidden layers library places place names k a are at =
     go (layer_among (map layer_tree layers) place.name.word)
-    (first_there (λ (l : LayerTree). l.name.word) place.name.word (map layer_tree layers) k (ap (place_of place.name.word) (sym are) ∙ sym at)) where
-      go : (o : Option LayerTree) → is_some o ≡ true → Finds a (calls_if place (layer_among (map layer_tree library) place.name.word) o) a
+    (first_there (λ (l : LayerTree). l.name.word) place.name.word (map layer_tree layers) k
+    (ap (place_of place.name.word) (sym are) ∙ sym at)) where
+      go : (o : Option LayerTree) → is_some o ≡ true →
+          Finds a (calls_if place (layer_among (map layer_tree library) place.name.word) o) a
       go (Some l) e = finds_none name_shown a
       go None e = absurd (cc e)
 
-pub uncalled : (layers library : List Layer) (places : List PlaceTree) (place : PlaceTree) (names more : List (List ℕ)) (a : Found) →
+pub uncalled : (layers library : List Layer) (places : List PlaceTree) (place : PlaceTree) (names more : List (List ℕ))
+    (a : Found) →
     names ≡ map (λ (l : LayerTree). l.name.word) (map layer_tree layers) → None ≡ place_of place.name.word names →
     more ≡ map (λ (l : LayerTree). l.name.word) (map layer_tree library) → None ≡ place_of place.name.word more →
-    Finds a (called_faults (record { layers = map layer_tree layers; places = places; library = map layer_tree library }) place) a
+    Finds a (called_faults
+    (record { layers = map layer_tree layers; places = places; library = map layer_tree library }) place) a
 uncalled layers library places place names more a are lacks mores lacks_too =
     subst (λ f. Finds a f a)
     (sym (ap₂ (calls_if place) (found_nowhere library more place.name.word mores lacks_too)
@@ -87,13 +105,16 @@ shown_moved at (unknown _) = refl
 shown_moved at (twice _) = refl
 shown_moved at (too_many _) = refl
 
-pub called_once : (layers library : List Layer) (places : List PlaceTree) (place : PlaceTree) (names more : List (List ℕ)) (all : List Called)
+pub called_once : (layers library : List Layer) (places : List PlaceTree) (place : PlaceTree)
+    (names more : List (List ℕ)) (all : List Called)
     (k : ℕ) (one : Called) (a b : Found) →
     names ≡ map (λ (l : LayerTree). l.name.word) (map layer_tree layers) → None ≡ place_of place.name.word names →
     more ≡ map (λ (l : LayerTree). l.name.word) (map layer_tree library) → Some k ≡ place_of place.name.word more →
     all ≡ map called_of (map layer_tree library) → one ≡ get_or all k one →
-    ((faults : List Fault) → one.rank ≡ first_rank faults → generic.Finds a (map (moved_to (Some place.name.at)) faults) b) →
-    Finds a (called_faults (record { layers = map layer_tree layers; places = places; library = map layer_tree library }) place) b
+    ((faults : List Fault) → one.rank ≡ first_rank faults →
+    generic.Finds a (map (moved_to (Some place.name.at)) faults) b) →
+    Finds a (called_faults
+    (record { layers = map layer_tree layers; places = places; library = map layer_tree library }) place) b
 called_once layers library places place names more all k one a b are lacks mores at made is finds =
     let got : option_map called_of (layer_among (map layer_tree library) place.name.word) ≡ Some one =
     ap (option_map called_of) (sym (first_at (λ (l : LayerTree). l.name.word) place.name.word (map layer_tree library) k
@@ -101,7 +122,8 @@ called_once layers library places place names more all k one a b are lacks mores
     ∙ (sym (slice_get-map called_of (map layer_tree library) k)
     ∙ (ap (λ l. slice_get l k) (sym made)
     ∙ sym (there all k one (within_made called_of library more all place.name.word k mores made at) is))) in
-    subst (λ (o : Option LayerTree). Finds a (calls_if place (layer_among (map layer_tree library) place.name.word) o) b)
+    subst (λ (o : Option LayerTree). Finds a (calls_if place (layer_among (map layer_tree library) place.name.word) o)
+    b)
     (sym (found_nowhere layers names place.name.word are lacks))
     (go (layer_among (map layer_tree library) place.name.word) got) where
       go : (o : Option LayerTree) → option_map called_of o ≡ Some one → Finds a (calls_if place o None) b
@@ -112,10 +134,13 @@ called_once layers library places place names more all k one a b are lacks mores
           (finds (map name_shown (layer_name_faults l)) (ap (λ (c : Called). c.rank) (sym same)))
 
 -- the layers of the library, one place further
-pub called_more : (file : FileTree) (a b c : Found) (xs : List Place) (i : ℕ) (x : Place) → i < length xs → x ≡ get_or xs i x →
-    Finds a (flat_map (faults_of_judged name_fault_at layer_name_faults) (filter_map (called_at file) (map place_tree (take i xs)))) b →
+pub called_more : (file : FileTree) (a b c : Found) (xs : List Place) (i : ℕ) (x : Place) → i < length xs →
+    x ≡ get_or xs i x →
+    Finds a (flat_map (faults_of_judged name_fault_at layer_name_faults)
+    (filter_map (called_at file) (map place_tree (take i xs)))) b →
     Finds b (called_faults file (place_tree x)) c →
-    Finds a (flat_map (faults_of_judged name_fault_at layer_name_faults) (filter_map (called_at file) (map place_tree (take (i + 1) xs)))) c
+    Finds a (flat_map (faults_of_judged name_fault_at layer_name_faults)
+    (filter_map (called_at file) (map place_tree (take (i + 1) xs)))) c
 called_more file a b c xs i x within is so_far now =
     let f : Judged → List NameFault = faults_of_judged name_fault_at layer_name_faults in
     let before = filter_map (called_at file) (map place_tree (take i xs)) in

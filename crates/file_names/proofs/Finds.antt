@@ -13,7 +13,8 @@ use Rattle.file_names.specs.Found.{Finds, name_shown}
 -- nothing is beyond the last
 pub none_beyond : (most : ℕ) (names : List Name) (a : Found) → length names ≤ most → Finds a (too_many_of most names) a
 none_beyond most names a few =
-    subst (λ l. Finds a (map (λ (n : Name). too_many n.at) l) a) (sym (drop_all names most few)) (finds_none name_shown a)
+    subst (λ l. Finds a (map (λ (n : Name). too_many n.at) l) a) (sym (drop_all names most few))
+    (finds_none name_shown a)
 
 -- a size that is a number
 pub size_fault : (a b : Found) (holds : Bool) (at : At) → Finds a (unless holds (too_many at)) b →

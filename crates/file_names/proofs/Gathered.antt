@@ -1,5 +1,6 @@
 -- What statements declare, one statement further.
-use Rattle.std.proofs.Common.{◌≡◌, ℕ, ◌+◌, ◌<◌, List, [], ◌∷◌, ◌++◌, map, flat_map, fold, take, length, get_or, refl, sym, ap, ◌∙◌, subst, append_assoc, append-nil, ap₂}
+use Rattle.std.proofs.Common.{◌≡◌, ℕ, ◌+◌, ◌<◌, List, [], ◌∷◌, ◌++◌, map, flat_map, fold, take, length, get_or, refl}
+use Rattle.std.proofs.Common.{sym, ap, ◌∙◌, subst, append_assoc, append-nil, ap₂}
 use Rattle.std.proofs.lemmas.List.{map-append}
 use Rattle.std.proofs.lemmas.Grind.{flat_map-append}
 use Rattle.std.proofs.lemmas.List.Sums.{fold-append}
@@ -8,7 +9,8 @@ use Rattle.layer_ast.specs.Tree.{StatementTree, StatementTrees}
 use Rattle.layer_ast.specs.View.{statement_tree, trees}
 use Rattle.layer_ast.specs.declared.names.Name.{Name}
 use Rattle.layer_ast.specs.declared.syntax.Statement.{Statement}
-use Rattle.fault_mean.specs.Scope.{Standing, Scope, brought, scope_behind, standing_in, standing_inside, taken_scope, with_locals, locals_as}
+use Rattle.fault_mean.specs.Scope.{Standing, Scope, brought, scope_behind, standing_in, standing_inside, taken_scope}
+use Rattle.fault_mean.specs.Scope.{with_locals, locals_as}
 use Rattle.file_names.specs.Gathered.{Gathers, maximum_words, noted, statements_in, statements_inside}
 use Rattle.file_scope.proofs.Layers.{mapped}
 use Rattle.file_scope.proofs.Lists.{trees_more}
@@ -22,7 +24,8 @@ pub gathers_both : (a b c : List Name) (l m n : List (List ℕ)) (xs ys : List S
 unfolding Gathers
 gathers_both a b c l m n xs ys left right = (
   right.0 ∙ (ap (λ z. z ++ flat_map brought ys) left.0
-      ∙ (append_assoc a (flat_map brought xs) (flat_map brought ys) ∙ ap (λ z. a ++ z) (sym (flat_map-append brought xs ys)))),
+      ∙ (append_assoc a (flat_map brought xs) (flat_map brought ys) ∙
+      ap (λ z. a ++ z) (sym (flat_map-append brought xs ys)))),
   right.1 ∙ (ap (λ z. fold noted z (flat_map maximum_words ys)) left.1
       ∙ (sym (fold-append noted l (flat_map maximum_words xs) (flat_map maximum_words ys))
       ∙ ap (fold noted l) (sym (flat_map-append maximum_words xs ys)))),
@@ -44,12 +47,15 @@ pub gathers_more : (a b c d : List Name) (l m n o : List (List ℕ)) (xs : List 
 gathers_more a b c d l m n o xs i x within is so_far own inner =
     let before = map statement_tree (take i xs) in
     subst (λ s. Gathers a l s d o)
-    (sym (ap (λ s. statements_in (trees s)) (trees_more statement_tree xs i x within is) ∙ statements_more before (statement_tree x)))
-    (gathers_both a b d l m o (statements_in (trees before)) (statement_tree x ∷ [] ++ statements_inside (statement_tree x)) so_far
+    (sym (ap (λ s. statements_in (trees s)) (trees_more statement_tree xs i x within is) ∙
+    statements_more before (statement_tree x)))
+    (gathers_both a b d l m o (statements_in (trees before))
+    (statement_tree x ∷ [] ++ statements_inside (statement_tree x)) so_far
     (gathers_both b c d m n o (statement_tree x ∷ []) (statements_inside (statement_tree x)) own inner))
 
 -- words of one thing more
-pub words_more : {X A : Type 0} (tree : X → A) (f : A → List (List ℕ)) (start before after : List (List ℕ)) (xs : List X) (i : ℕ) (x : X) →
+pub words_more : {X A : Type 0} (tree : X → A) (f : A → List (List ℕ)) (start before after : List (List ℕ))
+    (xs : List X) (i : ℕ) (x : X) →
     i < length xs → x ≡ get_or xs i x → before ≡ fold noted start (flat_map f (map tree (take i xs))) →
     after ≡ fold noted before (f (tree x)) → after ≡ fold noted start (flat_map f (map tree (take (i + 1) xs)))
 words_more tree f start before after xs i x within is so_far now =
@@ -62,13 +68,15 @@ words_more tree f start before after xs i x within is so_far now =
 
 -- the statements of a block, without their scopes
 mutual
-  same_inside : (scope : Scope) (s : StatementTree) → map (λ (x : Standing). x.statement) (standing_inside scope s) ≡ statements_inside s
+  same_inside : (scope : Scope) (s : StatementTree) → map (λ (x : Standing). x.statement) (standing_inside scope s) ≡
+      statements_inside s
   same_inside scope (ast.bind at name value) = refl
   same_inside scope (ast.set at name index value) = refl
   same_inside scope (ast.set_square at name row column value) = refl
   same_inside scope (ast.push at q items otherwise) = same_in scope otherwise
   same_inside scope (ast.take at q names block otherwise) =
-      map-append (λ (x : Standing). x.statement) (standing_in (taken_scope scope q names) block) (standing_in scope otherwise)
+      map-append (λ (x : Standing). x.statement) (standing_in (taken_scope scope q names) block)
+      (standing_in scope otherwise)
       ∙ ap₂ (λ a b. a ++ b) (same_in (taken_scope scope q names) block) (same_in scope otherwise)
   same_inside scope (ast.when at likely condition block) = same_in scope block
   same_inside scope (ast.choose at likely condition block otherwise) =
@@ -77,7 +85,8 @@ mutual
   same_inside scope (ast.each at name below most block) = same_in (with_locals scope (locals_as [] (name ∷ []))) block
   same_inside scope (ast.emit at direction kind arguments pushed) = refl
 
-  pub same_in : (scope : Scope) (b : StatementTrees) → map (λ (x : Standing). x.statement) (standing_in scope b) ≡ statements_in b
+  pub same_in : (scope : Scope) (b : StatementTrees) → map (λ (x : Standing). x.statement) (standing_in scope b) ≡
+      statements_in b
   same_in scope ast.none = refl
   same_in scope (ast.more s rest) =
       ap (λ l. s ∷ l)

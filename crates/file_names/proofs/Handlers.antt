@@ -12,7 +12,8 @@ use Rattle.file_scope.specs.declared.found.Found.{Found}
 use Rattle.file_scope.proofs.Finds.{finds_both}
 use Rattle.file_names.proofs.Gathered.{said_in}
 
-pub gathered : (layer : LayerTree) (handler : HandlerTree) (names : List Name) (old new : List (List ℕ)) (a b c : Found) →
+pub gathered : (layer : LayerTree) (handler : HandlerTree) (names : List Name) (old new : List (List ℕ))
+    (a b c : Found) →
     Finds a (block_part layer handler) b → Gathers (head_names handler) old (statements_in handler.block) names new →
     Finds b (too_many_of 64 names) c →
     Finds a (handler_name_faults layer handler) c × (new ≡ fold noted old (maxima_of handler))

@@ -17,7 +17,8 @@ use Rattle.file_scope.proofs.Finds.{finds_both}
 head_names_are : (layer : LayerTree) (handler : HandlerTree) →
     map (λ (l : names.Local). l.name) (names.head_scope layer handler).locals ≡ names.head_names handler
 head_names_are layer handler =
-    let some : List names.Local = names.locals_as (names.argument_sorts layer handler) (handler.names.first ∷ handler.names.rest) in
+    let some : List names.Local = names.locals_as (names.argument_sorts layer handler)
+    (handler.names.first ∷ handler.names.rest) in
     map-append (λ (l : names.Local). l.name) some (names.locals_as [] (names.popped_names handler.popped))
     ∙ ap₂ (λ (a b : List Name). a ++ b)
     (names_of_locals (names.argument_sorts layer handler) (handler.names.first ∷ handler.names.rest))
@@ -30,9 +31,11 @@ pub head_declares : (outer inner : names.Scope) (handler : HandlerTree) (locals 
     Finds a (head_part outer.layer handler) c × (inner ≡ names.head_scope outer.layer handler)
 head_declares outer inner handler locals a b c bare are uses declares =
     let layer = outer.layer in
-    let same : outer ≡ names.layer_scope layer = ap (λ (l : List names.Local). record { layer = layer; locals = l }) bare in (
+    let same : outer ≡ names.layer_scope layer = ap (λ (l : List names.Local). record { layer = layer; locals = l })
+    bare in (
       finds_both name_shown a b c _ _
-          (subst (λ s. Finds a (uses_faults s (option_map_or (λ p. of_name p.name ∷ []) handler.popped [])) b) same uses)
+          (subst (λ s. Finds a (uses_faults s (option_map_or (λ p. of_name p.name ∷ []) handler.popped [])) b) same
+          uses)
           (subst (λ l. Finds b l c)
           (ap₂ (λ s l. twice_among (names.visible s) (map (λ (x : names.Local). x.name) l)) same are
           ∙ ap (twice_among (names.visible (names.layer_scope layer))) (head_names_are layer handler))

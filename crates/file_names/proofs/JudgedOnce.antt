@@ -11,8 +11,10 @@ use Rattle.file_names.specs.Gathered.{sizes_of}
 use Rattle.file_names.specs.declared.library.Called.{Called}
 use Rattle.file_names.specs.declared.sizes.Sizes.{Sizes}
 
-pub judged_once : (layer : LayerTree) (start judged : Found) (sizes : Sizes) (rank : Option ℕ) → start.first ≡ None → start.moved ≡ Some anywhere →
-    Finds start (layer_name_faults layer) judged → sizes ≡ sizes_of layer → rank ≡ option_map (λ f. f.rank) judged.first →
+pub judged_once : (layer : LayerTree) (start judged : Found) (sizes : Sizes) (rank : Option ℕ) → start.first ≡ None →
+    start.moved ≡ Some anywhere →
+    Finds start (layer_name_faults layer) judged → sizes ≡ sizes_of layer →
+    rank ≡ option_map (λ f. f.rank) judged.first →
     (let called : Called = record { sizes = sizes; rank = rank } in called) ≡ called_of layer
 judged_once layer start judged sizes rank first moved finds are ranks =
     ap₂ (λ (s : Sizes) (r : Option ℕ). let called : Called = record { sizes = s; rank = r } in called) are

@@ -6,7 +6,8 @@ use Rattle.fault_mean.specs.NameFaults.{name_fault}
 use Rattle.file_names.specs.Answer.{Resolves, error_of}
 use Rattle.file_names.specs.declared.error.NameError.{NameError}
 
-pub refused : (file : FileTree) (fault : NameFault) (error : NameError) → Some fault ≡ name_fault file → error ≡ error_of fault →
+pub refused : (file : FileTree) (fault : NameFault) (error : NameError) → Some fault ≡ name_fault file →
+    error ≡ error_of fault →
     Resolves file (Err error)
 refused file fault error first is =
     subst (λ e. Resolves file (Err e)) (sym is) (go fault (sym first)) where

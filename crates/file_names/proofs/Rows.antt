@@ -1,5 +1,7 @@
 -- Rows of items.
-use Rattle.std.proofs.Common.{◌≡◌, ℕ, ◌+◌, ◌<◌, Bool, true, false, if◌then◌else◌, cond, List, [], ◌∷◌, ◌++◌, map, filter, flat_map, take, drop, length, get_or, refl, sym, ap, ◌∙◌, subst, arith, append-nil, zero, suc, ◌≤◌}
+use Rattle.std.proofs.Common.{◌≡◌, ℕ, ◌+◌, ◌<◌, Bool, true, false, if◌then◌else◌, cond, List, [], ◌∷◌, ◌++◌, map}
+use Rattle.std.proofs.Common.{filter, flat_map, take, drop, length, get_or, refl, sym, ap, ◌∙◌, subst, arith}
+use Rattle.std.proofs.Common.{append-nil, zero, suc, ◌≤◌}
 use Rattle.std.proofs.lemmas.List.{map-append}
 use Rattle.layer_ast.specs.Tree.{ItemTree}
 use Rattle.layer_ast.specs.View.{item_tree}
@@ -23,7 +25,8 @@ filter-append {A} p (x ∷ xs) ys = go (p x) (filter-append p xs ys) where
   go true rest = ap (λ l. x ∷ l) rest
   go false rest = rest
 
-filtered_more : {X A : Type 0} (tree : X → A) (p : A → Bool) (name : A → Name) (xs : List X) (i : ℕ) (x : X) (all : List Name) →
+filtered_more : {X A : Type 0} (tree : X → A) (p : A → Bool) (name : A → Name) (xs : List X) (i : ℕ) (x : X)
+    (all : List Name) →
     i < length xs → x ≡ get_or xs i x → all ≡ map name (filter p (map tree (take i xs))) →
     map name (filter p (map tree (take (i + 1) xs))) ≡ all ++ map name (cond (p (tree x)) (tree x ∷ []) [])
 filtered_more tree p name xs i x all within is so_far =
@@ -33,14 +36,16 @@ filtered_more tree p name xs i x all within is so_far =
     ∙ ap (λ l. l ++ map name (filter p (tree x ∷ []))) (sym so_far)))
 
 -- one thing more, that passes a test or not
-pub kept_more : {X A : Type 0} (tree : X → A) (p : A → Bool) (name : A → Name) (xs : List X) (i : ℕ) (x : X) (all : List Name) →
+pub kept_more : {X A : Type 0} (tree : X → A) (p : A → Bool) (name : A → Name) (xs : List X) (i : ℕ) (x : X)
+    (all : List Name) →
     i < length xs → x ≡ get_or xs i x → p (tree x) ≡ true → all ≡ map name (filter p (map tree (take i xs))) →
     all ++ name (tree x) ∷ [] ≡ map name (filter p (map tree (take (i + 1) xs)))
 kept_more tree p name xs i x all within is passes so_far =
     sym (filtered_more tree p name xs i x all within is so_far
     ∙ ap (λ b. all ++ map name (cond b (tree x ∷ []) [])) passes)
 
-pub passed_over : {X A : Type 0} (tree : X → A) (p : A → Bool) (name : A → Name) (xs : List X) (i : ℕ) (x : X) (all : List Name) →
+pub passed_over : {X A : Type 0} (tree : X → A) (p : A → Bool) (name : A → Name) (xs : List X) (i : ℕ) (x : X)
+    (all : List Name) →
     i < length xs → x ≡ get_or xs i x → p (tree x) ≡ false → all ≡ map name (filter p (map tree (take i xs))) →
     all ≡ map name (filter p (map tree (take (i + 1) xs)))
 passed_over tree p name xs i x all within is fails so_far =
@@ -52,17 +57,20 @@ inside_is : (xs : List ItemTree) (x : ItemTree) →
     map (λ i. too_many i.name.at) (messages_inside (xs ++ x ∷ [])) ≡ flat_map followed_faults xs
 inside_is [] x = refl
 inside_is (y ∷ []) x = go (allows a_number y.sort) where
-  go : (b : Bool) → map (λ (i : ItemTree). too_many i.name.at) ((if b then [] else y ∷ []) ++ []) ≡ unless b (too_many y.name.at) ++ []
+  go : (b : Bool) → map (λ (i : ItemTree). too_many i.name.at) ((if b then [] else y ∷ []) ++ []) ≡
+      unless b (too_many y.name.at) ++ []
   go true = refl
   go false = refl
 inside_is (y ∷ z ∷ xs) x = go (allows a_number y.sort) (inside_is (z ∷ xs) x) where
-  go : (b : Bool) → map (λ (i : ItemTree). too_many i.name.at) (messages_inside (z ∷ (xs ++ x ∷ []))) ≡ flat_map followed_faults (z ∷ xs) →
+  go : (b : Bool) → map (λ (i : ItemTree). too_many i.name.at) (messages_inside (z ∷ (xs ++ x ∷ []))) ≡
+      flat_map followed_faults (z ∷ xs) →
       map (λ (i : ItemTree). too_many i.name.at) ((if b then [] else y ∷ []) ++ messages_inside (z ∷ (xs ++ x ∷ []))) ≡
       unless b (too_many y.name.at) ++ flat_map followed_faults (z ∷ xs)
   go true rest = rest
   go false rest = ap (λ l. too_many y.name.at ∷ l) rest
 
-split_last : (xs : List Item) (n : ℕ) → length xs ≡ n + 1 → (front : List Item) × (x : Item) × (xs ≡ front ++ x ∷ []) × (take n xs ≡ front)
+split_last : (xs : List Item) (n : ℕ) → length xs ≡ n + 1 → (front : List Item) × (x : Item) × (xs ≡ front ++ x ∷ []) ×
+    (take n xs ≡ front)
 split_last [] n is = absurd (omega (arith, is))
 split_last (x ∷ xs) zero is = ([], x, ap (λ l. x ∷ l) (none xs (omega (arith, is))), refl) where
   none : (l : List Item) → length l ≡ 0 → l ≡ []
@@ -80,7 +88,8 @@ front_is a b xs n is finds =
     subst (λ l. Finds a l b)
     (sym (ap (λ l. map (λ (i : ItemTree). too_many i.name.at) (messages_inside (map item_tree l))) s.2
     ∙ (ap (λ l. map (λ (i : ItemTree). too_many i.name.at) (messages_inside l)) (map-append item_tree s.0 (s.1 ∷ []))
-    ∙ (inside_is (map item_tree s.0) (item_tree s.1) ∙ ap (λ l. flat_map followed_faults (map item_tree l)) (sym s.3)))))
+    ∙ (inside_is (map item_tree s.0) (item_tree s.1) ∙ ap (λ l. flat_map followed_faults (map item_tree l))
+    (sym s.3)))))
     finds
 
 pub map_drop : {X A : Type 0} (f : X → A) (n : ℕ) (xs : List X) → map f (drop n xs) ≡ drop n (map f xs)
@@ -89,20 +98,24 @@ map_drop f (suc n) [] = refl
 map_drop f (suc n) (x ∷ xs) = map_drop f n xs
 
 names_too_many : (items : List ItemTree) →
-    map (λ (n : Name). too_many n.at) (map (λ (i : ItemTree). i.name) items) ≡ map (λ (i : ItemTree). too_many i.name.at) items
+    map (λ (n : Name). too_many n.at) (map (λ (i : ItemTree). i.name) items) ≡
+    map (λ (i : ItemTree). too_many i.name.at) items
 names_too_many [] = refl
 names_too_many (i ∷ items) = ap (λ l. too_many i.name.at ∷ l) (names_too_many items)
 
 -- the numbers beyond the fourth, and the messages inside
 pub row_parts : (a b c : Found) (items : List ItemTree) →
-    Finds a (map (λ (n : Name). too_many n.at) (drop 4 (map (λ (i : ItemTree). i.name) (filter (λ i. allows a_number i.sort) items)))) b →
+    Finds a (map (λ (n : Name). too_many n.at)
+    (drop 4 (map (λ (i : ItemTree). i.name) (filter (λ i. allows a_number i.sort) items)))) b →
     Finds b (map (λ (i : ItemTree). too_many i.name.at) (messages_inside items)) c →
     Finds a (map (λ (i : ItemTree). too_many i.name.at) (numbers_beyond items ++ messages_inside items)) c
 row_parts a b c items beyond inside =
-    subst (λ l. Finds a l c) (sym (map-append (λ (i : ItemTree). too_many i.name.at) (numbers_beyond items) (messages_inside items)))
+    subst (λ l. Finds a l c)
+    (sym (map-append (λ (i : ItemTree). too_many i.name.at) (numbers_beyond items) (messages_inside items)))
     (finds_both name_shown a b c (map (λ (i : ItemTree). too_many i.name.at) (numbers_beyond items)) _
     (subst (λ l. Finds a l b)
-    (ap (map (λ (n : Name). too_many n.at)) (sym (map_drop (λ (i : ItemTree). i.name) 4 (filter (λ i. allows a_number i.sort) items)))
+    (ap (map (λ (n : Name). too_many n.at))
+    (sym (map_drop (λ (i : ItemTree). i.name) 4 (filter (λ i. allows a_number i.sort) items)))
     ∙ names_too_many (numbers_beyond items))
     beyond)
     inside)

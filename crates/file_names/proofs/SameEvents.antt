@@ -1,5 +1,6 @@
 -- Handlers of one event, one handler further.
-use Rattle.std.proofs.Common.{◌≡◌, ℕ, ◌+◌, ◌<◌, Bool, true, false, ◌&&◌, ◌||◌, cond, not, List, [], ◌∷◌, ◌++◌, map, take, length, get_or, bytes_eq, Option, Some, None, refl, sym, ap, ap₂, ◌∙◌, subst}
+use Rattle.std.proofs.Common.{◌≡◌, ℕ, ◌+◌, ◌<◌, Bool, true, false, ◌&&◌, ◌||◌, cond, not, List, [], ◌∷◌, ◌++◌, map}
+use Rattle.std.proofs.Common.{take, length, get_or, bytes_eq, Option, Some, None, refl, sym, ap, ap₂, ◌∙◌, subst}
 use Rattle.std.specs.List.{list_any}
 use denote.Enum.Bare.{sameb}
 use Rattle.layer_ast.specs.contracts.tokens.Dir as dir_row
@@ -27,7 +28,8 @@ same_headers (Some p) (Some q) = refl
 -- what two handlers take is the same where they are of one event
 same_codes : (a b : HandlerTree) → bytes_eq (event_code a) (event_code b) ≡ same_events a b
 same_codes a b =
-    go (sameb dir_row.the_type a.direction b.direction) (sameb kind_row.the_type a.kind b.kind) _ _ (same_headers a.popped b.popped) where
+    go (sameb dir_row.the_type a.direction b.direction) (sameb kind_row.the_type a.kind b.kind) _ _
+    (same_headers a.popped b.popped) where
       go : (d k p q : Bool) → p ≡ q → (d && (k && p)) ≡ ((d && k) && q)
       go true true p q e = e
       go true false p q e = refl
@@ -44,7 +46,8 @@ knows x xs =
     any_map handler_tree (λ h. bytes_eq (event_code h) (event_code (handler_tree x))) xs
     ∙ any_same (λ (h : Handler). bytes_eq (event_code (handler_tree h)) (event_code (handler_tree x)))
     (λ (h : Handler). same_events (handler_tree x) (handler_tree h)) xs
-    (λ h. bytes_eq-sym (event_code (handler_tree h)) (event_code (handler_tree x)) ∙ same_codes (handler_tree x) (handler_tree h))
+    (λ h. bytes_eq-sym (event_code (handler_tree h)) (event_code (handler_tree x)) ∙
+    same_codes (handler_tree x) (handler_tree h))
 
 seen_more : {S : Type 0} (seen new : IndexSet (List ℕ) S) (hs : List HandlerTree) (h : HandlerTree) →
     IsSeen seen hs → Updates bytes_eq seen new (event_code h) true → IsSeen new (hs ++ h ∷ [])
@@ -59,17 +62,21 @@ seen_more seen new hs h sees updates code =
       go false p false e = e
 
 -- one handler more
-pub event_next : {S : Type 0} (a b c : Found) (xs : List Handler) (i : ℕ) (x : Handler) (code : List ℕ) (seen new : IndexSet (List ℕ) S)
+pub event_next : {S : Type 0} (a b c : Found) (xs : List Handler) (i : ℕ) (x : Handler) (code : List ℕ)
+    (seen new : IndexSet (List ℕ) S)
     (is_new : Bool) → i < length xs → x ≡ get_or xs i x → code ≡ event_code (handler_tree x) →
-    IsSeen seen (map handler_tree (take i xs)) → is_new ≡ not (contains bytes_eq seen code) → Updates bytes_eq seen new code true →
+    IsSeen seen (map handler_tree (take i xs)) → is_new ≡ not (contains bytes_eq seen code) →
+    Updates bytes_eq seen new code true →
     Finds a (map (λ (h : HandlerTree). twice h.at) (repeated same_events [] (map handler_tree (take i xs)))) b →
     Finds b (unless is_new (twice x.at)) c →
     Finds a (map (λ (h : HandlerTree). twice h.at) (repeated same_events [] (map handler_tree (take (i + 1) xs)))) c
     × IsSeen new (map handler_tree (take (i + 1) xs))
 event_next a b c xs i x code seen new is_new within is codes sees added updates so_far now = (
   repeated_next a b c xs i x (contains bytes_eq seen code) within is
-      (sees code ∙ (ap (λ k. list_any (λ h. bytes_eq (event_code h) k) (map handler_tree (take i xs))) codes ∙ knows x (take i xs)))
+      (sees code ∙ (ap (λ k. list_any (λ h. bytes_eq (event_code h) k) (map handler_tree (take i xs))) codes ∙
+      knows x (take i xs)))
       so_far (subst (λ r. Finds b (unless r (twice x.at)) c) added now),
   subst (IsSeen new) (sym (trees_more handler_tree xs i x within is))
-      (seen_more seen new (map handler_tree (take i xs)) (handler_tree x) sees (subst (λ k. Updates bytes_eq seen new k true) codes updates)),
+      (seen_more seen new (map handler_tree (take i xs)) (handler_tree x) sees
+      (subst (λ k. Updates bytes_eq seen new k true) codes updates)),
 )

@@ -1,5 +1,6 @@
 -- The names that are sizes tell of all sizes of a layer.
-use Rattle.std.proofs.Common.{◌≡◌, ℕ, suc, Bool, true, false, ◌&&◌, if◌then◌else◌, is_some, List, [], ◌∷◌, ◌++◌, flat_map, fold, bytes_eq, Option, Some, None, option_map, refl, sym, ap, ap₂, ◌∙◌}
+use Rattle.std.proofs.Common.{◌≡◌, ℕ, suc, Bool, true, false, ◌&&◌, if◌then◌else◌, is_some, List, [], ◌∷◌, ◌++◌}
+use Rattle.std.proofs.Common.{flat_map, fold, bytes_eq, Option, Some, None, option_map, refl, sym, ap, ap₂, ◌∙◌}
 use Rattle.std.specs.List.{list_all}
 use Rattle.std.specs.Option.{option_map_or}
 use Rattle.std.proofs.lemmas.Grind.{flat_map-append}
@@ -11,7 +12,8 @@ use Rattle.fault_mean.specs.Limits.{LimitedSize, capacity_in, is_within, is_with
 use Rattle.fault_mean.specs.Places.{param_value}
 use Rattle.fault_mean.specs.Scope.{Standing, handler_statements, head_scope, layer_statements}
 use Rattle.file_scope.specs.Words.{place_of}
-use Rattle.file_names.specs.Gathered.{capacity_words, maxima_of, maximum_words, noted, size_words, sizes_of, statements_in}
+use Rattle.file_names.specs.Gathered.{capacity_words, maxima_of, maximum_words, noted, size_words, sizes_of}
+use Rattle.file_names.specs.Gathered.{statements_in}
 use Rattle.file_names.specs.declared.sizes.Sizes.{Sizes}
 use Rattle.file_names.proofs.Gathered.{said_in}
 
@@ -21,14 +23,16 @@ there-passes : (test : List ℕ → Bool) (word : List ℕ) (words : List (List 
 there-passes test word [] is = absurd (cc is)
 there-passes test word (w ∷ words) is =
     go (bytes_eq w word) refl (place_of word words) is (there-passes test word words) where
-      go : (b : Bool) → bytes_eq w word ≡ b → (p : Option ℕ) → is_some (if b then Some 0 else option_map (λ k. suc k) p) ≡ true →
+      go : (b : Bool) → bytes_eq w word ≡ b → (p : Option ℕ) →
+          is_some (if b then Some 0 else option_map (λ k. suc k) p) ≡ true →
           (is_some p ≡ true → list_all test words ≡ (list_all test words && test word)) →
           (test w && list_all test words) ≡ ((test w && list_all test words) && test word)
-      go true e p is rest = same (test w) (list_all test words) (test word) (ap test ((bytes_eq-Decides w word).0 e)) where
-        same : (a b c : Bool) → a ≡ c → (a && b) ≡ ((a && b) && c)
-        same false b c e = refl
-        same true false c e = refl
-        same true true c e = e
+      go true e p is rest = same (test w) (list_all test words) (test word) (ap test ((bytes_eq-Decides w word).0 e))
+        where
+          same : (a b c : Bool) → a ≡ c → (a && b) ≡ ((a && b) && c)
+          same false b c e = refl
+          same true false c e = refl
+          same true true c e = e
       go false e None is rest = absurd (cc is)
       go false e (Some k) is rest = behind (test w) (list_all test words) (test word) (rest refl) where
         behind : (a b c : Bool) → b ≡ (b && c) → (a && b) ≡ ((a && b) && c)
@@ -55,7 +59,8 @@ noted_all test words [] = go (list_all test words) where
   go false = refl
 noted_all test words (w ∷ more) =
     noted_all test (noted words w) more
-    ∙ (ap (λ b. b && list_all test more) (noted_once test words w) ∙ go (list_all test words) (test w) (list_all test more)) where
+    ∙ (ap (λ b. b && list_all test more) (noted_once test words w) ∙
+    go (list_all test words) (test w) (list_all test more)) where
       go : (a b c : Bool) → ((a && b) && c) ≡ (a && (b && c))
       go true b c = refl
       go false b c = refl
@@ -99,7 +104,8 @@ module _ (layer : LayerTree) (place : PlaceTree) where
   maximum_one (ast.emit at direction kind arguments pushed) = refl
 
   of_handler : (h : HandlerTree) →
-      list_all within (flat_map (λ (x : Standing). maximum_in x.statement) (handler_statements layer h)) ≡ list_all (test 32) (maxima_of h)
+      list_all within (flat_map (λ (x : Standing). maximum_in x.statement) (handler_statements layer h)) ≡
+      list_all (test 32) (maxima_of h)
   of_handler h =
       ap (list_all within) (sym (said_in maximum_in (head_scope layer h) h.block))
       ∙ all_alike within (test 32) maximum_in maximum_words (statements_in h.block) maximum_one
@@ -109,9 +115,11 @@ module _ (layer : LayerTree) (place : PlaceTree) where
       ≡ list_all (test 32) (flat_map maxima_of hs)
   of_handlers [] = refl
   of_handlers (h ∷ hs) =
-      ap (list_all within) (flat_map-append (λ (x : Standing). maximum_in x.statement) (handler_statements layer h) (flat_map (handler_statements layer) hs))
+      ap (list_all within) (flat_map-append (λ (x : Standing). maximum_in x.statement) (handler_statements layer h)
+      (flat_map (handler_statements layer) hs))
       ∙ (list_all-append within (flat_map (λ (x : Standing). maximum_in x.statement) (handler_statements layer h)) _
-      ∙ (ap₂ (λ a b. a && b) (of_handler h) (of_handlers hs) ∙ sym (list_all-append (test 32) (maxima_of h) (flat_map maxima_of hs))))
+      ∙ (ap₂ (λ a b. a && b) (of_handler h) (of_handlers hs) ∙
+      sym (list_all-append (test 32) (maxima_of h) (flat_map maxima_of hs))))
 
 -- the names that are sizes in a layer tell whether its sizes are within their limits at a place
 pub words_tell : (layer : LayerTree) (place : PlaceTree) (sizes : Sizes) → sizes ≡ sizes_of layer →
@@ -122,8 +130,10 @@ words_tell layer place sizes are =
     ap (λ (s : Sizes). list_all (test layer place 64) s.capacities && list_all (test layer place 32) s.maxima) are
     ∙ (ap₂ (λ a b. a && b)
     (noted_all (test layer place 64) [] (flat_map capacity_words layer.declarations)
-    ∙ sym (all_alike (within layer place) (test layer place 64) capacity_in capacity_words layer.declarations (capacity_one layer place)))
-    (noted_all (test layer place 32) [] (flat_map maxima_of layer.handlers) ∙ sym (of_handlers layer place layer.handlers))
+    ∙ sym (all_alike (within layer place) (test layer place 64) capacity_in
+    capacity_words layer.declarations (capacity_one layer place)))
+    (noted_all (test layer place 32) [] (flat_map maxima_of layer.handlers) ∙
+    sym (of_handlers layer place layer.handlers))
     ∙ sym (list_all-append (within layer place) (flat_map capacity_in layer.declarations)
     (flat_map (λ (x : Standing). maximum_in x.statement) (layer_statements layer))))
 

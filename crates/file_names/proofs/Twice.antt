@@ -1,5 +1,7 @@
 -- Names that are there twice, one name further.
-use Rattle.std.proofs.Common.{◌≡◌, ℕ, ◌+◌, ◌<◌, Bool, true, false, ◌||◌, not, if◌then◌else◌, is_some, List, [], ◌∷◌, ◌++◌, map, take, length, get_or, bytes_eq, refl, sym, ap, ◌∙◌, subst, append_assoc, append-nil, arith}
+use Rattle.std.proofs.Common.{◌≡◌, ℕ, ◌+◌, ◌<◌, Bool, true, false, ◌||◌, not, if◌then◌else◌, is_some, List, [], ◌∷◌}
+use Rattle.std.proofs.Common.{◌++◌, map, take, length, get_or, bytes_eq, refl, sym, ap, ◌∙◌, subst, append_assoc}
+use Rattle.std.proofs.Common.{append-nil, arith}
 use Rattle.std.specs.List.{list_any}
 use Rattle.std.proofs.lemmas.List.{map-append, take_more}
 use Rattle.std.proofs.lemmas.List.Folds.{list_any-append}
@@ -41,7 +43,8 @@ either_side x (y ∷ xs) =
     ap (λ b. b || list_any (same_word x) xs) (bytes_eq-sym x.word y.word)
     ∙ ap (λ b. bytes_eq y.word x.word || b) (either_side x xs)
 
-pub repeated_more : {A : Type 0} (same : A → A → Bool) (earlier xs : List A) (x : A) → repeated same earlier (xs ++ x ∷ []) ≡
+pub repeated_more : {A : Type 0} (same : A → A → Bool) (earlier xs : List A) (x : A) →
+    repeated same earlier (xs ++ x ∷ []) ≡
     repeated same earlier xs ++ (if list_any (same x) earlier || list_any (same x) xs then x ∷ [] else [])
 repeated_more {A} same earlier [] x = go (list_any (same x) earlier) where
   go : (b : Bool) → (if b then x ∷ [] else []) ++ [] ≡ (if b || false then x ∷ [] else [])
@@ -74,7 +77,8 @@ once_more earlier xs x known is =
       go true = refl
       go false = refl
 
-take_next : {X : Type 0} (xs : List X) (i : ℕ) (x : X) → i < length xs → x ≡ get_or xs i x → take (i + 1) xs ≡ take i xs ++ x ∷ []
+take_next : {X : Type 0} (xs : List X) (i : ℕ) (x : X) → i < length xs → x ≡ get_or xs i x →
+    take (i + 1) xs ≡ take i xs ++ x ∷ []
 take_next xs i x within is = take_more xs i x within ∙ ap (λ y. take i xs ++ y ∷ []) (sym is)
 
 -- one name alone is there once
@@ -102,7 +106,8 @@ seen_next xs i x seen new within is sees pushed =
 
 -- one handler more
 pub repeated_next : (a b c : Found) (xs : List Handler) (i : ℕ) (x : Handler) (known : Bool) →
-    i < length xs → x ≡ get_or xs i x → known ≡ list_any (λ h. same_events (handler_tree x) (handler_tree h)) (take i xs) →
+    i < length xs → x ≡ get_or xs i x →
+    known ≡ list_any (λ h. same_events (handler_tree x) (handler_tree h)) (take i xs) →
     Finds a (map (λ (h : HandlerTree). twice h.at) (repeated same_events [] (map handler_tree (take i xs)))) b →
     Finds b (unless (not known) (twice x.at)) c →
     Finds a (map (λ (h : HandlerTree). twice h.at) (repeated same_events [] (map handler_tree (take (i + 1) xs)))) c
@@ -116,10 +121,12 @@ repeated_next a b c xs i x known within is knows so_far now =
     ∙ ap (λ l. map g (repeated same_events [] before) ++ l)
     (ap (λ b. map g (if b then handler_tree x ∷ [] else []))
     (any_map handler_tree (same_events (handler_tree x)) (take i xs) ∙ sym knows) ∙ go known)))))
-    (finds_both name_shown a b c (map g (repeated same_events [] before)) (unless (not known) (twice x.at)) so_far now) where
-      go : (b : Bool) → map (λ (h : HandlerTree). twice h.at) (if b then handler_tree x ∷ [] else []) ≡ unless (not b) (twice x.at)
-      go true = refl
-      go false = refl
+    (finds_both name_shown a b c (map g (repeated same_events [] before)) (unless (not known) (twice x.at)) so_far now)
+  where
+    go : (b : Bool) → map (λ (h : HandlerTree). twice h.at) (if b then handler_tree x ∷ [] else []) ≡
+        unless (not b) (twice x.at)
+    go true = refl
+    go false = refl
 
 -- no local
 pub declares_none : (scope : names.Scope) (a : Found) → Declares scope a [] a scope
@@ -127,7 +134,8 @@ declares_none scope a =
     (finds_none name_shown a, ap (λ m. record { layer = scope.layer; locals = m }) (sym (append-nil scope.locals)))
 
 -- one local more
-pub declares_next : (outer scope inner : names.Scope) (a b c : Found) (locals : List Local) (i : ℕ) (l : Local) (known : Bool) →
+pub declares_next : (outer scope inner : names.Scope) (a b c : Found) (locals : List Local) (i : ℕ) (l : Local)
+    (known : Bool) →
     i < length locals → l ≡ get_or locals i l → known ≡ names.is_visible scope l.name.word →
     Declares outer a (locals_of (take i locals)) b scope → Finds b (unless (not known) (twice l.name.at)) c →
     inner ≡ names.with_locals scope (local_of l ∷ []) →
@@ -147,7 +155,8 @@ declares_next outer scope inner a b c locals i l known within is knows so_far no
       subst (λ f. Finds a f c)
           (sym (ap (twice_among (names.visible outer)) (map-append (λ (x : names.Local). x.name) ls (local_of l ∷ []))
           ∙ once_more (names.visible outer) (map (λ (x : names.Local). x.name) ls) l.name known sees))
-          (finds_both name_shown a b c (twice_among (names.visible outer) (map (λ (x : names.Local). x.name) ls)) (unless (not known) (twice l.name.at)) so_far.0 now),
+          (finds_both name_shown a b c (twice_among (names.visible outer) (map (λ (x : names.Local). x.name) ls))
+          (unless (not known) (twice l.name.at)) so_far.0 now),
       then_ ∙ (ap (λ s. names.with_locals s (local_of l ∷ [])) so_far.1
           ∙ ap (λ m. record { layer = outer.layer; locals = m }) (append_assoc outer.locals ls (local_of l ∷ []))),
     )

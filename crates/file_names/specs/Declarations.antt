@@ -4,7 +4,8 @@ use Rattle.layer_ast.specs.Tree.{DeclarationTree}
 use Rattle.fault_mean.specs.Faults.{NameFault}
 use Rattle.fault_mean.specs.Forms.{items_of, labels_of}
 use Rattle.fault_mean.specs.Limits.{capacity_in}
-use Rattle.fault_mean.specs.NameFaults.{declaration_uses, row_faults, size_faults, too_many_of, twice_among, uses_faults}
+use Rattle.fault_mean.specs.NameFaults.{declaration_uses, row_faults, size_faults, too_many_of, twice_among}
+use Rattle.fault_mean.specs.NameFaults.{uses_faults}
 use Rattle.fault_mean.specs.Scope.{Scope}
 use Rattle.msg_core.specs.Headers.{most_fields}
 

@@ -7,7 +7,8 @@ use Rattle.layer_ast.specs.contracts.tokens.Kind as kind_row
 use Rattle.layer_ast.specs.Tree.{HandlerTree, PoppedTree}
 use Rattle.indexmap.specs.IndexSet.{IndexSet, contains}
 
--- The header that a handler takes off, if it does, and what the handler takes: the numbers of direction and kind before that.
+-- The header that a handler takes off, if it does, and what the handler takes: the numbers of direction and kind before
+-- that.
 abbrev pub popped_code : Option PoppedTree → List ℕ
 popped_code None = []
 popped_code (Some popped) = 1 ∷ popped.name.word
@@ -18,4 +19,5 @@ event_code handler =
 
 -- A table has what these handlers take, and nothing else.
 abbrev pub IsSeen : {S : Type 0} → IndexSet (List ℕ) S → List HandlerTree → Type 0
-IsSeen seen handlers = (code : List ℕ) → contains bytes_eq seen code ≡ list_any (λ h. bytes_eq (event_code h) code) handlers
+IsSeen seen handlers = (code : List ℕ) → contains bytes_eq seen code ≡
+    list_any (λ h. bytes_eq (event_code h) code) handlers

@@ -1,7 +1,8 @@
 -- What the statements of a handler declare, and the sizes of a layer that are names.
 use Rattle.std.specs.Prelude.{◌≡◌, ℕ, if◌then◌else◌, is_some, List, [], ◌∷◌, ◌++◌, flat_map, fold}
 use Rattle.layer_ast.specs.declared.names.Name.{Name}
-use Rattle.layer_ast.specs.Tree.{SizeTree, fixed, sized, StatementTree, push, take, when, choose, each, StatementTrees, none, more, DeclarationTree, HandlerTree, LayerTree}
+use Rattle.layer_ast.specs.Tree.{SizeTree, fixed, sized, StatementTree, push, take, when, choose, each, StatementTrees}
+use Rattle.layer_ast.specs.Tree.{none, more, DeclarationTree, HandlerTree, LayerTree}
 use Rattle.fault_mean.specs.Limits.{LimitedSize, capacity_in, maximum_in}
 use Rattle.fault_mean.specs.Scope.{brought}
 use Rattle.file_scope.specs.Words.{place_of}

@@ -8,4 +8,5 @@ use Rattle.file_names.specs.Found.{Finds}
 -- What is found as locals become visible, and the scope with them.
 abbrev pub Declares : names.Scope → Found → List names.Local → Found → names.Scope → Type 0
 Declares old before locals after new =
-    Finds before (twice_among (names.visible old) (map (λ l. l.name) locals)) after × (new ≡ names.with_locals old locals)
+    Finds before (twice_among (names.visible old) (map (λ l. l.name) locals)) after ×
+    (new ≡ names.with_locals old locals)

@@ -23,7 +23,8 @@ pub fn block(
     scope: &mut Scope,
     b: &Block,
 ) -> Result<(), AllocError>
-    ensures { OnOk result (Finds found.old (block_faults (scope_of scope.old) (block_tree b.now)) found.new × (scope_of scope.new ≡ scope_of scope.old)) }
+    ensures { OnOk result (Finds found.old (block_faults (scope_of scope.old) (block_tree b.now)) found.new ×
+        (scope_of scope.new ≡ scope_of scope.old)) }
 {
     let outer = scope.len();
     statements(alloc, found, scope, &b.statements)?;
@@ -39,7 +40,8 @@ fn statements(
     scope: &mut Scope,
     all: &[Statement],
 ) -> Result<(), AllocError>
-    ensures { OnOk result (Finds found.old (block_faults (scope_of scope.old) (statement_trees all.now)) found.new × (scope_of scope.new ≡ scope_behind_all (scope_of scope.old) (map statement_tree all.now))) }
+    ensures { OnOk result (Finds found.old (block_faults (scope_of scope.old) (statement_trees all.now)) found.new ×
+        (scope_of scope.new ≡ scope_behind_all (scope_of scope.old) (map statement_tree all.now))) }
 {
     for s in all {
         statement(alloc, found, scope, s)?;
@@ -55,7 +57,8 @@ fn statement(
     scope: &mut Scope,
     s: &Statement,
 ) -> Result<(), AllocError>
-    ensures { OnOk result (Finds found.old (statement_faults (scope_of scope.old) (statement_tree s.now)) found.new × (scope_of scope.new ≡ spec.scope_behind (scope_of scope.old) (statement_tree s.now))) }
+    ensures { OnOk result (Finds found.old (statement_faults (scope_of scope.old) (statement_tree s.now)) found.new ×
+        (scope_of scope.new ≡ spec.scope_behind (scope_of scope.old) (statement_tree s.now))) }
 {
     uses::statement(found, scope, s);
     inside(alloc, found, scope, s)?;
@@ -70,7 +73,8 @@ fn inside(
     scope: &mut Scope,
     s: &Statement,
 ) -> Result<(), AllocError>
-    ensures { OnOk result (Finds found.old (inner_faults (scope_of scope.old) (statement_tree s.now)) found.new × (scope_of scope.new ≡ spec.scope_behind (scope_of scope.old) (statement_tree s.now))) }
+    ensures { OnOk result (Finds found.old (inner_faults (scope_of scope.old) (statement_tree s.now)) found.new ×
+        (scope_of scope.new ≡ spec.scope_behind (scope_of scope.old) (statement_tree s.now))) }
 {
     match s {
         Statement::Let { name, .. } => {
@@ -134,7 +138,11 @@ fn with_locals(
     locals: &Vec<Local>,
     b: &Block,
 ) -> Result<(), AllocError>
-    ensures { OnOk result (Finds found.old (twice_among (spec.visible (scope_of scope.old)) (map (λ l. l.name) (locals_of locals.now.items)) ++ block_faults (spec.with_locals (scope_of scope.old) (locals_of locals.now.items)) (block_tree b.now)) found.new × (scope_of scope.new ≡ scope_of scope.old)) }
+    ensures { OnOk result
+        (Finds found.old (twice_among (spec.visible (scope_of scope.old))
+        (map (λ l. l.name) (locals_of locals.now.items)) ++
+        block_faults (spec.with_locals (scope_of scope.old) (locals_of locals.now.items)) (block_tree b.now))
+        found.new × (scope_of scope.new ≡ scope_of scope.old)) }
 {
     let outer = scope.len();
     declare(found, scope, locals)?;

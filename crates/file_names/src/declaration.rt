@@ -4,7 +4,8 @@ ghost use Rattle.std.specs.Prelude.{◌≡◌, ◌++◌, [], flat_map, map, OnOk
 ghost use Rattle.layer_ast.specs.View.{declaration_tree};
 ghost use Rattle.fault_mean.specs.Forms.{items_of, labels_of};
 ghost use Rattle.fault_mean.specs.Limits.{capacity_in};
-ghost use Rattle.fault_mean.specs.NameFaults.{declaration_uses, row_faults, size_faults, too_many_of, twice_among, uses_faults};
+ghost use Rattle.fault_mean.specs.NameFaults.{declaration_uses, row_faults, size_faults, too_many_of, twice_among};
+ghost use Rattle.fault_mean.specs.NameFaults.{uses_faults};
 ghost use Rattle.file_names.specs.Declarations.{declaration_faults};
 ghost use Rattle.file_names.specs.Found.{Finds};
 ghost use Rattle.file_scope.specs.Scope.{scope_of};
@@ -74,7 +75,9 @@ fn fields(alloc: Global, d: &Declaration) -> Result<Vec<Name>, AllocError>
 /// The fields of a header: of these there are few, and none is there twice.
 #[tactic(auto, using(file_scope::proofs::Finds::finds_both))]
 fn few_fields(alloc: Global, found: &mut Found, d: &Declaration) -> Result<(), AllocError>
-    ensures { OnOk result (Finds found.old (twice_among [] (labels_of (declaration_tree d.now)) ++ too_many_of most_fields (labels_of (declaration_tree d.now))) found.new) }
+    ensures { OnOk result
+        (Finds found.old (twice_among [] (labels_of (declaration_tree d.now)) ++
+        too_many_of most_fields (labels_of (declaration_tree d.now))) found.new) }
 {
     let fields = fields(alloc, d)?;
     twice(alloc, found, &fields)?;
@@ -107,7 +110,8 @@ pub fn declarations(
     scope: &Scope,
     all: &[Declaration],
 ) -> Result<(), AllocError>
-    ensures { OnOk result (Finds found.old (flat_map (declaration_faults (scope_of scope.now)) (map declaration_tree all.now)) found.new) }
+    ensures { OnOk result
+        (Finds found.old (flat_map (declaration_faults (scope_of scope.now)) (map declaration_tree all.now)) found.new) }
 {
     for d in all {
         declaration(alloc, found, scope, d)?;

@@ -14,7 +14,8 @@ use std::alloc::{AllocError, Global};
 use std::hash::{Hash, Hasher};
 use std::marker::Model;
 
-/// What a handler takes, as the key of a table: its direction and its kind, and behind them the header that it takes off.
+/// What a handler takes, as the key of a table: its direction and its kind, and behind them the header that it takes
+/// off.
 #[derive(Drop)]
 struct Event(Vec<u8>);
 
@@ -92,7 +93,9 @@ pub fn handlers_twice(
     found: &mut Found,
     handlers: &[Handler],
 ) -> Result<(), AllocError>
-    ensures { OnOk result (Finds found.old (map (λ h. fault.twice h.at) (repeated same_events [] (map handler_tree handlers.now))) found.new) }
+    ensures { OnOk result
+        (Finds found.old (map (λ h. fault.twice h.at) (repeated same_events [] (map handler_tree handlers.now)))
+        found.new) }
 {
     let mut seen = IndexSet::new(alloc);
     for handler in handlers {

@@ -28,7 +28,9 @@ const MOST_PLACES: usize = 24;
 /// The names of layers, none of which may be there twice; of these there are few.
 #[tactic(auto, using(file_scope::proofs::Finds::finds_both))]
 fn names(alloc: Global, found: &mut Found, layers: &[Layer]) -> Result<(), AllocError>
-    ensures { OnOk result (Finds found.old (twice_among [] (map (λ layer. layer.name) (map layer_tree layers.now)) ++ too_many_of most_layers (map (λ layer. layer.name) (map layer_tree layers.now))) found.new) }
+    ensures { OnOk result
+        (Finds found.old (twice_among [] (map (λ layer. layer.name) (map layer_tree layers.now)) ++
+        too_many_of most_layers (map (λ layer. layer.name) (map layer_tree layers.now))) found.new) }
 {
     let names = layer_names(alloc, layers)?;
     twice(alloc, found, &names)?;
@@ -38,7 +40,8 @@ fn names(alloc: Global, found: &mut Found, layers: &[Layer]) -> Result<(), Alloc
 
 /// Places, of which there are few.
 fn few(alloc: Global, found: &mut Found, places: &[Place]) -> Result<(), AllocError>
-    ensures { OnOk result (Finds found.old (too_many_of most_places (map (λ place. place.name) (map place_tree places.now))) found.new) }
+    ensures { OnOk result
+        (Finds found.old (too_many_of most_places (map (λ place. place.name) (map place_tree places.now))) found.new) }
 {
     let names = place_names(alloc, places)?;
     too_many(found, MOST_PLACES, &names);

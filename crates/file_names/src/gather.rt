@@ -47,7 +47,8 @@ fn own(names: &mut Vec<Name>, maxima: &mut Words, s: &Statement) -> Result<(), A
 #[cycle(gather)]
 #[tactic(auto, using(crate::proofs::Gathered::gathers_none, crate::proofs::Gathered::gathers_both))]
 pub fn block(names: &mut Vec<Name>, maxima: &mut Words, b: &Block) -> Result<(), AllocError>
-    ensures { OnOk result (Gathers names.old.items maxima.old (statements_in (block_tree b.now)) names.new.items maxima.new) }
+    ensures { OnOk result
+        (Gathers names.old.items maxima.old (statements_in (block_tree b.now)) names.new.items maxima.new) }
 {
     statements(names, maxima, &b.statements)
 }
@@ -60,7 +61,8 @@ fn statements(
     maxima: &mut Words,
     all: &[Statement],
 ) -> Result<(), AllocError>
-    ensures { OnOk result (Gathers names.old.items maxima.old (statements_in (statement_trees all.now)) names.new.items maxima.new) }
+    ensures { OnOk result
+        (Gathers names.old.items maxima.old (statements_in (statement_trees all.now)) names.new.items maxima.new) }
 {
     for s in all {
         own(names, maxima, s)?;
@@ -73,7 +75,8 @@ fn statements(
 #[cycle(gather)]
 #[tactic(auto, using(crate::proofs::Gathered::gathers_none, crate::proofs::Gathered::gathers_both))]
 fn inside(names: &mut Vec<Name>, maxima: &mut Words, s: &Statement) -> Result<(), AllocError>
-    ensures { OnOk result (Gathers names.old.items maxima.old (statements_inside (statement_tree s.now)) names.new.items maxima.new) }
+    ensures { OnOk result
+        (Gathers names.old.items maxima.old (statements_inside (statement_tree s.now)) names.new.items maxima.new) }
 {
     match s {
         Statement::Push { otherwise, .. } => block(names, maxima, otherwise),

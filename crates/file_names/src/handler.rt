@@ -31,7 +31,8 @@ fn head(
     handler: &Handler,
 ) -> Result<(), AllocError>
     requires { (scope_of scope.now).locals ≡ [] }
-    ensures { OnOk result (Finds found.old (head_part (scope_of scope.old).layer (handler_tree handler.now)) found.new × (scope_of scope.new ≡ spec.head_scope (scope_of scope.old).layer (handler_tree handler.now))) }
+    ensures { OnOk result (Finds found.old (head_part (scope_of scope.old).layer (handler_tree handler.now)) found.new ×
+        (scope_of scope.new ≡ spec.head_scope (scope_of scope.old).layer (handler_tree handler.now))) }
 {
     popped(found, scope, &handler.popped);
     let locals = head_locals(alloc, scope, handler)?;
@@ -67,7 +68,9 @@ fn handler(
     handler: &Handler,
 ) -> Result<(), AllocError>
     requires { own.now ≡ own_words (layer_tree layer.now) }
-    ensures { OnOk result (Finds found.old (handler_name_faults (layer_tree layer.now) (handler_tree handler.now)) found.new × (maxima.new ≡ fold noted maxima.old (maxima_of (handler_tree handler.now)))) }
+    ensures { OnOk result
+        (Finds found.old (handler_name_faults (layer_tree layer.now) (handler_tree handler.now)) found.new ×
+        (maxima.new ≡ fold noted maxima.old (maxima_of (handler_tree handler.now)))) }
 {
     inside(alloc, found, layer, own, handler)?;
     let mut names = head_names(alloc, handler)?;
@@ -85,7 +88,9 @@ pub fn handlers(
     own: &Words,
 ) -> Result<Words, AllocError>
     requires { own.now ≡ own_words (layer_tree layer.now) }
-    ensures { OnOk result (Finds found.old (flat_map (handler_name_faults (layer_tree layer.now)) (layer_tree layer.now).handlers) found.new) × IfOk result (λ maxima. maxima ≡ fold noted [] (flat_map maxima_of (layer_tree layer.now).handlers)) }
+    ensures { OnOk result
+        (Finds found.old (flat_map (handler_name_faults (layer_tree layer.now)) (layer_tree layer.now).handlers)
+        found.new) × IfOk result (λ maxima. maxima ≡ fold noted [] (flat_map maxima_of (layer_tree layer.now).handlers)) }
 {
     let mut maxima = Words::new(alloc);
     for h in &layer.handlers {

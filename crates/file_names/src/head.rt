@@ -16,7 +16,9 @@ use layer_ast::{Expected, Popped};
 /// The use of the name of a popped header.
 #[tactic(auto, using(file_scope::proofs::Finds::finds_none, file_scope::proofs::Finds::finds_both))]
 pub fn popped(found: &mut Found, scope: &Scope, popped: &Option<Popped>)
-    ensures { Finds found.old (uses_faults (scope_of scope.now) (option_map_or (λ p. of_name p.name ∷ []) (option_map popped_tree popped.now) [])) found.new }
+    ensures { Finds found.old
+        (uses_faults (scope_of scope.now)
+        (option_map_or (λ p. of_name p.name ∷ []) (option_map popped_tree popped.now) [])) found.new }
 {
     match popped {
         None => {}

@@ -4,7 +4,8 @@ ghost use Rattle.std.specs.Prelude.{◌≡◌, [], filter, map, drop, OnOk, IfOk
 ghost use Rattle.layer_ast.specs.View.{declaration_tree, handler_tree, layer_tree};
 ghost use Rattle.fault_mean.specs.Declared as spec;
 ghost use Rattle.fault_mean.specs.Faults as fault;
-ghost use Rattle.fault_mean.specs.NameFaults.{declared_faults, layer_name_faults, names_where, too_many_of, twice_among};
+ghost use Rattle.fault_mean.specs.NameFaults.{declared_faults, layer_name_faults, names_where, too_many_of};
+ghost use Rattle.fault_mean.specs.NameFaults.{twice_among};
 ghost use Rattle.file_scope.specs.Words.{own_words};
 ghost use Rattle.file_names.specs.Found.{Finds};
 ghost use Rattle.file_names.specs.Gathered.{sizes_of};
@@ -61,7 +62,8 @@ fn names_of(
     form: Form,
     declarations: &[Declaration],
 ) -> Result<Vec<Name>, AllocError>
-    ensures { IfOk result (λ all. all.items ≡ map spec.declared_name (filter (test_of form) (map declaration_tree declarations.now))) }
+    ensures { IfOk result
+        (λ all. all.items ≡ map spec.declared_name (filter (test_of form) (map declaration_tree declarations.now))) }
 {
     let mut all = Vec::new(alloc);
     for declaration in declarations {
@@ -91,7 +93,8 @@ fn few(
     most: usize,
     layer: &Layer,
 ) -> Result<(), AllocError>
-    ensures { OnOk result (Finds found.old (too_many_of most (names_where (test_of form) (layer_tree layer.now))) found.new) }
+    ensures { OnOk result
+        (Finds found.old (too_many_of most (names_where (test_of form) (layer_tree layer.now))) found.new) }
 {
     let names = names_of(alloc, form, &layer.declarations)?;
     too_many(found, most, &names);
@@ -100,7 +103,8 @@ fn few(
 
 /// The declarations of a layer, none of which may be there twice.
 fn each_once(alloc: Global, found: &mut Found, layer: &Layer) -> Result<(), AllocError>
-    ensures { OnOk result (Finds found.old (twice_among [] (map spec.declared_name (layer_tree layer.now).declarations)) found.new) }
+    ensures { OnOk result
+        (Finds found.old (twice_among [] (map spec.declared_name (layer_tree layer.now).declarations)) found.new) }
 {
     let names = all_names(alloc, &layer.declarations)?;
     twice(alloc, found, &names)?;
@@ -134,7 +138,8 @@ fn all_too_many(found: &mut Found, handlers: &[Handler])
 /// Handlers, of which there may be so many.
 #[tactic(auto, using(crate::proofs::Layers::none_beyond))]
 fn few_handlers(found: &mut Found, handlers: &[Handler])
-    ensures { Finds found.old (map (λ h. fault.too_many h.at) (drop most_handlers (map handler_tree handlers.now))) found.new }
+    ensures { Finds found.old (map (λ h. fault.too_many h.at) (drop most_handlers (map handler_tree handlers.now)))
+        found.new }
 {
     if handlers.len() > MOST_HANDLERS {
         all_too_many(found, &handlers[MOST_HANDLERS..]);

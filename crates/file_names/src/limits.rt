@@ -66,7 +66,8 @@ fn names(alloc: Global, items: &[Item]) -> Result<Vec<Name>, AllocError>
 
 /// The names of the items that are numbers.
 fn numbers(alloc: Global, items: &[Item]) -> Result<Vec<Name>, AllocError>
-    ensures { IfOk result (λ all. all.items ≡ map (λ i. i.name) (filter (λ i. allows a_number i.sort) (map item_tree items.now))) }
+    ensures { IfOk result
+        (λ all. all.items ≡ map (λ i. i.name) (filter (λ i. allows a_number i.sort) (map item_tree items.now))) }
 {
     let mut all = Vec::new(alloc);
     for item in items {
@@ -91,7 +92,8 @@ fn front(found: &mut Found, items: &[Item])
 /// The messages of a row, of which only the last item may be one.
 #[tactic(auto, using(crate::proofs::Rows::none_inside, crate::proofs::Rows::front_is))]
 fn messages(found: &mut Found, items: &[Item])
-    ensures { Finds found.old (map (λ i. fault.too_many i.name.at) (spec.messages_inside (map item_tree items.now))) found.new }
+    ensures { Finds found.old (map (λ i. fault.too_many i.name.at) (spec.messages_inside (map item_tree items.now)))
+        found.new }
 {
     if items.len() > 0 {
         front(found, &items[..items.len() - 1]);

@@ -42,7 +42,8 @@ fn are_params(found: &mut Found, scope: &Scope, given: &[Given])
     }
 }
 
-/// The sizes that are params, which must be within their limits. They aren't looked at where a fault comes before this place.
+/// The sizes that are params, which must be within their limits. They aren't looked at where a fault comes before this
+/// place.
 fn sizes(
     alloc: Global,
     found: &mut Found,
@@ -51,7 +52,10 @@ fn sizes(
     sizes: &Sizes,
 ) -> Result<(), AllocError>
     requires { sizes.now ≡ sizes_of (scope_of scope.now).layer }
-    ensures { OnOk result (Finds found.old (flat_map (λ l. unless (is_within_at (scope_of scope.now).layer (place_tree place.now) l.size l.most) (fault.too_many place.now.name.at)) (sizes_in (scope_of scope.now).layer)) found.new) }
+    ensures { OnOk result
+        (Finds found.old (flat_map
+        (λ l. unless (is_within_at (scope_of scope.now).layer (place_tree place.now) l.size l.most)
+        (fault.too_many place.now.name.at)) (sizes_in (scope_of scope.now).layer)) found.new) }
 {
     if !is_past(found, Cause::TooMany, place.name.at) {
         let holds = sizes_within(alloc, scope, place, sizes)?;
@@ -70,7 +74,8 @@ pub fn place_in(
     of_layer: &Sizes,
 ) -> Result<(), AllocError>
     requires { of_layer.now ≡ sizes_of (scope_of scope.now).layer }
-    ensures { OnOk result (Finds found.old (place_faults_in (place_tree place.now) (scope_of scope.now).layer) found.new) }
+    ensures { OnOk result
+        (Finds found.old (place_faults_in (place_tree place.now) (scope_of scope.now).layer) found.new) }
 {
     each_once(alloc, found, &place.given)?;
     are_params(found, scope, &place.given);

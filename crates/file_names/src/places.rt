@@ -36,7 +36,9 @@ fn called(found: &mut Found, judged: &Judged, place: &Place)
 /// The layers of the library, for each place that names one.
 #[tactic(auto, using(file_scope::proofs::Finds::finds_none, crate::proofs::Calls::called_more))]
 pub fn calls(found: &mut Found, judged: &Judged, places: &[Place])
-    ensures { Finds found.old (flat_map (faults_of_judged name_fault_at layer_name_faults) (filter_map (called_at (file_tree judged.now.file.now)) (map place_tree places.now))) found.new }
+    ensures { Finds found.old
+        (flat_map (faults_of_judged name_fault_at layer_name_faults)
+        (filter_map (called_at (file_tree judged.now.file.now)) (map place_tree places.now))) found.new }
 {
     for place in places {
         called(found, judged, place);
@@ -64,7 +66,8 @@ fn place_at(
 /// A place: its layer is one of the file, or else of the library.
 #[tactic(auto, using(file_scope::proofs::Layers::within_file, file_scope::proofs::Layers::within_made, file_scope::proofs::Layers::made_at))]
 fn place(alloc: Global, found: &mut Found, judged: &Judged, place: &Place) -> Result<(), AllocError>
-    ensures { OnOk result (Finds found.old (place_faults (file_tree judged.now.file.now) (place_tree place.now)) found.new) }
+    ensures { OnOk result
+        (Finds found.old (place_faults (file_tree judged.now.file.now) (place_tree place.now)) found.new) }
 {
     match judged.written_names.position(&place.name.word) {
         Some(k) => {
@@ -93,7 +96,8 @@ pub fn places(
     judged: &Judged,
     all: &[Place],
 ) -> Result<(), AllocError>
-    ensures { OnOk result (Finds found.old (flat_map (place_faults (file_tree judged.now.file.now)) (map place_tree all.now)) found.new) }
+    ensures { OnOk result
+        (Finds found.old (flat_map (place_faults (file_tree judged.now.file.now)) (map place_tree all.now)) found.new) }
 {
     for one in all {
         place(alloc, found, judged, one)?;

@@ -12,7 +12,9 @@ use std::alloc::AllocError;
 /// Makes a local of this name visible, which may not be there already.
 #[tactic(auto, using(crate::proofs::Twice::declares_one))]
 pub fn bring(found: &mut Found, scope: &mut Scope, name: Name, sort: Sort) -> Result<(), AllocError>
-    ensures { OnOk result (Declares (scope_of scope.old) found.old (record { name = name; sort = sort } ∷ []) found.new (scope_of scope.new)) }
+    ensures { OnOk result
+        (Declares (scope_of scope.old) found.old (record { name = name; sort = sort } ∷ []) found.new
+        (scope_of scope.new)) }
 {
     let again = scope.is_visible(&name.word);
     note_unless(found, !again, Cause::Twice, name.at);
@@ -23,7 +25,8 @@ pub fn bring(found: &mut Found, scope: &mut Scope, name: Name, sort: Sort) -> Re
 /// Makes locals visible, none of which may be there already.
 #[tactic(auto, using(file_scope::proofs::Finds::finds_none, crate::proofs::Twice::declares_next))]
 pub fn declare(found: &mut Found, scope: &mut Scope, locals: &[Local]) -> Result<(), AllocError>
-    ensures { OnOk result (Declares (scope_of scope.old) found.old (locals_of locals.now) found.new (scope_of scope.new)) }
+    ensures { OnOk result
+        (Declares (scope_of scope.old) found.old (locals_of locals.now) found.new (scope_of scope.new)) }
 {
     for local in locals {
         let again = scope.is_visible(&local.name.word);

@@ -49,7 +49,8 @@ fn note_capacity(words: &mut Words, declaration: &Declaration) -> Result<(), All
 
 /// The names that are capacities of declarations, each once.
 pub fn capacities(alloc: Global, declarations: &[Declaration]) -> Result<Words, AllocError>
-    ensures { IfOk result (λ words. words ≡ fold noted [] (flat_map capacity_words (map declaration_tree declarations.now))) }
+    ensures { IfOk result
+        (λ words. words ≡ fold noted [] (flat_map capacity_words (map declaration_tree declarations.now))) }
 {
     let mut words = Words::new(alloc);
     for declaration in declarations {

@@ -19,7 +19,8 @@ pub struct Tables {
 
 /// The words that declarations declare.
 fn own_words(alloc: Global, declarations: &[Declaration]) -> Result<Words, AllocError>
-    ensures { IfOk result (λ words. words ≡ map (λ d. (spec.declared_name d).word) (map declaration_tree declarations.now)) }
+    ensures { IfOk result
+        (λ words. words ≡ map (λ d. (spec.declared_name d).word) (map declaration_tree declarations.now)) }
 {
     let mut words = Words::new(alloc);
     for declaration in declarations {

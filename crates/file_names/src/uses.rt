@@ -3,7 +3,8 @@
 ghost use Rattle.std.specs.Prelude.{◌≡◌, [], Some, flat_map, option_map, map};
 ghost use Rattle.std.specs.Option.{option_map_or};
 ghost use Rattle.std.specs.List.{list_any};
-ghost use Rattle.layer_ast.specs.View.{argument_tree, arguments_tree, built_tree, expression_tree, message_tree, queue_tree, pushed_tree, size_tree, statement_tree};
+ghost use Rattle.layer_ast.specs.View.{argument_tree, arguments_tree, built_tree, expression_tree, message_tree};
+ghost use Rattle.layer_ast.specs.View.{queue_tree, pushed_tree, size_tree, statement_tree};
 ghost use Rattle.fault_mean.specs.Forms.{row_of};
 ghost use Rattle.fault_mean.specs.NameFaults.{same_word, use_faults, uses_faults};
 ghost use Rattle.fault_mean.specs.Uses as used;
@@ -182,7 +183,8 @@ fn argument(found: &mut Found, scope: &Scope, a: &Argument)
 /// The uses in arguments.
 #[tactic(auto, using(file_scope::proofs::Finds::finds_none, file_scope::proofs::Finds::nested_more))]
 fn each_argument(found: &mut Found, scope: &Scope, all: &[Argument])
-    ensures { Finds found.old (uses_faults (scope_of scope.now) (flat_map used.argument_uses (map argument_tree all.now))) found.new }
+    ensures { Finds found.old
+        (uses_faults (scope_of scope.now) (flat_map used.argument_uses (map argument_tree all.now))) found.new }
 {
     for a in all {
         argument(found, scope, a);
@@ -192,7 +194,8 @@ fn each_argument(found: &mut Found, scope: &Scope, all: &[Argument])
 /// The uses in a list of arguments.
 #[tactic(auto, using(file_scope::proofs::Finds::finds_row))]
 fn arguments(found: &mut Found, scope: &Scope, all: &Arguments)
-    ensures { Finds found.old (uses_faults (scope_of scope.now) (used.arguments_uses (Some (arguments_tree all.now)))) found.new }
+    ensures { Finds found.old (uses_faults (scope_of scope.now) (used.arguments_uses (Some (arguments_tree all.now))))
+        found.new }
 {
     argument(found, scope, &all.first);
     each_argument(found, scope, &all.rest);
@@ -224,7 +227,8 @@ pub fn size(found: &mut Found, scope: &Scope, s: &Size)
 /// The uses in an expression that may be missing.
 #[tactic(auto, using(file_scope::proofs::Finds::finds_none))]
 pub fn optional(found: &mut Found, scope: &Scope, e: &Option<Expression>)
-    ensures { Finds found.old (uses_faults (scope_of scope.now) (option_map_or used.uses (option_map expression_tree e.now) [])) found.new }
+    ensures { Finds found.old
+        (uses_faults (scope_of scope.now) (option_map_or used.uses (option_map expression_tree e.now) [])) found.new }
 {
     match e {
         None => {}

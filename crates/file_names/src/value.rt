@@ -67,7 +67,8 @@ fn value_at(scope: &Scope, given: &[Given], names: &Words, word: &Word) -> Optio
 /// Whether a size is within its limit, if it is a param.
 fn is_size_within(scope: &Scope, given: &[Given], names: &Words, most: u32, word: &Word) -> bool
     requires { names.now ≡ map (λ g. g.name.word) (map given_tree given.now) }
-    ensures { result ≡ option_map_or (within most) (spec.param_value (scope_of scope.now).layer (map given_tree given.now) word.now) true }
+    ensures { result ≡ option_map_or (within most)
+        (spec.param_value (scope_of scope.now).layer (map given_tree given.now) word.now) true }
 {
     match value_at(scope, given, names, word) {
         None => true,
@@ -79,7 +80,9 @@ fn is_size_within(scope: &Scope, given: &[Given], names: &Words, most: u32, word
 #[tactic(auto, using(crate::proofs::Lookups::all_more, crate::proofs::Lookups::one_fails))]
 fn all_within(scope: &Scope, given: &[Given], names: &Words, most: u32, words: &[Word]) -> bool
     requires { names.now ≡ map (λ g. g.name.word) (map given_tree given.now) }
-    ensures { result ≡ list_all (λ w. option_map_or (within most) (spec.param_value (scope_of scope.now).layer (map given_tree given.now) w) true) words.now }
+    ensures { result ≡ list_all
+        (λ w. option_map_or (within most) (spec.param_value (scope_of scope.now).layer (map given_tree given.now) w)
+        true) words.now }
 {
     for word in words {
         if !is_size_within(scope, given, names, most, word) {
@@ -93,7 +96,8 @@ fn all_within(scope: &Scope, given: &[Given], names: &Words, most: u32, words: &
 fn are_within(scope: &Scope, place: &Place, names: &Words, sizes: &Sizes) -> bool
     requires names { names.now ≡ map (λ g. g.name.word) (place_tree place.now).given }
     requires sizes { sizes.now ≡ sizes_of (scope_of scope.now).layer }
-    ensures { result ≡ list_all (λ l. is_within_at (scope_of scope.now).layer (place_tree place.now) l.size l.most) (sizes_in (scope_of scope.now).layer) }
+    ensures { result ≡ list_all (λ l. is_within_at (scope_of scope.now).layer (place_tree place.now) l.size l.most)
+        (sizes_in (scope_of scope.now).layer) }
 {
     let given = place.given.as_slice();
     if !all_within(
@@ -116,7 +120,9 @@ pub fn sizes_within(
     sizes: &Sizes,
 ) -> Result<bool, AllocError>
     requires { sizes.now ≡ sizes_of (scope_of scope.now).layer }
-    ensures { IfOk result (λ holds. holds ≡ list_all (λ l. is_within_at (scope_of scope.now).layer (place_tree place.now) l.size l.most) (sizes_in (scope_of scope.now).layer)) }
+    ensures { IfOk result
+        (λ holds. holds ≡ list_all (λ l. is_within_at (scope_of scope.now).layer (place_tree place.now) l.size l.most)
+        (sizes_in (scope_of scope.now).layer)) }
 {
     let names = given_words(alloc, &place.given)?;
     Ok(are_within(scope, place, &names, sizes))

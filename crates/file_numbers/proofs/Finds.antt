@@ -1,5 +1,7 @@
 -- What searches find.
-use Rattle.std.proofs.Common.{◌≡◌, ℕ, suc, ◌+◌, ◌<◌, Bool, true, false, not, nat_lt, cond, List, [], ◌∷◌, map, length, find, bytes_eq, Option, Some, None, option_map, option_and_then, unwrap_or, refl, sym, ap, ◌∙◌, subst, arith}
+use Rattle.std.proofs.Common.{◌≡◌, ℕ, suc, ◌+◌, ◌<◌, Bool, true, false, not, nat_lt, cond, List, [], ◌∷◌, map, length}
+use Rattle.std.proofs.Common.{find, bytes_eq, Option, Some, None, option_map, option_and_then, unwrap_or, refl, sym, ap}
+use Rattle.std.proofs.Common.{◌∙◌, subst, arith}
 use Rattle.std.proofs.Math.Dec.{leb-suc-suc, leb-zero}
 use Rattle.std.specs.List.{AllByRecursion, position, prefix_len}
 use Rattle.layer_ast.specs.Tree.{DeclarationTree, LayerTree}
@@ -14,7 +16,8 @@ pub find_map : {X A : Type 0} (tree : X → A) (test : A → Bool) (xs : List X)
 find_map tree test [] = refl
 find_map tree test (x ∷ xs) = go (test (tree x)) (find_map tree test xs) where
   go : (b : Bool) → find test (map tree xs) ≡ option_map tree (find (λ y. test (tree y)) xs) →
-      cond b (Some (tree x)) (find test (map tree xs)) ≡ option_map tree (cond b (Some x) (find (λ y. test (tree y)) xs))
+      cond b (Some (tree x)) (find test (map tree xs)) ≡
+      option_map tree (cond b (Some x) (find (λ y. test (tree y)) xs))
   go true e = refl
   go false e = e
 
@@ -26,19 +29,22 @@ given_map word given =
     go (find (λ (g : Given). bytes_eq g.name.word word) given)
     ∙ sym (ap (option_map (λ g. g.value)) (find_map given_tree (λ g. bytes_eq g.name.word word) given))
   where
-    go : (o : Option Given) → option_map (λ (g : Given). g.value) o ≡ option_map (λ g. g.value) (option_map given_tree o)
+    go : (o : Option Given) → option_map (λ (g : Given). g.value) o ≡
+        option_map (λ g. g.value) (option_map given_tree o)
     go None = refl
     go (Some g) = refl
 
 -- the value of a param
-pub param_is : (layer : LayerTree) (given : List Given) (word : List ℕ) (d : DeclarationTree) (value : ℕ) (o : Option ℕ) →
+pub param_is : (layer : LayerTree) (given : List Given) (word : List ℕ) (d : DeclarationTree) (value : ℕ)
+    (o : Option ℕ) →
     Some d ≡ declaration_of layer word → Some value ≡ declared_value d →
     o ≡ option_map (λ (g : Given). g.value) (find (λ g. bytes_eq g.name.word word) given) →
     Some (unwrap_or o value) ≡ param_value layer (map given_tree given) word
 param_is layer given word d value o is declares gives =
     ap (λ v. Some (unwrap_or v value)) (gives ∙ given_map word given)
     ∙ (ap (option_map (λ v. unwrap_or (given_value (map given_tree given) word) v)) declares
-    ∙ ap (λ x. option_map (λ v. unwrap_or (given_value (map given_tree given) word) v) (option_and_then declared_value x)) is)
+    ∙ ap (λ x. option_map (λ v. unwrap_or (given_value (map given_tree given) word) v)
+    (option_and_then declared_value x)) is)
 
 -- the test of an order, one further on both sides
 lt-suc : (m n : ℕ) → nat_lt (suc m) (suc n) ≡ nat_lt m n
@@ -53,7 +59,8 @@ pub place_is : {X : Type 0} (p : X → Bool) (xs : List X) → position p xs ≡
 place_is p [] = refl
 place_is p (x ∷ xs) = go (p x) (prefix_len (λ y. not (p y)) xs) (length xs) (place_where p xs) (place_is p xs) where
   go : (b : Bool) (m n : ℕ) (o : Option ℕ) → cond (nat_lt m n) (Some m) None ≡ o →
-      cond (nat_lt (cond (not b) (1 + m) 0) (suc n)) (Some (cond (not b) (1 + m) 0)) None ≡ cond b (Some 0) (option_map (λ k. suc k) o)
+      cond (nat_lt (cond (not b) (1 + m) 0) (suc n)) (Some (cond (not b) (1 + m) 0)) None ≡
+      cond b (Some 0) (option_map (λ k. suc k) o)
   go true m n o e = ap (λ c. cond c (Some 0) None) (leb-suc-suc 0 n ∙ leb-zero n)
   go false m n o e =
       let one : 1 + m ≡ suc m = omega arith in

@@ -1,5 +1,7 @@
 -- What a place's tables tell.
-use Rattle.std.proofs.Common.{◌≡◌, ℕ, suc, ◌+◌, ◌<◌, ◌≤◌, Bool, true, false, cond, if◌then◌else◌, List, [], ◌∷◌, ◌++◌, map, take, length, get_or, slice_get, bytes_eq, Option, Some, None, option_map, option_copied, unwrap_or, Bor, IfSome, refl, sym, ap, ◌∙◌, arith, ◌-◌}
+use Rattle.std.proofs.Common.{◌≡◌, ℕ, suc, ◌+◌, ◌<◌, ◌≤◌, Bool, true, false, cond, if◌then◌else◌, List, [], ◌∷◌, ◌++◌}
+use Rattle.std.proofs.Common.{map, take, length, get_or, slice_get, bytes_eq, Option, Some, None, option_map}
+use Rattle.std.proofs.Common.{option_copied, unwrap_or, Bor, IfSome, refl, sym, ap, ◌∙◌, arith, ◌-◌}
 use Rattle.std.specs.List.{filter, position, last_or}
 use Rattle.std.proofs.lemmas.List.{map-append}
 use Rattle.std.proofs.lemmas.List.Elements.{filter-append}
@@ -14,18 +16,22 @@ use Rattle.file_mean.specs.Names.{Placed, cell_of, tag_of, item_number}
 use Rattle.file_laws.specs.Bounds.{HoldsDeclaration}
 use Rattle.file_scope.specs.Words.{place_of}
 use Rattle.file_numbers.specs.Placed.{HoldDeclarations, words_of}
-use Rattle.file_numbers.proofs.Finds.{place_where, place_is, place_within, position_behind, position_map, position_within, found_holds}
+use Rattle.file_numbers.proofs.Finds.{place_where, place_is, place_within, position_behind, position_map}
+use Rattle.file_numbers.proofs.Finds.{position_within, found_holds}
 use Rattle.file_numbers.proofs.Lists.{last_there, trees_more}
 
-one_more : (test : DeclarationTree → Bool) (ds : List Declaration) (i : ℕ) (d : Declaration) (b : Bool) → i < length ds →
+one_more : (test : DeclarationTree → Bool) (ds : List Declaration) (i : ℕ) (d : Declaration) (b : Bool) →
+    i < length ds →
     d ≡ get_or ds i d → test (declaration_tree d) ≡ b →
     words_of (filter test (map declaration_tree (take (i + 1) ds))) ≡
-    words_of (filter test (map declaration_tree (take i ds))) ++ (if b then (declared_name (declaration_tree d)).word ∷ [] else [])
+    words_of (filter test (map declaration_tree (take i ds))) ++
+    (if b then (declared_name (declaration_tree d)).word ∷ [] else [])
 one_more test ds i d b within is passes =
     ap (λ l. words_of (filter test l)) (trees_more declaration_tree ds i d within is)
     ∙ (ap words_of (filter-append test (map declaration_tree (take i ds)) (declaration_tree d ∷ []))
     ∙ (map-append (λ (x : DeclarationTree). (declared_name x).word) (filter test (map declaration_tree (take i ds))) _
-    ∙ ap (λ l. words_of (filter test (map declaration_tree (take i ds))) ++ l) (go (test (declaration_tree d)) b passes)))
+    ∙ ap (λ l. words_of (filter test (map declaration_tree (take i ds))) ++ l)
+    (go (test (declaration_tree d)) b passes)))
   where
     go : (a b : Bool) → a ≡ b → words_of (cond a (declaration_tree d ∷ []) []) ≡
         (if b then (declared_name (declaration_tree d)).word ∷ [] else [])
@@ -35,7 +41,8 @@ one_more test ds i d b within is passes =
     go false false e = refl
 
 -- a word of a declaration that passes, and one of a declaration that doesn't
-pub words_taken : (test : DeclarationTree → Bool) (ds : List Declaration) (i : ℕ) (d : Declaration) (words new : List (List ℕ)) →
+pub words_taken : (test : DeclarationTree → Bool) (ds : List Declaration) (i : ℕ) (d : Declaration)
+    (words new : List (List ℕ)) →
     i < length ds → d ≡ get_or ds i d → true ≡ test (declaration_tree d) →
     words ≡ words_of (filter test (map declaration_tree (take i ds))) →
     new ≡ words ++ (declared_name (declaration_tree d)).word ∷ [] →
@@ -44,27 +51,32 @@ words_taken test ds i d words new within is passes so_far pushed =
     pushed ∙ (ap (λ l. l ++ (declared_name (declaration_tree d)).word ∷ []) so_far
     ∙ sym (one_more test ds i d true within is (sym passes)))
 
-pub words_passed : (test : DeclarationTree → Bool) (ds : List Declaration) (i : ℕ) (d : Declaration) (words : List (List ℕ)) →
+pub words_passed : (test : DeclarationTree → Bool) (ds : List Declaration) (i : ℕ) (d : Declaration)
+    (words : List (List ℕ)) →
     i < length ds → d ≡ get_or ds i d → false ≡ test (declaration_tree d) →
     words ≡ words_of (filter test (map declaration_tree (take i ds))) →
     words ≡ words_of (filter test (map declaration_tree (take (i + 1) ds)))
-words_passed test ds i d words within is passes so_far = so_far ∙ (none _ ∙ sym (one_more test ds i d false within is (sym passes))) where
-  none : (xs : List (List ℕ)) → xs ≡ xs ++ []
-  none [] = refl
-  none (x ∷ xs) = ap (λ l. x ∷ l) (none xs)
+words_passed test ds i d words within is passes so_far = so_far ∙
+    (none _ ∙ sym (one_more test ds i d false within is (sym passes))) where
+      none : (xs : List (List ℕ)) → xs ≡ xs ++ []
+      none [] = refl
+      none (x ∷ xs) = ap (λ l. x ∷ l) (none xs)
 
 -- the place of a word among the words of declarations
 word_place : (word : List ℕ) (ds : List DeclarationTree) → place_of word (words_of ds) ≡ place_where (declares word) ds
 word_place word [] = refl
 word_place word (d ∷ ds) = ap (λ o. cond (declares word d) (Some 0) (option_map (λ k. suc k) o)) (word_place word ds)
 
-word_position : (word : List ℕ) (ds : List DeclarationTree) (words : List (List ℕ)) (o : Option ℕ) → words ≡ words_of ds →
+word_position : (word : List ℕ) (ds : List DeclarationTree) (words : List (List ℕ)) (o : Option ℕ) →
+    words ≡ words_of ds →
     o ≡ place_of word words → o ≡ position (declares word) ds
-word_position word ds words o is at = at ∙ (ap (place_of word) is ∙ (word_place word ds ∙ sym (place_is (declares word) ds)))
+word_position word ds words o is at = at ∙
+    (ap (place_of word) is ∙ (word_place word ds ∙ sym (place_is (declares word) ds)))
 
 word_within : (word : List ℕ) (ds : List DeclarationTree) (words : List (List ℕ)) (k : ℕ) → words ≡ words_of ds →
     Some k ≡ place_of word words → k < length ds
-word_within word ds words k is at = place_within (declares word) ds k (sym (at ∙ (ap (place_of word) is ∙ word_place word ds)))
+word_within word ds words k is at = place_within
+    (declares word) ds k (sym (at ∙ (ap (place_of word) is ∙ word_place word ds)))
 
 -- the number of a cell
 pub cell_small : (p : Placed) (name : Name) (words : List (List ℕ)) (k : ℕ) → words ≡ words_of (cells_of p.layer) →
@@ -89,7 +101,8 @@ tag_small p name words k is few at =
 pub tag_at : (p : Placed) (name : Name) (words : List (List ℕ)) (k : ℕ) → words ≡ words_of (headers_of p.layer) →
     Some k ≡ place_of name.word words → k + 1 ≡ tag_of p name
 tag_at p name words k is at =
-    ap (λ o. unwrap_or (option_map (λ j. j + 1) o) 0) (word_position name.word (headers_of p.layer) words (Some k) is at)
+    ap (λ o. unwrap_or (option_map (λ j. j + 1) o) 0)
+    (word_position name.word (headers_of p.layer) words (Some k) is at)
 
 pub tag_nowhere : (p : Placed) (name : Name) (words : List (List ℕ)) → words ≡ words_of (headers_of p.layer) →
     None ≡ place_of name.word words → 0 ≡ tag_of p name
@@ -111,12 +124,15 @@ last_sort first rest x e = ap (option_map (λ (i : ItemTree). i.sort)) (last_the
 
 -- the number of an item that isn't the first
 pub item_small : (first : Item) (rest : List Item) (label : Name) (k : ℕ) →
-    length (item_tree first ∷ map item_tree rest) ≤ 5 → Some k ≡ position (λ (i : Item). bytes_eq i.name.word label.word) rest → k < 5
+    length (item_tree first ∷ map item_tree rest) ≤ 5 →
+    Some k ≡ position (λ (i : Item). bytes_eq i.name.word label.word) rest → k < 5
 item_small first rest label k few is =
     let test : ItemTree → Bool = λ i. bytes_eq i.name.word label.word in
-    let within = position_within test (map item_tree rest) k (is ∙ sym (position_map item_tree test rest)) in omega (arith, within, few)
+    let within = position_within test (map item_tree rest) k (is ∙ sym (position_map item_tree test rest)) in
+    omega (arith, within, few)
 
-pub item_there : (first : Item) (rest : List Item) (label : Name) (k : ℕ) → false ≡ bytes_eq first.name.word label.word →
+pub item_there : (first : Item) (rest : List Item) (label : Name) (k : ℕ) →
+    false ≡ bytes_eq first.name.word label.word →
     Some k ≡ position (λ (i : Item). bytes_eq i.name.word label.word) rest →
     k + 1 ≡ item_number (item_tree first ∷ map item_tree rest) label
 item_there first rest label k fails is =
@@ -144,11 +160,14 @@ few_labels p (rows_array at name capacity items) holds = omega arith
 few_labels p (header at name fields ending) holds = holds
 
 -- the word of one declaration more
-pub word_next : (ds : List Declaration) (i : ℕ) (d : Declaration) (words new : List (List ℕ)) → i < length ds → d ≡ get_or ds i d →
-    words ≡ words_of (map declaration_tree (take i ds)) → new ≡ words ++ (declared_name (declaration_tree d)).word ∷ [] →
+pub word_next : (ds : List Declaration) (i : ℕ) (d : Declaration) (words new : List (List ℕ)) → i < length ds →
+    d ≡ get_or ds i d →
+    words ≡ words_of (map declaration_tree (take i ds)) → new ≡ words ++ (declared_name (declaration_tree d)).word ∷
+    [] →
     new ≡ words_of (map declaration_tree (take (i + 1) ds))
 word_next ds i d words new within is so_far pushed =
     pushed
     ∙ (ap (λ l. l ++ (declared_name (declaration_tree d)).word ∷ []) so_far
-    ∙ (sym (map-append (λ (x : DeclarationTree). (declared_name x).word) (map declaration_tree (take i ds)) (declaration_tree d ∷ []))
+    ∙ (sym (map-append (λ (x : DeclarationTree). (declared_name x).word) (map declaration_tree (take i ds))
+    (declaration_tree d ∷ []))
     ∙ ap words_of (sym (trees_more declaration_tree ds i d within is))))

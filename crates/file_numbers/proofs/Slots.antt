@@ -1,5 +1,7 @@
 -- Names in their slots.
-use Rattle.std.proofs.Common.{◌≡◌, ℕ, zero, suc, ◌+◌, ◌-◌, ◌<◌, ◌≤◌, Bool, true, false, cond, List, [], ◌∷◌, ◌++◌, map, take, drop, length, get_or, reverse, find, bytes_eq, Some, None, option_map, refl, sym, ap, ◌∙◌, arith, take-append-drop, length-drop}
+use Rattle.std.proofs.Common.{◌≡◌, ℕ, zero, suc, ◌+◌, ◌-◌, ◌<◌, ◌≤◌, Bool, true, false, cond, List, [], ◌∷◌, ◌++◌, map}
+use Rattle.std.proofs.Common.{take, drop, length, get_or, reverse, find, bytes_eq, Some, None, option_map, refl, sym}
+use Rattle.std.proofs.Common.{ap, ◌∙◌, arith, take-append-drop, length-drop}
 use Rattle.std.specs.Map.{lookup}
 use Rattle.std.proofs.lemmas.List.{map-append, reverse-append, length-reverse, length-map}
 use Rattle.std.proofs.Math.Seq.{drop-append_seam}
@@ -10,10 +12,12 @@ use Rattle.file_numbers.specs.Visible.{entry, entries}
 use Rattle.file_numbers.specs.declared.visible.Slot.{Slot}
 
 lookup_is : (word : List ℕ) (slots : List Slot) →
-    lookup (bytes_eq word) (map entry slots) ≡ option_map (λ (s : Slot). s.slot) (find (λ s. bytes_eq word s.word) slots)
+    lookup (bytes_eq word) (map entry slots) ≡
+    option_map (λ (s : Slot). s.slot) (find (λ s. bytes_eq word s.word) slots)
 lookup_is word [] = refl
 lookup_is word (s ∷ slots) = go (bytes_eq word s.word) (lookup_is word slots) where
-  go : (b : Bool) → lookup (bytes_eq word) (map entry slots) ≡ option_map (λ (x : Slot). x.slot) (find (λ x. bytes_eq word x.word) slots) →
+  go : (b : Bool) → lookup (bytes_eq word) (map entry slots) ≡
+      option_map (λ (x : Slot). x.slot) (find (λ x. bytes_eq word x.word) slots) →
       cond b (Some s.slot) (lookup (bytes_eq word) (map entry slots)) ≡
       option_map (λ (x : Slot). x.slot) (cond b (Some s) (find (λ x. bytes_eq word x.word) slots))
   go true e = refl
@@ -23,21 +27,25 @@ lookup_is word (s ∷ slots) = go (bytes_eq word s.word) (lookup_is word slots) 
 pub slot_found : (slots : List Slot) (names : List (Word × ℕ)) (word : List ℕ) (s : Slot) → entries slots ≡ names →
     Some s ≡ find (λ (x : Slot). bytes_eq word x.word) (reverse slots) → Some s.slot ≡ lookup (bytes_eq word) names
 slot_found slots names word s is found =
-    ap (option_map (λ (x : Slot). x.slot)) found ∙ (sym (lookup_is word (reverse slots)) ∙ ap (lookup (bytes_eq word)) is)
+    ap (option_map (λ (x : Slot). x.slot)) found ∙
+    (sym (lookup_is word (reverse slots)) ∙ ap (lookup (bytes_eq word)) is)
 
 pub slot_nowhere : (slots : List Slot) (names : List (Word × ℕ)) (word : List ℕ) → entries slots ≡ names →
     None ≡ find (λ (x : Slot). bytes_eq word x.word) (reverse slots) → None ≡ lookup (bytes_eq word) names
 slot_nowhere slots names word is found =
-    ap (option_map (λ (x : Slot). x.slot)) found ∙ (sym (lookup_is word (reverse slots)) ∙ ap (lookup (bytes_eq word)) is)
+    ap (option_map (λ (x : Slot). x.slot)) found ∙
+    (sym (lookup_is word (reverse slots)) ∙ ap (lookup (bytes_eq word)) is)
 
 -- the first slots are the last entries
-pub entries_take : (n : ℕ) (slots : List Slot) → entries (take n slots) ≡ drop (length (entries slots) - n) (entries slots)
+pub entries_take : (n : ℕ) (slots : List Slot) →
+    entries (take n slots) ≡ drop (length (entries slots) - n) (entries slots)
 entries_take n slots =
     let front = entries (drop n slots) in
     let back = entries (take n slots) in
     let parts : entries slots ≡ front ++ back =
     ap entries (sym (take-append-drop n slots))
-    ∙ (ap (map entry) (reverse-append (take n slots) (drop n slots)) ∙ map-append entry (reverse (drop n slots)) (reverse (take n slots))) in
+    ∙ (ap (map entry) (reverse-append (take n slots) (drop n slots)) ∙
+    map-append entry (reverse (drop n slots)) (reverse (take n slots))) in
     let count : length (entries slots) - n ≡ length front =
     ap (λ k. k - n) (length-map (reverse slots) entry ∙ length-reverse slots)
     ∙ (sym (length-drop n slots) ∙ sym (length-map (reverse (drop n slots)) entry ∙ length-reverse (drop n slots))) in
@@ -47,7 +55,8 @@ entries_take n slots =
 entries_push : (slots : List Slot) (s : Slot) → entries (slots ++ s ∷ []) ≡ entry s ∷ entries slots
 entries_push slots s = ap (map entry) (reverse-append slots (s ∷ []))
 
-drop_step : (names : List Name) (k : ℕ) (n : Name) → k < length names → n ≡ get_or names k n → drop k names ≡ n ∷ drop (suc k) names
+drop_step : (names : List Name) (k : ℕ) (n : Name) → k < length names → n ≡ get_or names k n →
+    drop k names ≡ n ∷ drop (suc k) names
 drop_step [] k n less is = absurd (omega (arith, less))
 drop_step (m ∷ rest) zero n less is = ap (λ x. x ∷ rest) (sym is)
 drop_step (m ∷ rest) (suc k) n less is = drop_step rest k n (omega (arith, less)) is

@@ -1,6 +1,7 @@
 //! Lists of arguments, and of names, whose last may stand for a message.
 
-ghost use Rattle.std.specs.Prelude.{◌≡◌, ◌≤◌, ◌-◌, ◌∷◌, if◌then◌else◌, drop, length, map, take, IfOk, Some, None, true, option_map, option_to_list};
+ghost use Rattle.std.specs.Prelude.{◌≡◌, ◌≤◌, ◌-◌, ◌∷◌, if◌then◌else◌, drop, length, map, take, IfOk, Some, None, true};
+ghost use Rattle.std.specs.Prelude.{option_map, option_to_list};
 ghost use Rattle.std.specs.List.{last_or};
 ghost use Rattle.layer_ast.specs.View as written;
 ghost use Rattle.layer_mean.specs.Event as event;
@@ -38,7 +39,8 @@ pub fn numbers_of(has_message: bool, count: usize) -> usize
 /// The last of some arguments.
 #[tactic(auto, using(crate::proofs::Lists::last_there))]
 pub fn last(arguments: &Arguments) -> &Argument
-    ensures { Some (written.argument_tree result.now) ≡ last_or None (arguments_in (Some (written.arguments_tree arguments.now))) }
+    ensures { Some (written.argument_tree result.now) ≡
+        last_or None (arguments_in (Some (written.arguments_tree arguments.now))) }
 {
     match arguments.rest.last() {
         None => &arguments.first,
@@ -54,7 +56,10 @@ fn each_number(
     first: &Argument,
     rest: &[Argument],
 ) -> Result<Vec<Expression>, AllocError>
-    ensures { IfOk result (λ all. map expression_tree all.items ≡ map (spec.argument_number (names_of names.now)) (written.argument_tree first.now ∷ map written.argument_tree rest.now)) }
+    ensures { IfOk result
+        (λ all. map expression_tree all.items ≡
+        map (spec.argument_number (names_of names.now))
+        (written.argument_tree first.now ∷ map written.argument_tree rest.now)) }
 {
     let mut all = Vec::with_capacity(alloc, rest.len() + 1)?;
     all.push(argument_number(alloc, names, first)?)?;
@@ -70,7 +75,10 @@ pub fn fields(
     names: &Names,
     arguments: &Option<Arguments>,
 ) -> Result<Vec<Expression>, AllocError>
-    ensures { IfOk result (λ all. map expression_tree all.items ≡ map (spec.argument_number (names_of names.now)) (arguments_in (option_map written.arguments_tree arguments.now))) }
+    ensures { IfOk result
+        (λ all. map expression_tree all.items ≡
+        map (spec.argument_number (names_of names.now))
+        (arguments_in (option_map written.arguments_tree arguments.now))) }
 {
     match arguments {
         None => Ok(Vec::new(alloc)),
@@ -81,7 +89,10 @@ pub fn fields(
 /// The numbers of all arguments but the last.
 #[tactic(auto, using(crate::proofs::Lists::front_none))]
 fn front(alloc: Global, names: &Names, arguments: &Arguments) -> Result<Vec<Expression>, AllocError>
-    ensures { IfOk result (λ all. map expression_tree all.items ≡ map (spec.argument_number (names_of names.now)) (numbers_among true (arguments_in (Some (written.arguments_tree arguments.now))))) }
+    ensures { IfOk result
+        (λ all. map expression_tree all.items ≡
+        map (spec.argument_number (names_of names.now))
+        (numbers_among true (arguments_in (Some (written.arguments_tree arguments.now))))) }
 {
     let rest = arguments.rest.as_slice();
     if rest.is_empty() {
@@ -98,7 +109,10 @@ pub fn numbers(
     has_message: bool,
     arguments: &Arguments,
 ) -> Result<Vec<Expression>, AllocError>
-    ensures { IfOk result (λ all. map expression_tree all.items ≡ map (spec.argument_number (names_of names.now)) (numbers_among has_message (arguments_in (Some (written.arguments_tree arguments.now))))) }
+    ensures { IfOk result
+        (λ all. map expression_tree all.items ≡
+        map (spec.argument_number (names_of names.now))
+        (numbers_among has_message (arguments_in (Some (written.arguments_tree arguments.now))))) }
 {
     if has_message {
         front(alloc, names, arguments)

@@ -49,7 +49,8 @@ pub fn cell_words(alloc: Global, declarations: &[Declaration]) -> Result<Words, 
 /// The words of the headers among these, in order.
 #[tactic(auto, using(crate::proofs::Places::words_taken, crate::proofs::Places::words_passed))]
 pub fn header_words(alloc: Global, declarations: &[Declaration]) -> Result<Words, AllocError>
-    ensures { IfOk result (λ words. words ≡ words_of (filter declared.is_header (map declaration_tree declarations.now))) }
+    ensures { IfOk result
+        (λ words. words ≡ words_of (filter declared.is_header (map declaration_tree declarations.now))) }
 {
     let mut words = Words::new(alloc);
     for declaration in declarations {
@@ -82,7 +83,8 @@ pub fn declared_value(declaration: &Declaration) -> Option<u32>
 
 /// The items of the rows that a declaration declares, if it declares rows.
 pub fn rows(declaration: &Declaration) -> Option<&Items>
-    ensures { option_map_or (λ items. items_in (items_tree items.now)) result [] ≡ items_of (declaration_tree declaration.now) }
+    ensures { option_map_or (λ items. items_in (items_tree items.now)) result [] ≡
+        items_of (declaration_tree declaration.now) }
 {
     match declaration {
         Declaration::Queue { items, .. } | Declaration::Queues { items, .. } => Some(items),

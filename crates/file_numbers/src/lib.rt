@@ -1,5 +1,5 @@
-//! What names stand for in a layer at its place of a stack: numbers of cells, tags of headers, values of params, slots of what
-//! handlers declare; and expressions, messages and arguments with these in place of names.
+//! What names stand for in a layer at its place of a stack: numbers of cells, tags of headers, values of params, slots
+//! of what handlers declare; and expressions, messages and arguments with these in place of names.
 #![tactic(auto)]
 
 mod argument;

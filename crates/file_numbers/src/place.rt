@@ -1,6 +1,7 @@
 //! A layer at its place of a stack, and what its own names stand for there.
 
-ghost use Rattle.std.specs.Prelude.{◌≡◌, ◌≤◌, ◌++◌, ◌∷◌, [], find, length, map, option_map, option_copied, IfOk, OnOk, IfSome, Some};
+ghost use Rattle.std.specs.Prelude.{◌≡◌, ◌≤◌, ◌++◌, ◌∷◌, [], find, length, map, option_map, option_copied, IfOk, OnOk};
+ghost use Rattle.std.specs.Prelude.{IfSome, Some};
 ghost use Rattle.std.specs.List.{last_or};
 ghost use Rattle.std.specs.Option.{option_map_or};
 ghost use Rattle.layer_ast.specs.View.{declaration_tree, given_tree, items_tree, layer_tree, size_tree};
@@ -69,7 +70,8 @@ impl<'a> Place<'a> {
 
     /// The declaration of a word.
     pub fn declaration(&self, word: &Word) -> Option<&Declaration>
-        ensures is { option_map (λ d. declaration_tree d) (option_copied result) ≡ declaration_of (placed_of self.now).layer word.now }
+        ensures is { option_map (λ d. declaration_tree d) (option_copied result) ≡
+            declaration_of (placed_of self.now).layer word.now }
         ensures holds { IfSome result (λ d. HoldsDeclaration (placed_of self.now) (declaration_tree d.now)) }
     {
         self.scope.declaration(word)
@@ -155,14 +157,16 @@ impl<'a> Place<'a> {
 
     /// What rows of these items carry.
     pub fn carried_in(&self, items: &Items) -> Option<Carried>
-        ensures { option_map carried_tree result ≡ spec.carried_in (placed_of self.now) (items_in (items_tree items.now)) }
+        ensures { option_map carried_tree result ≡ spec.carried_in
+            (placed_of self.now) (items_in (items_tree items.now)) }
     {
         self.carried_as(last_sort(items))
     }
 
     /// The items of the rows of a queue, if it is one.
     fn row(&self, queue: &Name) -> Option<&Items>
-        ensures is { option_map_or (λ items. items_in (items_tree items.now)) result [] ≡ row_of (placed_of self.now).layer queue.now.word }
+        ensures is { option_map_or (λ items. items_in (items_tree items.now)) result [] ≡
+            row_of (placed_of self.now).layer queue.now.word }
         ensures holds { IfSome result (λ items. length (items_in (items_tree items.now)) ≤ 5) }
     {
         match self.declaration(&queue.word) {
@@ -173,7 +177,8 @@ impl<'a> Place<'a> {
 
     /// What the rows of a queue carry.
     pub fn carried(&self, queue: &Name) -> Option<Carried>
-        ensures { option_map carried_tree result ≡ spec.carried_in (placed_of self.now) (row_of (placed_of self.now).layer queue.now.word) }
+        ensures { option_map carried_tree result ≡ spec.carried_in
+            (placed_of self.now) (row_of (placed_of self.now).layer queue.now.word) }
     {
         match self.row(queue) {
             None => None,

@@ -67,7 +67,11 @@ impl<'a> Names<'a> {
 
     /// Leaves a block: the names that it declared are visible no longer, and keep their slots.
     pub fn leave(&mut self, outer: Outer)
-        ensures { names_of self.new ≡ record (names_of self.old) { numbers = drop (length (names_of self.old).numbers - outer.numbers) (names_of self.old).numbers; messages = drop (length (names_of self.old).messages - outer.messages) (names_of self.old).messages } }
+        ensures { names_of self.new ≡
+            record (names_of self.old) {
+              numbers = drop (length (names_of self.old).numbers - outer.numbers) (names_of self.old).numbers;
+              messages = drop (length (names_of self.old).messages - outer.messages) (names_of self.old).messages;
+            } }
     {
         self.numbers.leave(outer.numbers);
         self.messages.leave(outer.messages);

@@ -38,7 +38,9 @@ fn message_slot(names: &Names, name: &Name) -> MessageExpression
 
 /// What the rows of a queue carry; where they carry nothing, a part.
 fn held_in(names: &Names, queue: &Name) -> Carried
-    ensures { carried_tree result ≡ unwrap_or (carried_in (names_of names.now).place (row_of (names_of names.now).place.layer queue.now.word)) tree.part }
+    ensures { carried_tree result ≡
+        unwrap_or (carried_in (names_of names.now).place (row_of (names_of names.now).place.layer queue.now.word))
+        tree.part }
 {
     names.place.carried(queue).unwrap_or(Carried::Part)
 }
@@ -117,7 +119,8 @@ pub fn number(alloc: Global, names: &Names, e: &ast::Expression) -> Result<Expre
 /// The number of an expression, in a box.
 #[cycle(values)]
 fn boxed(alloc: Global, names: &Names, e: &ast::Expression) -> Result<Box<Expression>, AllocError>
-    ensures { IfOk result (λ x. expression_tree x.value ≡ spec.number_of (names_of names.now) (written.expression_tree e.now)) }
+    ensures { IfOk result
+        (λ x. expression_tree x.value ≡ spec.number_of (names_of names.now) (written.expression_tree e.now)) }
 {
     let number = number(alloc, names, e)?;
     Ok(Box::new(alloc, number)?)
@@ -126,7 +129,8 @@ fn boxed(alloc: Global, names: &Names, e: &ast::Expression) -> Result<Box<Expres
 /// The index of a queue among those of its cell: a queue that is alone has 0.
 #[cycle(values)]
 pub fn queue_index(alloc: Global, names: &Names, queue: &Queue) -> Result<Expression, AllocError>
-    ensures { IfOk result (λ x. expression_tree x ≡ spec.queue_index (names_of names.now) (written.queue_tree queue.now)) }
+    ensures { IfOk result
+        (λ x. expression_tree x ≡ spec.queue_index (names_of names.now) (written.queue_tree queue.now)) }
 {
     match &queue.index {
         None => Ok(Expression::Number(0)),
@@ -137,7 +141,8 @@ pub fn queue_index(alloc: Global, names: &Names, queue: &Queue) -> Result<Expres
 /// The index of a queue, in a box.
 #[cycle(values)]
 fn boxed_index(alloc: Global, names: &Names, queue: &Queue) -> Result<Box<Expression>, AllocError>
-    ensures { IfOk result (λ x. expression_tree x.value ≡ spec.queue_index (names_of names.now) (written.queue_tree queue.now)) }
+    ensures { IfOk result
+        (λ x. expression_tree x.value ≡ spec.queue_index (names_of names.now) (written.queue_tree queue.now)) }
 {
     let index = queue_index(alloc, names, queue)?;
     Ok(Box::new(alloc, index)?)
@@ -165,7 +170,8 @@ fn boxed_message(
     names: &Names,
     m: &ast::MessageExpression,
 ) -> Result<Box<MessageExpression>, AllocError>
-    ensures { IfOk result (λ x. message_tree x.value ≡ spec.message_of (names_of names.now) (written.message_tree m.now)) }
+    ensures { IfOk result
+        (λ x. message_tree x.value ≡ spec.message_of (names_of names.now) (written.message_tree m.now)) }
 {
     let message = message(alloc, names, m)?;
     Ok(Box::new(alloc, message)?)
@@ -211,7 +217,8 @@ pub fn argument_number(
     names: &Names,
     argument: &Argument,
 ) -> Result<Expression, AllocError>
-    ensures { IfOk result (λ x. expression_tree x ≡ spec.argument_number (names_of names.now) (written.argument_tree argument.now)) }
+    ensures { IfOk result
+        (λ x. expression_tree x ≡ spec.argument_number (names_of names.now) (written.argument_tree argument.now)) }
 {
     match argument {
         Argument::Value(e) => number(alloc, names, e),
@@ -225,7 +232,8 @@ pub fn argument_message(
     names: &Names,
     argument: &Argument,
 ) -> Result<MessageExpression, AllocError>
-    ensures { IfOk result (λ x. message_tree x ≡ spec.argument_message (names_of names.now) (written.argument_tree argument.now)) }
+    ensures { IfOk result
+        (λ x. message_tree x ≡ spec.argument_message (names_of names.now) (written.argument_tree argument.now)) }
 {
     match argument {
         Argument::Value(ast::Expression::Named { name, index: None }) => {

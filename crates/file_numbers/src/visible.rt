@@ -1,6 +1,7 @@
 //! The visible names of one sort, and the slots that they have.
 
-ghost use Rattle.std.specs.Prelude.{◌≡◌, ◌≤◌, ◌<◌, ◌+◌, ◌-◌, ◌++◌, [], bytes_eq, drop, length, find, map, option_map, reverse, OnOk};
+ghost use Rattle.std.specs.Prelude.{◌≡◌, ◌≤◌, ◌<◌, ◌+◌, ◌-◌, ◌++◌, [], bytes_eq, drop, length, find, map, option_map};
+ghost use Rattle.std.specs.Prelude.{reverse, OnOk};
 ghost use Rattle.std.specs.Map.{lookup};
 ghost use Rattle.file_mean.specs.Names.{in_slots};
 
@@ -83,7 +84,12 @@ impl Visible {
     #[tactic(auto, using(crate::proofs::Slots::slots_step, crate::proofs::Slots::no_slots))]
     pub fn bring(&mut self, new: &[Name]) -> Result<(), AllocError>
         requires { self.old.taken + length new.now ≤ 256 }
-        ensures { OnOk result (self.new ≡ record { names = in_slots self.old.taken new.now ++ self.old.names; taken = self.old.taken + length new.now }) }
+        ensures { OnOk result
+            (self.new ≡ record {
+              names = in_slots self.old.taken new.now ++ self.old.names;
+              taken =
+                  self.old.taken + length new.now;
+            }) }
     {
         let first = usize::from(self.taken);
         let mut left = new.len();
@@ -100,7 +106,11 @@ impl Visible {
 
     /// Leaves a block: so many names stay visible.
     pub fn leave(&mut self, outer: usize)
-        ensures { self.new ≡ record { names = drop (length self.old.names - outer) self.old.names; taken = self.old.taken } }
+        ensures { self.new ≡ record {
+          names = drop (length self.old.names - outer) self.old.names;
+          taken =
+              self.old.taken;
+        } }
     {
         self.slots.truncate(outer);
     }

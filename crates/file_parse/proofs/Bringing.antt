@@ -1,5 +1,7 @@
 -- One place more, and what the library brings for it.
-use Rattle.std.proofs.Common.{◌≡◌, ◌≢◌, ℕ, ◌+◌, ◌<◌, List, [], ◌∷◌, ◌++◌, length, take, get_or, map, filter, filter_map, Bool, true, false, not, ◌||◌, cond, if◌then◌else◌, Some, None, bytes_eq, refl, sym, ap, subst, ◌∙◌, append-nil}
+use Rattle.std.proofs.Common.{◌≡◌, ◌≢◌, ℕ, ◌+◌, ◌<◌, List, [], ◌∷◌, ◌++◌, length, take, get_or, map, filter, filter_map}
+use Rattle.std.proofs.Common.{Bool, true, false, not, ◌||◌, cond, if◌then◌else◌, Some, None, bytes_eq, refl, sym, ap}
+use Rattle.std.proofs.Common.{subst, ◌∙◌, append-nil}
 use Rattle.std.proofs.lemmas.List.{map_more, map-append}
 use Rattle.std.proofs.lemmas.List.Elements.{filter-append, filter_map-append}
 use Rattle.std.proofs.lemmas.List.Folds.{list_any-append}
@@ -134,7 +136,8 @@ or_nothing false b is = sym (ap (λ c. c || false) is)
 or_something : (a b : Bool) → a ≡ true → a ≡ (a || (b || false))
 or_something a b is = is ∙ sym (ap (λ c. c || (b || false)) is)
 
-known_other : (seen words : List Word) (w v : Word) → has seen v ≡ has words v → (bytes_eq w v ≡ true → has words v ≡ true) →
+known_other : (seen words : List Word) (w v : Word) → has seen v ≡ has words v →
+    (bytes_eq w v ≡ true → has words v ≡ true) →
     has seen v ≡ has (words ++ w ∷ []) v
 known_other seen words w v known same = other (bytes_eq w v) refl
   where
@@ -194,7 +197,8 @@ had layers w text seen later all is there pushed = rw pushed record {
   };
 }
 
-pub brought : (layers : List Layer) (w : Word) (text : List ℕ) (seen later : List Word) (all more : List Layer) (l : Layer) →
+pub brought : (layers : List Layer) (w : Word) (text : List ℕ) (seen later : List Word) (all more : List Layer)
+    (l : Layer) →
     Some text ≡ library_text w → false ≡ has seen w → false ≡ list_any (λ layer. bytes_eq layer.name.word w) layers →
     later ≡ seen ++ w ∷ [] → SpellsLayer text (layer_tree l) → more ≡ all ++ l ∷ [] →
     BringsFor (map layer_tree layers) w seen later (map layer_tree all) (map layer_tree more)
@@ -206,7 +210,8 @@ brought layers w text seen later all more l is new lacked pushed spells grown = 
           map-append layer_tree all (l ∷ []),
           called_new (map layer_tree layers) words w text (sym is) (ap not (lacking layers w ∙ sym lacked)) absent,
         )
-            (all_zip_push (called (map layer_tree layers) words) (map layer_tree all) text (layer_tree l) before.spelled spells);
+            (all_zip_push (called (map layer_tree layers) words) (map layer_tree all) text (layer_tree l) before.spelled
+            spells);
         known = λ v some. known_more seen words w v (before.known v some);
       };
 }

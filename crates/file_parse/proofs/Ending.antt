@@ -1,5 +1,6 @@
 -- The end of a file.
-use Rattle.std.proofs.Common.{◌≡◌, ℕ, suc, nat_eq, true, false, List, [], ◌∷◌, length, Option, Some, None, refl, true≢false, sym, ap, ◌∙◌, ◌<◌, arith, eqb-true}
+use Rattle.std.proofs.Common.{◌≡◌, ℕ, suc, nat_eq, true, false, List, [], ◌∷◌, length, Option, Some, None, refl}
+use Rattle.std.proofs.Common.{true≢false, sym, ap, ◌∙◌, ◌<◌, arith, eqb-true}
 use Rattle.layer_ast.specs.declared.tokens.Lexed.{Lexed}
 use Rattle.layer_ast.specs.Depth.{room_behind}
 use Rattle.layer_ast.specs.declared.tokens.Sign.TheVariants as sign
@@ -7,7 +8,8 @@ use Rattle.layer_ast.specs.Print as print
 use Rattle.layer_ast.specs.Printed.{plain}
 use Rattle.layer_ast.specs.Spells.{Fits}
 use Rattle.layer_ast.specs.Tree.{LayerTree, PlaceTree}
-use Rattle.grammar_laws.specs.Machine.{Symbol, one, layers, a_place, places, accepted, refused, step, run, start, Outcome}
+use Rattle.grammar_laws.specs.Machine.{Symbol, one, layers, a_place, places, accepted, refused, step, run, start}
+use Rattle.grammar_laws.specs.Machine.{Outcome}
 use Rattle.file_parse.specs.Reading.{last_part, Reads, ReadsFlat, ReadsOpening, ReadsStack, ReadsFile}
 
 no_stack : (room : Option ℕ) (n : ℕ) (go : ℕ → List Symbol → Outcome) → step room None n go ≡ refused n
@@ -25,7 +27,8 @@ ends_here [] room is = refl
 ends_here (t ∷ rest) room is = absurd (omega (arith, eqb-true (length (t ∷ rest)) 0 is))
 
 -- where something is left, the machine refuses it
-pub ends_later : (rest : List Lexed) (room : ℕ) → nat_eq (length rest) 0 ≡ false → run room [] rest ≡ refused (length rest)
+pub ends_later : (rest : List Lexed) (room : ℕ) → nat_eq (length rest) 0 ≡ false →
+    run room [] rest ≡ refused (length rest)
 ends_later [] room is = absurd (true≢false is)
 ends_later (t ∷ rest) room is = no_stack (room_behind t.token room) _ _
 
@@ -52,14 +55,15 @@ module _ (tokens behind_stack inside_stack behind_places rest : List Lexed) (ins
   }
 
 -- the layers of a file and its stack
-module _ (tokens rest : List Lexed) (ls : List LayerTree) (a : Reads print.layers (layers ∷ []) 100 tokens ls rest) where
-  pub file_read : (ps : List PlaceTree) (brought : List LayerTree) → ReadsStack rest ps →
-      ReadsFile tokens record { layers = ls; places = ps; library = brought }
-  file_read ps brought s = record {
-    fits = a.spelled _ s.fits;
-    accepts = a.goes_on last_part ∙ s.accepts;
-    placed = s.some;
-  }
+module _ (tokens rest : List Lexed) (ls : List LayerTree) (a : Reads print.layers (layers ∷ []) 100 tokens ls rest)
+  where
+    pub file_read : (ps : List PlaceTree) (brought : List LayerTree) → ReadsStack rest ps →
+        ReadsFile tokens record { layers = ls; places = ps; library = brought }
+    file_read ps brought s = record {
+      fits = a.spelled _ s.fits;
+      accepts = a.goes_on last_part ∙ s.accepts;
+      placed = s.some;
+    }
 
-  pub file_refused : (n : ℕ) → run 100 last_part rest ≡ refused n → run 100 start tokens ≡ refused n
-  file_refused n stops = a.goes_on last_part ∙ stops
+    pub file_refused : (n : ℕ) → run 100 last_part rest ≡ refused n → run 100 start tokens ≡ refused n
+    file_refused n stops = a.goes_on last_part ∙ stops

@@ -16,13 +16,17 @@ use Rattle.layer_ast.specs.Print as print
 use Rattle.layer_ast.specs.Printed.{Printed, plain, name}
 use Rattle.layer_ast.specs.Spells.{Fits}
 use Rattle.layer_ast.specs.Tree.{GivenTree}
-use Rattle.layer_ast.specs.View.{argument_tree, item_tree, given_tree, statement_tree, statement_trees, handler_tree, declaration_tree, layer_tree, place_tree}
-use Rattle.grammar_laws.specs.Machine.{Symbol, one, a_name, an_argument, more_arguments, more_names, an_item, more_items, a_given, more_given, some_given, a_statement, statements, a_handler, handlers, a_declaration, declarations, a_layer, layers, a_place, places, run}
+use Rattle.layer_ast.specs.View.{argument_tree, item_tree, given_tree, statement_tree, statement_trees, handler_tree}
+use Rattle.layer_ast.specs.View.{declaration_tree, layer_tree, place_tree}
+use Rattle.grammar_laws.specs.Machine.{Symbol, one, a_name, an_argument, more_arguments, more_names, an_item}
+use Rattle.grammar_laws.specs.Machine.{more_items, a_given, more_given, some_given, a_statement, statements, a_handler}
+use Rattle.grammar_laws.specs.Machine.{handlers, a_declaration, declarations, a_layer, layers, a_place, places, run}
 use Rattle.file_parse.specs.Parts.{ReadsGiven}
 use Rattle.file_parse.specs.Reading.{Reads, ReadsFlat, Passes, Unseen, Begins, Gathers, GathersAfter, GathersFlat}
 
 -- one more part is gathered, where printing it behind the others is printing them all
-gathered : {L : Type 0} (print : L → List Printed → List Printed) (many : Symbol) (room : ℕ) (tokens rest last : List Lexed)
+gathered : {L : Type 0} (print : L → List Printed → List Printed) (many : Symbol) (room : ℕ)
+    (tokens rest last : List Lexed)
     (before after : L) (part : List Printed → List Printed) →
     ((k : List Printed) → print after k ≡ print before (part k)) → Gathers print many room tokens before rest →
     ((k : List Printed) → Fits k last → Fits (part k) rest) →
@@ -84,7 +88,8 @@ items-append (y ∷ all) x k =
 
 -- a comma and an item are one more item
 pub item_gathered : (tokens rest behind last : List Lexed) (all : List Item) (x : Item) →
-    GathersFlat print.more_items (more_items ∷ []) more_items tokens (map item_tree all) rest → Passes Comma rest behind →
+    GathersFlat print.more_items (more_items ∷ []) more_items tokens (map item_tree all) rest →
+    Passes Comma rest behind →
     ReadsFlat print.item an_item (λ room. room) behind (item_tree x) last →
     GathersFlat print.more_items (more_items ∷ []) more_items tokens (map item_tree (all ++ x ∷ [])) last
 item_gathered tokens rest behind last all x so_far comma read = record {
@@ -103,10 +108,11 @@ givens-append [] x k = refl
 givens-append (y ∷ all) x k = ap (λ printed. plain Comma ∷ print.given y printed) (givens-append all x k)
 
 -- the params of a place so far, behind a first one
-pub record GathersGiven (first : GivenTree) (tokens : List Lexed) (all : List GivenTree) (rest : List Lexed) : Type 0 where
-  pub more : List GivenTree
-  pub is : all ≡ first ∷ more
-  pub read : GathersFlat print.more_given (more_given ∷ []) more_given tokens more rest
+pub record GathersGiven (first : GivenTree) (tokens : List Lexed) (all : List GivenTree) (rest : List Lexed) : Type 0
+  where
+    pub more : List GivenTree
+    pub is : all ≡ first ∷ more
+    pub read : GathersFlat print.more_given (more_given ∷ []) more_given tokens more rest
 
 -- behind the first one stand none yet
 pub given_none : (first : Given) (tokens : List Lexed) →
@@ -151,7 +157,8 @@ given_ends first tokens all rest so_far unseen = record {
 -- a parenthesis, a first param, those behind it and a parenthesis are all params of a place
 pub given_read : (room inside : ℕ) (tokens behind behind_first behind_all rest : List Lexed) (first : GivenTree)
     (all : List GivenTree) → Passes LeftParen tokens behind → room ≡ suc inside →
-    ReadsFlat print.given a_given (λ left. left) behind first behind_first → ReadsGiven first behind_first all behind_all →
+    ReadsFlat print.given a_given (λ left. left) behind first behind_first →
+    ReadsGiven first behind_first all behind_all →
     ReadsFlat (λ p k. p ∷ k) (one RightParen ∷ []) suc behind_all (plain RightParen) rest →
     Reads print.all_given (some_given ∷ []) room tokens all rest
 given_read room inside tokens behind behind_first behind_all rest first all opens within read more closes =
@@ -241,8 +248,10 @@ module _ (room : ℕ) (tokens rest last : List Lexed) where
       (map layer_tree (all ++ l ∷ [])) (layer_tree l) (layers-append all l)
 
 -- one more place of the stack
-pub place_gathered : (room : ℕ) (tokens rest last : List Lexed) (expected : List Symbol) (all : List Place) (p : Place) →
-    GathersAfter print.places expected places room tokens (map place_tree all) rest → Begins places (a_place ∷ places ∷ []) rest →
+pub place_gathered : (room : ℕ) (tokens rest last : List Lexed) (expected : List Symbol) (all : List Place)
+    (p : Place) →
+    GathersAfter print.places expected places room tokens (map place_tree all) rest →
+    Begins places (a_place ∷ places ∷ []) rest →
     Reads print.place (a_place ∷ []) room rest (place_tree p) last →
     GathersAfter print.places expected places room tokens (map place_tree (all ++ p ∷ [])) last
 place_gathered room tokens rest last expected all p so_far begins read = record {

@@ -1,5 +1,6 @@
 -- Layer after layer, a file is read.
-use Rattle.std.proofs.Common.{◌≡◌, ◌<◌, ℕ, nat_eq, true, length, arith, List, [], ◌∷◌, ◌++◌, map, Some, None, sym, ap, subst, ◌∙◌, append_assoc, append-nil}
+use Rattle.std.proofs.Common.{◌≡◌, ◌<◌, ℕ, nat_eq, true, length, arith, List, [], ◌∷◌, ◌++◌, map, Some, None, sym, ap}
+use Rattle.std.proofs.Common.{subst, ◌∙◌, append_assoc, append-nil}
 use Rattle.layer_ast.specs.declared.syntax.Layer.{Layer}
 use Rattle.layer_ast.specs.declared.tokens.Lexed.{Lexed}
 use Rattle.layer_ast.specs.Cut.{Tokens, cut}
@@ -27,14 +28,17 @@ pub record Apart (text : List ℕ) (all : List LayerTree) (tokens : List Lexed) 
   pub room : HasRoom left
 
 -- before the first
-pub first_part : (text : List ℕ) (all : List LayerTree) (old tokens : List Lexed) (whole left : Left) → all ≡ [] → old ≡ [] →
-    left_of whole ≡ cut text → CutsPart old tokens (left_of whole) (Some (left_of left)) → IsBehind old tokens whole left →
+pub first_part : (text : List ℕ) (all : List LayerTree) (old tokens : List Lexed) (whole left : Left) → all ≡ [] →
+    old ≡ [] →
+    left_of whole ≡ cut text → CutsPart old tokens (left_of whole) (Some (left_of left)) →
+    IsBehind old tokens whole left →
     Apart text all tokens left
 unfolding Fits
 first_part text all old tokens whole left no_layers no_tokens is part behind = record {
   done = [];
   stands = rw no_layers (record { fits = tt; within = tt });
-  same = made_up old tokens (left_of whole) (left_of left) part ∙ (ap (λ ts. in_front ts (left_of whole)) no_tokens ∙ is);
+  same = made_up old tokens (left_of whole) (left_of left) part ∙
+      (ap (λ ts. in_front ts (left_of whole)) no_tokens ∙ is);
   room = behind.room;
 }
 
@@ -60,7 +64,8 @@ next_part text all l tokens old more left next so_far is none part behind = reco
 }
 
 -- the stack at the end
-pub last_part : (text : List ℕ) (all library : List LayerTree) (ps : List PlaceTree) (tokens : List Lexed) (left : Left) →
+pub last_part : (text : List ℕ) (all library : List LayerTree) (ps : List PlaceTree) (tokens : List Lexed)
+    (left : Left) →
     Apart text all tokens left → IsStack tokens ps → left_of left ≡ record { tokens = []; bad_at = None } →
     Spells text record { layers = all; places = ps; library = library }
 last_part text all library ps tokens left so_far is none =

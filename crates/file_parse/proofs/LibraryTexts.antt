@@ -1,5 +1,6 @@
 -- Each text of the library is one layer.
-use Rattle.std.proofs.Common.{◌≡◌, ℕ, leb, List, [], ◌∷◌, length, cond, Bool, true, false, Option, Some, bytes_eq, refl, sym, ap, subst, ◌∙◌}
+use Rattle.std.proofs.Common.{◌≡◌, ℕ, leb, List, [], ◌∷◌, length, cond, Bool, true, false, Option, Some, bytes_eq, refl}
+use Rattle.std.proofs.Common.{sym, ap, subst, ◌∙◌}
 use Rattle.std.proofs.lemmas.Bool.{leb-true}
 use Rattle.std.specs.Map.{lookup}
 use Rattle.file_mean.specs.Library.{SpellsLayer}
@@ -121,10 +122,31 @@ found_text : (name text : List ℕ) (table : List (List ℕ × List ℕ)) → Al
     Some text ≡ lookup (bytes_eq name) table → IsLayerText text
 found_text name text [] all is = absurd (cc is)
 found_text name text (entry ∷ table) all is =
-    found_here text entry.1 (bytes_eq name entry.0) (lookup (bytes_eq name) table) all.0 (found_text name text table all.1) is
+    found_here text entry.1 (bytes_eq name entry.0) (lookup (bytes_eq name) table) all.0
+    (found_text name text table all.1) is
 
 pub is_library_text : (name text : List ℕ) → Some text ≡ library_text name → IsLayerText text
 unfolding library
 is_library_text name text is =
-    found_text name text library
-    (is_bottom, (is_mnak, (is_pt2pt, (is_pt2ptw, (is_mflow, (is_frag, (is_collect, (is_stable, (is_local, (is_total, (is_suspect, (is_elect, (is_sync, (is_intra, (is_top, tt))))))))))))))) is
+    found_text name text library (
+      is_bottom,
+      (
+        is_mnak,
+        (
+          is_pt2pt,
+          (
+            is_pt2ptw,
+            (
+              is_mflow,
+              (
+                is_frag,
+                (
+                  is_collect,
+                  (is_stable, (is_local, (is_total, (is_suspect, (is_elect, (is_sync, (is_intra, (is_top, tt)))))))),
+                ),
+              ),
+            ),
+          ),
+        ),
+      ),
+    ) is

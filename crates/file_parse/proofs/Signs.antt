@@ -1,10 +1,12 @@
 -- A given sign at the front of tokens is read as the machine reads it.
-use Rattle.std.proofs.Common.{◌≡◌, ℕ, suc, true, if◌then◌else◌, List, [], ◌∷◌, length, Option, Some, refl, ap, ◌∙◌, arith}
+use Rattle.std.proofs.Common.{◌≡◌, ℕ, suc, true, if◌then◌else◌, List, [], ◌∷◌, length, Option, Some, refl, ap, ◌∙◌}
+use Rattle.std.proofs.Common.{arith}
 use denote.Enum.Bare.{same_true}
 use Rattle.layer_ast.specs.contracts.tokens.Sign.{the_type}
 use Rattle.layer_ast.specs.declared.tokens.Lexed.{Lexed}
 use Rattle.layer_ast.specs.declared.tokens.Sign.{Sign}
-use Rattle.layer_ast.specs.declared.tokens.Sign.TheVariants.{LeftBrace, RightBrace, LeftParen, RightParen, LeftBracket, RightBracket}
+use Rattle.layer_ast.specs.declared.tokens.Sign.TheVariants.{LeftBrace, RightBrace, LeftParen, RightParen, LeftBracket}
+use Rattle.layer_ast.specs.declared.tokens.Sign.TheVariants.{RightBracket}
 use Rattle.layer_ast.specs.declared.tokens.Token.{Token}
 use Rattle.layer_ast.specs.declared.tokens.Token.TheVariants as token
 use Rattle.layer_ast.specs.Depth.{room_inside, room_behind}
@@ -41,7 +43,8 @@ opening_room LeftBracket room p = refl
 opening_room _ room p = absurd p
 
 -- one step of the machine over the sign that it expects
-taken : (want : Sign) (t : Token) (room : ℕ) (behind : Option ℕ) (stack : List Symbol) (n : ℕ) (go : ℕ → List Symbol → Outcome) →
+taken : (want : Sign) (t : Token) (room : ℕ) (behind : Option ℕ) (stack : List Symbol) (n : ℕ)
+    (go : ℕ → List Symbol → Outcome) →
     is_sign want t ≡ true → room_behind (token.Sign want) room ≡ behind →
     step (room_behind t room) (feed (one want ∷ stack) t) n go ≡ step behind (Some stack) n go
 taken want t room behind stack n go is same =
@@ -77,7 +80,8 @@ module _ (want : Sign) (tokens rest : List Lexed) (first : Lexed) (split : token
   sign_passes = rw split record {
     spelled = λ k h. fits_first (plain want) k first rest (sign_is want first.token is) tt h;
     steps = λ room expected stack.
-        ap (λ t. step (room_behind t room) (feed (expected ∷ stack) t) (suc (length rest)) (λ left next. run left next rest))
+        ap (λ t. step (room_behind t room) (feed (expected ∷ stack) t) (suc (length rest))
+        (λ left next. run left next rest))
         (sign_is want first.token is);
     shorter = refl;
   }

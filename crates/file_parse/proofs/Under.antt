@@ -1,5 +1,6 @@
 -- Behind a sign the machine goes on alike where it goes on alike behind it.
-use Rattle.std.proofs.Common.{◌≡◌, ℕ, suc, Bool, true, false, if◌then◌else◌, List, [], ◌∷◌, ◌++◌, length, Option, Some, None, Result, Ok, Err, refl, ◌∙◌}
+use Rattle.std.proofs.Common.{◌≡◌, ℕ, suc, Bool, true, false, if◌then◌else◌, List, [], ◌∷◌, ◌++◌, length, Option, Some}
+use Rattle.std.proofs.Common.{None, Result, Ok, Err, refl, ◌∙◌}
 use Rattle.std.specs.Borrow.{Bor}
 use Rattle.layer_ast.specs.declared.tokens.Lexed.{Lexed}
 use Rattle.layer_ast.specs.declared.tokens.Sign.{Sign}
@@ -18,16 +19,19 @@ step_same None is x y f g n go same = refl
 step_same (Some room) true x y f g n go same = same room
 step_same (Some room) false x y f g n go same = refl
 
-pub under : (want : Sign) (s : Symbol) (expected : List Symbol) (t : Lexed) (rest : List Lexed) → Begins s expected rest →
+pub under : (want : Sign) (s : Symbol) (expected : List Symbol) (t : Lexed) (rest : List Lexed) →
+    Begins s expected rest →
     (room : ℕ) (stack : List Symbol) →
     run room (one want ∷ s ∷ stack) (t ∷ rest) ≡ run room (one want ∷ expected ++ stack) (t ∷ rest)
 under want s expected t rest same room stack =
-    step_same (room_behind t.token room) (is_sign want t.token) (s ∷ stack) (expected ++ stack) (feed (s ∷ stack) t.token)
+    step_same (room_behind t.token room) (is_sign want t.token) (s ∷ stack) (expected ++ stack)
+    (feed (s ∷ stack) t.token)
     (feed (expected ++ stack) t.token) (suc (length rest)) (λ left symbols. run left symbols rest)
     (λ left. same.begins left stack)
 
 -- what is read where the machine expects some symbols is read where it goes on alike with others
-pub parses_as : {A T : Type 0} (print : T → List Printed → List Printed) (view : A → T) (from to : List Symbol) (room : ℕ)
+pub parses_as : {A T : Type 0} (print : T → List Printed → List Printed) (view : A → T) (from to : List Symbol)
+    (room : ℕ)
     (tokens : List Lexed) (result : Result (A × Bor (List Lexed)) Fault) →
     ((stack : List Symbol) → run room (to ++ stack) tokens ≡ run room (from ++ stack) tokens) →
     ParsesAll print view from room tokens result → ParsesAll print view to room tokens result

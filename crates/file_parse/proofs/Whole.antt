@@ -1,5 +1,6 @@
 -- What the reading of a whole text says of it.
-use Rattle.std.proofs.Common.{◌≡◌, ℕ, zero, suc, ◌+◌, ◌-◌, ◌<◌, ◌≤◌, List, [], ◌∷◌, length, slice_get, get_or, Option, Some, None, refl, sym, ap, subst, ◌∙◌, arith}
+use Rattle.std.proofs.Common.{◌≡◌, ℕ, zero, suc, ◌+◌, ◌-◌, ◌<◌, ◌≤◌, List, [], ◌∷◌, length, slice_get, get_or, Option}
+use Rattle.std.proofs.Common.{Some, None, refl, sym, ap, subst, ◌∙◌, arith}
 use Rattle.std.proofs.lemmas.Option.{slice_get_read}
 use Rattle.file_mean.specs.Library.{SpellsLayer}
 use Rattle.layer_ast.specs.declared.names.At.{At}
@@ -25,10 +26,12 @@ nothing_left : (rest : List Lexed) (room : ℕ) → run room [] rest ≡ accepte
 unfolding Fits
 nothing_left [] room is = tt
 nothing_left (t ∷ rest) room is =
-    let stuck : refused (suc (length rest)) ≡ accepted = sym (no_stack (room_behind t.token room) _ _) ∙ is in absurd (cc stuck)
+    let stuck : refused (suc (length rest)) ≡ accepted = sym (no_stack (room_behind t.token room) _ _) ∙ is in
+    absurd (cc stuck)
 
 -- what the lexer cut of a text
-module _ (text : List ℕ) (tokens : List Lexed) (bad_at : Option At) (cuts : record { tokens = tokens; bad_at = bad_at } ≡ cut text)
+module _ (text : List ℕ) (tokens : List Lexed) (bad_at : Option At)
+    (cuts : record { tokens = tokens; bad_at = bad_at } ≡ cut text)
   where
     same_tokens : tokens ≡ (cut text).tokens
     same_tokens = ap (λ (t : Tokens). t.tokens) cuts
@@ -91,9 +94,11 @@ pub nothing_more : (tokens : List Lexed) (left : ℕ) → left ≤ 0 → run 100
 nothing_more tokens left none is = let zero_left : left ≡ 0 = omega (arith, none) in is ∙ ap refused zero_left
 
 -- the token that so many are left with
-module _ (text : List ℕ) (tokens : List Lexed) (bad_at : Option At) (cuts : record { tokens = tokens; bad_at = bad_at } ≡ cut text)
+module _ (text : List ℕ) (tokens : List Lexed) (bad_at : Option At)
+    (cuts : record { tokens = tokens; bad_at = bad_at } ≡ cut text)
   where
-    pub inside_here : (left n : ℕ) (token : Lexed) → 0 < left → run 100 start tokens ≡ refused left → n ≡ length tokens →
+    pub inside_here : (left n : ℕ) (token : Lexed) → 0 < left → run 100 start tokens ≡ refused left →
+        n ≡ length tokens →
         token ≡ get_or tokens (n - left) token → StopsInside text token.at
     inside_here left n token some stops count is =
         let within = left_within tokens left stops in

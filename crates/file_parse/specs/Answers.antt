@@ -8,9 +8,9 @@ use Rattle.layer_ast.specs.View.{file_tree}
 use Rattle.file_parse.specs.declared.error.ParseError.{ParseError}
 use Rattle.file_parse.specs.declared.error.ParseError.TheVariants.{TooLarge, BadToken, Unexpected, Memory}
 
--- what the parser answers: the file that a text is, with the layers that the library brings it; that the text is larger than a
--- file may be; where it stops being the beginning of a file, at a bad token, at a token that no file goes on with or at its end; or
--- that there was no memory
+-- what the parser answers: the file that a text is, with the layers that the library brings it; that the text is larger
+-- than a file may be; where it stops being the beginning of a file, at a bad token, at a token that no file goes on
+-- with or at its end; or that there was no memory
 abbrev pub Answers : List ℕ → Result File ParseError → Type 0
 Answers text (Ok f) = (length text ≤ longest_file) × IsFile text (file_tree f)
 Answers text (Err TooLarge) = longest_file < length text

@@ -4,19 +4,24 @@ use Rattle.std.specs.Borrow.{Bor}
 use Rattle.layer_ast.specs.declared.names.At.{At}
 use Rattle.layer_ast.specs.declared.names.Name.{Name}
 use Rattle.layer_ast.specs.declared.tokens.Lexed.{Lexed}
-use Rattle.layer_ast.specs.declared.tokens.Sign.TheVariants.{LeftParen, RightParen, LeftBracket, RightBracket, Comma, Semicolon, Assign, Star, N, Else, If, Set, State, Queue, Of}
+use Rattle.layer_ast.specs.declared.tokens.Sign.TheVariants.{LeftParen, RightParen, LeftBracket, RightBracket, Comma}
+use Rattle.layer_ast.specs.declared.tokens.Sign.TheVariants.{Semicolon, Assign, Star, N, Else, If, Set, State, Queue}
+use Rattle.layer_ast.specs.declared.tokens.Sign.TheVariants.{Of}
 use Rattle.layer_ast.specs.declared.syntax.Block.{Block}
 use Rattle.layer_ast.specs.declared.syntax.Declaration.{Declaration}
 use Rattle.layer_ast.specs.declared.syntax.Expression.{Expression}
 use Rattle.layer_ast.specs.declared.syntax.Items.{Items}
 use Rattle.layer_ast.specs.declared.syntax.Likely.{Likely}
 use Rattle.layer_ast.specs.declared.syntax.Statement.{Statement}
-use Rattle.layer_ast.specs.Print.{expression, queue, index, names, some_names, arguments, some_arguments, likely, block, statement, item, more_items, declaration}
+use Rattle.layer_ast.specs.Print.{expression, queue, index, names, some_names, arguments, some_arguments, likely, block}
+use Rattle.layer_ast.specs.Print.{statement, item, more_items, declaration}
 use Rattle.layer_ast.specs.Print as print
 use Rattle.layer_ast.specs.Printed.{Printed, plain, placed, name}
 use Rattle.layer_ast.specs.Spells.{Fits}
-use Rattle.layer_ast.specs.Tree.{ExpressionTree, QueueTree, NamesTree, ArgumentsTree, StatementTrees, SizeTree, ItemsTree, GivenTree}
-use Rattle.layer_ast.specs.View.{expression_tree, queue_tree, statement_tree, block_tree, size_tree, items_tree, declaration_tree}
+use Rattle.layer_ast.specs.Tree.{ExpressionTree, QueueTree, NamesTree, ArgumentsTree, StatementTrees, SizeTree}
+use Rattle.layer_ast.specs.Tree.{ItemsTree, GivenTree}
+use Rattle.layer_ast.specs.View.{expression_tree, queue_tree, statement_tree, block_tree, size_tree, items_tree}
+use Rattle.layer_ast.specs.View.{declaration_tree}
 use Rattle.grammar_laws.specs.Machine.{more_given}
 use Rattle.grammar_laws.specs.Parts.{otherwise, capacity}
 use Rattle.file_parse.specs.Reading.{ReadsFlat, StopsFlat}
@@ -32,7 +37,8 @@ use Rattle.file_parse.specs.declared.readers.Fault.TheVariants.{Refused, Memory}
 abbrev pub print_indices : Option Element → List Printed → List Printed
 print_indices None k = k
 print_indices (Some i) k =
-    plain LeftBracket ∷ expression (expression_tree i.row) (plain RightBracket ∷ index (option_map expression_tree i.column) k)
+    plain LeftBracket ∷ expression (expression_tree i.row)
+    (plain RightBracket ∷ index (option_map expression_tree i.column) k)
 
 -- two numbers
 pub record PairTree : Type 0 where
@@ -82,7 +88,8 @@ abbrev pub print_assigned : ExpressionTree → List Printed → List Printed
 print_assigned value k = plain Assign ∷ expression value (plain Semicolon ∷ k)
 
 -- a statement is the assignment of a value to what has this name and these indices
-pub record AssignmentPrints (at : At) (n : Name) (element : Option Element) (value : Expression) (s : Statement) : Type 0 where
+pub record AssignmentPrints (at : At) (n : Name) (element : Option Element) (value : Expression) (s : Statement) : Type
+    0 where
   pub spelled : (k : List Printed) (tokens : List Lexed) →
       Fits (
       placed Set at ∷ name n
@@ -96,7 +103,8 @@ pub record DecisionPrints (at : At) (l : Likely) (condition : Expression) (first
   pub spelled : (k : List Printed) (tokens : List Lexed) →
       Fits (
       placed If at
-      ∷ likely l (expression (expression_tree condition) (block (block_tree first) (otherwise (option_map block_tree other) k)))
+      ∷ likely l (expression (expression_tree condition)
+      (block (block_tree first) (otherwise (option_map block_tree other) k)))
       ) tokens →
       Fits (statement (statement_tree s) k) tokens
 
@@ -129,13 +137,15 @@ pub record QueuePrints (at : At) (n : Name) (size : QueueCapacity) (items : Item
       Fits (declaration (declaration_tree d) k) tokens
 
 -- params that a place gives behind a first one
-pub record ReadsGiven (first : GivenTree) (tokens : List Lexed) (all : List GivenTree) (rest : List Lexed) : Type 0 where
-  pub more : List GivenTree
-  pub is : all ≡ first ∷ more
-  pub read : ReadsFlat print.more_given (more_given ∷ []) (λ room. room) tokens more rest
+pub record ReadsGiven (first : GivenTree) (tokens : List Lexed) (all : List GivenTree) (rest : List Lexed) : Type 0
+  where
+    pub more : List GivenTree
+    pub is : all ≡ first ∷ more
+    pub read : ReadsFlat print.more_given (more_given ∷ []) (λ room. room) tokens more rest
 
 -- what the reader of params behind a first one answers
-abbrev pub ParsesGiven : {A : Type 0} → (A → List GivenTree) → GivenTree → List Lexed → Result (A × Bor (List Lexed)) Fault → Type 0
+abbrev pub ParsesGiven : {A : Type 0} → (A → List GivenTree) → GivenTree → List Lexed →
+    Result (A × Bor (List Lexed)) Fault → Type 0
 ParsesGiven view first tokens (Ok r) = ReadsGiven first tokens (view r.0) r.1.now
 ParsesGiven view first tokens (Err Memory) = Unit {0}
 ParsesGiven view first tokens (Err (Refused n)) = StopsFlat (more_given ∷ []) tokens n

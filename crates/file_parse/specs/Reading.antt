@@ -1,10 +1,12 @@
--- What a reader of a part of a file does: it reads the tokens of one tree in front of others, as the machine does, or stops
--- where the machine refuses.
-use Rattle.std.specs.Prelude.{◌≡◌, ◌≢◌, ◌<◌, ℕ, Bool, true, false, suc, ◌≤◌, List, [], ◌∷◌, ◌++◌, length, Option, Some, None, Result, Ok, Err}
+-- What a reader of a part of a file does: it reads the tokens of one tree in front of others, as the machine does, or
+-- stops where the machine refuses.
+use Rattle.std.specs.Prelude.{◌≡◌, ◌≢◌, ◌<◌, ℕ, Bool, true, false, suc, ◌≤◌, List, [], ◌∷◌, ◌++◌, length, Option, Some}
+use Rattle.std.specs.Prelude.{None, Result, Ok, Err}
 use Rattle.std.specs.Borrow.{Bor}
 use Rattle.layer_ast.specs.declared.tokens.Lexed.{Lexed}
 use Rattle.layer_ast.specs.declared.tokens.Sign.{Sign}
-use Rattle.layer_ast.specs.declared.tokens.Sign.TheVariants.{Stack, LeftBrace, RightBrace, LeftParen, RightParen, LeftBracket, RightBracket, Comma, With, Star, Assign, Else}
+use Rattle.layer_ast.specs.declared.tokens.Sign.TheVariants.{Stack, LeftBrace, RightBrace, LeftParen, RightParen}
+use Rattle.layer_ast.specs.declared.tokens.Sign.TheVariants.{LeftBracket, RightBracket, Comma, With, Star, Assign, Else}
 use Rattle.layer_ast.specs.declared.tokens.Token.TheVariants as token
 use Rattle.layer_ast.specs.Depth.{room_behind}
 use Rattle.layer_ast.specs.Print.{file, layer, places as print_places}
@@ -13,14 +15,17 @@ use Rattle.layer_ast.specs.Spells.{Fits, HasPlace}
 use Rattle.layer_ast.specs.Tree.{LayerTree, PlaceTree, FileTree}
 use Rattle.layer_ast.specs.View.{file_tree}
 use Rattle.layer_ast.specs.declared.syntax.File.{File}
-use Rattle.grammar_laws.specs.Machine.{Symbol, one, an_index, a_shape, a_square, an_initial, more_arguments, more_names, more_items, more_given, some_given, a_pushed, a_popped, an_otherwise, a_place, places, accepted, refused, feed, step, run, start}
+use Rattle.grammar_laws.specs.Machine.{Symbol, one, an_index, a_shape, a_square, an_initial, more_arguments, more_names}
+use Rattle.grammar_laws.specs.Machine.{more_items, more_given, some_given, a_pushed, a_popped, an_otherwise, a_place}
+use Rattle.grammar_laws.specs.Machine.{places, accepted, refused, feed, step, run, start}
 use Rattle.grammar_laws.specs.Behind.{Stands}
 use Rattle.file_parse.specs.declared.readers.Fault.{Fault}
 use Rattle.file_parse.specs.declared.readers.Fault.TheVariants.{Refused, Memory}
 
--- the tokens are those of a tree, printed in this way, and then the rest; the machine expects these symbols and goes on behind
--- the tree
-pub record Reads {T : Type 0} (print : T → List Printed → List Printed) (expected : List Symbol) (room : ℕ) (tokens : List Lexed)
+-- the tokens are those of a tree, printed in this way, and then the rest; the machine expects these symbols and goes on
+-- behind the tree
+pub record Reads {T : Type 0} (print : T → List Printed → List Printed) (expected : List Symbol) (room : ℕ)
+    (tokens : List Lexed)
     (tree : T) (rest : List Lexed) : Type 0 where
   pub spelled : (k : List Printed) → Fits k rest → Fits (print tree k) tokens
   pub goes_on : (stack : List Symbol) → run room (expected ++ stack) tokens ≡ run room stack rest
@@ -144,14 +149,16 @@ SeesOneOf s expected other tokens true = Begins s expected tokens
 SeesOneOf s expected other tokens false = Begins s other tokens
 
 -- these are the parts so far of a repetition, and the machine goes on with the repetition behind them
-pub record Gathers {T : Type 0} (print : T → List Printed → List Printed) (s : Symbol) (room : ℕ) (tokens : List Lexed) (tree : T)
+pub record Gathers {T : Type 0} (print : T → List Printed → List Printed) (s : Symbol) (room : ℕ) (tokens : List Lexed)
+    (tree : T)
     (rest : List Lexed) : Type 0 where
   pub spelled : (k : List Printed) → Fits k rest → Fits (print tree k) tokens
   pub goes_on : (stack : List Symbol) → run room (s ∷ stack) tokens ≡ run room (s ∷ stack) rest
   pub no_longer : length rest ≤ length tokens
 
 -- the same where the machine first expects these symbols
-pub record GathersAfter {T : Type 0} (print : T → List Printed → List Printed) (expected : List Symbol) (s : Symbol) (room : ℕ)
+pub record GathersAfter {T : Type 0} (print : T → List Printed → List Printed) (expected : List Symbol) (s : Symbol)
+    (room : ℕ)
     (tokens : List Lexed) (tree : T) (rest : List Lexed) : Type 0 where
   pub spelled : (k : List Printed) → Fits k rest → Fits (print tree k) tokens
   pub goes_on : (stack : List Symbol) → run room (expected ++ stack) tokens ≡ run room (s ∷ stack) rest

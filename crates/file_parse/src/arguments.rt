@@ -4,7 +4,8 @@ ghost use Rattle.std.specs.Option.{option_map};
 ghost use Rattle.layer_ast.specs.Print as print;
 ghost use Rattle.layer_ast.specs.View.{argument_tree, arguments_tree};
 ghost use Rattle.layer_ast.specs.declared.tokens.Sign.TheVariants.{LeftParen, RightParen};
-ghost use Rattle.grammar_laws.specs.Machine.{one, an_expression, a_built, an_argument, more_arguments as arguments_behind, some_arguments as one_or_no_arguments};
+ghost use Rattle.grammar_laws.specs.Machine.{one, an_expression, a_built, an_argument};
+ghost use Rattle.grammar_laws.specs.Machine.{more_arguments as arguments_behind, some_arguments as one_or_no_arguments};
 ghost use Rattle.file_parse.specs.Parts.{arguments_within, some_arguments_within};
 ghost use Rattle.file_parse.specs.Reading.{Parses, ParsesAll, SeesPart, SeesOneOf};
 
@@ -19,7 +20,8 @@ pub fn arguments_in_parentheses(
     room: u32,
     tokens: &[Lexed],
 ) -> Result<(Arguments, &[Lexed]), Fault>
-    ensures { ParsesAll arguments_within arguments_tree (one LeftParen ∷ an_argument ∷ arguments_behind ∷ one RightParen ∷ []) room tokens.now result }
+    ensures { ParsesAll arguments_within
+        arguments_tree (one LeftParen ∷ an_argument ∷ arguments_behind ∷ one RightParen ∷ []) room tokens.now result }
 {
     let (inside, rest) = read!(open(room, Sign::LeftParen, tokens));
     let (arguments, rest) = read!(arguments(alloc, inside, rest));
@@ -33,7 +35,8 @@ pub fn some_arguments_in_parentheses(
     room: u32,
     tokens: &[Lexed],
 ) -> Result<(Option<Arguments>, &[Lexed]), Fault>
-    ensures { ParsesAll some_arguments_within (option_map arguments_tree) (one LeftParen ∷ one_or_no_arguments ∷ one RightParen ∷ []) room tokens.now result }
+    ensures { ParsesAll some_arguments_within
+        (option_map arguments_tree) (one LeftParen ∷ one_or_no_arguments ∷ one RightParen ∷ []) room tokens.now result }
 {
     let (inside, rest) = read!(open(room, Sign::LeftParen, tokens));
     let (arguments, rest) = read!(some_arguments(alloc, inside, rest));

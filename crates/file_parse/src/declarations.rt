@@ -2,8 +2,11 @@
 ghost use Rattle.std.specs.Prelude.{◌≡◌, ◌<◌, ◌≤◌, [], ◌∷◌, length, map, IfOk, option_map};
 ghost use Rattle.layer_ast.specs.Print as print;
 ghost use Rattle.layer_ast.specs.View.{expression_tree, item_tree, items_tree, declaration_tree};
-ghost use Rattle.layer_ast.specs.declared.tokens.Sign.TheVariants.{N, Of, LeftBracket, RightBracket, LeftParen, RightParen, Colon, Semicolon};
-ghost use Rattle.grammar_laws.specs.Machine.{one, a_name, a_sort, a_size, a_square, a_shape, an_initial, a_capacity, an_item, more_items as items_behind, a_declaration, declarations as more_declarations};
+ghost use Rattle.layer_ast.specs.declared.tokens.Sign.TheVariants.{N, Of, LeftBracket, RightBracket, LeftParen};
+ghost use Rattle.layer_ast.specs.declared.tokens.Sign.TheVariants.{RightParen, Colon, Semicolon};
+ghost use Rattle.grammar_laws.specs.Machine.{one, a_name, a_sort, a_size, a_square, a_shape, an_initial, a_capacity};
+ghost use Rattle.grammar_laws.specs.Machine.{an_item, more_items as items_behind, a_declaration};
+ghost use Rattle.grammar_laws.specs.Machine.{declarations as more_declarations};
 ghost use Rattle.file_parse.specs.Parts.{QueuePrints, print_square, print_capacity, capacity_tree, print_items};
 ghost use Rattle.file_parse.specs.Reading.{Parses, ParsesAll, ParsesFlat, ParsesAllFlat, SeesPart, SeesOneOf};
 
@@ -220,7 +223,8 @@ fn queue_of(at: At, name: Name, capacity: QueueCapacity, items: Items) -> Declar
 
 /// Reads the capacity of a queue in square brackets, behind `[n]` for an array of queues.
 fn capacity(room: u32, tokens: &[Lexed]) -> Result<(QueueCapacity, &[Lexed]), Fault>
-    ensures { ParsesAll print_capacity capacity_tree (one LeftBracket ∷ a_capacity ∷ one RightBracket ∷ []) room tokens.now result }
+    ensures { ParsesAll print_capacity capacity_tree (one LeftBracket ∷ a_capacity ∷ one RightBracket ∷ []) room
+        tokens.now result }
 {
     let Some((_, behind)) = tokens.split_first() else {
         return Err(Fault::Refused(0));
@@ -235,7 +239,8 @@ fn capacity(room: u32, tokens: &[Lexed]) -> Result<(QueueCapacity, &[Lexed]), Fa
 /// Reads the capacity of the queues of an array in square brackets, behind `[n]`.
 fn capacity_of_array(room: u32, tokens: &[Lexed]) -> Result<(QueueCapacity, &[Lexed]), Fault>
     ensures { ParsesAll print_capacity capacity_tree
-        (one LeftBracket ∷ one N ∷ one RightBracket ∷ one LeftBracket ∷ a_size ∷ one RightBracket ∷ []) room tokens.now result }
+        (one LeftBracket ∷ one N ∷ one RightBracket ∷ one LeftBracket ∷ a_size ∷ one RightBracket ∷ []) room tokens.now
+        result }
 {
     let (_, rest) = read!(open(room, Sign::LeftBracket, tokens));
     let rest = read!(sign(Sign::N, rest));
@@ -248,7 +253,8 @@ fn capacity_of_array(room: u32, tokens: &[Lexed]) -> Result<(QueueCapacity, &[Le
 
 /// Reads the capacity of a single queue in square brackets.
 fn capacity_of_one(room: u32, tokens: &[Lexed]) -> Result<(QueueCapacity, &[Lexed]), Fault>
-    ensures { ParsesAll print_capacity capacity_tree (one LeftBracket ∷ a_size ∷ one RightBracket ∷ []) room tokens.now result }
+    ensures { ParsesAll print_capacity capacity_tree (one LeftBracket ∷ a_size ∷ one RightBracket ∷ []) room tokens.now
+        result }
 {
     let (_, rest) = read!(open(room, Sign::LeftBracket, tokens));
     let (size, rest) = read!(size(rest));
@@ -258,7 +264,8 @@ fn capacity_of_one(room: u32, tokens: &[Lexed]) -> Result<(QueueCapacity, &[Lexe
 
 /// Whether a capacity is that of an array of queues.
 fn begins_array(tokens: &[Lexed]) -> bool
-    ensures { SeesOneOf a_capacity (one N ∷ one RightBracket ∷ one LeftBracket ∷ a_size ∷ []) (a_size ∷ []) tokens.now result }
+    ensures { SeesOneOf a_capacity (one N ∷ one RightBracket ∷ one LeftBracket ∷ a_size ∷ []) (a_size ∷ []) tokens.now
+        result }
 {
     let Some((first, _)) = tokens.split_first() else {
         return false;
@@ -269,7 +276,8 @@ fn begins_array(tokens: &[Lexed]) -> bool
 /// Reads the items of a queue's rows to the end of its declaration.
 fn items(alloc: Global, room: u32, tokens: &[Lexed]) -> Result<(Items, &[Lexed]), Fault>
     ensures { ParsesAll print_items items_tree
-        (one Of ∷ one LeftParen ∷ a_name ∷ one Colon ∷ a_sort ∷ items_behind ∷ one RightParen ∷ one Semicolon ∷ []) room tokens.now result }
+        (one Of ∷ one LeftParen ∷ a_name ∷ one Colon ∷ a_sort ∷ items_behind ∷ one RightParen ∷ one Semicolon ∷ []) room
+        tokens.now result }
 {
     let rest = read!(sign(Sign::Of, tokens));
     let (_, rest) = read!(open(room, Sign::LeftParen, rest));

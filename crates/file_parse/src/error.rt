@@ -6,7 +6,8 @@ use layer_ast::At;
 use std::alloc::AllocError;
 use thiserror::Error;
 
-/// Why a text gives no file. A place is that of a token's first byte, or just past the last byte of a text that ends too early.
+/// Why a text gives no file. A place is that of a token's first byte, or just past the last byte of a text that ends
+/// too early.
 #[derive(Clone, Copy, PartialEq, Eq, Debug, Error)]
 pub enum ParseError {
     #[error("the text has more than 1048576 bytes")]

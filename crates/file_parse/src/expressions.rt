@@ -334,7 +334,8 @@ pub fn queue(alloc: Global, room: u32, tokens: &[Lexed]) -> Result<(Queue, &[Lex
 /// Reads a queue and the number of one of its rows, in parentheses.
 #[cycle(expression)]
 fn row(alloc: Global, room: u32, tokens: &[Lexed]) -> Result<(QueueRow, &[Lexed]), Fault>
-    ensures { ParsesAll print_row row_tree (one LeftParen ∷ a_name ∷ an_index ∷ one Comma ∷ an_expression ∷ one RightParen ∷ []) room tokens.now result }
+    ensures { ParsesAll print_row row_tree (one LeftParen ∷ a_name ∷ an_index ∷ one Comma ∷ an_expression ∷
+        one RightParen ∷ []) room tokens.now result }
 {
     let (inside, rest) = open(room, Sign::LeftParen, tokens)?;
     let (queue, rest) = read!(queue(alloc, inside, rest));

@@ -2,7 +2,8 @@
 ghost use Rattle.std.specs.Prelude.{◌≡◌, ◌<◌, ◌≤◌, [], ◌∷◌, ◌++◌, length, map, IfOk};
 ghost use Rattle.layer_ast.specs.Print as print;
 ghost use Rattle.layer_ast.specs.View.{layer_tree, given_tree, place_tree};
-ghost use Rattle.grammar_laws.specs.Machine.{a_layer, layers as more_layers, a_given, some_given as one_or_no_given, a_place, places as more_places};
+ghost use Rattle.grammar_laws.specs.Machine.{a_layer, layers as more_layers, a_given, some_given as one_or_no_given};
+ghost use Rattle.grammar_laws.specs.Machine.{a_place, places as more_places};
 ghost use Rattle.file_parse.specs.Parts.{ParsesGiven};
 ghost use Rattle.file_parse.specs.Reading.{Parses, ParsesAll, ParsesAllFlat, ParsesFile, ParsesStack, SeesPart};
 
@@ -84,7 +85,8 @@ fn layer_body(
 
 /// Reads places as long as one begins, at least one.
 fn places(alloc: Global, room: u32, tokens: &[Lexed]) -> Result<(Vec<Place>, &[Lexed]), Fault>
-    ensures read { ParsesAll print.places (λ v. map place_tree v.items) (a_place ∷ more_places ∷ []) room tokens.now result }
+    ensures read { ParsesAll print.places (λ v. map place_tree v.items) (a_place ∷ more_places ∷ []) room tokens.now
+        result }
     ensures some { IfOk result (λ r. 0 < length r.0.items) }
 {
     let (first, mut rest) = read!(place(alloc, room, tokens));

@@ -31,8 +31,8 @@ use library::library;
 use readers::Fault;
 use std::alloc::Global;
 
-/// Reads the file that a text is: the file that it spells, with the layers of the library that its places name and it lacks. A
-/// refusal has the first place where the text stops being the beginning of a file.
+/// Reads the file that a text is: the file that it spells, with the layers of the library that its places name and it
+/// lacks. A refusal has the first place where the text stops being the beginning of a file.
 pub fn parse(alloc: Global, text: &[u8]) -> Result<File, ParseError>
     ensures { Answers text.now result }
 {

@@ -41,7 +41,8 @@ pub fn names_in_parentheses(
     room: u32,
     tokens: &[Lexed],
 ) -> Result<(Names, &[Lexed]), Fault>
-    ensures { ParsesAll names_within names_tree (one LeftParen ∷ a_name ∷ names_behind ∷ one RightParen ∷ []) room tokens.now result }
+    ensures { ParsesAll names_within names_tree (one LeftParen ∷ a_name ∷ names_behind ∷ one RightParen ∷ []) room
+        tokens.now result }
 {
     let (_, rest) = open(room, Sign::LeftParen, tokens)?;
     let (names, rest) = names(alloc, rest)?;
@@ -55,7 +56,8 @@ pub fn some_names_in_parentheses(
     room: u32,
     tokens: &[Lexed],
 ) -> Result<(Option<Names>, &[Lexed]), Fault>
-    ensures { ParsesAll some_names_within (option_map names_tree) (one LeftParen ∷ one_or_no_names ∷ one RightParen ∷ []) room tokens.now result }
+    ensures { ParsesAll some_names_within
+        (option_map names_tree) (one LeftParen ∷ one_or_no_names ∷ one RightParen ∷ []) room tokens.now result }
 {
     let (_, rest) = open(room, Sign::LeftParen, tokens)?;
     let (names, rest) = some_names(alloc, rest)?;

@@ -1,10 +1,13 @@
 //! Readers of single tokens, and what every reader says.
 ghost use Rattle.std.specs.Prelude.{◌≡◌, ◌++◌, ◌∷◌, [], OnOk, suc};
 ghost use Rattle.layer_ast.specs.Print.{size as size_token};
-ghost use Rattle.layer_ast.specs.Printed.{plain, plain_numeral, name as name_token, kind as kind_token, operator_sign, sort_sign, ending_sign};
+ghost use Rattle.layer_ast.specs.Printed.{plain, plain_numeral, name as name_token, kind as kind_token, operator_sign};
+ghost use Rattle.layer_ast.specs.Printed.{sort_sign, ending_sign};
 ghost use Rattle.layer_ast.specs.View.{size_tree};
-ghost use Rattle.grammar_laws.specs.Machine.{is_sign as has_sign, a_name, a_kind, an_operator, a_number, a_size, a_sort, an_ending};
-ghost use Rattle.file_parse.specs.Reading.{ParsesOne, ParsesSign, ParsesOpening, SeesSign, EntersBracket, IsPlain, IsOpening, IsClosing};
+ghost use Rattle.grammar_laws.specs.Machine.{is_sign as has_sign, a_name, a_kind, an_operator, a_number, a_size};
+ghost use Rattle.grammar_laws.specs.Machine.{a_sort, an_ending};
+ghost use Rattle.file_parse.specs.Reading.{ParsesOne, ParsesSign, ParsesOpening, SeesSign, EntersBracket, IsPlain};
+ghost use Rattle.file_parse.specs.Reading.{IsOpening, IsClosing};
 ghost use Rattle.file_parse.specs.declared.readers.Fault.TheVariants.{Memory};
 
 use layer_ast::{Ending, Kind, Lexed, Name, Operator, Sign, Size, Sort, Token};
@@ -17,8 +20,9 @@ pub enum Fault {
     Memory,
 }
 
-/// What was read, as `?` gives it. The check knows no `?` at a name beside a reference. Values behind it are let go by a call before
-/// the reader leaves: where they are let go in place, each exit costs the check what all their forms cost.
+/// What was read, as `?` gives it. The check knows no `?` at a name beside a reference. Values behind it are let go by
+/// a call before the reader leaves: where they are let go in place, each exit costs the check what all their forms
+/// cost.
 macro_rules! read {
     ($result:expr) => {
         match $result {
@@ -251,8 +255,8 @@ pub fn ending(tokens: &[Lexed]) -> Result<(Ending, &[Lexed]), Fault>
     }
 }
 
-/// Adds an item to a list. The first gets room for itself alone, as many lists have no other; a long list that is full gets four times
-/// its room, so that few of its items are moved often.
+/// Adds an item to a list. The first gets room for itself alone, as many lists have no other; a long list that is full
+/// gets four times its room, so that few of its items are moved often.
 pub fn push_item<T: Drop>(all: &mut Vec<T>, item: T) -> Result<(), AllocError>
     ensures { OnOk result (all.new.items ≡ all.old.items ++ item ∷ []) }
 {

@@ -4,7 +4,8 @@ ghost use Rattle.layer_ast.specs.Print as print;
 ghost use Rattle.layer_ast.specs.Printed.{direction_sign};
 ghost use Rattle.layer_ast.specs.View.{expression_tree, pushed_tree, statement_tree, statement_trees, block_tree};
 ghost use Rattle.layer_ast.specs.declared.tokens.Sign.TheVariants.{Assign, Else, Semicolon};
-ghost use Rattle.grammar_laws.specs.Machine.{one, an_expression, a_likely, a_pushed, an_otherwise, a_statement, statements as more_statements, a_block};
+ghost use Rattle.grammar_laws.specs.Machine.{one, an_expression, a_likely, a_pushed, an_otherwise, a_statement};
+ghost use Rattle.grammar_laws.specs.Machine.{statements as more_statements, a_block};
 ghost use Rattle.grammar_laws.specs.Parts.{otherwise as print_otherwise};
 ghost use Rattle.file_parse.specs.Parts.{AssignmentPrints, DecisionPrints, block_behind_else, print_assigned};
 ghost use Rattle.file_parse.specs.Reading.{Parses, ParsesAll, ReadsFlat, SeesPart};
@@ -133,7 +134,8 @@ fn set(
 
 /// Reads what is assigned, to the end of a statement.
 fn assigned(alloc: Global, room: u32, tokens: &[Lexed]) -> Result<(Expression, &[Lexed]), Fault>
-    ensures { ParsesAll print_assigned expression_tree (one Assign ∷ an_expression ∷ one Semicolon ∷ []) room tokens.now result }
+    ensures { ParsesAll print_assigned expression_tree (one Assign ∷ an_expression ∷ one Semicolon ∷ []) room tokens.now
+        result }
 {
     let rest = read!(sign(Sign::Assign, tokens));
     let (value, rest) = read!(expression(alloc, room, rest));

@@ -1,5 +1,6 @@
 -- What is found in several lists of faults, one behind the other.
-use Rattle.std.proofs.Common.{◌≡◌, ℕ, ◌+◌, ◌<◌, Bool, true, false, List, [], ◌∷◌, ◌++◌, map, flat_map, take, get_or, length, Option, Some, None, refl, sym, ap, ◌∙◌, subst, append-nil, append_assoc}
+use Rattle.std.proofs.Common.{◌≡◌, ℕ, ◌+◌, ◌<◌, Bool, true, false, List, [], ◌∷◌, ◌++◌, map, flat_map, take, get_or}
+use Rattle.std.proofs.Common.{length, Option, Some, None, refl, sym, ap, ◌∙◌, subst, append-nil, append_assoc}
 use Rattle.std.proofs.lemmas.List.{map-append, map_more}
 use Rattle.std.proofs.lemmas.Grind.{flat_map-append}
 use Rattle.layer_ast.specs.declared.names.At.{At}
@@ -51,7 +52,8 @@ finds_unless shown a b false fault noted is finds = subst (λ f. Finds a (f ∷ 
 pub finds_row : {F A : Type 0} (shown : F → Fault) (f : A → List F) (a b c : Found) (xs ys : List A) →
     FindsBy shown a (flat_map f xs) b → FindsBy shown b (flat_map f ys) c → FindsBy shown a (flat_map f (xs ++ ys)) c
 finds_row shown f a b c xs ys left right =
-    subst (λ l. FindsBy shown a l c) (sym (flat_map-append f xs ys)) (finds_both shown a b c (flat_map f xs) (flat_map f ys) left right)
+    subst (λ l. FindsBy shown a l c) (sym (flat_map-append f xs ys))
+    (finds_both shown a b c (flat_map f xs) (flat_map f ys) left right)
 
 pub finds_three : {F A : Type 0} (shown : F → Fault) (f : A → List F) (a b c d : Found) (xs ys zs : List A) →
     FindsBy shown a (flat_map f xs) b → FindsBy shown b (flat_map f ys) c → FindsBy shown c (flat_map f zs) d →
@@ -78,7 +80,8 @@ one_more shown f a b c xs i x within is so_far now =
     (finds_both shown a b c (map f (take i xs)) (f x ∷ []) so_far now)
 
 -- one of some things more, each with its faults
-pub part_more : {F X A : Type 0} (shown : F → Fault) (tree : X → A) (f : A → List F) (a b c : Found) (xs : List X) (i : ℕ) (x : X) →
+pub part_more : {F X A : Type 0} (shown : F → Fault) (tree : X → A) (f : A → List F) (a b c : Found) (xs : List X)
+    (i : ℕ) (x : X) →
     i < length xs → x ≡ get_or xs i x →
     FindsBy shown a (flat_map f (map tree (take i xs))) b → FindsBy shown b (f (tree x)) c →
     FindsBy shown a (flat_map f (map tree (take (i + 1) xs))) c
@@ -88,7 +91,8 @@ part_more shown tree f a b c xs i x within is so_far now =
     (subst (λ l. FindsBy shown b l c) (sym (append-nil (f (tree x)))) now))
 
 -- one of some things more, each with things that have faults
-pub nested_more : {F X A B : Type 0} (shown : F → Fault) (tree : X → B) (g : B → List A) (f : A → List F) (a b c : Found)
+pub nested_more : {F X A B : Type 0} (shown : F → Fault) (tree : X → B) (g : B → List A) (f : A → List F)
+    (a b c : Found)
     (xs : List X) (i : ℕ) (x : X) → i < length xs → x ≡ get_or xs i x →
     FindsBy shown a (flat_map f (flat_map g (map tree (take i xs)))) b → FindsBy shown b (flat_map f (g (tree x))) c →
     FindsBy shown a (flat_map f (flat_map g (map tree (take (i + 1) xs)))) c

@@ -1,5 +1,6 @@
 -- The first fault, once all faults are judged.
-use Rattle.std.proofs.Common.{◌≡◌, ℕ, Bool, true, false, if◌then◌else◌, List, [], ◌∷◌, map, fold, Some, None, option_map, refl, sym, ap, ap₂, ◌∙◌}
+use Rattle.std.proofs.Common.{◌≡◌, ℕ, Bool, true, false, if◌then◌else◌, List, [], ◌∷◌, map, fold, Some, None}
+use Rattle.std.proofs.Common.{option_map, refl, sym, ap, ap₂, ◌∙◌}
 use Rattle.fault_mean.specs.Earliest.{earlier, earlier_of, earliest}
 use Rattle.std.specs.Cmp.Lexicographic.{slice_cmp}
 use Rattle.std.specs.Ordering.{is_lt, nat_cmp}
@@ -9,21 +10,25 @@ use Rattle.file_scope.specs.declared.found.Found.{Found}
 use Rattle.file_scope.proofs.Moved.{map_same}
 
 -- faults that are shown keep their order
-fold_shown : {F : Type 0} (shown : F → Fault) (key : F → List ℕ) (f : F) (fs : List F) → ((f : F) → key f ≡ fault_key (shown f)) →
+fold_shown : {F : Type 0} (shown : F → Fault) (key : F → List ℕ) (f : F) (fs : List F) →
+    ((f : F) → key f ≡ fault_key (shown f)) →
     fold (earlier_of fault_key) (shown f) (map shown fs) ≡ shown (fold (earlier_of key) f fs)
 fold_shown shown key f [] keys = refl
 fold_shown {F} shown key f (g ∷ fs) keys =
-    go _ _ (ap₂ (λ a b. is_lt (slice_cmp nat_cmp a b)) (sym (keys g)) (sym (keys f))) (fold_shown shown key g fs keys) (fold_shown shown key f fs keys) where
+    go _ _ (ap₂ (λ a b. is_lt (slice_cmp nat_cmp a b)) (sym (keys g)) (sym (keys f))) (fold_shown shown key g fs keys)
+    (fold_shown shown key f fs keys) where
       go : (b c : Bool) → b ≡ c →
           fold (earlier_of fault_key) (shown g) (map shown fs) ≡ shown (fold (earlier_of key) g fs) →
           fold (earlier_of fault_key) (shown f) (map shown fs) ≡ shown (fold (earlier_of key) f fs) →
-          fold (earlier_of fault_key) (if b then shown g else shown f) (map shown fs) ≡ shown (fold (earlier_of key) (if c then g else f) fs)
+          fold (earlier_of fault_key) (if b then shown g else shown f) (map shown fs) ≡
+          shown (fold (earlier_of key) (if c then g else f) fs)
       go true true e one other = one
       go false false e one other = other
       go true false e one other = absurd (cc e)
       go false true e one other = absurd (cc e)
 
-earliest_shown : {F : Type 0} (shown : F → Fault) (key : F → List ℕ) (fs : List F) → ((f : F) → key f ≡ fault_key (shown f)) →
+earliest_shown : {F : Type 0} (shown : F → Fault) (key : F → List ℕ) (fs : List F) →
+    ((f : F) → key f ≡ fault_key (shown f)) →
     earliest fault_key (map shown fs) ≡ option_map shown (earliest key fs)
 earliest_shown shown key [] keys = refl
 earliest_shown shown key (f ∷ fs) keys = ap Some (fold_shown shown key f fs keys)

@@ -1,5 +1,6 @@
 -- Faults that are moved to one place: which of them comes first there is the same at every place.
-use Rattle.std.proofs.Common.{◌≡◌, ℕ, Bool, true, false, if◌then◌else◌, List, [], ◌∷◌, map, fold, Option, Some, None, option_map, refl, sym, ap, ◌∙◌, subst}
+use Rattle.std.proofs.Common.{◌≡◌, ℕ, Bool, true, false, if◌then◌else◌, List, [], ◌∷◌, map, fold, Option, Some, None}
+use Rattle.std.proofs.Common.{option_map, refl, sym, ap, ◌∙◌, subst}
 use Rattle.std.specs.Cmp.{nat_cmp_is}
 use Rattle.std.specs.Cmp.Lexicographic.{slice_cmp}
 use Rattle.std.specs.Ordering.{is_lt, nat_cmp, ordering_then}
@@ -18,7 +19,8 @@ at_one at r s =
     ∙ ap (λ x. ordering_then x (ordering_then (nat_cmp r s) Equal)) (sym (nat_cmp_is at.col at.col Equal refl))
 
 precedes_alike : (o at : At) (f g : Fault) →
-    precedes fault_key (moved_to (Some at) f) (moved_to (Some at) g) ≡ precedes fault_key (moved_to (Some o) f) (moved_to (Some o) g)
+    precedes fault_key (moved_to (Some at) f) (moved_to (Some at) g) ≡
+    precedes fault_key (moved_to (Some o) f) (moved_to (Some o) g)
 precedes_alike o at f g = ap is_lt (at_one at f.rank g.rank ∙ sym (at_one o f.rank g.rank))
 
 fold_moved : (o at : At) (f : Fault) (fs : List Fault) →
@@ -31,8 +33,10 @@ fold_moved o at f (g ∷ fs) = go _ _ (precedes_alike o at g f) (fold_moved o at
       ≡ moved_to (Some at) (fold (earlier_of fault_key) (moved_to (Some o) g) (map (moved_to (Some o)) fs)) →
       fold (earlier_of fault_key) (moved_to (Some at) f) (map (moved_to (Some at)) fs)
       ≡ moved_to (Some at) (fold (earlier_of fault_key) (moved_to (Some o) f) (map (moved_to (Some o)) fs)) →
-      fold (earlier_of fault_key) (if b then moved_to (Some at) g else moved_to (Some at) f) (map (moved_to (Some at)) fs)
-      ≡ moved_to (Some at) (fold (earlier_of fault_key) (if c then moved_to (Some o) g else moved_to (Some o) f) (map (moved_to (Some o)) fs))
+      fold (earlier_of fault_key) (if b then moved_to (Some at) g else moved_to (Some at) f)
+      (map (moved_to (Some at)) fs)
+      ≡ moved_to (Some at) (fold (earlier_of fault_key) (if c then moved_to (Some o) g else moved_to (Some o) f)
+      (map (moved_to (Some o)) fs))
   go true true e one other = one
   go false false e one other = other
   go true false e one other = absurd (cc e)
@@ -47,7 +51,8 @@ pub map_same : (fs : List Fault) → map (moved_to None) fs ≡ fs
 map_same [] = refl
 map_same (f ∷ fs) = ap (λ l. f ∷ l) (map_same fs)
 
-map_twice : (o at : At) (fs : List Fault) → map (moved_to (Some at)) (map (moved_to (Some o)) fs) ≡ map (moved_to (Some at)) fs
+map_twice : (o at : At) (fs : List Fault) → map (moved_to (Some at)) (map (moved_to (Some o)) fs) ≡
+    map (moved_to (Some at)) fs
 map_twice o at [] = refl
 map_twice o at (f ∷ fs) = ap (λ l. moved_to (Some at) f ∷ l) (map_twice o at fs)
 
@@ -62,7 +67,8 @@ none-earlier : (found : Option Fault) → earlier fault_key found None ≡ found
 none-earlier None = refl
 none-earlier (Some f) = refl
 
-pub none_moved : (a : Found) (at : At) (fs : List Fault) → None ≡ first_rank fs → Finds a (map (moved_to (Some at)) fs) a
+pub none_moved : (a : Found) (at : At) (fs : List Fault) → None ≡ first_rank fs →
+    Finds a (map (moved_to (Some at)) fs) a
 unfolding Finds
 none_moved a at fs is = (
   refl,
@@ -78,14 +84,17 @@ rank_moved a b at rank fs is finds = (
   finds.0,
   finds.1
       ∙ ap (earlier fault_key a.first)
-      (sym (moved_again a.moved at fs ∙ ap (option_map (λ r. moved_to a.moved (record { at = at; rank = r }))) (sym is))),
+      (sym (moved_again a.moved at fs ∙ ap (option_map (λ r. moved_to a.moved (record { at = at; rank = r })))
+      (sym is))),
 )
 
 moved_shown : {F : Type 0} (shown : F → Fault) (move : At → F → F) (at : At) (fs : List F) →
-    ((f : F) → shown (move at f) ≡ moved_to (Some at) (shown f)) → map shown (map (move at) fs) ≡ map (moved_to (Some at)) (map shown fs)
+    ((f : F) → shown (move at f) ≡ moved_to (Some at) (shown f)) → map shown (map (move at) fs) ≡
+    map (moved_to (Some at)) (map shown fs)
 moved_shown shown move at [] law = refl
 moved_shown {F} shown move at (f ∷ fs) law =
-    ap (λ x. x ∷ map shown (map (move at) fs)) (law f) ∙ ap (λ l. moved_to (Some at) (shown f) ∷ l) (moved_shown shown move at fs law)
+    ap (λ x. x ∷ map shown (map (move at) fs)) (law f) ∙
+    ap (λ l. moved_to (Some at) (shown f) ∷ l) (moved_shown shown move at fs law)
 
 -- faults of any type that are moved to a place, of which the first has a rank
 pub moved_by : {F : Type 0} (shown : F → Fault) (move : At → F → F) (a b : Found) (at : At) (fs : List F) →

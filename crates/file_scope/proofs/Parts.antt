@@ -11,6 +11,7 @@ three_parts shown a b c d xs ys zs one two three =
     finds_both shown a c d (xs ++ ys) zs (finds_both shown a b c xs ys one two) three
 
 pub four_parts : {F : Type 0} (shown : F → Fault) (a b c d e : Found) (xs ys zs ws : List F) →
-    FindsBy shown a xs b → FindsBy shown b ys c → FindsBy shown c zs d → FindsBy shown d ws e → FindsBy shown a (xs ++ ys ++ zs ++ ws) e
+    FindsBy shown a xs b → FindsBy shown b ys c → FindsBy shown c zs d → FindsBy shown d ws e →
+    FindsBy shown a (xs ++ ys ++ zs ++ ws) e
 four_parts shown a b c d e xs ys zs ws one two three four =
     finds_both shown a d e (xs ++ ys ++ zs) ws (three_parts shown a b c d xs ys zs one two three) four

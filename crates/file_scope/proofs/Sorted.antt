@@ -1,5 +1,6 @@
 -- Names as locals, one name further.
-use Rattle.std.proofs.Common.{◌≡◌, ℕ, zero, suc, ◌+◌, ◌<◌, ◌≤◌, List, [], ◌∷◌, ◌++◌, take, length, get_or, map, slice_index_or, refl, sym, ap, ap₂, ◌∙◌, arith, append_assoc, length-take-le}
+use Rattle.std.proofs.Common.{◌≡◌, ℕ, zero, suc, ◌+◌, ◌<◌, ◌≤◌, List, [], ◌∷◌, ◌++◌, take, length, get_or, map}
+use Rattle.std.proofs.Common.{slice_index_or, refl, sym, ap, ap₂, ◌∙◌, arith, append_assoc, length-take-le}
 use Rattle.std.proofs.lemmas.List.{map-append, take_more, length-map}
 use Rattle.layer_ast.specs.Tree.{ItemTree, ItemsTree}
 use Rattle.layer_ast.specs.View.{item_tree, items_tree}
@@ -31,7 +32,8 @@ pub local_more : (sorts : List Sort) (xs : List Name) (i : ℕ) (x : Name) (all 
     sort ≡ slice_index_or sorts n Int →
     locals_of (all ++ record { name = x; sort = sort } ∷ []) ≡ names.locals_as sorts (take (i + 1) xs)
 local_more sorts xs i x all sort n within is so_far count is_sort =
-    let counted : length all ≡ length (take i xs) = sym (length-map all local_of) ∙ (ap length so_far ∙ locals_count sorts (take i xs)) in
+    let counted : length all ≡ length (take i xs) = sym (length-map all local_of) ∙
+    (ap length so_far ∙ locals_count sorts (take i xs)) in
     map-append local_of all (record { name = x; sort = sort } ∷ [])
     ∙ (ap (λ l. l ++ record { name = x; sort = sort } ∷ []) so_far
     ∙ (ap (λ s. names.locals_as sorts (take i xs) ++ record { name = x; sort = s } ∷ [])
@@ -43,25 +45,32 @@ local_more sorts xs i x all sort n within is so_far count is_sort =
 pub first_added : (sorts : List Sort) (x : Name) (old : List Local) (sort : Sort) → sort ≡ slice_index_or sorts 0 Int →
     locals_of (old ++ record { name = x; sort = sort } ∷ []) ≡ locals_of old ++ names.locals_as sorts (x ∷ [])
 first_added [] x old sort is =
-    map-append local_of old (record { name = x; sort = sort } ∷ []) ∙ ap (λ s. locals_of old ++ record { name = x; sort = s } ∷ []) is
+    map-append local_of old (record { name = x; sort = sort } ∷ []) ∙
+    ap (λ s. locals_of old ++ record { name = x; sort = s } ∷ []) is
 first_added (s ∷ sorts) x old sort is =
-    map-append local_of old (record { name = x; sort = sort } ∷ []) ∙ ap (λ s. locals_of old ++ record { name = x; sort = s } ∷ []) is
+    map-append local_of old (record { name = x; sort = sort } ∷ []) ∙
+    ap (λ s. locals_of old ++ record { name = x; sort = s } ∷ []) is
 
-pub next_added : (sorts : List Sort) (first : Name) (rest : List Name) (k : ℕ) (x : Name) (old all : List Local) (sort : Sort) (n : ℕ) →
+pub next_added : (sorts : List Sort) (first : Name) (rest : List Name) (k : ℕ) (x : Name) (old all : List Local)
+    (sort : Sort) (n : ℕ) →
     k < length rest → x ≡ get_or rest k x → n ≡ k + 1 →
     locals_of all ≡ locals_of old ++ names.locals_as sorts (first ∷ take k rest) → sort ≡ slice_index_or sorts n Int →
-    locals_of (all ++ record { name = x; sort = sort } ∷ []) ≡ locals_of old ++ names.locals_as sorts (first ∷ take (k + 1) rest)
+    locals_of (all ++ record { name = x; sort = sort } ∷ []) ≡ locals_of old ++
+    names.locals_as sorts (first ∷ take (k + 1) rest)
 next_added sorts first rest k x old all sort n within is count so_far is_sort =
     let counted : n ≡ length (first ∷ take k rest) =
-    let l = length-take-le k rest (omega (arith, within)) in let e : suc (length (take k rest)) ≡ n = omega (arith, l, count) in sym e in
+    let l = length-take-le k rest (omega (arith, within)) in let e : suc (length (take k rest)) ≡ n =
+    omega (arith, l, count) in sym e in
     map-append local_of all (record { name = x; sort = sort } ∷ [])
     ∙ (ap (λ l. l ++ record { name = x; sort = sort } ∷ []) so_far
-    ∙ (append_assoc (locals_of old) (names.locals_as sorts (first ∷ take k rest)) (record { name = x; sort = sort } ∷ [])
+    ∙ (append_assoc (locals_of old) (names.locals_as sorts (first ∷ take k rest))
+    (record { name = x; sort = sort } ∷ [])
     ∙ ap (λ l. locals_of old ++ l)
     (ap (λ s. names.locals_as sorts (first ∷ take k rest) ++ record { name = x; sort = s } ∷ [])
     (is_sort ∙ ap (λ i. slice_index_or sorts i Int) counted)
     ∙ (sym (locals_more sorts (first ∷ take k rest) x)
-    ∙ ap (λ xs. names.locals_as sorts (first ∷ xs)) (sym (take_more rest k x within ∙ ap (λ y. take k rest ++ y ∷ []) (sym is)))))))
+    ∙ ap (λ xs. names.locals_as sorts (first ∷ xs))
+    (sym (take_more rest k x within ∙ ap (λ y. take k rest ++ y ∷ []) (sym is)))))))
 
 -- the locals of the arguments with those of the fields behind them
 pub behind : (arguments fields : List Local) (first second : List names.Local) →
@@ -70,7 +79,8 @@ behind arguments fields first second one two =
     map-append local_of arguments fields ∙ ap₂ (λ a b. a ++ b) one two
 
 -- the sorts of a row's items by place
-pub first_sort : (row : ItemsTree) (place : ℕ) → place ≡ 0 → row.first.sort ≡ slice_index_or (map (λ i. i.sort) (items_in row)) place Int
+pub first_sort : (row : ItemsTree) (place : ℕ) → place ≡ 0 →
+    row.first.sort ≡ slice_index_or (map (λ i. i.sort) (items_in row)) place Int
 first_sort row place is = ap (λ k. slice_index_or (map (λ (i : ItemTree). i.sort) (items_in row)) k Int) (sym is)
 
 behind_first : (rest : List Item) (k : ℕ) (i : Item) → k < length rest → i ≡ get_or rest k i →
@@ -79,14 +89,16 @@ behind_first [] k i within is = absurd (omega (arith, within))
 behind_first (x ∷ rest) zero i within is = ap (λ (y : Item). y.sort) is
 behind_first (x ∷ rest) (suc k) i within is = behind_first rest k i (omega (arith, within)) is
 
-pub rest_sort : (row : Items) (place k : ℕ) (i : Item) → place ≡ k + 1 → k < length row.rest.items → i ≡ get_or row.rest.items k i →
+pub rest_sort : (row : Items) (place k : ℕ) (i : Item) → place ≡ k + 1 → k < length row.rest.items →
+    i ≡ get_or row.rest.items k i →
     i.sort ≡ slice_index_or (map (λ i. i.sort) (items_in (items_tree row))) place Int
 rest_sort row place k i is within at =
     behind_first row.rest.items k i within at
     ∙ ap (λ p. slice_index_or (map (λ (i : ItemTree). i.sort) (items_in (items_tree row))) p Int)
     (let e : suc k ≡ place = omega (arith, is) in e)
 
-past_all : (rest : List Item) (k : ℕ) → length rest ≤ k → Int ≡ slice_index_or (map (λ (x : ItemTree). x.sort) (map item_tree rest)) k Int
+past_all : (rest : List Item) (k : ℕ) → length rest ≤ k →
+    Int ≡ slice_index_or (map (λ (x : ItemTree). x.sort) (map item_tree rest)) k Int
 past_all [] k past = refl
 past_all (x ∷ rest) zero past = absurd (omega (arith, past))
 past_all (x ∷ rest) (suc k) past = past_all rest k (omega (arith, past))

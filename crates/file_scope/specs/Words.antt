@@ -1,5 +1,6 @@
 -- Tables of words.
-use Rattle.std.specs.Prelude.{◌≡◌, ℕ, suc, Bool, false, ◌&&◌, ◌==◌, if◌then◌else◌, List, [], ◌∷◌, bytes_eq, IfSome, Option, Some, None, option_map, map}
+use Rattle.std.specs.Prelude.{◌≡◌, ℕ, suc, Bool, false, ◌&&◌, ◌==◌, if◌then◌else◌, List, [], ◌∷◌, bytes_eq, IfSome}
+use Rattle.std.specs.Prelude.{Option, Some, None, option_map, map}
 use Rattle.std.specs.Option.{option_or}
 use Rattle.layer_ast.specs.Tree.{LayerTree}
 use Rattle.fault_mean.specs.Declared.{declared_name}

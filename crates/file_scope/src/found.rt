@@ -70,7 +70,8 @@ impl Found {
     /// Takes faults into account that are moved to a place, by the rank of the first of them.
     #[tactic(auto, using(crate::proofs::Moved::none_moved, crate::proofs::Moved::rank_moved))]
     pub fn note_rank(&mut self, rank: Option<u8>, at: At)
-        ensures { (faults : List Fault) → rank ≡ first_rank faults → Finds self.old (map (moved_to (Some at)) faults) self.new }
+        ensures { (faults : List Fault) → rank ≡ first_rank faults →
+            Finds self.old (map (moved_to (Some at)) faults) self.new }
     {
         if let Some(rank) = rank {
             self.note(Fault { at, rank });
@@ -81,7 +82,8 @@ impl Found {
     #[tactic(auto, unfolding(crate::specs::Found::Finds))]
     pub fn is_past(&self, fault: Fault) -> bool
         ensures known { result ≡ true → Finds self.now (fault ∷ []) self.now }
-        ensures is { result ≡ option_map_or (λ first. not (precedes fault_key (moved_to self.now.moved fault) first)) self.now.first false }
+        ensures is { result ≡ option_map_or (λ first. not (precedes fault_key (moved_to self.now.moved fault) first))
+            self.now.first false }
     {
         let fault = Fault {
             at: self.moved.unwrap_or(fault.at),

@@ -63,7 +63,9 @@ pub fn head_names(alloc: Global, handler: &Handler) -> Result<Vec<Name>, AllocEr
 
 /// Adds the names of the fields of a popped header as locals, which are numbers.
 fn add_fields(locals: &mut Vec<Local>, popped: &Option<Popped>) -> Result<(), AllocError>
-    ensures { OnOk result (locals_of locals.new.items ≡ locals_of locals.old.items ++ spec.locals_as [] (spec.popped_names (option_map popped_tree popped.now))) }
+    ensures { OnOk result
+        (locals_of locals.new.items ≡ locals_of locals.old.items ++
+        spec.locals_as [] (spec.popped_names (option_map popped_tree popped.now))) }
 {
     match popped {
         None => Ok(()),
@@ -80,7 +82,8 @@ pub fn head_locals(
     scope: &Scope,
     handler: &Handler,
 ) -> Result<Vec<Local>, AllocError>
-    ensures { IfOk result (λ all. locals_of all.items ≡ (spec.head_scope (scope_of scope.now).layer (handler_tree handler.now)).locals) }
+    ensures { IfOk result
+        (λ all. locals_of all.items ≡ (spec.head_scope (scope_of scope.now).layer (handler_tree handler.now)).locals) }
 {
     let sorts = argument_sorts(scope, handler);
     let mut locals = Vec::new(alloc);

@@ -1,4 +1,5 @@
-//! Which names are visible at a place of a layer, what they stand for, and the first fault that is found as a file is judged part by part.
+//! Which names are visible at a place of a layer, what they stand for, and the first fault that is found as a file is
+//! judged part by part.
 #![tactic(auto)]
 
 mod declared;

@@ -27,7 +27,9 @@ fn sort_at(sorts: &[Sort], place: usize) -> Sort
 /// Adds the names of a list as locals of these sorts in order; further names are numbers.
 #[tactic(auto, using(crate::proofs::Sorted::first_added, crate::proofs::Sorted::next_added))]
 pub fn add_sorted(locals: &mut Vec<Local>, sorts: &[Sort], names: &Names) -> Result<(), AllocError>
-    ensures { OnOk result (locals_of locals.new.items ≡ locals_of locals.old.items ++ spec.locals_as sorts.now (names_in (Some (names_tree names.now)))) }
+    ensures { OnOk result
+        (locals_of locals.new.items ≡ locals_of locals.old.items ++
+        spec.locals_as sorts.now (names_in (Some (names_tree names.now)))) }
 {
     locals.reserve(names.rest.len() + 1)?;
     locals.push(Local {
@@ -65,7 +67,8 @@ pub fn number_locals(alloc: Global, names: &[Name]) -> Result<Vec<Local>, AllocE
 
 /// The names of a list as locals of these sorts.
 pub fn locals_as(alloc: Global, sorts: &[Sort], names: &Names) -> Result<Vec<Local>, AllocError>
-    ensures { IfOk result (λ all. locals_of all.items ≡ spec.locals_as sorts.now (names_in (Some (names_tree names.now)))) }
+    ensures { IfOk result
+        (λ all. locals_of all.items ≡ spec.locals_as sorts.now (names_in (Some (names_tree names.now)))) }
 {
     let mut all = Vec::new(alloc);
     add_sorted(&mut all, sorts, names)?;
@@ -103,7 +106,8 @@ fn row_sort(d: &Declaration, place: usize) -> Sort
 /// Names as locals of the sorts of the rows that a declaration declares.
 #[tactic(auto, using(crate::proofs::Sorted::local_more))]
 fn row_sorted(alloc: Global, d: &Declaration, names: &[Name]) -> Result<Vec<Local>, AllocError>
-    ensures { IfOk result (λ all. locals_of all.items ≡ spec.locals_as (map (λ i. i.sort) (items_of (declaration_tree d.now))) names.now) }
+    ensures { IfOk result
+        (λ all. locals_of all.items ≡ spec.locals_as (map (λ i. i.sort) (items_of (declaration_tree d.now))) names.now) }
 {
     let mut all = Vec::new(alloc);
     for name in names {
@@ -120,7 +124,10 @@ pub fn row_locals(
     queue: &Queue,
     names: &Names,
 ) -> Result<Vec<Local>, AllocError>
-    ensures { IfOk result (λ all. locals_of all.items ≡ spec.locals_as (map (λ i. i.sort) (row_of (scope_of scope.now).layer (queue_name (queue_tree queue.now)).word)) (names_in (Some (names_tree names.now)))) }
+    ensures { IfOk result
+        (λ all. locals_of all.items ≡
+        spec.locals_as (map (λ i. i.sort) (row_of (scope_of scope.now).layer (queue_name (queue_tree queue.now)).word))
+        (names_in (Some (names_tree names.now)))) }
 {
     let names = written(alloc, names)?;
     match scope.declaration(&queue.name.word) {

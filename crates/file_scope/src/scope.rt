@@ -1,6 +1,7 @@
 //! Which names are visible.
 
-ghost use Rattle.std.specs.Prelude.{◌≡◌, ◌∷◌, [], find, map, option_map, length, slice_get, take, OnOk, option_copied, bytes_eq};
+ghost use Rattle.std.specs.Prelude.{◌≡◌, ◌∷◌, [], find, map, option_map, length, slice_get, take, OnOk, option_copied};
+ghost use Rattle.std.specs.Prelude.{bytes_eq};
 ghost use Rattle.fault_mean.specs.Declared.{declaration_of};
 ghost use Rattle.fault_mean.specs.Scope as names;
 ghost use Rattle.layer_ast.specs.View.{declaration_tree, layer_tree};
@@ -72,7 +73,8 @@ impl<'a> Scope<'a> {
     /// The declaration of a word.
     #[tactic(auto, using(crate::proofs::Scopes::declared_at, crate::proofs::Scopes::declared_nowhere))]
     pub fn declaration(&self, word: &Word) -> Option<&Declaration>
-        ensures { option_map (λ d. declaration_tree d) (option_copied result) ≡ declaration_of (layer_tree self.now.layer.now) word.now }
+        ensures { option_map (λ d. declaration_tree d) (option_copied result) ≡
+            declaration_of (layer_tree self.now.layer.now) word.now }
     {
         match self.own.position(word) {
             None => None,
@@ -94,7 +96,8 @@ impl<'a> Scope<'a> {
     /// The sort of a local, where a word is one: of the first, if there are several.
     #[tactic(auto, using(crate::proofs::Scopes::local_at, crate::proofs::Scopes::local_nowhere))]
     pub fn local(&self, word: &Word) -> Option<Sort>
-        ensures { result ≡ option_map (λ l. l.sort) (find (λ l. bytes_eq l.name.word word.now) (scope_of self.now).locals) }
+        ensures { result ≡ option_map (λ l. l.sort)
+            (find (λ l. bytes_eq l.name.word word.now) (scope_of self.now).locals) }
     {
         match self.words.position(word) {
             None => None,

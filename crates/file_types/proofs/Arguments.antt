@@ -1,5 +1,6 @@
 -- Arguments against what is wanted for them.
-use Rattle.std.proofs.Common.{◌≡◌, ℕ, ◌+◌, ◌<◌, ◌≤◌, List, [], ◌∷◌, ◌++◌, map, flat_map, take, length, get_or, slice_get, zip, min, Some, None, refl, sym, ap, ap₂, ◌∙◌, subst, append-nil, arith}
+use Rattle.std.proofs.Common.{◌≡◌, ℕ, ◌+◌, ◌<◌, ◌≤◌, List, [], ◌∷◌, ◌++◌, map, flat_map, take, length, get_or}
+use Rattle.std.proofs.Common.{slice_get, zip, min, Some, None, refl, sym, ap, ap₂, ◌∙◌, subst, append-nil, arith}
 use Rattle.std.proofs.Math.ListN.{get_or-map}
 use Rattle.std.proofs.lemmas.List.{take_all, take_more, length-map}
 use Rattle.std.proofs.lemmas.Slice.Zip.{get_or-zip, length-zip}
@@ -22,11 +23,13 @@ pub second_there : (first : ArgumentTree) (xs : List Argument) (x : Argument) �
 second_there first [] x within is = absurd (omega (arith, within))
 second_there first (y ∷ xs) x within is = ap (λ z. Some (argument_tree z)) is
 
-pub second_missing : (first : ArgumentTree) (xs : List Argument) → length xs ≤ 0 → None ≡ slice_get (first ∷ map argument_tree xs) 1
+pub second_missing : (first : ArgumentTree) (xs : List Argument) → length xs ≤ 0 →
+    None ≡ slice_get (first ∷ map argument_tree xs) 1
 second_missing first [] few = refl
 second_missing first (x ∷ xs) few = absurd (omega (arith, few))
 
-pub one_behind : (scope : Scope) (wanted : List Sort) (xs : List Argument) (x : Argument) (a b : Found) → 0 < length xs → x ≡ get_or xs 0 x →
+pub one_behind : (scope : Scope) (wanted : List Sort) (xs : List Argument) (x : Argument) (a b : Found) →
+    0 < length xs → x ≡ get_or xs 0 x →
     Finds a (argument_faults scope wanted (argument_tree x)) b →
     Finds a (arguments_faults scope (wanted ∷ []) (map argument_tree xs)) b
 one_behind scope wanted [] x a b within is finds = absurd (omega (arith, within))
@@ -39,8 +42,10 @@ pub none_behind : (scope : Scope) (wanted : List Sort) (xs : List Argument) (a :
 none_behind scope wanted [] a few = finds_none type_shown a
 none_behind scope wanted (x ∷ xs) a few = absurd (omega (arith, few))
 
-pub event_parts : (scope : Scope) (wanted more : List (List Sort)) (first : ArgumentTree) (rest : List ArgumentTree) (a b c : Found) →
-    wanted ≡ a_number ∷ more → Finds a (argument_faults scope a_number first) b → Finds b (arguments_faults scope more rest) c →
+pub event_parts : (scope : Scope) (wanted more : List (List Sort)) (first : ArgumentTree) (rest : List ArgumentTree)
+    (a b c : Found) →
+    wanted ≡ a_number ∷ more → Finds a (argument_faults scope a_number first) b →
+    Finds b (arguments_faults scope more rest) c →
     Finds a (arguments_faults scope wanted (first ∷ rest)) c
 event_parts scope wanted more first rest a b c is one others =
     subst (λ w. Finds a (arguments_faults scope w (first ∷ rest)) c) (sym is)
@@ -52,10 +57,12 @@ zip_more : {A B : Type 0} (xs : List A) (ys : List B) (k : ℕ) (x : A) (y : B) 
 zip_more xs ys k x y one two is are =
     take_more (zip xs ys) k (x, y)
     (let count = length-zip xs ys in omega (arith, count, one, two))
-    ∙ ap (λ p. take k (zip xs ys) ++ p ∷ []) (get_or-zip xs ys k (x, y) one two ∙ ap₂ (λ a b. (a, b)) (sym is) (sym are))
+    ∙ ap (λ p. take k (zip xs ys) ++ p ∷ [])
+    (get_or-zip xs ys k (x, y) one two ∙ ap₂ (λ a b. (a, b)) (sym is) (sym are))
 
 -- one item and its argument more, and all of them
-pub item_more : (scope : Scope) (items : List Item) (all : List Argument) (k : ℕ) (i : Item) (sort : Sort) (x : Argument) (a b c : Found) →
+pub item_more : (scope : Scope) (items : List Item) (all : List Argument) (k : ℕ) (i : Item) (sort : Sort)
+    (x : Argument) (a b c : Found) →
     k < length items → k < length all → i ≡ get_or items k i → x ≡ get_or all k x → sort ≡ i.sort →
     Finds a (flat_map (λ (p : List Sort × ArgumentTree). argument_faults scope p.0 p.1)
     (take k (zip (map (λ (i : ItemTree). i.sort ∷ []) (map item_tree items)) (map argument_tree all)))) b →
@@ -69,25 +76,30 @@ item_more scope items all k i sort x a b c one two is are wanted so_far now =
     let ts = map argument_tree all in
     let more : take (k + 1) (zip ws ts) ≡ take k (zip ws ts) ++ (g (item_tree i), argument_tree x) ∷ [] =
     zip_more ws ts k (g (item_tree i)) (argument_tree x)
-    (let count = length-map (map item_tree items) g in let counts = length-map items item_tree in omega (arith, count, counts, one))
+    (let count = length-map (map item_tree items) g in let counts = length-map items item_tree in
+    omega (arith, count, counts, one))
     (let count = length-map all argument_tree in omega (arith, count, two))
-    (sym (get_or-map g (map item_tree items) k (item_tree i) ∙ (ap g (get_or-map item_tree items k i) ∙ ap (λ z. g (item_tree z)) (sym is))))
+    (sym (get_or-map g (map item_tree items) k (item_tree i) ∙
+    (ap g (get_or-map item_tree items k i) ∙ ap (λ z. g (item_tree z)) (sym is))))
     (sym (get_or-map argument_tree all k x ∙ ap argument_tree (sym are))) in
     subst (λ l. Finds a (flat_map f l) c) (sym more)
     (finds_row type_shown f a b c (take k (zip ws ts)) ((g (item_tree i), argument_tree x) ∷ []) so_far
     (subst (λ l. Finds b l c) (sym (append-nil (argument_faults scope (i.sort ∷ []) (argument_tree x))))
     (subst (λ s. Finds b (argument_faults scope (s ∷ []) (argument_tree x)) c) wanted now)))
 
-pub items_end : (scope : Scope) (items : List Item) (all : List Argument) (k : ℕ) (a b : Found) → min (length items) (length all) ≤ k →
+pub items_end : (scope : Scope) (items : List Item) (all : List Argument) (k : ℕ) (a b : Found) →
+    min (length items) (length all) ≤ k →
     Finds a (flat_map (λ (p : List Sort × ArgumentTree). argument_faults scope p.0 p.1)
     (take k (zip (map (λ (i : ItemTree). i.sort ∷ []) (map item_tree items)) (map argument_tree all)))) b →
-    Finds a (arguments_faults scope (map (λ (i : ItemTree). i.sort ∷ []) (map item_tree items)) (map argument_tree all)) b
+    Finds a (arguments_faults scope (map (λ (i : ItemTree). i.sort ∷ []) (map item_tree items)) (map argument_tree all))
+    b
 items_end scope items all k a b few finds =
     let g : ItemTree → List Sort = λ t. t.sort ∷ [] in
     let ws = map g (map item_tree items) in
     let ts = map argument_tree all in
     subst (λ l. Finds a (flat_map (λ (p : List Sort × ArgumentTree). argument_faults scope p.0 p.1) l) b)
     (take_all k (zip ws ts)
-    (let count = length-zip ws ts in let one = length-map (map item_tree items) g in let two = length-map items item_tree in
+    (let count = length-zip ws ts in let one = length-map (map item_tree items) g in let two =
+    length-map items item_tree in
     let three = length-map all argument_tree in omega (arith, count, one, two, three, few)))
     finds

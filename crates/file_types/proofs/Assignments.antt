@@ -19,7 +19,8 @@ of_two f a b c d head x y before one two =
     (finds_both type_shown b c d (f x) (flat_map f (y ∷ [])) one (last f c d y two))
 
 pub of_three : {A : Type 0} (f : A → List TypeFault) (a b c d e : Found) (head : List TypeFault) (x y z : A) →
-    Finds a head b → Finds b (f x) c → Finds c (f y) d → Finds d (f z) e → Finds a (head ++ flat_map f (x ∷ y ∷ z ∷ [])) e
+    Finds a head b → Finds b (f x) c → Finds c (f y) d → Finds d (f z) e →
+    Finds a (head ++ flat_map f (x ∷ y ∷ z ∷ [])) e
 of_three f a b c d e head x y z before one two three =
     finds_both type_shown a b e head (flat_map f (x ∷ y ∷ z ∷ [])) before
     (finds_both type_shown b c e (f x) (flat_map f (y ∷ z ∷ [])) one

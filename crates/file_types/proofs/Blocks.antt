@@ -31,7 +31,8 @@ block_more outer scope inner a b c xs i x within is so_far scope_is now then_ =
     let s = statement_tree x in (
       subst (λ l. Finds a l c)
           (sym (ap (λ l. block_faults outer (trees l)) more ∙ faults_more standing_faults outer before s))
-          (finds_both type_shown a b c (block_faults outer (trees before)) (statement_faults (scope_behind_all outer before) s) so_far
+          (finds_both type_shown a b c (block_faults outer (trees before))
+          (statement_faults (scope_behind_all outer before) s) so_far
           (subst (λ z. Finds b (statement_faults z s) c) scope_is now)),
       then_ ∙ (ap (λ z. scope_behind z s) scope_is
           ∙ (sym (fold-append scope_behind outer before (s ∷ [])) ∙ ap (scope_behind_all outer) (sym more))),
@@ -48,21 +49,25 @@ with_inner outer scope scope' left ls n blk a b count extends inner kept leaves 
 )
 
 -- a take, with the names of a row
-pub take_inner : (outer scope scope' : Scope) (at : At) (q : ast.QueueTree) (ns : ast.NamesTree) (blk other : StatementTrees) (ls : List Local) (a b c : Found) →
+pub take_inner : (outer scope scope' : Scope) (at : At) (q : ast.QueueTree) (ns : ast.NamesTree)
+    (blk other : StatementTrees) (ls : List Local) (a b c : Found) →
     ls ≡ locals_as (map (λ (i : ast.ItemTree). i.sort) (row_of outer.layer (queue_name q).word)) (names_in (Some ns)) →
     Finds a (block_faults (with_locals outer ls) blk) b → scope ≡ outer →
     Finds b (block_faults scope other) c → scope' ≡ scope →
     Finds a (inner_faults outer (ast.take at q ns blk other)) c × (scope' ≡ outer)
 take_inner outer scope scope' at q ns blk other ls a b c is first kept second kept' = (
   finds_row type_shown standing_faults a b c
-      (standing_in (with_locals outer (locals_as (map (λ (i : ast.ItemTree). i.sort) (row_of outer.layer (queue_name q).word)) (names_in (Some ns)))) blk)
+      (standing_in (with_locals outer
+      (locals_as (map (λ (i : ast.ItemTree). i.sort) (row_of outer.layer (queue_name q).word)) (names_in (Some ns))))
+      blk)
       (standing_in outer other)
       (subst (λ m. Finds a (block_faults (with_locals outer m) blk) b) is first)
       (subst (λ s. Finds b (block_faults s other) c) kept second),
   kept' ∙ kept,
 )
 
-pub choose_inner : (outer scope scope' : Scope) (at : At) (likely : Likely) (condition : ast.ExpressionTree) (blk other : StatementTrees) (a b c : Found) →
+pub choose_inner : (outer scope scope' : Scope) (at : At) (likely : Likely) (condition : ast.ExpressionTree)
+    (blk other : StatementTrees) (a b c : Found) →
     Finds a (block_faults outer blk) b → scope ≡ outer → Finds b (block_faults scope other) c → scope' ≡ scope →
     Finds a (inner_faults outer (ast.choose at likely condition blk other)) c × (scope' ≡ outer)
 choose_inner outer scope scope' at likely condition blk other a b c first kept second kept' = (

@@ -9,9 +9,11 @@ use Rattle.fault_mean.specs.TypeFaults.{type_fault}
 use Rattle.file_laws.proofs.HeldLayers.{files_are_held}
 use Rattle.file_laws.specs.Bounds.{HoldsFile}
 
-pub held : (file resolved : FileTree) → file ≡ resolved → HasPlace resolved → name_fault resolved ≡ None → type_fault resolved ≡ None →
+pub held : (file resolved : FileTree) → file ≡ resolved → HasPlace resolved → name_fault resolved ≡ None →
+    type_fault resolved ≡ None →
     HoldsFile file
 held file resolved same placed names types =
     subst HoldsFile (sym same)
     (files_are_held resolved placed
-    (ap₂ (λ (n : Option NameFault) (t : Option TypeFault). option_or (option_map of_names n) (option_map of_types t)) names types))
+    (ap₂ (λ (n : Option NameFault) (t : Option TypeFault). option_or (option_map of_names n) (option_map of_types t))
+    names types))

@@ -1,5 +1,7 @@
 -- The layers of the library that places name.
-use Rattle.std.proofs.Common.{◌≡◌, ℕ, ◌+◌, ◌<◌, List, [], ◌∷◌, ◌++◌, map, flat_map, filter_map, take, length, get_or, slice_get, Option, Some, None, option_map, is_some, true, if◌then◌else◌, refl, sym, ap, ap₂, ◌∙◌, subst, append-nil}
+use Rattle.std.proofs.Common.{◌≡◌, ℕ, ◌+◌, ◌<◌, List, [], ◌∷◌, ◌++◌, map, flat_map, filter_map, take, length, get_or}
+use Rattle.std.proofs.Common.{slice_get, Option, Some, None, option_map, is_some, true, if◌then◌else◌, refl, sym, ap}
+use Rattle.std.proofs.Common.{ap₂, ◌∙◌, subst, append-nil}
 use Rattle.std.specs.List.{cons_option}
 use Rattle.std.specs.Option.{option_map_or}
 use Rattle.std.proofs.lemmas.List.Elements.{filter_map-append}
@@ -28,8 +30,10 @@ use Rattle.file_scope.proofs.Lookups.{first_at, first_there}
 use Rattle.file_types.specs.Files.{called_faults, rank_of}
 
 -- a layer that is judged once for all places
-pub rank_once : (layer : LayerTree) (start judged : Found) (rank : Option ℕ) → start.first ≡ None → start.moved ≡ Some anywhere →
-    Finds start (layer_type_faults layer) judged → rank ≡ option_map (λ (f : Fault). f.rank) judged.first → rank ≡ rank_of layer
+pub rank_once : (layer : LayerTree) (start judged : Found) (rank : Option ℕ) → start.first ≡ None →
+    start.moved ≡ Some anywhere →
+    Finds start (layer_type_faults layer) judged → rank ≡ option_map (λ (f : Fault). f.rank) judged.first →
+    rank ≡ rank_of layer
 rank_once layer start judged rank first moved finds is =
     is ∙ rank_is type_shown start judged (layer_type_faults layer) first moved finds
 
@@ -38,20 +42,26 @@ abbrev calls_if : (place : PlaceTree) (other : Option LayerTree) (own : Option L
 calls_if place other own = option_map_or (faults_of_judged type_fault_at layer_type_faults)
     (if is_some own then None else option_map (called place.name.at) other) []
 
-pub hidden : (layers library : List Layer) (places : List PlaceTree) (place : PlaceTree) (names : List (List ℕ)) (k : ℕ) (a : Found) →
+pub hidden : (layers library : List Layer) (places : List PlaceTree) (place : PlaceTree) (names : List (List ℕ)) (k : ℕ)
+    (a : Found) →
     names ≡ map (λ (l : LayerTree). l.name.word) (map layer_tree layers) → Some k ≡ place_of place.name.word names →
-    Finds a (called_faults (record { layers = map layer_tree layers; places = places; library = map layer_tree library }) place) a
+    Finds a (called_faults
+    (record { layers = map layer_tree layers; places = places; library = map layer_tree library }) place) a
 hidden layers library places place names k a are at =
     go (layer_among (map layer_tree layers) place.name.word)
-    (first_there (λ (l : LayerTree). l.name.word) place.name.word (map layer_tree layers) k (ap (place_of place.name.word) (sym are) ∙ sym at)) where
-      go : (o : Option LayerTree) → is_some o ≡ true → Finds a (calls_if place (layer_among (map layer_tree library) place.name.word) o) a
+    (first_there (λ (l : LayerTree). l.name.word) place.name.word (map layer_tree layers) k
+    (ap (place_of place.name.word) (sym are) ∙ sym at)) where
+      go : (o : Option LayerTree) → is_some o ≡ true →
+          Finds a (calls_if place (layer_among (map layer_tree library) place.name.word) o) a
       go (Some l) e = finds_none type_shown a
       go None e = absurd (cc e)
 
-pub uncalled : (layers library : List Layer) (places : List PlaceTree) (place : PlaceTree) (names more : List (List ℕ)) (a : Found) →
+pub uncalled : (layers library : List Layer) (places : List PlaceTree) (place : PlaceTree) (names more : List (List ℕ))
+    (a : Found) →
     names ≡ map (λ (l : LayerTree). l.name.word) (map layer_tree layers) → None ≡ place_of place.name.word names →
     more ≡ map (λ (l : LayerTree). l.name.word) (map layer_tree library) → None ≡ place_of place.name.word more →
-    Finds a (called_faults (record { layers = map layer_tree layers; places = places; library = map layer_tree library }) place) a
+    Finds a (called_faults
+    (record { layers = map layer_tree layers; places = places; library = map layer_tree library }) place) a
 uncalled layers library places place names more a are lacks mores lacks_too =
     subst (λ f. Finds a f a)
     (sym (ap₂ (calls_if place) (found_nowhere library more place.name.word mores lacks_too)
@@ -65,13 +75,15 @@ shown_moved at (direction _) = refl
 shown_moved at (header _) = refl
 shown_moved at (initial _) = refl
 
-pub called_once : (layers library : List Layer) (places : List PlaceTree) (place : PlaceTree) (names more : List (List ℕ)) (all : List (Option ℕ))
+pub called_once : (layers library : List Layer) (places : List PlaceTree) (place : PlaceTree)
+    (names more : List (List ℕ)) (all : List (Option ℕ))
     (k : ℕ) (one : Option ℕ) (a b : Found) →
     names ≡ map (λ (l : LayerTree). l.name.word) (map layer_tree layers) → None ≡ place_of place.name.word names →
     more ≡ map (λ (l : LayerTree). l.name.word) (map layer_tree library) → Some k ≡ place_of place.name.word more →
     all ≡ map rank_of (map layer_tree library) → one ≡ get_or all k one →
     ((faults : List Fault) → one ≡ first_rank faults → generic.Finds a (map (moved_to (Some place.name.at)) faults) b) →
-    Finds a (called_faults (record { layers = map layer_tree layers; places = places; library = map layer_tree library }) place) b
+    Finds a (called_faults
+    (record { layers = map layer_tree layers; places = places; library = map layer_tree library }) place) b
 called_once layers library places place names more all k one a b are lacks mores at made is finds =
     let got : option_map rank_of (layer_among (map layer_tree library) place.name.word) ≡ Some one =
     ap (option_map rank_of) (sym (first_at (λ (l : LayerTree). l.name.word) place.name.word (map layer_tree library) k
@@ -79,7 +91,8 @@ called_once layers library places place names more all k one a b are lacks mores
     ∙ (sym (slice_get-map rank_of (map layer_tree library) k)
     ∙ (ap (λ l. slice_get l k) (sym made)
     ∙ sym (there all k one (within_made rank_of library more all place.name.word k mores made at) is))) in
-    subst (λ (o : Option LayerTree). Finds a (calls_if place (layer_among (map layer_tree library) place.name.word) o) b)
+    subst (λ (o : Option LayerTree). Finds a (calls_if place (layer_among (map layer_tree library) place.name.word) o)
+    b)
     (sym (found_nowhere layers names place.name.word are lacks))
     (go (layer_among (map layer_tree library) place.name.word) got) where
       go : (o : Option LayerTree) → option_map rank_of o ≡ Some one → Finds a (calls_if place o None) b
@@ -90,10 +103,13 @@ called_once layers library places place names more all k one a b are lacks mores
           (finds (map type_shown (layer_type_faults l)) (sym same))
 
 -- the layers of the library, one place further
-pub called_more : (file : FileTree) (a b c : Found) (xs : List Place) (i : ℕ) (x : Place) → i < length xs → x ≡ get_or xs i x →
-    Finds a (flat_map (faults_of_judged type_fault_at layer_type_faults) (filter_map (called_at file) (map place_tree (take i xs)))) b →
+pub called_more : (file : FileTree) (a b c : Found) (xs : List Place) (i : ℕ) (x : Place) → i < length xs →
+    x ≡ get_or xs i x →
+    Finds a (flat_map (faults_of_judged type_fault_at layer_type_faults)
+    (filter_map (called_at file) (map place_tree (take i xs)))) b →
     Finds b (called_faults file (place_tree x)) c →
-    Finds a (flat_map (faults_of_judged type_fault_at layer_type_faults) (filter_map (called_at file) (map place_tree (take (i + 1) xs)))) c
+    Finds a (flat_map (faults_of_judged type_fault_at layer_type_faults)
+    (filter_map (called_at file) (map place_tree (take (i + 1) xs)))) c
 called_more file a b c xs i x within is so_far now =
     let f : Judged → List TypeFault = faults_of_judged type_fault_at layer_type_faults in
     let before = filter_map (called_at file) (map place_tree (take i xs)) in

@@ -1,5 +1,6 @@
 -- A file, part by part.
-use Rattle.std.proofs.Common.{◌≡◌, List, ◌++◌, map, flat_map, filter_map, Option, Some, None, option_map, refl, sym, ap, ◌∙◌, subst}
+use Rattle.std.proofs.Common.{◌≡◌, List, ◌++◌, map, flat_map, filter_map, Option, Some, None, option_map, refl, sym, ap}
+use Rattle.std.proofs.Common.{◌∙◌, subst}
 use Rattle.std.proofs.lemmas.Grind.{flat_map-append}
 use Rattle.layer_ast.specs.Tree.{FileTree}
 use Rattle.fault_mean.specs.Earliest.{earliest}
@@ -40,7 +41,9 @@ shown_back (Some (header at)) = refl
 shown_back (Some (initial at)) = refl
 
 pub first_typed : (file : FileTree) (start judged : Found) → start.first ≡ None → start.moved ≡ None →
-    Finds start (faults_of_layers type_fault_at layer_type_faults file) judged → option_map typed judged.first ≡ type_fault file
+    Finds start (faults_of_layers type_fault_at layer_type_faults file) judged → option_map typed judged.first ≡
+    type_fault file
 first_typed file start judged first moved finds =
     let all = faults_of_layers type_fault_at layer_type_faults file in
-    ap (option_map typed) (first_is type_shown type_key start judged all shown_key first moved finds) ∙ shown_back (earliest type_key all)
+    ap (option_map typed) (first_is type_shown type_key start judged all shown_key first moved finds) ∙
+    shown_back (earliest type_key all)

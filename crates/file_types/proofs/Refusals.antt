@@ -6,7 +6,8 @@ use Rattle.fault_mean.specs.TypeFaults.{type_fault}
 use Rattle.file_types.specs.Answer.{Judges, error_of}
 use Rattle.file_types.specs.declared.error.TypeError.{TypeError}
 
-pub refused : (file : FileTree) (fault : TypeFault) (error : TypeError) → Some fault ≡ type_fault file → error ≡ error_of fault →
+pub refused : (file : FileTree) (fault : TypeFault) (error : TypeError) → Some fault ≡ type_fault file →
+    error ≡ error_of fault →
     Judges file (Err error)
 refused file fault error first is =
     subst (λ e. Judges file (Err e)) (sym is) (go fault (sym first)) where

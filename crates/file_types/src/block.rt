@@ -21,7 +21,8 @@ pub fn block(
     scope: &mut Scope,
     b: &Block,
 ) -> Result<(), AllocError>
-    ensures { OnOk result (Finds found.old (block_faults (scope_of scope.old) (block_tree b.now)) found.new × (scope_of scope.new ≡ scope_of scope.old)) }
+    ensures { OnOk result (Finds found.old (block_faults (scope_of scope.old) (block_tree b.now)) found.new ×
+        (scope_of scope.new ≡ scope_of scope.old)) }
 {
     let outer = scope.len();
     statements(alloc, found, scope, &b.statements)?;
@@ -37,7 +38,8 @@ fn statements(
     scope: &mut Scope,
     all: &[Statement],
 ) -> Result<(), AllocError>
-    ensures { OnOk result (Finds found.old (block_faults (scope_of scope.old) (statement_trees all.now)) found.new × (scope_of scope.new ≡ scope_behind_all (scope_of scope.old) (map statement_tree all.now))) }
+    ensures { OnOk result (Finds found.old (block_faults (scope_of scope.old) (statement_trees all.now)) found.new ×
+        (scope_of scope.new ≡ scope_behind_all (scope_of scope.old) (map statement_tree all.now))) }
 {
     for s in all {
         one(alloc, found, scope, s)?;
@@ -48,7 +50,8 @@ fn statements(
 /// A statement, and those in its blocks.
 #[cycle(blocks)]
 fn one(alloc: Global, found: &mut Found, scope: &mut Scope, s: &Statement) -> Result<(), AllocError>
-    ensures { OnOk result (Finds found.old (statement_faults (scope_of scope.old) (statement_tree s.now)) found.new × (scope_of scope.new ≡ spec.scope_behind (scope_of scope.old) (statement_tree s.now))) }
+    ensures { OnOk result (Finds found.old (statement_faults (scope_of scope.old) (statement_tree s.now)) found.new ×
+        (scope_of scope.new ≡ spec.scope_behind (scope_of scope.old) (statement_tree s.now))) }
 {
     statement::statement(found, scope, s);
     inside(alloc, found, scope, s)?;
@@ -63,7 +66,8 @@ fn inside(
     scope: &mut Scope,
     s: &Statement,
 ) -> Result<(), AllocError>
-    ensures { OnOk result (Finds found.old (inner_faults (scope_of scope.old) (statement_tree s.now)) found.new × (scope_of scope.new ≡ spec.scope_behind (scope_of scope.old) (statement_tree s.now))) }
+    ensures { OnOk result (Finds found.old (inner_faults (scope_of scope.old) (statement_tree s.now)) found.new ×
+        (scope_of scope.new ≡ spec.scope_behind (scope_of scope.old) (statement_tree s.now))) }
 {
     match s {
         Statement::Let { name, .. } => {
@@ -122,7 +126,9 @@ fn with_locals(
     locals: &[Local],
     b: &Block,
 ) -> Result<(), AllocError>
-    ensures { OnOk result (Finds found.old (block_faults (spec.with_locals (scope_of scope.old) (locals_of locals.now)) (block_tree b.now)) found.new × (scope_of scope.new ≡ scope_of scope.old)) }
+    ensures { OnOk result
+        (Finds found.old (block_faults (spec.with_locals (scope_of scope.old) (locals_of locals.now))
+        (block_tree b.now)) found.new × (scope_of scope.new ≡ scope_of scope.old)) }
 {
     let outer = scope.len();
     scope.extend(locals)?;

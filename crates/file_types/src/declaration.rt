@@ -18,7 +18,9 @@ use layer_ast::{Declaration, Expression};
 /// An initial value.
 #[tactic(auto, using(file_scope::proofs::Finds::finds_both))]
 fn initial(found: &mut Found, scope: &Scope, e: &Expression)
-    ensures { Finds found.old (number_faults (scope_of scope.now) (expression_tree e.now) ++ unless (sorts.is_initial (scope_of scope.now).layer (expression_tree e.now)) (fault.initial (sorts.expression_at (expression_tree e.now)))) found.new }
+    ensures { Finds found.old (number_faults (scope_of scope.now) (expression_tree e.now) ++
+        unless (sorts.is_initial (scope_of scope.now).layer (expression_tree e.now))
+        (fault.initial (sorts.expression_at (expression_tree e.now)))) found.new }
 {
     expression(found, scope, e);
     let holds = is_initial(scope, e);
@@ -45,7 +47,8 @@ fn declaration(found: &mut Found, scope: &Scope, d: &Declaration)
 /// Declarations, in the scope of their layer's own names.
 #[tactic(auto, using(file_scope::proofs::Finds::finds_none, file_scope::proofs::Finds::part_more))]
 pub fn declarations(found: &mut Found, scope: &Scope, all: &[Declaration])
-    ensures { Finds found.old (flat_map (declaration_faults (scope_of scope.now)) (map declaration_tree all.now)) found.new }
+    ensures { Finds found.old (flat_map (declaration_faults (scope_of scope.now)) (map declaration_tree all.now))
+        found.new }
 {
     for d in all {
         declaration(found, scope, d);

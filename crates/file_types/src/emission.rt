@@ -1,6 +1,7 @@
 //! The types of an emission.
 
-ghost use Rattle.std.specs.Prelude.{◌≡◌, [], ◌==◌, length, map, option_map, option_copied, option_to_list, slice_get, Some, true};
+ghost use Rattle.std.specs.Prelude.{◌≡◌, [], ◌==◌, length, map, option_map, option_copied, option_to_list, slice_get};
+ghost use Rattle.std.specs.Prelude.{Some, true};
 ghost use Rattle.std.specs.Option.{option_map_or};
 ghost use Rattle.layer_ast.specs.View.{argument_tree, arguments_tree, pushed_tree};
 ghost use Rattle.fault_mean.specs.ExpressionFaults.{arguments_faults};
@@ -29,7 +30,8 @@ fn has_arity(kind: Kind, arguments: &Arguments) -> bool
 /// The second argument, where there is one.
 #[tactic(auto, using(crate::proofs::Arguments::second_there, crate::proofs::Arguments::second_missing))]
 fn second(arguments: &Arguments) -> Option<&Argument>
-    ensures { option_map (λ a. argument_tree a) (option_copied result) ≡ slice_get (arguments_in (Some (arguments_tree arguments.now))) 1 }
+    ensures { option_map (λ a. argument_tree a) (option_copied result) ≡
+        slice_get (arguments_in (Some (arguments_tree arguments.now))) 1 }
 {
     if arguments.rest.len() > 0 {
         Some(&arguments.rest[0])
@@ -41,7 +43,9 @@ fn second(arguments: &Arguments) -> Option<&Argument>
 /// The argument behind the first, for which something is wanted or nothing.
 #[tactic(auto, using(file_scope::proofs::Finds::finds_none, crate::proofs::Arguments::one_behind, crate::proofs::Arguments::none_behind))]
 fn behind_first(found: &mut Found, scope: &Scope, wanted: Option<Wanted>, rest: &[Argument])
-    ensures { Finds found.old (arguments_faults (scope_of scope.now) (map sorts_of (option_to_list wanted)) (map argument_tree rest.now)) found.new }
+    ensures { Finds found.old
+        (arguments_faults (scope_of scope.now) (map sorts_of (option_to_list wanted)) (map argument_tree rest.now))
+        found.new }
 {
     if let Some(wanted) = wanted {
         if rest.len() > 0 {
@@ -53,7 +57,9 @@ fn behind_first(found: &mut Found, scope: &Scope, wanted: Option<Wanted>, rest: 
 /// The arguments of an event of a kind.
 #[tactic(auto, using(crate::proofs::Arguments::event_parts))]
 fn event_arguments(found: &mut Found, scope: &Scope, kind: Kind, arguments: &Arguments)
-    ensures { Finds found.old (arguments_faults (scope_of scope.now) (arguments_of kind) (arguments_in (Some (arguments_tree arguments.now)))) found.new }
+    ensures { Finds found.old
+        (arguments_faults (scope_of scope.now) (arguments_of kind) (arguments_in (Some (arguments_tree arguments.now))))
+        found.new }
 {
     argument(found, scope, NUMBER, &arguments.first);
     behind_first(found, scope, second_wanted(kind), &arguments.rest);
@@ -79,7 +85,9 @@ fn put_on(found: &mut Found, scope: &Scope, at: At, dir: Dir, kind: Kind, p: &Pu
 /// The header that an emission puts on, where it names one.
 #[tactic(auto, using(file_scope::proofs::Finds::finds_none))]
 fn pushed(found: &mut Found, scope: &Scope, at: At, dir: Dir, kind: Kind, p: &Option<Pushed>)
-    ensures { Finds found.old (option_map_or (spec.pushed_faults (scope_of scope.now) at dir kind) (option_map pushed_tree p.now) []) found.new }
+    ensures { Finds found.old
+        (option_map_or (spec.pushed_faults (scope_of scope.now) at dir kind) (option_map pushed_tree p.now) [])
+        found.new }
 {
     match p {
         None => {}
@@ -112,7 +120,9 @@ fn sent_sort(scope: &Scope, kind: Kind, arguments: &Arguments) -> Option<Sort>
 
 /// Whether the header of an emission suits its message.
 fn is_suited(scope: &Scope, dir: Dir, kind: Kind, arguments: &Arguments, p: &Option<Pushed>) -> bool
-    ensures { result ≡ option_map_or (spec.suits dir (spec.ends_with (scope_of scope.now).layer (option_map pushed_tree p.now))) (spec.sent_sort (scope_of scope.now) kind (arguments_in (Some (arguments_tree arguments.now)))) true }
+    ensures { result ≡ option_map_or
+        (spec.suits dir (spec.ends_with (scope_of scope.now).layer (option_map pushed_tree p.now)))
+        (spec.sent_sort (scope_of scope.now) kind (arguments_in (Some (arguments_tree arguments.now)))) true }
 {
     match sent_sort(scope, kind, arguments) {
         None => true,
@@ -131,7 +141,9 @@ pub fn emission(
     arguments: &Arguments,
     p: &Option<Pushed>,
 )
-    ensures { Finds found.old (spec.emission_faults (scope_of scope.now) at dir kind (arguments_in (Some (arguments_tree arguments.now))) (option_map pushed_tree p.now)) found.new }
+    ensures { Finds found.old
+        (spec.emission_faults (scope_of scope.now) at dir kind (arguments_in (Some (arguments_tree arguments.now)))
+        (option_map pushed_tree p.now)) found.new }
 {
     note_unless(found, has_arity(kind, arguments), Cause::Arity, at);
     event_arguments(found, scope, kind, arguments);

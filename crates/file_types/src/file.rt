@@ -24,7 +24,8 @@ fn all(
 ) -> Result<(), AllocError>
     requires layers { layer_words.now ≡ map own_words (file_tree file.now).layers }
     requires library { library_words.now ≡ map own_words (file_tree file.now).library }
-    ensures { OnOk result (Finds found.old (faults_of_layers type_fault_at layer_type_faults (file_tree file.now)) found.new) }
+    ensures { OnOk result
+        (Finds found.old (faults_of_layers type_fault_at layer_type_faults (file_tree file.now)) found.new) }
 {
     written(alloc, found, &file.layers, layer_words)?;
     let library = rank_library(alloc, file, library_words)?;

@@ -32,7 +32,8 @@ fn head<'a>(
     handler: &Handler,
 ) -> Result<Scope<'a>, AllocError>
     requires { own.now ≡ own_words (layer_tree layer.now) }
-    ensures { IfOk result (λ scope. scope_of scope ≡ scopes.head_scope (layer_tree layer.now) (handler_tree handler.now)) }
+    ensures { IfOk result
+        (λ scope. scope_of scope ≡ scopes.head_scope (layer_tree layer.now) (handler_tree handler.now)) }
 {
     let mut scope = Scope::of(alloc, layer, own);
     let locals = head_locals(alloc, &scope, handler)?;
@@ -42,7 +43,9 @@ fn head<'a>(
 
 /// How many arguments a handler has.
 fn arity(found: &mut Found, handler: &Handler)
-    ensures { Finds found.old (unless (length (names_in (Some (handler_tree handler.now).names)) == length (arguments_of handler.now.kind)) (fault.arity handler.now.at)) found.new }
+    ensures { Finds found.old
+        (unless (length (names_in (Some (handler_tree handler.now).names)) == length (arguments_of handler.now.kind))
+        (fault.arity handler.now.at)) found.new }
 {
     let count = Count::Behind(handler.names.rest.len());
     let holds = is_same_count(count, argument_count(handler.kind));
@@ -59,7 +62,10 @@ fn takes_off(handler: &Handler) -> bool
 /// The header that a handler takes off, in the scope of its layer's own names.
 #[tactic(auto, using(file_scope::proofs::Finds::finds_none))]
 fn popped(found: &mut Found, scope: &Scope, handler: &Handler)
-    ensures { Finds found.old (option_map_or (λ p. spec.with_faults (scope_of scope.now).layer handler.now.at p.name (length (scopes.popped_names (Some p))) (spec.takes_off (handler_tree handler.now))) (option_map popped_tree handler.now.popped) []) found.new }
+    ensures { Finds found.old
+        (option_map_or (λ p. spec.with_faults (scope_of scope.now).layer handler.now.at p.name
+        (length (scopes.popped_names (Some p))) (spec.takes_off (handler_tree handler.now)))
+        (option_map popped_tree handler.now.popped) []) found.new }
 {
     match &handler.popped {
         None => {}
@@ -98,7 +104,8 @@ fn handler(
     handler: &Handler,
 ) -> Result<(), AllocError>
     requires { own.now ≡ own_words (layer_tree layer.now) }
-    ensures { OnOk result (Finds found.old (spec.handler_type_faults (layer_tree layer.now) (handler_tree handler.now)) found.new) }
+    ensures { OnOk result
+        (Finds found.old (spec.handler_type_faults (layer_tree layer.now) (handler_tree handler.now)) found.new) }
 {
     arity(found, handler);
     let mut scope = head(alloc, layer, own, handler)?;
@@ -117,7 +124,9 @@ pub fn handlers(
     own: &Words,
 ) -> Result<(), AllocError>
     requires { own.now ≡ own_words (layer_tree layer.now) }
-    ensures { OnOk result (Finds found.old (flat_map (spec.handler_type_faults (layer_tree layer.now)) (layer_tree layer.now).handlers) found.new) }
+    ensures { OnOk result
+        (Finds found.old (flat_map (spec.handler_type_faults (layer_tree layer.now)) (layer_tree layer.now).handlers)
+        found.new) }
 {
     for h in &layer.handlers {
         handler(alloc, found, layer, own, h)?;

@@ -39,7 +39,8 @@ fn fields(scope: &Scope, word: &Word) -> Count
 /// The header that is named behind `with`, with so many fields, where one is allowed or not.
 #[tactic(auto, using(file_scope::proofs::Parts::three_parts))]
 pub fn header(found: &mut Found, scope: &Scope, at: At, name: &Name, count: Count, is_allowed: bool)
-    ensures { Finds found.old (spec.with_faults (scope_of scope.now).layer at name.now (count_of count) is_allowed) found.new }
+    ensures { Finds found.old (spec.with_faults (scope_of scope.now).layer at name.now (count_of count) is_allowed)
+        found.new }
 {
     note_unless(found, declares_header(scope, &name.word), Cause::Kind, at);
     let holds = is_same_count(fields(scope, &name.word), count);
@@ -50,7 +51,8 @@ pub fn header(found: &mut Found, scope: &Scope, at: At, name: &Name, count: Coun
 /// Arguments, each of which is to be a number.
 #[tactic(auto, using(file_scope::proofs::Finds::finds_none, file_scope::proofs::Finds::part_more))]
 fn each_number(found: &mut Found, scope: &Scope, all: &[Argument])
-    ensures { Finds found.old (flat_map (argument_faults (scope_of scope.now) a_number) (map argument_tree all.now)) found.new }
+    ensures { Finds found.old (flat_map (argument_faults (scope_of scope.now) a_number) (map argument_tree all.now))
+        found.new }
 {
     for a in all {
         argument(found, scope, NUMBER, a);
@@ -60,7 +62,9 @@ fn each_number(found: &mut Found, scope: &Scope, all: &[Argument])
 /// The fields of a header that is put on.
 #[tactic(auto, using(file_scope::proofs::Finds::finds_none, file_scope::proofs::Finds::finds_both))]
 pub fn numbers(found: &mut Found, scope: &Scope, fields: &Option<Arguments>)
-    ensures { Finds found.old (flat_map (argument_faults (scope_of scope.now) a_number) (arguments_in (option_map arguments_tree fields.now))) found.new }
+    ensures { Finds found.old
+        (flat_map (argument_faults (scope_of scope.now) a_number) (arguments_in (option_map arguments_tree fields.now)))
+        found.new }
 {
     match fields {
         None => {}

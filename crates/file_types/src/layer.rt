@@ -16,7 +16,8 @@ use std::alloc::{AllocError, Global};
 #[tactic(auto, using(crate::proofs::Handlers::own_declarations))]
 fn declared(alloc: Global, found: &mut Found, layer: &Layer, own: &Words)
     requires { own.now ≡ own_words (layer_tree layer.now) }
-    ensures { Finds found.old (flat_map (spec.declaration_type_faults (layer_tree layer.now)) (layer_tree layer.now).declarations) found.new }
+    ensures { Finds found.old
+        (flat_map (spec.declaration_type_faults (layer_tree layer.now)) (layer_tree layer.now).declarations) found.new }
 {
     let scope = Scope::of(alloc, layer, own);
     declarations(found, &scope, &layer.declarations);

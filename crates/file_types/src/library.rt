@@ -106,7 +106,9 @@ fn called(found: &mut Found, library: &Ranked, place: &Place)
 /// The layers of the library, for each place that names one.
 #[tactic(auto, using(file_scope::proofs::Finds::finds_none, crate::proofs::Calls::called_more))]
 pub fn calls(found: &mut Found, library: &Ranked, places: &[Place])
-    ensures { Finds found.old (flat_map (faults_of_judged type_fault_at layer_type_faults) (filter_map (called_at (file_tree library.now.file.now)) (map place_tree places.now))) found.new }
+    ensures { Finds found.old
+        (flat_map (faults_of_judged type_fault_at layer_type_faults)
+        (filter_map (called_at (file_tree library.now.file.now)) (map place_tree places.now))) found.new }
 {
     for place in places {
         called(found, library, place);

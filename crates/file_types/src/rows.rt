@@ -1,7 +1,8 @@
 //! The rows of queues.
 
 ghost use Rattle.std.specs.Prelude.{◌≡◌, ◌∷◌, [], length, map, min, Some};
-ghost use Rattle.layer_ast.specs.View.{argument_tree, arguments_tree, declaration_tree, item_tree, items_tree, queue_tree};
+ghost use Rattle.layer_ast.specs.View.{argument_tree, arguments_tree, declaration_tree, item_tree, items_tree};
+ghost use Rattle.layer_ast.specs.View.{queue_tree};
 ghost use Rattle.fault_mean.specs.Declared.{items_in};
 ghost use Rattle.fault_mean.specs.ExpressionFaults.{arguments_faults};
 ghost use Rattle.fault_mean.specs.Forms.{items_of, queue_name, row_of};
@@ -42,7 +43,8 @@ fn row_items(scope: &Scope, q: &Queue) -> Count
 /// A push or a take of so many items.
 #[tactic(auto, using(file_scope::proofs::Finds::finds_both))]
 pub fn row(found: &mut Found, scope: &Scope, at: At, q: &Queue, count: Count)
-    ensures { Finds found.old (spec.row_type_faults (scope_of scope.now) at (queue_tree q.now) (count_of count)) found.new }
+    ensures { Finds found.old (spec.row_type_faults (scope_of scope.now) at (queue_tree q.now) (count_of count))
+        found.new }
 {
     queue(found, scope, at, q);
     let holds = is_same_count(row_items(scope, q), count);
@@ -59,7 +61,9 @@ fn lesser(a: usize, b: usize) -> usize
 /// Arguments, for each of which the sort of an item is wanted.
 #[tactic(auto, using(file_scope::proofs::Finds::finds_none, crate::proofs::Arguments::item_more, crate::proofs::Arguments::items_end))]
 fn each_item(found: &mut Found, scope: &Scope, items: &[Item], all: &[Argument])
-    ensures { Finds found.old (arguments_faults (scope_of scope.now) (map (λ i. i.sort ∷ []) (map item_tree items.now)) (map argument_tree all.now)) found.new }
+    ensures { Finds found.old
+        (arguments_faults (scope_of scope.now) (map (λ i. i.sort ∷ []) (map item_tree items.now))
+        (map argument_tree all.now)) found.new }
 {
     for k in 0..lesser(items.len(), all.len()) {
         argument(found, scope, Wanted::One(items[k].sort), &all[k]);
@@ -69,7 +73,9 @@ fn each_item(found: &mut Found, scope: &Scope, items: &[Item], all: &[Argument])
 /// The arguments of a row.
 #[tactic(auto, using(file_scope::proofs::Finds::finds_both))]
 fn each_of_row(found: &mut Found, scope: &Scope, items: &Items, arguments: &Arguments)
-    ensures { Finds found.old (arguments_faults (scope_of scope.now) (map (λ i. i.sort ∷ []) (items_in (items_tree items.now))) (arguments_in (Some (arguments_tree arguments.now)))) found.new }
+    ensures { Finds found.old
+        (arguments_faults (scope_of scope.now) (map (λ i. i.sort ∷ []) (items_in (items_tree items.now)))
+        (arguments_in (Some (arguments_tree arguments.now)))) found.new }
 {
     argument(
         found,
@@ -83,7 +89,9 @@ fn each_of_row(found: &mut Found, scope: &Scope, items: &Items, arguments: &Argu
 /// The arguments of a row that a declaration declares.
 #[tactic(auto, using(file_scope::proofs::Finds::finds_none))]
 fn declared_row(found: &mut Found, scope: &Scope, d: &Declaration, arguments: &Arguments)
-    ensures { Finds found.old (arguments_faults (scope_of scope.now) (map (λ i. i.sort ∷ []) (items_of (declaration_tree d.now))) (arguments_in (Some (arguments_tree arguments.now)))) found.new }
+    ensures { Finds found.old
+        (arguments_faults (scope_of scope.now) (map (λ i. i.sort ∷ []) (items_of (declaration_tree d.now)))
+        (arguments_in (Some (arguments_tree arguments.now)))) found.new }
 {
     match d {
         Declaration::Queue { items, .. } | Declaration::Queues { items, .. } => each_of_row(
@@ -96,7 +104,9 @@ fn declared_row(found: &mut Found, scope: &Scope, d: &Declaration, arguments: &A
 /// The arguments of a push.
 #[tactic(auto, using(file_scope::proofs::Finds::finds_none))]
 pub fn row_arguments(found: &mut Found, scope: &Scope, q: &Queue, arguments: &Arguments)
-    ensures { Finds found.old (arguments_faults (scope_of scope.now) (spec.row_sorts (scope_of scope.now).layer (queue_tree q.now)) (arguments_in (Some (arguments_tree arguments.now)))) found.new }
+    ensures { Finds found.old
+        (arguments_faults (scope_of scope.now) (spec.row_sorts (scope_of scope.now).layer (queue_tree q.now))
+        (arguments_in (Some (arguments_tree arguments.now)))) found.new }
 {
     match scope.declaration(&q.name.word) {
         None => {}

@@ -2,7 +2,8 @@
 
 ghost use Rattle.std.specs.Prelude.{◌≡◌, ◌++◌, ◌∷◌, [], length, option_map, Some};
 ghost use Rattle.layer_ast.specs.Tree as tree;
-ghost use Rattle.layer_ast.specs.View.{arguments_tree, expression_tree, names_tree, queue_tree, size_tree, statement_tree};
+ghost use Rattle.layer_ast.specs.View.{arguments_tree, expression_tree, names_tree, queue_tree, size_tree};
+ghost use Rattle.layer_ast.specs.View.{statement_tree};
 ghost use Rattle.layer_ast.specs.declared.syntax.Shape.TheVariants.{One, Array, Square};
 ghost use Rattle.fault_mean.specs.Declared.{names_in};
 ghost use Rattle.fault_mean.specs.ExpressionFaults.{arguments_faults, number_faults};
@@ -36,7 +37,8 @@ pub fn size(found: &mut Found, scope: &Scope, at: At, s: &Size)
 /// An assignment to a cell that is one number.
 #[tactic(auto, using(crate::proofs::Assignments::of_one))]
 fn set_one(found: &mut Found, scope: &Scope, at: At, name: &Name, value: &Expression)
-    ensures { Finds found.old (spec.set_faults (scope_of scope.now) at One name.now (expression_tree value.now ∷ [])) found.new }
+    ensures { Finds found.old (spec.set_faults (scope_of scope.now) at One name.now (expression_tree value.now ∷ []))
+        found.new }
 {
     let holds = declares_numbers(scope, Shape::One, &name.word);
     note_unless(found, holds, Cause::Kind, at);
@@ -53,7 +55,9 @@ fn set_element(
     index: &Expression,
     value: &Expression,
 )
-    ensures { Finds found.old (spec.set_faults (scope_of scope.now) at Array name.now (expression_tree index.now ∷ expression_tree value.now ∷ [])) found.new }
+    ensures { Finds found.old
+        (spec.set_faults (scope_of scope.now) at Array name.now
+        (expression_tree index.now ∷ expression_tree value.now ∷ [])) found.new }
 {
     let holds = declares_numbers(scope, Shape::Array, &name.word);
     note_unless(found, holds, Cause::Kind, at);
@@ -72,7 +76,9 @@ fn set_square(
     column: &Expression,
     value: &Expression,
 )
-    ensures { Finds found.old (spec.set_faults (scope_of scope.now) at Square name.now (expression_tree row.now ∷ expression_tree column.now ∷ expression_tree value.now ∷ [])) found.new }
+    ensures { Finds found.old
+        (spec.set_faults (scope_of scope.now) at Square name.now
+        (expression_tree row.now ∷ expression_tree column.now ∷ expression_tree value.now ∷ [])) found.new }
 {
     let holds = declares_numbers(scope, Shape::Square, &name.word);
     note_unless(found, holds, Cause::Kind, at);
@@ -90,7 +96,9 @@ fn set(
     index: &Option<Expression>,
     value: &Expression,
 )
-    ensures { Finds found.old (spec.statement_type_faults (scope_of scope.now) (tree.set at name.now (option_map expression_tree index.now) (expression_tree value.now))) found.new }
+    ensures { Finds found.old
+        (spec.statement_type_faults (scope_of scope.now)
+        (tree.set at name.now (option_map expression_tree index.now) (expression_tree value.now))) found.new }
 {
     match index {
         None => set_one(found, scope, at, name, value),
@@ -101,7 +109,11 @@ fn set(
 /// A push.
 #[tactic(auto, using(file_scope::proofs::Finds::finds_both, crate::proofs::Counts::trees_count))]
 fn push(found: &mut Found, scope: &Scope, at: At, q: &Queue, items: &Arguments)
-    ensures { Finds found.old (spec.row_type_faults (scope_of scope.now) at (queue_tree q.now) (length (arguments_in (Some (arguments_tree items.now)))) ++ arguments_faults (scope_of scope.now) (spec.row_sorts (scope_of scope.now).layer (queue_tree q.now)) (arguments_in (Some (arguments_tree items.now)))) found.new }
+    ensures { Finds found.old
+        (spec.row_type_faults (scope_of scope.now) at (queue_tree q.now)
+        (length (arguments_in (Some (arguments_tree items.now)))) ++
+        arguments_faults (scope_of scope.now) (spec.row_sorts (scope_of scope.now).layer (queue_tree q.now))
+        (arguments_in (Some (arguments_tree items.now)))) found.new }
 {
     row(found, scope, at, q, Count::Behind(items.rest.len()));
     row_arguments(found, scope, q, items);
@@ -109,7 +121,9 @@ fn push(found: &mut Found, scope: &Scope, at: At, q: &Queue, items: &Arguments)
 
 /// A take.
 fn take(found: &mut Found, scope: &Scope, at: At, q: &Queue, names: &Names)
-    ensures { Finds found.old (spec.row_type_faults (scope_of scope.now) at (queue_tree q.now) (length (names_in (Some (names_tree names.now))))) found.new }
+    ensures { Finds found.old
+        (spec.row_type_faults (scope_of scope.now) at (queue_tree q.now)
+        (length (names_in (Some (names_tree names.now))))) found.new }
 {
     row(found, scope, at, q, Count::Behind(names.rest.len()));
 }
@@ -117,7 +131,9 @@ fn take(found: &mut Found, scope: &Scope, at: At, q: &Queue, names: &Names)
 /// The head of a loop.
 #[tactic(auto, using(file_scope::proofs::Finds::finds_both))]
 fn each(found: &mut Found, scope: &Scope, below: &Expression, most: &Size)
-    ensures { Finds found.old (number_faults (scope_of scope.now) (expression_tree below.now) ++ spec.size_type_faults (scope_of scope.now).layer (sorts.size_at (size_tree most.now)) (size_tree most.now)) found.new }
+    ensures { Finds found.old (number_faults (scope_of scope.now) (expression_tree below.now) ++
+        spec.size_type_faults (scope_of scope.now).layer (sorts.size_at (size_tree most.now)) (size_tree most.now))
+        found.new }
 {
     expression(found, scope, below);
     size(found, scope, size_at(most), most);

@@ -1,5 +1,7 @@
 -- The tokens of the language are the marks of a text that are no comments, each whole.
-use Rattle.std.proofs.Common.{◌≡◌, ℕ, zero, suc, ◌+◌, ◌-◌, Bool, true, false, not, ◌&&◌, ◌||◌, cond, nat_eq, nat_lt, nat_le, List, [], ◌∷◌, map, length, take, drop, find, Option, Some, None, refl, sym, ap, subst, ◌∙◌, arith, eqb-true, true≢false}
+use Rattle.std.proofs.Common.{◌≡◌, ℕ, zero, suc, ◌+◌, ◌-◌, Bool, true, false, not, ◌&&◌, ◌||◌, cond, nat_eq, nat_lt}
+use Rattle.std.proofs.Common.{nat_le, List, [], ◌∷◌, map, length, take, drop, find, Option, Some, None, refl, sym, ap}
+use Rattle.std.proofs.Common.{subst, ◌∙◌, arith, eqb-true, true≢false}
 use Rattle.std.proofs.lemmas.Bool.{ne_eqb, eqb-false, eq-eqb}
 use Rattle.std.proofs.lemmas.List.Folds.{length-prefix_len}
 use Rattle.std.specs.Prelude.{codes}
@@ -13,11 +15,13 @@ use Rattle.layer_ast.specs.declared.tokens.Sign.{Sign}
 use Rattle.layer_ast.specs.declared.tokens.Sign.TheVariants as sign
 use Rattle.layer_ast.specs.declared.tokens.Token.{Token}
 use Rattle.layer_ast.specs.declared.tokens.Token.TheVariants as token
-use Rattle.layer_ast.specs.Cut.{Piece as Cut, gap, one, bad, Tokens, is_numeral, piece, word_piece, number_piece, symbol_piece, with_piece, cut_from, cut, place_behind}
+use Rattle.layer_ast.specs.Cut.{Piece as Cut, gap, one, bad, Tokens, is_numeral, piece, word_piece, number_piece}
+use Rattle.layer_ast.specs.Cut.{symbol_piece, with_piece, cut_from, cut, place_behind}
 use Rattle.layer_ast.specs.Spelling.{is_blank, is_word_byte, word_token, number_of, symbols, symbol_at}
 use Rattle.format_mean.specs.Laws.{unless_bad, good_tokens}
 use Rattle.format_mean.specs.Layout.{formatted}
-use Rattle.format_mean.specs.Pieces.{Piece, feed, blank, whole, one_more, comment_length, doubles, sign_length, length_behind, front, more_feeds, with_front, pieces_from, marks}
+use Rattle.format_mean.specs.Pieces.{Piece, feed, blank, whole, one_more, comment_length, doubles, sign_length}
+use Rattle.format_mean.specs.Pieces.{length_behind, front, more_feeds, with_front, pieces_from, marks}
 use Rattle.format_mean.proofs.Round.{keeps_marks}
 
 -- a piece of the language that has all of these bytes
@@ -64,7 +68,8 @@ piece_is : (number : Bool) (b : ℕ) (bs : List ℕ) →
 unfolding piece
 piece_is number b bs = refl
 
-piece_as : (t r a d number : Bool) (b : ℕ) (bs : List ℕ) → is_blank b ≡ t → nat_eq b 35 ≡ r → is_ascii_alphabetic b ≡ a → is_ascii_digit b ≡ d →
+piece_as : (t r a d number : Bool) (b : ℕ) (bs : List ℕ) → is_blank b ≡ t → nat_eq b 35 ≡ r →
+    is_ascii_alphabetic b ≡ a → is_ascii_digit b ≡ d →
     piece number b bs ≡ piece_by t r a d number b bs
 piece_as t r a d number b bs t_is r_is a_is d_is =
     piece_is number b bs
@@ -96,14 +101,17 @@ module _ (p q : ℕ → Bool) (weaker : (c : ℕ) → q c ≡ true → p c ≡ t
       by_tests true v v_is imp first second =
           let e : 1 + prefix_len p cs ≡ suc (prefix_len p cs) = omega arith in (
             ap (λ k. prefix_len q (take k (c ∷ cs))) e
-                ∙ (ap (λ t. cond t (1 + prefix_len q (take (prefix_len p cs) cs)) 0) v_is ∙ ap (λ k. cond v (1 + k) 0) first),
-            ap (λ k. take (cond v (1 + prefix_len q cs) 0) (take k (c ∷ cs))) e ∙ by_second v (prefix_len p cs) (prefix_len q cs) second,
+                ∙ (ap (λ t. cond t (1 + prefix_len q (take (prefix_len p cs) cs)) 0) v_is ∙
+                ap (λ k. cond v (1 + k) 0) first),
+            ap (λ k. take (cond v (1 + prefix_len q cs) 0) (take k (c ∷ cs))) e ∙
+                by_second v (prefix_len p cs) (prefix_len q cs) second,
           )
       by_tests false true v_is imp first second = absurd (true≢false (sym (imp v_is)))
       by_tests false false v_is imp first second = (refl, refl)
 
 -- what a word byte is
-word_kind : (b : ℕ) → is_word_byte b ≡ true → is_ascii_alphabetic b ≡ false → is_ascii_digit b ≡ false → nat_eq b 95 ≡ true
+word_kind : (b : ℕ) → is_word_byte b ≡ true → is_ascii_alphabetic b ≡ false → is_ascii_digit b ≡ false →
+    nat_eq b 95 ≡ true
 word_kind b word letter digit =
     by_tests (is_in_range 48 57 b) (is_in_range 65 90 b) (is_in_range 97 122 b) (nat_eq b 95) word letter digit
   where
@@ -146,7 +154,8 @@ other_byte b k word none = by_test (nat_eq b k) refl
 
 no_blank : (b : ℕ) → is_word_byte b ≡ true → is_blank b ≡ false
 no_blank b word =
-    by_tests (nat_eq b 32) (nat_eq b 9) (nat_eq b 13) (nat_eq b 10) (other_byte b 32 word refl) (other_byte b 9 word refl)
+    by_tests (nat_eq b 32) (nat_eq b 9) (nat_eq b 13) (nat_eq b 10) (other_byte b 32 word refl)
+    (other_byte b 9 word refl)
     (other_byte b 13 word refl) (other_byte b 10 word refl)
   where
     by_tests : (p q r s : Bool) → p ≡ false → q ≡ false → r ≡ false → s ≡ false → (p || (q || (r || s))) ≡ false
@@ -193,14 +202,17 @@ comment_same f (c ∷ cs) =
             ap (λ e. cond e feed (cond (is_blank c) blank (whole (length_behind c cs)))) e_is
             ∙ ap (λ t. cond t blank (whole (length_behind c cs))) is
 
-        by_blank : (t : Bool) (n : ℕ) → is_blank c ≡ t → pieces_from f n cs ≡ pieces_from f (prefix_len (λ c. not (nat_eq c 10)) cs) cs →
+        by_blank : (t : Bool) (n : ℕ) → is_blank c ≡ t →
+            pieces_from f n cs ≡ pieces_from f (prefix_len (λ c. not (nat_eq c 10)) cs) cs →
             pieces_from f (one_more t n) (c ∷ cs) ≡ pieces_from f (prefix_len (λ c. not (nat_eq c 10)) cs) cs
-        by_blank true zero is ih = ap (λ g. with_front g f c cs (λ feeds inside. pieces_from feeds inside cs)) (here is) ∙ ih
+        by_blank true zero is ih = ap (λ g. with_front g f c cs (λ feeds inside. pieces_from feeds inside cs)) (here is)
+            ∙ ih
         by_blank true (suc n) is ih = ih
         by_blank false n is ih = ih
 
 -- one good token more
-good_more : (l : Lexed) (r : Tokens) → good_tokens (record r { tokens = l ∷ r.tokens }) ≡ with_token (Some l.token) (good_tokens r)
+good_more : (l : Lexed) (r : Tokens) → good_tokens (record r { tokens = l ∷ r.tokens }) ≡
+    with_token (Some l.token) (good_tokens r)
 good_more l r = by_bad r.bad_at
   where
     by_bad : (o : Option At) → unless_bad (l ∷ r.tokens) o ≡ with_token (Some l.token) (unless_bad r.tokens o)
@@ -213,7 +225,8 @@ IsOwn calm (gap _) m = ⊥
 IsOwn calm bad m = Unit {0}
 IsOwn calm (one t n) m = (n ≡ m) × calm (is_numeral t)
 
-taken : (calm : Bool → Type 0) (p : Cut) (m : ℕ) (at : At) (rest : Bool → ℕ → Tokens) (later : Option (List Token)) → IsOwn calm p m →
+taken : (calm : Bool → Type 0) (p : Cut) (m : ℕ) (at : At) (rest : Bool → ℕ → Tokens) (later : Option (List Token)) →
+    IsOwn calm p m →
     ((number : Bool) → calm number → good_tokens (rest number m) ≡ later) →
     good_tokens (with_piece p at rest) ≡ with_token (whole_token p m) later
 taken calm (gap n) m at rest later own ih = absurd own
@@ -221,7 +234,8 @@ taken calm bad m at rest later own ih = refl
 taken calm (one t n) m at rest later own ih =
     good_more (record { token = t; at = at }) (rest (is_numeral t) n)
     ∙ (ap (λ k. with_token (Some t) (good_tokens (rest (is_numeral t) k))) own.0
-    ∙ (ap (with_token (Some t)) (ih (is_numeral t) own.1) ∙ sym (ap (λ s. with_token (cond s (Some t) None) later) (eq-eqb n m own.0))))
+    ∙ (ap (with_token (Some t)) (ih (is_numeral t) own.1) ∙
+    sym (ap (λ s. with_token (cond s (Some t) None) later) (eq-eqb n m own.0))))
 
 -- a number and letters directly behind it are no token
 underscore : (number : Bool) (bs : List ℕ) → piece number 95 bs ≡ bad
@@ -232,7 +246,8 @@ inside_word : (c : ℕ) (cs : List ℕ) → is_word_byte c ≡ true → is_ascii
 inside_word c cs word digit = by_letter (is_ascii_alphabetic c) refl
   where
     by_letter : (a : Bool) → is_ascii_alphabetic c ≡ a → piece true c cs ≡ bad
-    by_letter true letter = piece_as false false true false true c cs (no_blank c word) (other_byte c 35 word refl) letter digit
+    by_letter true letter = piece_as false false true false true c cs (no_blank c word) (other_byte c 35 word refl)
+        letter digit
     by_letter false letter =
         let is : c ≡ 95 = eqb-true c 95 (word_kind c word letter digit) in
         ap (λ b. piece true b cs) is ∙ underscore true cs
@@ -256,7 +271,8 @@ lost (c ∷ cs) at less =
         ap (λ k. good_tokens (cut_from true k (c ∷ cs) at)) e ∙ ih apart
     by_tests true false d_is w_is less ih = absurd (true≢false (sym (digit_word c d_is) ∙ w_is))
     by_tests false true d_is w_is less ih =
-        ap (λ p. good_tokens (with_piece p at (λ number n. cut_from number n cs (place_behind c at)))) (inside_word c cs w_is d_is)
+        ap (λ p. good_tokens (with_piece p at (λ number n. cut_from number n cs (place_behind c at))))
+        (inside_word c cs w_is d_is)
     by_tests false false d_is w_is less ih = absurd (true≢false less)
 
 -- what a sign at the front of a text is
@@ -278,7 +294,8 @@ and_false true t is = is
 and_false false t is = refl
 
 -- a sign of two bytes isn't found where the first goes on with no equals sign
-fails_two : (x b : ℕ) (bs : List ℕ) → doubles x ≡ true → sign_length b bs ≡ 0 → starts_with nat_eq (b ∷ bs) (x ∷ 61 ∷ []) ≡ false
+fails_two : (x b : ℕ) (bs : List ℕ) → doubles x ≡ true → sign_length b bs ≡ 0 →
+    starts_with nat_eq (b ∷ bs) (x ∷ 61 ∷ []) ≡ false
 fails_two x b [] doubled none = and_false (nat_eq x b) false refl
 fails_two x b (c ∷ cs) doubled none = by_first (nat_eq x b) refl
   where
@@ -324,7 +341,8 @@ found_short test (e ∷ es) all =
     by_tests (test e) (nat_eq (length e.0) 1) refl all (found_short test es)
   where
     by_tests : (t s : Bool) → nat_eq (length e.0) 1 ≡ s → (s && list_all (λ e. nat_eq (length e.0) 1) es) ≡ true →
-        (list_all (λ e. nat_eq (length e.0) 1) es ≡ true → IsOwn (λ number. number ≡ false) (option_map_or sign_of (find test es) bad) 0) →
+        (list_all (λ e. nat_eq (length e.0) 1) es ≡ true →
+        IsOwn (λ number. number ≡ false) (option_map_or sign_of (find test es) bad) 0) →
         IsOwn (λ number. number ≡ false) (option_map_or sign_of (cond t (Some e) (find test es)) bad) 0
     by_tests t false s_is all later = absurd (true≢false (sym all))
     by_tests false true s_is all later = later all
@@ -358,12 +376,17 @@ unfolding symbol_at symbols
 doubled b cs is =
     by_tests (nat_eq b 61) (nat_eq b 33) (nat_eq b 60) (nat_eq b 62) refl refl refl refl is
   where
-    by_tests : (p q r s : Bool) → nat_eq b 61 ≡ p → nat_eq b 33 ≡ q → nat_eq b 60 ≡ r → nat_eq b 62 ≡ s → (p || (q || (r || s))) ≡ true →
+    by_tests : (p q r s : Bool) → nat_eq b 61 ≡ p → nat_eq b 33 ≡ q → nat_eq b 60 ≡ r → nat_eq b 62 ≡ s →
+        (p || (q || (r || s))) ≡ true →
         Signs b (61 ∷ cs) 1
-    by_tests true q r s p_is q_is r_is s_is is = subst (λ b. Signs b (61 ∷ cs) 1) (sym (eqb-true b 61 p_is)) (refl, refl, (refl, refl))
-    by_tests false true r s p_is q_is r_is s_is is = subst (λ b. Signs b (61 ∷ cs) 1) (sym (eqb-true b 33 q_is)) (refl, refl, (refl, refl))
-    by_tests false false true s p_is q_is r_is s_is is = subst (λ b. Signs b (61 ∷ cs) 1) (sym (eqb-true b 60 r_is)) (refl, refl, (refl, refl))
-    by_tests false false false true p_is q_is r_is s_is is = subst (λ b. Signs b (61 ∷ cs) 1) (sym (eqb-true b 62 s_is)) (refl, refl, (refl, refl))
+    by_tests true q r s p_is q_is r_is s_is is = subst (λ b. Signs b (61 ∷ cs) 1) (sym (eqb-true b 61 p_is))
+        (refl, refl, (refl, refl))
+    by_tests false true r s p_is q_is r_is s_is is = subst (λ b. Signs b (61 ∷ cs) 1) (sym (eqb-true b 33 q_is))
+        (refl, refl, (refl, refl))
+    by_tests false false true s p_is q_is r_is s_is is = subst (λ b. Signs b (61 ∷ cs) 1) (sym (eqb-true b 60 r_is))
+        (refl, refl, (refl, refl))
+    by_tests false false false true p_is q_is r_is s_is is = subst (λ b. Signs b (61 ∷ cs) 1) (sym (eqb-true b 62 s_is))
+        (refl, refl, (refl, refl))
     by_tests false false false false p_is q_is r_is s_is is = absurd (true≢false (sym is))
 
 signs : (b : ℕ) (bs : List ℕ) → Signs b bs (sign_length b bs)
@@ -383,7 +406,8 @@ module _ (number : Bool) (b : ℕ) (bs : List ℕ) (at : At) (feeds : ℕ)
   rest = λ number n. cut_from number n bs (place_behind b at)
 
   -- a word, a number or a sign that the language finds as it is found here
-  same_turn : (calm : Bool → Type 0) (p : Cut) (m : ℕ) → nat_eq b 35 ≡ false → piece number b bs ≡ p → piece false b (take m bs) ≡ p →
+  same_turn : (calm : Bool → Type 0) (p : Cut) (m : ℕ) → nat_eq b 35 ≡ false → piece number b bs ≡ p →
+      piece false b (take m bs) ≡ p →
       length (take m bs) ≡ m → IsOwn calm p m → ((number : Bool) → calm number → Calm number m bs) →
       good_tokens (with_piece (piece number b bs) at rest) ≡ with_mark (b ∷ take m bs) (tokens_in (pieces_from 0 m bs))
   same_turn calm p m no_comment here alone long own calms =
@@ -391,7 +415,8 @@ module _ (number : Bool) (b : ℕ) (bs : List ℕ) (at : At) (feeds : ℕ)
       ∙ (taken calm p m at rest (tokens_in (pieces_from 0 m bs)) own (λ number is. later number m 0 (calms number is))
       ∙ (ap (λ p. with_token (whole_token p m) (tokens_in (pieces_from 0 m bs))) (sym alone)
       ∙ (ap (λ n. with_token (whole_token (piece false b (take m bs)) n) (tokens_in (pieces_from 0 m bs))) (sym long)
-      ∙ sym (ap (λ t. cond t (tokens_in (pieces_from 0 m bs)) (with_token (token_of b (take m bs)) (tokens_in (pieces_from 0 m bs)))) no_comment))))
+      ∙ sym (ap (λ t. cond t (tokens_in (pieces_from 0 m bs))
+      (with_token (token_of b (take m bs)) (tokens_in (pieces_from 0 m bs)))) no_comment))))
 
   behind_as : (r w : Bool) → nat_eq b 35 ≡ r → is_word_byte b ≡ w →
       length_behind b bs ≡ cond r (comment_length bs) (cond w (prefix_len is_word_byte bs) (sign_length b bs))
@@ -401,7 +426,9 @@ module _ (number : Bool) (b : ℕ) (bs : List ℕ) (at : At) (feeds : ℕ)
 
   front_as : (e t r w : Bool) → nat_eq b 10 ≡ e → is_blank b ≡ t → nat_eq b 35 ≡ r → is_word_byte b ≡ w →
       tokens_in (pieces_from feeds zero (b ∷ bs))
-      ≡ tokens_in (with_front (cond e feed (cond t blank (whole (cond r (comment_length bs) (cond w (prefix_len is_word_byte bs) (sign_length b bs))))))
+      ≡ tokens_in (with_front
+      (cond e feed (cond t blank
+      (whole (cond r (comment_length bs) (cond w (prefix_len is_word_byte bs) (sign_length b bs))))))
       feeds b bs (λ feeds inside. pieces_from feeds inside bs))
   front_as e t r w e_is t_is r_is w_is =
       ap (λ f. tokens_in (with_front f feeds b bs (λ feeds inside. pieces_from feeds inside bs)))
@@ -409,7 +436,8 @@ module _ (number : Bool) (b : ℕ) (bs : List ℕ) (at : At) (feeds : ℕ)
       ∙ (ap (λ t. cond e feed (cond t blank (whole (length_behind b bs)))) t_is
       ∙ ap (λ n. cond e feed (cond t blank (whole n))) (behind_as r w r_is w_is)))
 
-  not_behind : (number : Bool) → Calm number zero (b ∷ bs) → is_ascii_alphabetic b ≡ true → cond number bad (word_piece b bs) ≡ word_piece b bs
+  not_behind : (number : Bool) → Calm number zero (b ∷ bs) → is_ascii_alphabetic b ≡ true →
+      cond number bad (word_piece b bs) ≡ word_piece b bs
   not_behind true calm letter = absurd (true≢false (sym letter ∙ calm))
   not_behind false calm letter = refl
 
@@ -421,7 +449,8 @@ module _ (number : Bool) (b : ℕ) (bs : List ℕ) (at : At) (feeds : ℕ)
       cond (nat_eq b 48 && nat_lt 0 n) bad
       (cond (nat_le (number_of (b ∷ ys)) 4294967295) (one (token.Number (number_of (b ∷ ys))) n) bad)
 
-  word_turn : (d : Bool) → is_blank b ≡ false → nat_eq b 35 ≡ false → is_ascii_alphabetic b ≡ true → is_ascii_digit b ≡ d →
+  word_turn : (d : Bool) → is_blank b ≡ false → nat_eq b 35 ≡ false → is_ascii_alphabetic b ≡ true →
+      is_ascii_digit b ≡ d →
       Calm number zero (b ∷ bs) →
       good_tokens (with_piece (piece number b bs) at rest)
       ≡ with_mark (b ∷ take (prefix_len is_word_byte bs) bs) (tokens_in (pieces_from 0 (prefix_len is_word_byte bs) bs))
@@ -436,7 +465,8 @@ module _ (number : Bool) (b : ℕ) (bs : List ℕ) (at : At) (feeds : ℕ)
     where
       own : (t : Bool) →
           IsOwn (λ number. Calm number (prefix_len is_word_byte bs) bs)
-          (cond t (one (word_token (b ∷ take (prefix_len is_word_byte bs) bs)) (prefix_len is_word_byte bs)) bad) (prefix_len is_word_byte bs)
+          (cond t (one (word_token (b ∷ take (prefix_len is_word_byte bs) bs)) (prefix_len is_word_byte bs)) bad)
+          (prefix_len is_word_byte bs)
       own true = (refl, calm_behind bs (is_numeral (word_token (b ∷ take (prefix_len is_word_byte bs) bs))))
       own false = tt
 
@@ -447,14 +477,16 @@ module _ (number : Bool) (b : ℕ) (bs : List ℕ) (at : At) (feeds : ℕ)
       let m = prefix_len is_word_byte bs in
       let n = prefix_len is_ascii_digit bs in
       let again = fronts is_word_byte is_ascii_digit digit_word bs in
-      let here : piece number b bs ≡ number_piece b bs = piece_as false false false true number b bs t_is r_is a_is d_is in
+      let here : piece number b bs ≡ number_piece b bs = piece_as false false false true number b bs t_is r_is a_is d_is
+      in
       let alone : piece false b (take m bs) ≡ number_piece b bs =
       piece_as false false false true false b (take m bs) t_is r_is a_is d_is
       ∙ (ap (λ k. number_from k (take k (take m bs))) again.0 ∙ ap (number_from n) again.1) in
       by_length (nat_eq n m) refl here alone
     where
       own : (z y : Bool) (v : ℕ) → prefix_len is_ascii_digit bs ≡ prefix_len is_word_byte bs →
-          IsOwn (λ number. Calm number (prefix_len is_word_byte bs) bs) (cond z bad (cond y (one (token.Number v) (prefix_len is_ascii_digit bs)) bad))
+          IsOwn (λ number. Calm number (prefix_len is_word_byte bs) bs)
+          (cond z bad (cond y (one (token.Number v) (prefix_len is_ascii_digit bs)) bad))
           (prefix_len is_word_byte bs)
       own true y v same = tt
       own false true v same = (same, calm_behind bs true)
@@ -462,8 +494,10 @@ module _ (number : Bool) (b : ℕ) (bs : List ℕ) (at : At) (feeds : ℕ)
 
       none_left : (z y : Bool) (v : ℕ) (later : Option (List Token)) →
           nat_eq (prefix_len is_ascii_digit bs) (prefix_len is_word_byte bs) ≡ false →
-          good_tokens (with_piece (cond z bad (cond y (one (token.Number v) (prefix_len is_ascii_digit bs)) bad)) at rest)
-          ≡ with_token (whole_token (cond z bad (cond y (one (token.Number v) (prefix_len is_ascii_digit bs)) bad)) (prefix_len is_word_byte bs)) later
+          good_tokens (with_piece (cond z bad (cond y (one (token.Number v) (prefix_len is_ascii_digit bs)) bad)) at
+          rest)
+          ≡ with_token (whole_token (cond z bad (cond y (one (token.Number v) (prefix_len is_ascii_digit bs)) bad))
+          (prefix_len is_word_byte bs)) later
       none_left true y v later less = refl
       none_left false false v later less = refl
       none_left false true v later less =
@@ -471,12 +505,15 @@ module _ (number : Bool) (b : ℕ) (bs : List ℕ) (at : At) (feeds : ℕ)
           ∙ (ap (with_token (Some (token.Number v))) (lost bs (place_behind b at) less)
           ∙ sym (ap (λ t. with_token (cond t (Some (token.Number v)) None) later) less))
 
-      by_length : (s : Bool) → nat_eq (prefix_len is_ascii_digit bs) (prefix_len is_word_byte bs) ≡ s → piece number b bs ≡ number_piece b bs →
+      by_length : (s : Bool) → nat_eq (prefix_len is_ascii_digit bs) (prefix_len is_word_byte bs) ≡ s →
+          piece number b bs ≡ number_piece b bs →
           piece false b (take (prefix_len is_word_byte bs) bs) ≡ number_piece b bs →
           good_tokens (with_piece (piece number b bs) at rest)
-          ≡ with_mark (b ∷ take (prefix_len is_word_byte bs) bs) (tokens_in (pieces_from 0 (prefix_len is_word_byte bs) bs))
+          ≡ with_mark (b ∷ take (prefix_len is_word_byte bs) bs)
+          (tokens_in (pieces_from 0 (prefix_len is_word_byte bs) bs))
       by_length true s_is here alone =
-          same_turn (λ number. Calm number (prefix_len is_word_byte bs) bs) (number_piece b bs) (prefix_len is_word_byte bs) r_is here alone
+          same_turn (λ number. Calm number (prefix_len is_word_byte bs) bs) (number_piece b bs)
+          (prefix_len is_word_byte bs) r_is here alone
           (length-prefix_len is_word_byte bs)
           (own (nat_eq b 48 && nat_lt 0 (prefix_len is_ascii_digit bs))
           (nat_le (number_of (b ∷ take (prefix_len is_ascii_digit bs) bs)) 4294967295)
@@ -487,11 +524,16 @@ module _ (number : Bool) (b : ℕ) (bs : List ℕ) (at : At) (feeds : ℕ)
           ap (λ p. good_tokens (with_piece p at rest)) here
           ∙ (none_left (nat_eq b 48 && nat_lt 0 (prefix_len is_ascii_digit bs))
           (nat_le (number_of (b ∷ take (prefix_len is_ascii_digit bs) bs)) 4294967295)
-          (number_of (b ∷ take (prefix_len is_ascii_digit bs) bs)) (tokens_in (pieces_from 0 (prefix_len is_word_byte bs) bs)) s_is
-          ∙ (ap (λ p. with_token (whole_token p (prefix_len is_word_byte bs)) (tokens_in (pieces_from 0 (prefix_len is_word_byte bs) bs))) (sym alone)
-          ∙ (ap (λ n. with_token (whole_token (piece false b (take (prefix_len is_word_byte bs) bs)) n) (tokens_in (pieces_from 0 (prefix_len is_word_byte bs) bs)))
+          (number_of (b ∷ take (prefix_len is_ascii_digit bs) bs))
+          (tokens_in (pieces_from 0 (prefix_len is_word_byte bs) bs)) s_is
+          ∙ (ap (λ p. with_token (whole_token p (prefix_len is_word_byte bs))
+          (tokens_in (pieces_from 0 (prefix_len is_word_byte bs) bs))) (sym alone)
+          ∙ (ap (λ n. with_token (whole_token (piece false b (take (prefix_len is_word_byte bs) bs)) n)
+          (tokens_in (pieces_from 0 (prefix_len is_word_byte bs) bs)))
           (sym (length-prefix_len is_word_byte bs))
-          ∙ sym (ap (λ t. cond t (tokens_in (pieces_from 0 (prefix_len is_word_byte bs) bs)) (with_token (token_of b (take (prefix_len is_word_byte bs) bs)) (tokens_in (pieces_from 0 (prefix_len is_word_byte bs) bs)))) r_is))))
+          ∙ sym (ap (λ t. cond t (tokens_in (pieces_from 0 (prefix_len is_word_byte bs) bs))
+          (with_token (token_of b (take (prefix_len is_word_byte bs) bs))
+          (tokens_in (pieces_from 0 (prefix_len is_word_byte bs) bs)))) r_is))))
 
   underscore_turn : nat_eq b 35 ≡ false → nat_eq b 95 ≡ true →
       good_tokens (with_piece (piece number b bs) at rest)
@@ -500,7 +542,8 @@ module _ (number : Bool) (b : ℕ) (bs : List ℕ) (at : At) (feeds : ℕ)
       let same : b ≡ 95 = eqb-true b 95 is in
       let m = prefix_len is_word_byte bs in
       same_turn (λ number. Calm number m bs) bad m r_is (ap (λ c. piece number c bs) same ∙ underscore number bs)
-      (ap (λ c. piece false c (take m bs)) same ∙ underscore false (take m bs)) (length-prefix_len is_word_byte bs) tt (λ number is. is)
+      (ap (λ c. piece false c (take m bs)) same ∙ underscore false (take m bs)) (length-prefix_len is_word_byte bs) tt
+      (λ number is. is)
 
   calm_for : (m : ℕ) (number : Bool) → number ≡ false → Calm number m bs
   calm_for m true is = absurd (true≢false is)
@@ -512,7 +555,8 @@ module _ (number : Bool) (b : ℕ) (bs : List ℕ) (at : At) (feeds : ℕ)
   sign_turn t_is r_is a_is d_is =
       let m = sign_length b bs in
       let h = signs b bs in
-      same_turn (λ number. number ≡ false) (symbol_piece (b ∷ bs)) m r_is (piece_as false false false false number b bs t_is r_is a_is d_is)
+      same_turn (λ number. number ≡ false) (symbol_piece (b ∷ bs)) m r_is
+      (piece_as false false false false number b bs t_is r_is a_is d_is)
       (piece_as false false false false false b (take m bs) t_is r_is a_is d_is ∙ h.0) h.1 h.2 (calm_for m)
 
   comment_turn : is_blank b ≡ false → nat_eq b 35 ≡ true →
@@ -524,15 +568,19 @@ module _ (number : Bool) (b : ℕ) (bs : List ℕ) (at : At) (feeds : ℕ)
       (piece_as false true (is_ascii_alphabetic b) (is_ascii_digit b) number b bs t_is r_is refl refl)
       ∙ (later false n 0 tt
       ∙ (ap tokens_in (sym (comment_same 0 bs))
-      ∙ sym (ap (λ t. cond t (tokens_in (pieces_from 0 (comment_length bs) bs)) (with_token (token_of b (take (comment_length bs) bs)) (tokens_in (pieces_from 0 (comment_length bs) bs)))) r_is)))
+      ∙ sym (ap (λ t. cond t (tokens_in (pieces_from 0 (comment_length bs) bs))
+      (with_token (token_of b (take (comment_length bs) bs)) (tokens_in (pieces_from 0 (comment_length bs) bs))))
+      r_is)))
 
-  blank_turn : (n : ℕ) → is_blank b ≡ true → good_tokens (with_piece (piece number b bs) at rest) ≡ tokens_in (pieces_from n 0 bs)
+  blank_turn : (n : ℕ) → is_blank b ≡ true → good_tokens (with_piece (piece number b bs) at rest) ≡ tokens_in
+      (pieces_from n 0 bs)
   blank_turn n t_is =
       ap (λ p. good_tokens (with_piece p at rest))
       (piece_as true (nat_eq b 35) (is_ascii_alphabetic b) (is_ascii_digit b) number b bs t_is refl refl refl)
       ∙ later false 0 n tt
 
-  turn : (e t r w a d : Bool) → nat_eq b 10 ≡ e → is_blank b ≡ t → nat_eq b 35 ≡ r → is_word_byte b ≡ w → is_ascii_alphabetic b ≡ a →
+  turn : (e t r w a d : Bool) → nat_eq b 10 ≡ e → is_blank b ≡ t → nat_eq b 35 ≡ r → is_word_byte b ≡ w →
+      is_ascii_alphabetic b ≡ a →
       is_ascii_digit b ≡ d → Calm number zero (b ∷ bs) →
       good_tokens (with_piece (piece number b bs) at rest) ≡ tokens_in (pieces_from feeds zero (b ∷ bs))
   turn true t r w a d e_is t_is r_is w_is a_is d_is calm =
@@ -547,8 +595,10 @@ module _ (number : Bool) (b : ℕ) (bs : List ℕ) (at : At) (feeds : ℕ)
       number_turn t_is r_is a_is d_is ∙ sym (front_as false false false true e_is t_is r_is w_is)
   turn false false false true false false e_is t_is r_is w_is a_is d_is calm =
       underscore_turn r_is (word_kind b w_is a_is d_is) ∙ sym (front_as false false false true e_is t_is r_is w_is)
-  turn false false false false true d e_is t_is r_is w_is a_is d_is calm = absurd (true≢false (sym (letter_word b a_is) ∙ w_is))
-  turn false false false false false true e_is t_is r_is w_is a_is d_is calm = absurd (true≢false (sym (digit_word b d_is) ∙ w_is))
+  turn false false false false true d e_is t_is r_is w_is a_is d_is calm =
+      absurd (true≢false (sym (letter_word b a_is) ∙ w_is))
+  turn false false false false false true e_is t_is r_is w_is a_is d_is calm =
+      absurd (true≢false (sym (digit_word b d_is) ∙ w_is))
   turn false false false false false false e_is t_is r_is w_is a_is d_is calm =
       sign_turn t_is r_is a_is d_is ∙ sym (front_as false false false false e_is t_is r_is w_is)
 
@@ -560,9 +610,11 @@ calm_tail false inside b bs calm = tt
 cuts : (number : Bool) (inside : ℕ) (text : List ℕ) (at : At) (feeds : ℕ) → Calm number inside text →
     good_tokens (cut_from number inside text at) ≡ tokens_in (pieces_from feeds inside text)
 cuts number inside [] at feeds calm = refl
-cuts number (suc inside) (b ∷ bs) at feeds calm = cuts number inside bs (place_behind b at) feeds (calm_tail number inside b bs calm)
+cuts number (suc inside) (b ∷ bs) at feeds calm =
+    cuts number inside bs (place_behind b at) feeds (calm_tail number inside b bs calm)
 cuts number zero (b ∷ bs) at feeds calm =
-    turn number b bs at feeds (λ number inside feeds calm. cuts number inside bs (place_behind b at) feeds calm) (nat_eq b 10) (is_blank b)
+    turn number b bs at feeds (λ number inside feeds calm. cuts number inside bs (place_behind b at) feeds calm)
+    (nat_eq b 10) (is_blank b)
     (nat_eq b 35) (is_word_byte b) (is_ascii_alphabetic b) (is_ascii_digit b) refl refl refl refl refl refl calm
 
 tokens_are : (text : List ℕ) → good_tokens (cut text) ≡ tokens_of (marks text)

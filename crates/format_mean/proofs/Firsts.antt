@@ -1,17 +1,20 @@
 -- What the classes of tokens say of their first bytes.
-use Rattle.std.proofs.Common.{◌≡◌, ℕ, Bool, true, false, not, ◌&&◌, ◌||◌, cond, nat_eq, List, ◌∷◌, ◌++◌, refl, sym, subst, ◌∙◌, eqb-true, true≢false}
+use Rattle.std.proofs.Common.{◌≡◌, ℕ, Bool, true, false, not, ◌&&◌, ◌||◌, cond, nat_eq, List, ◌∷◌, ◌++◌, refl, sym}
+use Rattle.std.proofs.Common.{subst, ◌∙◌, eqb-true, true≢false}
 use Rattle.std.specs.Prelude.{codes}
 use Rattle.std.specs.Str.{bytes_eq}
 use Rattle.layer_ast.specs.Spelling.{is_word_byte}
 use Rattle.format_mean.specs.declared.stand.Class.{Class}
 use Rattle.format_mean.specs.declared.stand.Class.TheVariants as class
-use Rattle.format_mean.specs.Classes.{is_one_of, declaring, going, queueing, apart, word_class, sign_class, class_of, holds_next, holds_last, calls, are_joined, seen_behind}
+use Rattle.format_mean.specs.Classes.{is_one_of, declaring, going, queueing, apart, word_class, sign_class, class_of}
+use Rattle.format_mean.specs.Classes.{holds_next, holds_last, calls, are_joined, seen_behind}
 use Rattle.format_mean.specs.Layout.{is_remark}
 use Rattle.format_mean.specs.Pieces.{doubles}
 use Rattle.format_mean.proofs.Whole.{stops}
 
 -- a word has one of seven classes
-word_cases : (P : Class → Type 0) → P class.Layer → P class.Stack → P class.Declaring → P class.Going → P class.Queueing →
+word_cases : (P : Class → Type 0) → P class.Layer → P class.Stack → P class.Declaring → P class.Going →
+    P class.Queueing →
     P class.Apart → P class.Plain → (w : List ℕ) → P (word_class w)
 word_cases P in_layer in_stack in_declaring in_going in_queueing in_apart in_plain w =
     by_tests (bytes_eq w (codes "layer")) (bytes_eq w (codes "stack")) (is_one_of w declaring)
@@ -19,7 +22,9 @@ word_cases P in_layer in_stack in_declaring in_going in_queueing in_apart in_pla
     (is_one_of w apart)
   where
     by_tests : (a b c d e f : Bool) →
-        P (cond a class.Layer (cond b class.Stack (cond c class.Declaring (cond d class.Going (cond e class.Queueing (cond f class.Apart class.Plain))))))
+        P (cond a class.Layer
+        (cond b class.Stack (cond c class.Declaring
+        (cond d class.Going (cond e class.Queueing (cond f class.Apart class.Plain))))))
     by_tests true b c d e f = in_layer
     by_tests false true c d e f = in_stack
     by_tests false false true d e f = in_declaring
@@ -29,11 +34,15 @@ word_cases P in_layer in_stack in_declaring in_going in_queueing in_apart in_pla
     by_tests false false false false false false = in_plain
 
 -- a byte that begins no word has one of nine
-sign_cases : (P : ℕ → Class → Type 0) → P 35 class.Remark → P 123 class.Opening → P 125 class.Closing → P 40 class.Parenthesis →
-    P 91 class.Bracket → P 46 class.Dot → P 59 class.Semicolon → P 44 class.Tight → P 41 class.Tight → P 93 class.Tight →
+sign_cases : (P : ℕ → Class → Type 0) → P 35 class.Remark → P 123 class.Opening → P 125 class.Closing →
+    P 40 class.Parenthesis →
+    P 91 class.Bracket → P 46 class.Dot → P 59 class.Semicolon → P 44 class.Tight → P 41 class.Tight →
+    P 93 class.Tight →
     P 58 class.Tight → ((b : ℕ) → P b class.Apart) → (b : ℕ) → P b (sign_class b)
-sign_cases P remark opening closing parenthesis bracket dot semicolon comma close_parenthesis close_bracket colon other b =
-    at 35 class.Remark _ remark (at 123 class.Opening _ opening (at 125 class.Closing _ closing (at 40 class.Parenthesis _ parenthesis
+sign_cases P remark opening closing parenthesis bracket dot semicolon comma close_parenthesis close_bracket colon other
+    b =
+    at 35 class.Remark _ remark
+    (at 123 class.Opening _ opening (at 125 class.Closing _ closing (at 40 class.Parenthesis _ parenthesis
     (at 91 class.Bracket _ bracket (at 46 class.Dot _ dot (at 59 class.Semicolon _ semicolon four))))))
   where
     either : (k : ℕ) (c d : Class) (t : Bool) → nat_eq b k ≡ t → P k c → P b d → P b (cond t c d)
@@ -64,7 +73,8 @@ closed b bs = by_word (is_word_byte b)
     by_word : (t : Bool) → Closed b (cond t (word_class (b ∷ bs)) (sign_class b))
     by_word true = word_cases (Closed b) (λ h. cc) (λ h. cc) (λ h. cc) (λ h. cc) (λ h. cc) (λ h. cc) (λ h. cc) (b ∷ bs)
     by_word false =
-        sign_cases Closed (λ h. cc) (λ h. cc) (λ h. cc) (λ h. (refl, refl)) (λ h. (refl, refl)) (λ h. (refl, refl)) (λ h. cc) (λ h. cc)
+        sign_cases Closed (λ h. cc) (λ h. cc) (λ h. cc) (λ h. (refl, refl)) (λ h. (refl, refl)) (λ h. (refl, refl))
+        (λ h. cc) (λ h. cc)
         (λ h. cc) (λ h. cc) (λ h. cc) (λ b h. cc) b
 
 -- what stands apart from nothing, or is a parenthesis, goes on with no word and no sign
@@ -81,7 +91,8 @@ opened b bs = by_word (is_word_byte b)
     by_word : (t : Bool) → Open b (cond t (word_class (b ∷ bs)) (sign_class b))
     by_word true = word_cases (Open b) (λ h. cc) (λ h. cc) (λ h. cc) (λ h. cc) (λ h. cc) (λ h. cc) (λ h. cc) (b ∷ bs)
     by_word false =
-        sign_cases Open (λ h. cc) (λ h. cc) (λ h. cc) (λ h. (refl, refl)) (λ h. (refl, refl)) (λ h. (refl, refl)) (λ h. (refl, refl))
+        sign_cases Open (λ h. cc) (λ h. cc) (λ h. cc) (λ h. (refl, refl)) (λ h. (refl, refl)) (λ h. (refl, refl))
+        (λ h. (refl, refl))
         (λ h. (refl, refl)) (λ h. (refl, refl)) (λ h. (refl, refl)) (λ h. (refl, refl)) (λ b h. cc) b
 
 -- what is no comment doesn't begin as one
@@ -91,7 +102,8 @@ no_remark b bs none = by_byte (nat_eq b 35) refl
     by_byte : (t : Bool) → nat_eq b 35 ≡ t → t ≡ false
     by_byte false is = refl
     by_byte true is =
-        let there : is_remark (class_of (35 ∷ bs)) ≡ false = subst (λ n. is_remark (class_of (n ∷ bs)) ≡ false) (eqb-true b 35 is) none in
+        let there : is_remark (class_of (35 ∷ bs)) ≡ false =
+        subst (λ n. is_remark (class_of (n ∷ bs)) ≡ false) (eqb-true b 35 is) none in
         absurd (true≢false there)
 
 -- what a token counts as is a comment or holds the next one where the token does
@@ -146,13 +158,15 @@ pub joined_stops : (b : ℕ) (bs : List ℕ) (c : ℕ) (cs : List ℕ) (x : Clas
 joined_stops b bs c cs x rest none is =
     by_holding (holds_next (seen_behind x (class_of (b ∷ bs)))) refl is
   where
-    by_tests : (r w d : Bool) → r ≡ false → (w ≡ false) × (d ≡ false) → cond r (nat_eq c 10) (cond w (not (is_word_byte c)) (not (d && nat_eq c 61))) ≡ true
+    by_tests : (r w d : Bool) → r ≡ false → (w ≡ false) × (d ≡ false) →
+        cond r (nat_eq c 10) (cond w (not (is_word_byte c)) (not (d && nat_eq c 61))) ≡ true
     by_tests true w d none h = cc
     by_tests false true d none h = cc
     by_tests false false true none h = cc
     by_tests false false false none h = refl
 
-    by_next : (r w d v e : Bool) → r ≡ false → (v ≡ false) × (e ≡ false) → cond r (nat_eq c 10) (cond w (not v) (not (d && e))) ≡ true
+    by_next : (r w d v e : Bool) → r ≡ false → (v ≡ false) × (e ≡ false) →
+        cond r (nat_eq c 10) (cond w (not v) (not (d && e))) ≡ true
     by_next true w d v e none h = cc
     by_next false w d true e none h = cc
     by_next false w d v true none h = cc
@@ -161,10 +175,12 @@ joined_stops b bs c cs x rest none is =
     by_next false false false false false none h = refl
 
     by_holding : (t : Bool) → holds_next (seen_behind x (class_of (b ∷ bs))) ≡ t →
-        (t || (holds_last (class_of (c ∷ cs)) || calls (seen_behind x (class_of (b ∷ bs))) (class_of (c ∷ cs)))) ≡ true →
+        (t || (holds_last (class_of (c ∷ cs)) || calls (seen_behind x (class_of (b ∷ bs))) (class_of (c ∷ cs)))) ≡
+        true →
         stops b ((c ∷ cs) ++ rest) ≡ true
     by_holding true holds is =
-        by_tests (nat_eq b 35) (is_word_byte b) (doubles b) none (closed b bs (sym (seen_holds x (class_of (b ∷ bs))) ∙ holds))
+        by_tests (nat_eq b 35) (is_word_byte b) (doubles b) none
+        (closed b bs (sym (seen_holds x (class_of (b ∷ bs))) ∙ holds))
     by_holding false holds is =
         by_next (nat_eq b 35) (is_word_byte b) (doubles b) (is_word_byte c) (nat_eq c 61) none
         (opened c cs (joined_follows (seen_behind x (class_of (b ∷ bs))) (class_of (c ∷ cs)) is))

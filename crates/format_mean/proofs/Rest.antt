@@ -1,5 +1,6 @@
 -- What is laid out behind a line that has begun is read as the pieces that it was laid out from.
-use Rattle.std.proofs.Common.{◌≡◌, ℕ, zero, suc, ◌-◌, ◌≤◌, Bool, true, false, ◌||◌, cond, nat_eq, List, [], ◌∷◌, ◌++◌, map, length, replicate, refl, sym, ap, ◌∙◌, arith, append_assoc, append-nil, true≢false}
+use Rattle.std.proofs.Common.{◌≡◌, ℕ, zero, suc, ◌-◌, ◌≤◌, Bool, true, false, ◌||◌, cond, nat_eq, List, [], ◌∷◌, ◌++◌}
+use Rattle.std.proofs.Common.{map, length, replicate, refl, sym, ap, ◌∙◌, arith, append_assoc, append-nil, true≢false}
 use Rattle.std.specs.List.{AllByRecursion, concat}
 use Rattle.format_mean.specs.declared.stand.Class.{Class}
 use Rattle.format_mean.specs.declared.stand.Class.TheVariants as class
@@ -7,7 +8,9 @@ use Rattle.format_mean.specs.declared.stand.Stand.{Stand}
 use Rattle.format_mean.specs.declared.stand.TheConstants.{COMMENT_COLUMN}
 use Rattle.format_mean.specs.Classes.{class_of, are_joined, seen_behind}
 use Rattle.format_mean.specs.Pieces.{Piece, pieces_from, pieces}
-use Rattle.format_mean.specs.Layout.{Begun, is_bare, is_remark, leads, begins_line, at_least_one, blanks_apart, blanks_before, feeds_before, ended, left_of, put_behind, lines_at, begun_at, last_line, lines_from, beginning}
+use Rattle.format_mean.specs.Layout.{Begun, is_bare, is_remark, leads, begins_line, at_least_one, blanks_apart}
+use Rattle.format_mean.specs.Layout.{blanks_before, feeds_before, ended, left_of, put_behind, lines_at, begun_at}
+use Rattle.format_mean.specs.Layout.{last_line, lines_from, beginning}
 use Rattle.format_mean.proofs.Whole.{stops, IsMark, IsPiece, found, past_blanks, past_feeds}
 use Rattle.format_mean.proofs.Firsts.{no_remark, seen_remark, feed_stops, blank_stops, joined_stops}
 
@@ -16,7 +19,8 @@ abbrev pub rest_of : Begun → List Piece → List ℕ
 rest_of t [] = 10 ∷ []
 rest_of t (p ∷ ps) =
     replicate (feeds_before t p) 10
-    ++ (replicate (blanks_before t.stand (left_of t.line (feeds_before t p)) (class_of p.spelling)) 32 ++ (p.spelling ++ rest_of (begun_at t p) ps))
+    ++ (replicate (blanks_before t.stand (left_of t.line (feeds_before t p)) (class_of p.spelling)) 32 ++
+    (p.spelling ++ rest_of (begun_at t p) ps))
 
 -- pieces with the line feeds that they are laid out with
 abbrev pub settled : Begun → List Piece → List Piece
@@ -46,7 +50,8 @@ text_is t (p ∷ ps) has all =
   where
     by_feeds : (n : ℕ) →
         concat (lines_from (put_behind t.stand (left_of t.line n) p.spelling) ps)
-        ≡ (put_behind t.stand (left_of t.line n) p.spelling).line ++ rest_of (put_behind t.stand (left_of t.line n) p.spelling) ps →
+        ≡ (put_behind t.stand (left_of t.line n) p.spelling).line ++
+        rest_of (put_behind t.stand (left_of t.line n) p.spelling) ps →
         concat (ended t.line n ++ lines_from (put_behind t.stand (left_of t.line n) p.spelling) ps)
         ≡ t.line ++ (replicate n 10 ++ (replicate (blanks_before t.stand (left_of t.line n) (class_of p.spelling)) 32
         ++ (p.spelling ++ rest_of (put_behind t.stand (left_of t.line n) p.spelling) ps)))
@@ -65,10 +70,12 @@ no_feed zero is = absurd (cc is)
 no_feed (suc n) is = absurd (cc is)
 
 -- where no line feed comes, none has to
-goes_on : (t : Begun) (p : Piece) → is_bare t.line ≡ false → 0 ≡ feeds_before t p → begins_line t.stand (class_of p.spelling) ≡ false
+goes_on : (t : Begun) (p : Piece) → is_bare t.line ≡ false → 0 ≡ feeds_before t p →
+    begins_line t.stand (class_of p.spelling) ≡ false
 goes_on t p has none = by_tests (is_bare t.line) (begins_line t.stand (class_of p.spelling)) has none
   where
-    by_tests : (bare begins : Bool) → bare ≡ false → 0 ≡ cond bare 0 (cond begins (at_least_one p.feeds) p.feeds) → begins ≡ false
+    by_tests : (bare begins : Bool) → bare ≡ false → 0 ≡ cond bare 0 (cond begins (at_least_one p.feeds) p.feeds) →
+        begins ≡ false
     by_tests true begins has none = absurd (true≢false has)
     by_tests false true has none = absurd (no_feed p.feeds none)
     by_tests false false has none = refl
@@ -87,7 +94,8 @@ no_blank s column c none = by_test (are_joined s.last c) none
     by_test false none = absurd (cc none)
 
 -- what is behind a token or comment doesn't go on with it
-stops_here : (t : Begun) (ps : List Piece) (b : ℕ) (bs : List ℕ) (x : Class) → t.stand.last ≡ seen_behind x (class_of (b ∷ bs)) →
+stops_here : (t : Begun) (ps : List Piece) (b : ℕ) (bs : List ℕ) (x : Class) →
+    t.stand.last ≡ seen_behind x (class_of (b ∷ bs)) →
     is_bare t.line ≡ false → AllByRecursion IsPiece ps → stops b (rest_of t ps) ≡ true
 stops_here t [] b bs x last has all = feed_stops b []
 stops_here t (p ∷ ps) b bs x last has all =
@@ -103,16 +111,23 @@ stops_here t (p ∷ ps) b bs x last has all =
     by_blanks (suc k) rest is none = blank_stops b (replicate k 32 ++ (p.spelling ++ rest)) none
     by_blanks zero rest is none =
         let apart : 0 ≡ blanks_apart t.stand (length t.line) (class_of p.spelling) =
-        is ∙ ap (λ bare. cond bare (blanks_before t.stand [] (class_of p.spelling)) (blanks_apart t.stand (length t.line) (class_of p.spelling))) has in
-        joined p.spelling rest all.0.1 none (ap (λ l. are_joined l (class_of p.spelling)) (sym last) ∙ no_blank t.stand (length t.line) (class_of p.spelling) apart)
+        is ∙ ap (λ bare. cond bare (blanks_before t.stand [] (class_of p.spelling))
+        (blanks_apart t.stand (length t.line) (class_of p.spelling))) has in
+        joined p.spelling rest all.0.1 none
+        (ap (λ l. are_joined l (class_of p.spelling)) (sym last) ∙
+        no_blank t.stand (length t.line) (class_of p.spelling) apart)
 
     by_feeds : (n : ℕ) (rest : List ℕ) → n ≡ feeds_before t p →
-        stops b (replicate n 10 ++ (replicate (blanks_before t.stand (left_of t.line n) (class_of p.spelling)) 32 ++ (p.spelling ++ rest))) ≡ true
+        stops b (replicate n 10 ++
+        (replicate (blanks_before t.stand (left_of t.line n) (class_of p.spelling)) 32 ++ (p.spelling ++ rest))) ≡ true
     by_feeds (suc n) rest is =
-        feed_stops b (replicate n 10 ++ (replicate (blanks_before t.stand [] (class_of p.spelling)) 32 ++ (p.spelling ++ rest)))
+        feed_stops b (replicate n 10 ++
+        (replicate (blanks_before t.stand [] (class_of p.spelling)) 32 ++ (p.spelling ++ rest)))
     by_feeds zero rest is =
-        let none : is_remark t.stand.last ≡ false = no_first (is_remark t.stand.last) (leads t.stand (class_of p.spelling)) (goes_on t p has is) in
-        by_blanks (blanks_before t.stand t.line (class_of p.spelling)) rest refl (no_remark b bs (sym (ap is_remark last ∙ seen_remark x (class_of (b ∷ bs))) ∙ none))
+        let none : is_remark t.stand.last ≡ false =
+        no_first (is_remark t.stand.last) (leads t.stand (class_of p.spelling)) (goes_on t p has is) in
+        by_blanks (blanks_before t.stand t.line (class_of p.spelling)) rest refl
+        (no_remark b bs (sym (ap is_remark last ∙ seen_remark x (class_of (b ∷ bs))) ∙ none))
 
 few_feeds : (t : Begun) (p : Piece) → p.feeds ≤ 2 → feeds_before t p ≤ 2
 few_feeds t p few = by_tests (is_bare t.line) (begins_line t.stand (class_of p.spelling)) p.feeds few
@@ -126,7 +141,8 @@ few_feeds t p few = by_tests (is_bare t.line) (begins_line t.stand (class_of p.s
 -- one piece is read
 piece_read : (n k : ℕ) (spelling rest : List ℕ) (later : List Piece) → n ≤ 2 → IsMark spelling →
     ((b : ℕ) (bs : List ℕ) → spelling ≡ b ∷ bs → (stops b rest ≡ true) × (pieces_from 0 0 rest ≡ later)) →
-    pieces_from 0 0 (replicate n 10 ++ (replicate k 32 ++ (spelling ++ rest))) ≡ record { feeds = n; spelling = spelling } ∷ later
+    pieces_from 0 0 (replicate n 10 ++ (replicate k 32 ++ (spelling ++ rest))) ≡
+    record { feeds = n; spelling = spelling } ∷ later
 piece_read n k [] rest later few m behind = absurd m
 piece_read n k (b ∷ bs) rest later few m behind =
     let h = behind b bs refl in
@@ -135,16 +151,21 @@ piece_read n k (b ∷ bs) rest later few m behind =
     ∙ (found n b bs rest m h.0 ∙ ap (λ ps. record { feeds = n; spelling = b ∷ bs } ∷ ps) h.1))
 
 -- all that is behind a line that has begun is read
-reads : (t : Begun) (ps : List Piece) → is_bare t.line ≡ false → AllByRecursion IsPiece ps → pieces_from 0 0 (rest_of t ps) ≡ settled t ps
+reads : (t : Begun) (ps : List Piece) → is_bare t.line ≡ false → AllByRecursion IsPiece ps →
+    pieces_from 0 0 (rest_of t ps) ≡ settled t ps
 reads t [] has all = refl
 reads t (p ∷ ps) has all =
     let next = begun_at t p in
     let begun : is_bare next.line ≡ false = not_bare _ p.spelling (mark_is p.spelling all.0.1) in
     piece_read (feeds_before t p) _ p.spelling (rest_of next ps) (settled next ps) (few_feeds t p all.0.0) all.0.1
-    (λ b bs is. (stops_here next ps b bs t.stand.last (ap (λ w. seen_behind t.stand.last (class_of w)) is) begun all.1, reads next ps begun all.1))
+    (λ b bs is. (
+      stops_here next ps b bs t.stand.last (ap (λ w. seen_behind t.stand.last (class_of w)) is) begun all.1,
+      reads next ps begun all.1,
+    ))
 
 -- a file that is laid out is read as its settled pieces
-pub read_back : (ps : List Piece) → AllByRecursion IsPiece ps → pieces (concat (lines_from beginning ps)) ≡ settled beginning ps
+pub read_back : (ps : List Piece) → AllByRecursion IsPiece ps → pieces (concat (lines_from beginning ps)) ≡
+    settled beginning ps
 read_back [] all = refl
 read_back (p ∷ ps) all =
     let next = begun_at beginning p in
@@ -152,10 +173,15 @@ read_back (p ∷ ps) all =
     let k = blanks_before beginning.stand [] (class_of p.spelling) in
     ap pieces (text_is next ps begun all.1 ∙ append_assoc (replicate k 32) p.spelling (rest_of next ps))
     ∙ piece_read 0 k p.spelling (rest_of next ps) (settled next ps) (omega arith) all.0.1
-    (λ b bs is. (stops_here next ps b bs beginning.stand.last (ap (λ w. seen_behind beginning.stand.last (class_of w)) is) begun all.1, reads next ps begun all.1))
+    (λ b bs is. (
+      stops_here next ps b bs beginning.stand.last
+          (ap (λ w. seen_behind beginning.stand.last (class_of w)) is) begun all.1,
+      reads next ps begun all.1,
+    ))
 
 same_feeds : (bare begins : Bool) (n : ℕ) →
-    cond bare 0 (cond begins (at_least_one (cond bare 0 (cond begins (at_least_one n) n))) (cond bare 0 (cond begins (at_least_one n) n)))
+    cond bare 0 (cond begins (at_least_one (cond bare 0 (cond begins (at_least_one n) n)))
+    (cond bare 0 (cond begins (at_least_one n) n)))
     ≡ cond bare 0 (cond begins (at_least_one n) n)
 same_feeds true begins n = refl
 same_feeds false true zero = refl
@@ -169,7 +195,8 @@ laid_again t (p ∷ ps) =
     let n = feeds_before t p in
     let again : feeds_before t (record { feeds = n; spelling = p.spelling }) ≡ n =
     same_feeds (is_bare t.line) (begins_line t.stand (class_of p.spelling)) p.feeds in
-    ap (λ m. ended t.line m ++ lines_from (put_behind t.stand (left_of t.line m) p.spelling) (settled (begun_at t p) ps)) again
+    ap (λ m. ended t.line m ++ lines_from (put_behind t.stand (left_of t.line m) p.spelling)
+    (settled (begun_at t p) ps)) again
     ∙ ap (λ lines. lines_at t p ++ lines) (laid_again (begun_at t p) ps)
 
 -- and have the same tokens and comments

@@ -1,14 +1,17 @@
 -- What stands at the front of a text is found whole, whatever is behind it that doesn't go on with it.
-use Rattle.std.proofs.Common.{◌≡◌, ℕ, zero, suc, ◌+◌, ◌≤◌, Bool, true, false, not, ◌&&◌, cond, nat_eq, List, [], ◌∷◌, ◌++◌, length, take, replicate, refl, sym, ap, subst, ◌∙◌, arith}
+use Rattle.std.proofs.Common.{◌≡◌, ℕ, zero, suc, ◌+◌, ◌≤◌, Bool, true, false, not, ◌&&◌, cond, nat_eq, List, [], ◌∷◌}
+use Rattle.std.proofs.Common.{◌++◌, length, take, replicate, refl, sym, ap, subst, ◌∙◌, arith}
 use Rattle.std.proofs.Math.Seq.{take-append_seam}
 use Rattle.std.specs.List.{AllByRecursion, prefix_len}
 use Rattle.layer_ast.specs.Spelling.{is_blank, is_word_byte}
-use Rattle.format_mean.specs.Pieces.{Piece, feed, blank, whole, one_more, comment_length, doubles, sign_length, length_behind, front, more_feeds, with_front, pieces_from}
+use Rattle.format_mean.specs.Pieces.{Piece, feed, blank, whole, one_more, comment_length, doubles, sign_length}
+use Rattle.format_mean.specs.Pieces.{length_behind, front, more_feeds, with_front, pieces_from}
 
 -- whether what is behind a token or comment that begins with this byte doesn't go on with it
 abbrev pub stops_by : (remark word : Bool) → ℕ → List ℕ → Bool
 stops_by remark word b [] = true
-stops_by remark word b (c ∷ cs) = cond remark (nat_eq c 10) (cond word (not (is_word_byte c)) (not (doubles b && nat_eq c 61)))
+stops_by remark word b (c ∷ cs) =
+    cond remark (nat_eq c 10) (cond word (not (is_word_byte c)) (not (doubles b && nat_eq c 61)))
 
 abbrev pub stops : ℕ → List ℕ → Bool
 stops b rest = stops_by (nat_eq b 35) (is_word_byte b) b rest
@@ -34,12 +37,14 @@ comment_none : (w : Bool) (b : ℕ) (rest : List ℕ) → stops_by true w b rest
 comment_none w b [] stop = refl
 comment_none w b (c ∷ cs) stop = ap (λ t. cond t 0 (one_more (is_blank c) (comment_length cs))) stop
 
-counted : (t : Bool) (n c : ℕ) (xs : List ℕ) → nat_eq c 10 ≡ false → is_blank c ≡ t → comment_length xs ≡ n → comment_length (c ∷ xs) ≡ one_more t n
+counted : (t : Bool) (n c : ℕ) (xs : List ℕ) → nat_eq c 10 ≡ false → is_blank c ≡ t → comment_length xs ≡ n →
+    comment_length (c ∷ xs) ≡ one_more t n
 counted t n c xs is_feed is h =
     ap (λ e. cond e 0 (one_more (is_blank c) (comment_length xs))) is_feed
     ∙ (ap (λ u. one_more u (comment_length xs)) is ∙ ap (one_more t) h)
 
-comment_again : (rest : List ℕ) → comment_length rest ≡ 0 → (bs : List ℕ) → Again comment_length bs rest (comment_length bs)
+comment_again : (rest : List ℕ) → comment_length rest ≡ 0 → (bs : List ℕ) →
+    Again comment_length bs rest (comment_length bs)
 comment_again rest none [] = (none, refl)
 comment_again rest none (c ∷ cs) =
     let ih = comment_again rest none cs in
@@ -49,7 +54,8 @@ comment_again rest none (c ∷ cs) =
         length (take n cs) ≡ n → Again comment_length (c ∷ cs) rest (cond e 0 (one_more t n))
     by_byte true t n is_feed is h l = (none, refl)
     by_byte false true zero is_feed is h l = (none, refl)
-    by_byte false true (suc n) is_feed is h l = (counted true (suc n) c (take (suc n) cs ++ rest) is_feed is h, ap suc l)
+    by_byte false true (suc n) is_feed is h l =
+        (counted true (suc n) c (take (suc n) cs ++ rest) is_feed is h, ap suc l)
     by_byte false false n is_feed is h l = (counted false n c (take n cs ++ rest) is_feed is h, ap suc l)
 
 word_none : (b : ℕ) (rest : List ℕ) → stops_by false true b rest ≡ true → prefix_len is_word_byte rest ≡ 0
@@ -66,7 +72,8 @@ word_again rest none [] = (none, refl)
 word_again rest none (c ∷ cs) =
     let ih = word_again rest none cs in by_byte (is_word_byte c) (prefix_len is_word_byte cs) refl ih.0 ih.1
   where
-    by_byte : (t : Bool) (n : ℕ) → is_word_byte c ≡ t → prefix_len is_word_byte (take n cs ++ rest) ≡ n → length (take n cs) ≡ n →
+    by_byte : (t : Bool) (n : ℕ) → is_word_byte c ≡ t → prefix_len is_word_byte (take n cs ++ rest) ≡ n →
+        length (take n cs) ≡ n →
         Again (prefix_len is_word_byte) (c ∷ cs) rest (cond t (1 + n) 0)
     by_byte true n is h l =
         let e : 1 + n ≡ suc n = omega arith in
@@ -81,7 +88,8 @@ sign_none b (c ∷ cs) stop = by_byte (doubles b && nat_eq c 61) stop
     by_byte true is = cc
     by_byte false is = refl
 
-sign_again : (b : ℕ) (rest : List ℕ) → sign_length b rest ≡ 0 → (bs : List ℕ) → Again (sign_length b) bs rest (sign_length b bs)
+sign_again : (b : ℕ) (rest : List ℕ) → sign_length b rest ≡ 0 → (bs : List ℕ) →
+    Again (sign_length b) bs rest (sign_length b bs)
 sign_again b rest none [] = (none, refl)
 sign_again b rest none (c ∷ cs) = by_byte (doubles b && nat_eq c 61) refl
   where
@@ -115,10 +123,12 @@ all_pieces feeds zero (b ∷ bs) few =
   where
     by_front : (e t : Bool) → nat_eq b 10 ≡ e → is_blank b ≡ t →
         ((f i : ℕ) → f ≤ 2 → AllByRecursion IsPiece (pieces_from f i bs)) →
-        AllByRecursion IsPiece (with_front (cond e feed (cond t blank (whole (length_behind b bs)))) feeds b bs (λ f i. pieces_from f i bs))
+        AllByRecursion IsPiece
+        (with_front (cond e feed (cond t blank (whole (length_behind b bs)))) feeds b bs (λ f i. pieces_from f i bs))
     by_front true t is_feed is later = later (more_feeds feeds) 0 (at_most_two feeds)
     by_front false true is_feed is later = later feeds 0 few
-    by_front false false is_feed is later = (((few, (is_feed, is, again b bs))), later 0 (length_behind b bs) (omega arith))
+    by_front false false is_feed is later =
+        (((few, (is_feed, is, again b bs))), later 0 (length_behind b bs) (omega arith))
 
 -- bytes that belong to a piece in front of them are passed over
 past : (feeds : ℕ) (bs rest : List ℕ) → pieces_from feeds (length bs) (bs ++ rest) ≡ pieces_from feeds 0 rest
@@ -133,7 +143,8 @@ found k b bs rest m stop =
     ap (λ e. cond e feed (cond (is_blank b) blank (whole (length_behind b (bs ++ rest))))) m.0
     ∙ (ap (λ t. cond t blank (whole (length_behind b (bs ++ rest)))) m.1 ∙ ap whole (m.2 rest stop)) in
     ap (λ f. with_front f k b (bs ++ rest) (λ feeds inside. pieces_from feeds inside (bs ++ rest))) here
-    ∙ (ap (λ xs. record { feeds = k; spelling = b ∷ xs } ∷ pieces_from 0 (length bs) (bs ++ rest)) (take-append_seam bs rest)
+    ∙ (ap (λ xs. record { feeds = k; spelling = b ∷ xs } ∷ pieces_from 0 (length bs) (bs ++ rest))
+    (take-append_seam bs rest)
     ∙ ap (λ ps. record { feeds = k; spelling = b ∷ bs } ∷ ps) (past 0 bs rest))
 
 -- blanks at the front of a text

@@ -25,7 +25,8 @@ queueing = codes "push" ∷ codes "take" ∷ []
 -- the words from which a parenthesis stands apart
 abbrev pub apart : List (List ℕ)
 apart =
-    codes "if" ∷ codes "rare" ∷ codes "two" ∷ codes "common" ∷ codes "below" ∷ codes "of" ∷ codes "and" ∷ codes "or" ∷ []
+    codes "if" ∷ codes "rare" ∷ codes "two" ∷ codes "common" ∷ codes "below" ∷ codes "of" ∷ codes "and" ∷ codes "or" ∷
+    []
 
 -- the class of a word
 abbrev pub word_class : List ℕ → Class

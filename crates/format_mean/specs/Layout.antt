@@ -1,5 +1,6 @@
 -- How pieces are laid out in lines.
-use Rattle.std.specs.Prelude.{ℕ, zero, suc, ◌+◌, ◌-◌, ◌*◌, Bool, true, false, ◌&&◌, ◌||◌, nat_eq, nat_lt, if◌then◌else◌, List, [], ◌∷◌, ◌++◌, length, replicate}
+use Rattle.std.specs.Prelude.{ℕ, zero, suc, ◌+◌, ◌-◌, ◌*◌, Bool, true, false, ◌&&◌, ◌||◌, nat_eq, nat_lt, if◌then◌else◌}
+use Rattle.std.specs.Prelude.{List, [], ◌∷◌, ◌++◌, length, replicate}
 use Rattle.std.specs.List.{concat}
 use Rattle.format_mean.specs.declared.stand.Class.{Class}
 use Rattle.format_mean.specs.declared.stand.Class.TheVariants as class
@@ -22,7 +23,12 @@ in_layer_behind was _ = was
 
 -- where the next one stands
 abbrev pub behind : Stand → Class → Stand
-behind s c = record { depth = depth_behind s.depth c; in_layer = in_layer_behind s.in_layer c; last = seen_behind s.last c }
+behind s c = record {
+  depth = depth_behind s.depth c;
+  in_layer = in_layer_behind s.in_layer c;
+  last =
+      seen_behind s.last c;
+}
 
 -- what begins a line wherever it stands: a layer, the stack, a declaration, a handler, and the end of a layer
 abbrev pub leads : Stand → Class → Bool
@@ -55,7 +61,8 @@ abbrev pub at_least_one : ℕ → ℕ
 at_least_one zero = 1
 at_least_one (suc n) = suc n
 
--- how many blanks stand in front of it in a line that has so many bytes: a comment stands at its column, or behind one blank
+-- how many blanks stand in front of it in a line that has so many bytes: a comment stands at its column, or behind one
+-- blank
 abbrev pub blanks_apart : Stand → ℕ → Class → ℕ
 blanks_apart s column class.Remark = at_least_one (COMMENT_COLUMN - column)
 blanks_apart s column c = if are_joined s.last c then 0 else 1
@@ -69,7 +76,8 @@ abbrev pub is_bare : List ℕ → Bool
 is_bare [] = true
 is_bare (_ ∷ _) = false
 
--- the line feeds in front of a piece: those of the text, and one where it has to begin a line; none in front of the first
+-- the line feeds in front of a piece: those of the text, and one where it has to begin a line; none in front of the
+-- first
 abbrev pub feeds_of : (bare : Bool) → Stand → Class → ℕ → ℕ
 feeds_of bare s c feeds = if bare then 0 else if begins_line s c then at_least_one feeds else feeds
 

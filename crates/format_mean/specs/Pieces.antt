@@ -1,5 +1,6 @@
 -- What a text has in it: its tokens and its comments.
-use Rattle.std.specs.Prelude.{ℕ, zero, suc, Bool, true, false, ◌&&◌, ◌||◌, nat_eq, if◌then◌else◌, List, [], ◌∷◌, map, take}
+use Rattle.std.specs.Prelude.{ℕ, zero, suc, Bool, true, false, ◌&&◌, ◌||◌, nat_eq, if◌then◌else◌, List, [], ◌∷◌, map}
+use Rattle.std.specs.Prelude.{take}
 use Rattle.std.specs.List.{prefix_len}
 use Rattle.layer_ast.specs.Spelling.{is_blank, is_word_byte}
 

@@ -14,7 +14,8 @@ ParesLines =
 -- declarations, handlers and the end of a layer begin lines; what is in a handler stays in its line
 abbrev pub PartsStatements : Type 0
 PartsStatements =
-    formatted_lines (codes "layer a{state int k ; up Cast( o,m ){push q[o](m)else{} set k=( len(q [o])+1 );}}stack{a;}") ≡
+    formatted_lines (codes "layer a{state int k ; up Cast( o,m ){push q[o](m)else{} set k=( len(q [o])+1 );}}stack{a;}")
+    ≡
     codes "layer a {\n"
     ∷ codes "  state int k;\n"
     ∷ codes "  up Cast(o, m) { push q[o] (m) else { } set k = (len(q[o]) + 1); }\n"

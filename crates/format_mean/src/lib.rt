@@ -1,5 +1,5 @@
-//! The one layout of layer files: what a text has in it, tokens and comments in their order, and how these are laid out in lines; and that
-//! laying out changes neither, and nothing the second time. Nothing runs here.
+//! The one layout of layer files: what a text has in it, tokens and comments in their order, and how these are laid out
+//! in lines; and that laying out changes neither, and nothing the second time. Nothing runs here.
 #![tactic(auto)]
 
 ghost use Rattle.format_mean.specs.Laws.{KeepsTokens, KeepsMarks, IsStable};

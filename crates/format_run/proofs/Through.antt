@@ -14,12 +14,19 @@ use Rattle.format_run.proofs.Due.{status_said}
 -- an end that was said with status 0 is a whole text
 zero_done : (end : Ending) (e : Errors) → Said end e → e.status ≡ 0 → end ≡ ending.Done
 zero_done ending.Done e s is = refl
-zero_done ending.Words e s is = absurd (⊎_elim (λ due. omega (arith, due, is)) (λ due. omega (arith, due, is)) (status_said ending.Words e s))
-zero_done ending.TooLarge e s is = absurd (⊎_elim (λ due. omega (arith, due, is)) (λ due. omega (arith, due, is)) (status_said ending.TooLarge e s))
-zero_done (ending.BadToken at) e s is = absurd (⊎_elim (λ due. omega (arith, due, is)) (λ due. omega (arith, due, is)) (status_said (ending.BadToken at) e s))
-zero_done ending.Read e s is = absurd (⊎_elim (λ due. omega (arith, due, is)) (λ due. omega (arith, due, is)) (status_said ending.Read e s))
-zero_done ending.Write e s is = absurd (⊎_elim (λ due. omega (arith, due, is)) (λ due. omega (arith, due, is)) (status_said ending.Write e s))
-zero_done ending.Memory e s is = absurd (⊎_elim (λ due. omega (arith, due, is)) (λ due. omega (arith, due, is)) (status_said ending.Memory e s))
+zero_done ending.Words e s is =
+    absurd (⊎_elim (λ due. omega (arith, due, is)) (λ due. omega (arith, due, is)) (status_said ending.Words e s))
+zero_done ending.TooLarge e s is =
+    absurd (⊎_elim (λ due. omega (arith, due, is)) (λ due. omega (arith, due, is)) (status_said ending.TooLarge e s))
+zero_done (ending.BadToken at) e s is =
+    absurd (⊎_elim (λ due. omega (arith, due, is)) (λ due. omega (arith, due, is))
+    (status_said (ending.BadToken at) e s))
+zero_done ending.Read e s is =
+    absurd (⊎_elim (λ due. omega (arith, due, is)) (λ due. omega (arith, due, is)) (status_said ending.Read e s))
+zero_done ending.Write e s is =
+    absurd (⊎_elim (λ due. omega (arith, due, is)) (λ due. omega (arith, due, is)) (status_said ending.Write e s))
+zero_done ending.Memory e s is =
+    absurd (⊎_elim (λ due. omega (arith, due, is)) (λ due. omega (arith, due, is)) (status_said ending.Memory e s))
 
 -- behind the stream it was whole before, and the stream got all
 got_all : (whole : Bool) (end : Ending) → closed whole end ≡ ending.Done → (whole ≡ true) × (end ≡ ending.Done)
@@ -38,7 +45,8 @@ got_all false ending.Write is = absurd (cc is)
 got_all true ending.Memory is = absurd (cc is)
 got_all false ending.Memory is = absurd (cc is)
 
-pub delivers : (name : Option (List ℕ)) (told : Option Shelved) (reads reads_after : ℕ) (out err : Stream) (status : ℕ) →
+pub delivers : (name : Option (List ℕ)) (told : Option Shelved) (reads reads_after : ℕ) (out err : Stream)
+    (status : ℕ) →
     RunsThrough name told reads reads_after out err status → status ≡ 0 → Delivers name told reads reads_after out
 delivers name told reads reads_after out err status r is =
     let f = got_all r.whole r.end (zero_done (closed r.whole r.end) (errors err.before r.closing status) r.said is) in

@@ -1,5 +1,6 @@
 -- What a run of the program comes to: what its read found, what was written, why it ended so, and what is said.
-use Rattle.std.specs.Prelude.{◌≡◌, ◌⊎◌, ℕ, ◌<◌, ◌≤◌, nat_eq, nat_lt, if◌then◌else◌, List, [], ◌∷◌, ◌++◌, length, Option, Some, None, IfSome, IsSomeAnd, Result, Ok, Err, codes}
+use Rattle.std.specs.Prelude.{◌≡◌, ◌⊎◌, ℕ, ◌<◌, ◌≤◌, nat_eq, nat_lt, if◌then◌else◌, List, [], ◌∷◌, ◌++◌, length, Option}
+use Rattle.std.specs.Prelude.{Some, None, IfSome, IsSomeAnd, Result, Ok, Err, codes}
 use Rattle.std.specs.Fmt.{decimal}
 use Rattle.std.specs.Str.{bytes_eq}
 use Rattle.std.specs.declared.alloc.Global.{Global}
@@ -18,7 +19,8 @@ use Rattle.format_mean.specs.Layout.{formatted, formatted_lines}
 use Rattle.format_run.specs.declared.ending.Ending.{Ending}
 use Rattle.format_run.specs.declared.ending.Ending.TheVariants as ending
 
--- What a run began with and what it left: what the shelf told, its count of faults before and after, and what the output told before and after.
+-- What a run began with and what it left: what the shelf told, its count of faults before and after, and what the
+-- output told before and after.
 pub record Around : Type 0 where
   pub told : Option Shelved
   pub reads : ℕ
@@ -184,11 +186,13 @@ Due due status = (status ≡ due) ⊎ (status ≡ 7)
 abbrev pub NoPutFailed : Around → Type 0
 NoPutFailed a = Rose a.output.faults a.output_after.faults → ⊥
 
--- Where the shelf tells and no put failed, the status is the one that what is found calls for, or memory ran out; and a file that is laid out
--- was written whole then.
+-- Where the shelf tells and no put failed, the status is the one that what is found calls for, or memory ran out; and a
+-- file that is laid out was written whole then.
 pub record Exact (name : List ℕ) (a : Around) (status : ℕ) : Type 0 where
-  pub due : (shelf : Shelved) → a.told ≡ Some shelf → NoPutFailed a → Due (status_of (end_for (found_in shelf name))) status
-  pub complete : (shelf : Shelved) (file : List ℕ) → a.told ≡ Some shelf → found_in shelf name ≡ Some file → verdict file ≡ ending.Done →
+  pub due : (shelf : Shelved) → a.told ≡ Some shelf → NoPutFailed a →
+      Due (status_of (end_for (found_in shelf name))) status
+  pub complete : (shelf : Shelved) (file : List ℕ) → a.told ≡ Some shelf → found_in shelf name ≡ Some file →
+      verdict file ≡ ending.Done →
       NoPutFailed a → Gains a.output a.output_after (formatted_lines file) ⊎ (status ≡ 7)
 
 abbrev pub IsExact : Option (List ℕ) → Around → ℕ → Type 0

@@ -24,9 +24,10 @@ surrounding told reads reads_after output output_after = record {
   output_after = output_after;
 }
 
--- A run that put so much on the output and ended so; what was handed on to the output's stream; and what was said then, of the end that comes
--- of both, and handed on to the standard error's.
-pub record RunsThrough (name : Option (List ℕ)) (told : Option Shelved) (reads reads_after : ℕ) (out err : Stream) (status : ℕ) : Type 0 where
+-- A run that put so much on the output and ended so; what was handed on to the output's stream; and what was said then,
+-- of the end that comes of both, and handed on to the standard error's.
+pub record RunsThrough (name : Option (List ℕ)) (told : Option Shelved) (reads reads_after : ℕ) (out err : Stream)
+    (status : ℕ) : Type 0 where
   pub put : Tells
   pub end : Ending
   pub came : Comes name (surrounding told reads reads_after out.before put) end

@@ -13,11 +13,12 @@ use layer_ast::{At, LONGEST_FILE};
 use outside::{Got, Shelf, ShelfError, Sink, SinkError};
 use std::alloc::{AllocError, Global};
 
-/// Lays out the file that the words name, the program's own name left out, and answers the program's status. What is laid out goes to `out`, one line a
-/// put; where the run ends with another status than 0, one line on `err` says why.
+/// Lays out the file that the words name, the program's own name left out, and answers the program's status. What is
+/// laid out goes to `out`, one line a put; where the run ends with another status than 0, one line on `err` says why.
 ///
-/// With status 0 `out` gained the whole text of the definitions, byte for byte; 1 and 2 come exactly where the file or the words are refused, 4 and 5 only
-/// where the shelf or `out` counted a fault in this call, and 7 where memory ran out.
+/// With status 0 `out` gained the whole text of the definitions, byte for byte; 1 and 2 come exactly where the file or
+/// the words are refused, 4 and 5 only where the shelf or `out` counted a fault in this call, and 7 where memory ran
+/// out.
 pub fn run<S: Shelf, O: Sink, E: Sink>(
     alloc: Global,
     words: &[String],

@@ -1,11 +1,12 @@
--- Names, arguments and what stands in parentheses behind a header's name: where the tokens go together, they are the same, and
--- what follows them goes together too.
+-- Names, arguments and what stands in parentheses behind a header's name: where the tokens go together, they are the
+-- same, and what follows them goes together too.
 use Rattle.std.proofs.Common.{◌≡◌, List, [], ◌∷◌, Option, Some, None, refl, ap}
 use Rattle.layer_ast.specs.declared.names.Name.{Name}
 use Rattle.layer_ast.specs.declared.tokens.Sign.TheVariants as sign
 use Rattle.layer_ast.specs.Print as print
 use Rattle.layer_ast.specs.Printed.{Printed, plain}
-use Rattle.layer_ast.specs.Tree.{ExpressionTree, BuiltTree, ArgumentTree, value, content, NamesTree, ArgumentsTree, PushedTree, SizeTree, fixed, sized}
+use Rattle.layer_ast.specs.Tree.{ExpressionTree, BuiltTree, ArgumentTree, value, content, NamesTree, ArgumentsTree}
+use Rattle.layer_ast.specs.Tree.{PushedTree, SizeTree, fixed, sized}
 use Rattle.grammar_laws.proofs.Begins.{another, begins, begins_together, Ends, expression_begins, built_begins}
 use Rattle.grammar_laws.proofs.Expressions.{expression_once, built_once}
 use Rattle.grammar_laws.proofs.Together.{Together, BothAt, name_once}
@@ -93,9 +94,11 @@ some_arguments_once : (a b : Option ArgumentsTree) (k l : List Printed) →
 some_arguments_once None None k l (_, _, h) = (refl, h)
 some_arguments_once (Some a) (Some b) k l h = let r = arguments_once a b k l h in (ap Some r.0, r.1)
 some_arguments_once None (Some b) k l h =
-    absurd (closed_not b.first (plain sign.RightParen ∷ k) (print.more_arguments b.rest (plain sign.RightParen ∷ l)) refl h)
+    absurd (closed_not b.first (plain sign.RightParen ∷ k) (print.more_arguments b.rest (plain sign.RightParen ∷ l))
+    refl h)
 some_arguments_once (Some a) None k l h =
-    absurd (not_closed a.first (print.more_arguments a.rest (plain sign.RightParen ∷ k)) (plain sign.RightParen ∷ l) refl h)
+    absurd (not_closed a.first (print.more_arguments a.rest (plain sign.RightParen ∷ k)) (plain sign.RightParen ∷ l)
+    refl h)
 
 pub pushed_once : (a b : Option PushedTree) (k l : List Printed) →
     Together (print.pushed a (plain sign.Semicolon ∷ k)) (print.pushed b (plain sign.Semicolon ∷ l)) →

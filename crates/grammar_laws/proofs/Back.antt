@@ -1,5 +1,6 @@
 -- One step back over a token: in front of what the machine expects behind it stands what it expected.
-use Rattle.std.proofs.Common.{◌≡◌, Bool, true, false, if◌then◌else◌, List, [], ◌∷◌, Option, Some, None, IfSome, refl, sym, ap}
+use Rattle.std.proofs.Common.{◌≡◌, Bool, true, false, if◌then◌else◌, List, [], ◌∷◌, Option, Some, None, IfSome, refl}
+use Rattle.std.proofs.Common.{sym, ap}
 use denote.Enum.Bare.{same_true}
 use Rattle.layer_ast.specs.contracts.tokens.Sign.{the_type}
 use Rattle.layer_ast.specs.declared.names.At.{At}
@@ -19,10 +20,27 @@ use Rattle.layer_ast.specs.declared.syntax.Operator.TheVariants as operator
 use Rattle.layer_ast.specs.declared.syntax.Shape.{Shape}
 use Rattle.layer_ast.specs.declared.syntax.Shape.TheVariants as shape_of
 use Rattle.layer_ast.specs.declared.syntax.Sort.TheVariants as sort
-use Rattle.layer_ast.specs.Tree.{ExpressionTree, number, me, members, ltime, named, element, square, rows, item, size, binary, apply, pick, QueueTree, queue, queue_at, bare, built, nothing, held, cut, tail, join, value, content, SizeTree, fixed, sized, StatementTree, bind, set, set_square, push, take, when, choose, each, emit, StatementTrees, none, more, always, common, rare, ItemsTree, DeclarationTree, param, int, rows_cell, rows_array, header}
+use Rattle.layer_ast.specs.Tree.{ExpressionTree, number, me, members, ltime, named, element, square, rows, item, size}
+use Rattle.layer_ast.specs.Tree.{binary, apply, pick, QueueTree, queue, queue_at, bare, built, nothing, held, cut, tail}
+use Rattle.layer_ast.specs.Tree.{join, value, content, SizeTree, fixed, sized, StatementTree, bind, set, set_square}
+use Rattle.layer_ast.specs.Tree.{push, take, when, choose, each, emit, StatementTrees, none, more, always, common, rare}
+use Rattle.layer_ast.specs.Tree.{ItemsTree, DeclarationTree, param, int, rows_cell, rows_array, header}
 use Rattle.layer_ast.specs.Print as print
-use Rattle.layer_ast.specs.Printed.{Printed, plain, placed, numeral, plain_numeral, name, kind, direction_sign, function_sign}
-use Rattle.grammar_laws.specs.Machine.{Symbol, one, a_name, a_number, a_kind, a_size, a_sort, an_ending, an_operator, an_expression, an_index, a_message, a_built, an_argument, more_arguments, some_arguments, a_pushed, a_likely, an_otherwise, a_statement, statements, more_names, some_names, a_popped, an_expected, a_handler, handlers, a_square, a_shape, an_initial, a_capacity, more_items, a_cell, a_declaration, declarations, a_layer, layers, more_given, some_given, a_place, places, Move, eats, skips, refuses, is_sign, begun, or_else, operand, emission, handling, name_move, number_move, kind_move, size_move, sort_move, ending_move, operator_move, expression_move, index_move, built_move, message_move, argument_move, more_arguments_move, pushed_move, likely_move, otherwise_move, statement_move, more_names_move, popped_move, expected_move, handler_move, square_move, shape_move, initial_move, capacity_move, more_items_move, cell_move, declaration_move, layer_move, more_given_move, some_given_move, place_move, move}
+use Rattle.layer_ast.specs.Printed.{Printed, plain, placed, numeral, plain_numeral, name, kind, direction_sign}
+use Rattle.layer_ast.specs.Printed.{function_sign}
+use Rattle.grammar_laws.specs.Machine.{Symbol, one, a_name, a_number, a_kind, a_size, a_sort, an_ending, an_operator}
+use Rattle.grammar_laws.specs.Machine.{an_expression, an_index, a_message, a_built, an_argument, more_arguments}
+use Rattle.grammar_laws.specs.Machine.{some_arguments, a_pushed, a_likely, an_otherwise, a_statement, statements}
+use Rattle.grammar_laws.specs.Machine.{more_names, some_names, a_popped, an_expected, a_handler, handlers, a_square}
+use Rattle.grammar_laws.specs.Machine.{a_shape, an_initial, a_capacity, more_items, a_cell, a_declaration, declarations}
+use Rattle.grammar_laws.specs.Machine.{a_layer, layers, more_given, some_given, a_place, places, Move, eats, skips}
+use Rattle.grammar_laws.specs.Machine.{refuses, is_sign, begun, or_else, operand, emission, handling, name_move}
+use Rattle.grammar_laws.specs.Machine.{number_move, kind_move, size_move, sort_move, ending_move, operator_move}
+use Rattle.grammar_laws.specs.Machine.{expression_move, index_move, built_move, message_move, argument_move}
+use Rattle.grammar_laws.specs.Machine.{more_arguments_move, pushed_move, likely_move, otherwise_move, statement_move}
+use Rattle.grammar_laws.specs.Machine.{more_names_move, popped_move, expected_move, handler_move, square_move}
+use Rattle.grammar_laws.specs.Machine.{shape_move, initial_move, capacity_move, more_items_move, cell_move}
+use Rattle.grammar_laws.specs.Machine.{declaration_move, layer_move, more_given_move, some_given_move, place_move, move}
 use Rattle.grammar_laws.specs.Parts.{otherwise, capacity}
 use Rattle.grammar_laws.specs.Parts.{square as with_square}
 use Rattle.grammar_laws.proofs.Phrases.{Phrase, Chain, chain_split}
@@ -43,12 +61,14 @@ sign_is want (token.Name w) is = cc
 sign_is want (token.Number n) is = cc
 sign_is want (token.Kind k) is = cc
 
-back_one : (s : Sign) (t : Token) (at : At) (is : Bool) → is_sign s t ≡ is → Back (one s) t at (if is then eats [] else refuses)
+back_one : (s : Sign) (t : Token) (at : At) (is : Bool) → is_sign s t ≡ is →
+    Back (one s) t at (if is then eats [] else refuses)
 back_one s t at true is = λ p k e. (plain s, sign_is s t is, tt, ap (λ r. plain s ∷ r) e)
 back_one s t at false is = tt
 
 back_name : (t : Token) (at : At) → Back a_name t at (name_move t)
-back_name (token.Name w) at = λ p k e. (name (record { at = at; word = w }), refl, refl, (record { at = at; word = w }, rw e))
+back_name (token.Name w) at = λ p k e.
+    (name (record { at = at; word = w }), refl, refl, (record { at = at; word = w }, rw e))
 back_name _ at = tt
 
 back_number : (t : Token) (at : At) → Back a_number t at (number_move t)
@@ -200,7 +220,8 @@ back_built _ at = tt
 -- what is a part of one kind is a part of another
 back_as : (part whole : Symbol) (t : Token) (at : At) (m : Move) →
     ((p k : List Printed) → Phrase part p k → Phrase whole p k) → Back part t at m → Back whole t at m
-back_as part whole t at (eats new) into b = λ p k chain. let (q, e, place, here) = b p k chain in (q, e, place, into _ _ here)
+back_as part whole t at (eats new) into b = λ p k chain. let (q, e, place, here) = b p k chain in
+    (q, e, place, into _ _ here)
 back_as part whole t at skips into b = λ k. into k k (b k)
 back_as part whole t at refuses into b = tt
 
@@ -214,7 +235,8 @@ back_or first second whole t at refuses n into onto b c = back_as second whole t
 
 -- an optional part that begins as another
 back_begun : (part whole : Symbol) (behind : List Symbol) (t : Token) (at : At) (m : Move) →
-    ((p l k : List Printed) → Phrase part p l → Chain behind l k → Phrase whole p k) → ((k : List Printed) → Phrase whole k k) →
+    ((p l k : List Printed) → Phrase part p l → Chain behind l k → Phrase whole p k) →
+    ((k : List Printed) → Phrase whole k k) →
     Back part t at m → Back whole t at (begun behind m)
 back_begun part whole behind t at (eats new) joined skip b =
     λ p k chain.
@@ -225,7 +247,8 @@ back_begun part whole behind t at refuses joined skip b = skip
 
 back_message : (t : Token) (at : At) → Back a_message t at (message_move t)
 back_message t at =
-    back_or a_built a_name a_message t at (built_move t) (name_move t) (λ p k (b, e). (built b, e)) (λ p k (n, e). (bare n, e))
+    back_or a_built a_name a_message t at (built_move t) (name_move t) (λ p k (b, e). (built b, e))
+    (λ p k (n, e). (bare n, e))
     (back_built t at) (back_name t at)
 
 back_argument : (t : Token) (at : At) → Back an_argument t at (argument_move t)
@@ -241,7 +264,8 @@ back_more_arguments _ at = λ k. ([], refl)
 back_some_arguments : (t : Token) (at : At) → Back some_arguments t at (begun (more_arguments ∷ []) (argument_move t))
 back_some_arguments t at =
     back_begun an_argument some_arguments (more_arguments ∷ []) t at (argument_move t)
-    (λ p l k (a, e) (l1, (rest, e1), e2). (Some (record { first = a; rest = rest }), rw (e, e1, e2))) (λ k. (None, refl))
+    (λ p l k (a, e) (l1, (rest, e1), e2). (Some (record { first = a; rest = rest }), rw (e, e1, e2)))
+    (λ k. (None, refl))
     (back_argument t at)
 
 back_pushed : (t : Token) (at : At) → Back a_pushed t at (pushed_move t)
@@ -283,19 +307,21 @@ conditional at l c b (Some o) = choose at l c b o
 conditional_prints : (at : At) (l : Likely) (c : ExpressionTree) (b : StatementTrees) (o : Option StatementTrees)
     (k : List Printed) →
     placed sign.If at
-    ∷ print.likely l (print.expression c (plain sign.LeftBrace ∷ print.statements b (plain sign.RightBrace ∷ otherwise o k)))
+    ∷ print.likely l (print.expression c
+    (plain sign.LeftBrace ∷ print.statements b (plain sign.RightBrace ∷ otherwise o k)))
     ≡ print.statement (conditional at l c b o) k
 conditional_prints at l c b None k = refl
 conditional_prints at l c b (Some o) k = refl
 
 back_emission : (d : Dir) (at : At) (p k : List Printed) → Chain emission p k →
     Front a_statement (token.Sign (direction_sign d)) at p k
-back_emission d at p k (l1, (what, e1), (l2, e2, (l3, (a, e3), (l4, (rest, e4), (l5, e5, (l6, (pushed, e6), (l7, e7, e8))))))) = (
-  placed (direction_sign d) at,
-  refl,
-  refl,
-  (emit at d what (record { first = a; rest = rest }) pushed, rw (e1, e2, e3, e4, e5, e6, e7, e8)),
-)
+back_emission d at p k
+    (l1, (what, e1), (l2, e2, (l3, (a, e3), (l4, (rest, e4), (l5, e5, (l6, (pushed, e6), (l7, e7, e8))))))) = (
+      placed (direction_sign d) at,
+      refl,
+      refl,
+      (emit at d what (record { first = a; rest = rest }) pushed, rw (e1, e2, e3, e4, e5, e6, e7, e8)),
+    )
 
 back_statement : (t : Token) (at : At) → Back a_statement t at (statement_move t)
 back_statement (token.Sign sign.Let) at =
@@ -305,7 +331,15 @@ back_statement (token.Sign sign.Set) at =
     λ p k (l1, (n, e1), (l2, (i, e2), (l3, (j, e3), (l4, e4, (l5, (v, e5), (l6, e6, e7)))))).
     (placed sign.Set at, refl, refl, (assign at n i j v, rw (e1, e2, e3, e4, e5, e6, e7) (assign_prints at n i j v k)))
 back_statement (token.Sign sign.Push) at =
-    λ p k (l1, (n, e1), (l2, (i, e2), (l3, e3, (l4, (a, e4), (l5, (rest, e5), (l6, e6, (l7, e7, (l8, e8, (l9, (o, e9), (l10, e10, e11)))))))))). (
+    λ p k (
+      l1,
+      (n, e1),
+      (
+        l2,
+        (i, e2),
+        (l3, e3, (l4, (a, e4), (l5, (rest, e5), (l6, e6, (l7, e7, (l8, e8, (l9, (o, e9), (l10, e10, e11)))))))),
+      ),
+    ). (
       placed sign.Push at,
       refl,
       refl,
@@ -315,7 +349,31 @@ back_statement (token.Sign sign.Push) at =
       ),
     )
 back_statement (token.Sign sign.Take) at =
-    λ p k (l1, (n, e1), (l2, (i, e2), (l3, e3, (l4, (m, e4), (l5, (ms, e5), (l6, e6, (l7, e7, (l8, (b, e8), (l9, e9, (l10, e10, (l11, e11, (l12, (o, e12), (l13, e13, e14))))))))))))). (
+    λ p k (
+      l1,
+      (n, e1),
+      (
+        l2,
+        (i, e2),
+        (
+          l3,
+          e3,
+          (
+            l4,
+            (m, e4),
+            (
+              l5,
+              (ms, e5),
+              (
+                l6,
+                e6,
+                (l7, e7, (l8, (b, e8), (l9, e9, (l10, e10, (l11, e11, (l12, (o, e12), (l13, e13, e14))))))),
+              ),
+            ),
+          ),
+        ),
+      ),
+    ). (
       placed sign.Take at,
       refl,
       refl,
@@ -356,7 +414,8 @@ back_more_names _ at = λ k. ([], refl)
 back_some_names : (t : Token) (at : At) → Back some_names t at (begun (more_names ∷ []) (name_move t))
 back_some_names t at =
     back_begun a_name some_names (more_names ∷ []) t at (name_move t)
-    (λ p l k (n, e) (l1, (rest, e1), e2). (Some (record { first = n; rest = rest }), rw (e, e1, e2))) (λ k. (None, refl))
+    (λ p l k (n, e) (l1, (rest, e1), e2). (Some (record { first = n; rest = rest }), rw (e, e1, e2)))
+    (λ k. (None, refl))
     (back_name t at)
 
 back_popped : (t : Token) (at : At) → Back a_popped t at (popped_move t)
@@ -373,7 +432,23 @@ back_expected _ at = λ k. (always, refl)
 
 back_handling : (d : Dir) (at : At) (p k : List Printed) → Chain handling p k →
     Front a_handler (token.Sign (direction_sign d)) at p k
-back_handling d at p k (l1, (what, e1), (l2, e2, (l3, (n, e3), (l4, (ns, e4), (l5, e5, (l6, (popped, e6), (l7, (expected, e7), (l8, e8, (l9, (b, e9), (l10, e10, e11)))))))))) = (
+back_handling d at p k (
+  l1,
+  (what, e1),
+  (
+    l2,
+    e2,
+    (
+      l3,
+      (n, e3),
+      (
+        l4,
+        (ns, e4),
+        (l5, e5, (l6, (popped, e6), (l7, (expected, e7), (l8, e8, (l9, (b, e9), (l10, e10, e11)))))),
+      ),
+    ),
+  ),
+) = (
   placed (direction_sign d) at,
   refl,
   refl,
@@ -457,7 +532,23 @@ back_cell (token.Sign sign.Int) at =
     λ p k (l1, (n, e1), (l2, (s, e2), (l3, (v, e3), (l4, e4, e5)))).
     (plain sign.Int, refl, tt, λ on. (int on n s v, rw (e1, e2, e3, e4, e5)))
 back_cell (token.Sign sign.Queue) at =
-    λ p k (l1, (n, e1), (l2, e2, (l3, (c, e3), (l4, e4, (l5, e5, (l6, e6, (l7, (m, e7), (l8, e8, (l9, (s, e9), (l10, (rest, e10), (l11, e11, (l12, e12, e13)))))))))))). (
+    λ p k (
+      l1,
+      (n, e1),
+      (
+        l2,
+        e2,
+        (
+          l3,
+          (c, e3),
+          (
+            l4,
+            e4,
+            (l5, e5, (l6, e6, (l7, (m, e7), (l8, e8, (l9, (s, e9), (l10, (rest, e10), (l11, e11, (l12, e12, e13)))))))),
+          ),
+        ),
+      ),
+    ). (
       plain sign.Queue,
       refl,
       tt,

@@ -1,5 +1,5 @@
--- What a token begins. Trees of different forms begin with different tokens, so that a reader can tell them apart at the
--- first one.
+-- What a token begins. Trees of different forms begin with different tokens, so that a reader can tell them apart at
+-- the first one.
 use Rattle.std.proofs.Common.{◌≡◌, List, [], ◌∷◌, refl, ap}
 use Rattle.layer_ast.specs.declared.syntax.Function.{Function}
 use Rattle.layer_ast.specs.declared.syntax.Function.TheVariants.{Not, Bit, Count, Lowest}
@@ -14,7 +14,8 @@ use Rattle.layer_ast.specs.Tree as tree
 use Rattle.layer_ast.specs.Tree.{ExpressionTree, BuiltTree, ArgumentTree, StatementTree, DeclarationTree}
 use Rattle.grammar_laws.proofs.Together.{Together}
 
--- what begins: a number or a message that is no bare name, a statement, a declaration, an index, an other way, or none of these
+-- what begins: a number or a message that is no bare name, a statement, a declaration, an index, an other way, or none
+-- of these
 pub data Form : Type 0 where
   a_number : Form
   a_message : Form

@@ -13,16 +13,25 @@ use Rattle.layer_ast.specs.declared.syntax.Function.TheVariants.{Not, Bit, Count
 use Rattle.layer_ast.specs.declared.syntax.Likely.{Likely}
 use Rattle.layer_ast.specs.declared.syntax.Likely.TheVariants as likely_word
 use Rattle.layer_ast.specs.declared.syntax.Operator.{Operator}
-use Rattle.layer_ast.specs.declared.syntax.Operator.TheVariants.{Add, Subtract, Multiply, Equal, NotEqual, Less, LessOrEqual, Greater, GreaterOrEqual, And, Or, BitAnd, BitOr, BitXor}
+use Rattle.layer_ast.specs.declared.syntax.Operator.TheVariants.{Add, Subtract, Multiply, Equal, NotEqual, Less}
+use Rattle.layer_ast.specs.declared.syntax.Operator.TheVariants.{LessOrEqual, Greater, GreaterOrEqual, And, Or, BitAnd}
+use Rattle.layer_ast.specs.declared.syntax.Operator.TheVariants.{BitOr, BitXor}
 use Rattle.layer_ast.specs.declared.syntax.Shape.{Shape}
 use Rattle.layer_ast.specs.declared.syntax.Shape.TheVariants.{One, Array, Square}
 use Rattle.layer_ast.specs.declared.syntax.Sort.{Sort}
 use Rattle.layer_ast.specs.declared.syntax.Sort.TheVariants.{Int, Msg, Part}
 use Rattle.layer_ast.specs.Depth.{room_inside, room_behind, WithRoom, IsWithin}
 use Rattle.layer_ast.specs.Print as print
-use Rattle.layer_ast.specs.Printed.{Printed, plain, name, kind, direction_sign, ending_sign, sort_sign, function_sign, operator_sign}
+use Rattle.layer_ast.specs.Printed.{Printed, plain, name, kind, direction_sign, ending_sign, sort_sign, function_sign}
+use Rattle.layer_ast.specs.Printed.{operator_sign}
 use Rattle.layer_ast.specs.Spells.{Fits}
-use Rattle.layer_ast.specs.Tree.{ExpressionTree, number, me, members, ltime, named, element, square, rows, item, size, binary, apply, pick, QueueTree, queue, queue_at, MessageTree, bare, built, BuiltTree, nothing, held, cut, tail, join, ArgumentTree, value, content, NamesTree, ArgumentsTree, PoppedTree, PushedTree, SizeTree, fixed, sized, StatementTree, bind, set, set_square, push, take, when, choose, each, emit, StatementTrees, none, more, Expected, always, common, rare, HandlerTree, ItemTree, ItemsTree, DeclarationTree, param, int, rows_cell, rows_array, header, LayerTree}
+use Rattle.layer_ast.specs.Tree.{ExpressionTree, number, me, members, ltime, named, element, square, rows, item, size}
+use Rattle.layer_ast.specs.Tree.{binary, apply, pick, QueueTree, queue, queue_at, MessageTree, bare, built, BuiltTree}
+use Rattle.layer_ast.specs.Tree.{nothing, held, cut, tail, join, ArgumentTree, value, content, NamesTree, ArgumentsTree}
+use Rattle.layer_ast.specs.Tree.{PoppedTree, PushedTree, SizeTree, fixed, sized, StatementTree, bind, set, set_square}
+use Rattle.layer_ast.specs.Tree.{push, take, when, choose, each, emit, StatementTrees, none, more, Expected, always}
+use Rattle.layer_ast.specs.Tree.{common, rare, HandlerTree, ItemTree, ItemsTree, DeclarationTree, param, int, rows_cell}
+use Rattle.layer_ast.specs.Tree.{rows_array, header, LayerTree}
 use Rattle.grammar_laws.specs.Behind.{tokens_in, Stands, GoesOn}
 
 -- a fact of the room that is left, if there is some
@@ -88,7 +97,8 @@ module _ (behind : List Lexed) where
       subst (λ u. IfRoom (room_behind u room) (λ left. GoesOn behind left k l)) (sym fits.0) go in
       let rest = past k l tokens (room_behind t.token room) here fits.2 within in ((fits.0, fits.1, rest.0), rest.1)
 
-  one : (p : Printed) (room : ℕ) (k l : List Printed) → IfRoom (room_behind p.token room) (λ left. GoesOn behind left k l) →
+  one : (p : Printed) (room : ℕ) (k l : List Printed) →
+      IfRoom (room_behind p.token room) (λ left. GoesOn behind left k l) →
       GoesOn behind room (p ∷ k) (p ∷ l)
   one p room k l go = record {
     goes = λ tokens s. let r = one_on p room k l tokens go s.fits s.within in record { fits = r.0; within = r.1 };
@@ -119,13 +129,15 @@ module _ (behind : List Lexed) where
 
   -- what goes on itself does so in brackets
   bracketed : (f : List Printed → List Printed) (room : ℕ) (k l : List Printed) →
-      ((left : ℕ) (x y : List Printed) → GoesOn behind left x y → GoesOn behind left (f x) (f y)) → GoesOn behind room k l →
+      ((left : ℕ) (x y : List Printed) → GoesOn behind left x y → GoesOn behind left (f x) (f y)) →
+      GoesOn behind room k l →
       GoesOn behind room (plain sign.LeftBracket ∷ f (plain sign.RightBracket ∷ k))
       (plain sign.LeftBracket ∷ f (plain sign.RightBracket ∷ l))
   bracketed f room k l go h = opens _ room k l _ _ refl h (λ left g. go left _ _ (shut _ left k l refl g))
 
   braced : (f : List Printed → List Printed) (room : ℕ) (k l : List Printed) →
-      ((left : ℕ) (x y : List Printed) → GoesOn behind left x y → GoesOn behind left (f x) (f y)) → GoesOn behind room k l →
+      ((left : ℕ) (x y : List Printed) → GoesOn behind left x y → GoesOn behind left (f x) (f y)) →
+      GoesOn behind room k l →
       GoesOn behind room (plain sign.LeftBrace ∷ f (plain sign.RightBrace ∷ k))
       (plain sign.LeftBrace ∷ f (plain sign.RightBrace ∷ l))
   braced f room k l go h = opens _ room k l _ _ refl h (λ left g. go left _ _ (shut _ left k l refl g))
@@ -138,9 +150,11 @@ module _ (behind : List Lexed) where
     expression_on (members at) room k l h = flat _ room k l refl h
     expression_on (ltime at) room k l h = flat _ room k l refl h
     expression_on (named n) room k l h = flat _ room k l refl h
-    expression_on (element n i) room k l h = flat _ room _ _ refl (bracketed (print.expression i) room k l (expression_on i) h)
+    expression_on (element n i) room k l h =
+        flat _ room _ _ refl (bracketed (print.expression i) room k l (expression_on i) h)
     expression_on (square n i j) room k l h =
-        flat _ room _ _ refl (bracketed (print.expression i) room _ _ (expression_on i) (bracketed (print.expression j) room k l (expression_on j) h))
+        flat _ room _ _ refl (bracketed (print.expression i) room _ _ (expression_on i)
+        (bracketed (print.expression j) room k l (expression_on j) h))
     expression_on (rows at q) room k l h =
         flat _ room _ _ refl (opens _ room k l _ _ refl h (λ left g. queue_on q left _ _ (shut _ left k l refl g)))
     expression_on (item at q row label) room k l h =
@@ -288,7 +302,8 @@ module _ (behind : List Lexed) where
     statement_on (push at q es o) room k l h =
         flat _ room _ _ refl (
         queue_on q room _ _ (
-        opens _ room _ _ _ _ refl (flat (plain sign.Else) room _ _ refl (braced (print.statements o) room k l (statements_on o) h)) (λ left g.
+        opens _ room _ _ _ _ refl
+        (flat (plain sign.Else) room _ _ refl (braced (print.statements o) room k l (statements_on o) h)) (λ left g.
         arguments_on es left _ _ (shut _ left _ _ refl g))
         )
         )
@@ -296,16 +311,20 @@ module _ (behind : List Lexed) where
         flat _ room _ _ refl (
         queue_on q room _ _ (
         opens _ room _ _ _ _ refl (
-        braced (print.statements b) room _ _ (statements_on b) (flat (plain sign.Else) room _ _ refl (braced (print.statements o) room k l (statements_on o) h))
+        braced (print.statements b) room _ _ (statements_on b)
+        (flat (plain sign.Else) room _ _ refl (braced (print.statements o) room k l (statements_on o) h))
         ) (λ left g. names_on ns left _ _ (shut _ left _ _ refl g))
         )
         )
     statement_on (when at w c b) room k l h =
-        flat _ room _ _ refl (likely_on w room _ _ (expression_on c room _ _ (braced (print.statements b) room k l (statements_on b) h)))
+        flat _ room _ _ refl (likely_on w room _ _
+        (expression_on c room _ _ (braced (print.statements b) room k l (statements_on b) h)))
     statement_on (choose at w c b o) room k l h =
         flat _ room _ _ refl (
         likely_on w room _ _ (
-        expression_on c room _ _ (braced (print.statements b) room _ _ (statements_on b) (flat (plain sign.Else) room _ _ refl (braced (print.statements o) room k l (statements_on o) h)))
+        expression_on c room _ _
+        (braced (print.statements b) room _ _ (statements_on b)
+        (flat (plain sign.Else) room _ _ refl (braced (print.statements o) room k l (statements_on o) h)))
         )
         )
     statement_on (each at n e m b) room k l h =
@@ -313,7 +332,8 @@ module _ (behind : List Lexed) where
         flat (name n) room _ _ refl (
         flat (plain sign.Below) room _ _ refl (
         expression_on e room _ _ (
-        flat (plain sign.Max) room _ _ refl (flat (print.size m) room _ _ (size_flat m room) (braced (print.statements b) room k l (statements_on b) h))
+        flat (plain sign.Max) room _ _ refl
+        (flat (print.size m) room _ _ (size_flat m room) (braced (print.statements b) room k l (statements_on b) h))
         )
         )
         )
@@ -386,7 +406,8 @@ module _ (behind : List Lexed) where
   item_on : (i : ItemTree) (room : ℕ) (k l : List Printed) → GoesOn behind room k l →
       GoesOn behind room (print.item i k) (print.item i l)
   item_on i room k l h =
-      flat (name i.name) room _ _ refl (flat (plain sign.Colon) room _ _ refl (flat _ room k l (sort_flat i.sort room) h))
+      flat (name i.name) room _ _ refl
+      (flat (plain sign.Colon) room _ _ refl (flat _ room k l (sort_flat i.sort room) h))
 
   more_items_on : (is : List ItemTree) (room : ℕ) (k l : List Printed) → GoesOn behind room k l →
       GoesOn behind room (print.more_items is k) (print.more_items is l)
@@ -420,10 +441,12 @@ module _ (behind : List Lexed) where
       )
       )
   declaration_on (rows_cell at n c is) room k l h =
-      flat _ room _ _ refl (flat (plain sign.Queue) room _ _ refl (flat (name n) room _ _ refl (rows_on c is room k l h)))
+      flat _ room _ _ refl (flat (plain sign.Queue) room _ _ refl
+      (flat (name n) room _ _ refl (rows_on c is room k l h)))
   declaration_on (rows_array at n c is) room k l h =
       flat _ room _ _ refl (
-      flat (plain sign.Queue) room _ _ refl (flat (name n) room _ _ refl (shape_on Array room _ _ (rows_on c is room k l h)))
+      flat (plain sign.Queue) room _ _ refl
+      (flat (name n) room _ _ refl (shape_on Array room _ _ (rows_on c is room k l h)))
       )
   declaration_on (header at n fields e) room k l h =
       flat _ room _ _ refl (
@@ -463,6 +486,7 @@ module _ (behind : List Lexed) where
 
   -- where tokens are these layers and those behind them are what else is printed, together they are both
   pub layers_then : (ts : List LayerTree) (room : ℕ) (l : List Printed) (tokens : List Lexed) →
-      Stands room (print.layers ts []) tokens → Stands room l behind → Stands room (print.layers ts l) (tokens ++ behind)
+      Stands room (print.layers ts []) tokens → Stands room l behind →
+      Stands room (print.layers ts l) (tokens ++ behind)
   layers_then ts room l tokens s h =
       (layers_on ts room [] l record { goes = λ none_left t. none_on room l none_left h t.fits }).goes tokens s

@@ -13,16 +13,31 @@ use Rattle.layer_ast.specs.declared.syntax.Function.TheVariants.{Not, Bit, Count
 use Rattle.layer_ast.specs.declared.syntax.Likely.{Likely}
 use Rattle.layer_ast.specs.declared.syntax.Likely.TheVariants as likely_word
 use Rattle.layer_ast.specs.declared.syntax.Operator.{Operator}
-use Rattle.layer_ast.specs.declared.syntax.Operator.TheVariants.{Add, Subtract, Multiply, Equal, NotEqual, Less, LessOrEqual, Greater, GreaterOrEqual, And, Or, BitAnd, BitOr, BitXor}
+use Rattle.layer_ast.specs.declared.syntax.Operator.TheVariants.{Add, Subtract, Multiply, Equal, NotEqual, Less}
+use Rattle.layer_ast.specs.declared.syntax.Operator.TheVariants.{LessOrEqual, Greater, GreaterOrEqual, And, Or, BitAnd}
+use Rattle.layer_ast.specs.declared.syntax.Operator.TheVariants.{BitOr, BitXor}
 use Rattle.layer_ast.specs.declared.syntax.Shape.{Shape}
 use Rattle.layer_ast.specs.declared.syntax.Shape.TheVariants.{One, Array, Square}
 use Rattle.layer_ast.specs.declared.syntax.Sort.{Sort}
 use Rattle.layer_ast.specs.declared.syntax.Sort.TheVariants.{Int, Msg, Part}
-use Rattle.layer_ast.specs.Tree.{ExpressionTree, number, me, members, ltime, named, element, square, rows, item, size, binary, apply, pick, QueueTree, queue, queue_at, MessageTree, bare, built, BuiltTree, nothing, held, cut, tail, join, ArgumentTree, value, content, NamesTree, ArgumentsTree, PoppedTree, PushedTree, SizeTree, fixed, sized, StatementTree, bind, set, set_square, push, take, when, choose, each, emit, StatementTrees, none, more, Expected, always, common, rare, HandlerTree, ItemTree, ItemsTree, DeclarationTree, param, int, rows_cell, rows_array, header, LayerTree, GivenTree, PlaceTree, FileTree}
+use Rattle.layer_ast.specs.Tree.{ExpressionTree, number, me, members, ltime, named, element, square, rows, item, size}
+use Rattle.layer_ast.specs.Tree.{binary, apply, pick, QueueTree, queue, queue_at, MessageTree, bare, built, BuiltTree}
+use Rattle.layer_ast.specs.Tree.{nothing, held, cut, tail, join, ArgumentTree, value, content, NamesTree, ArgumentsTree}
+use Rattle.layer_ast.specs.Tree.{PoppedTree, PushedTree, SizeTree, fixed, sized, StatementTree, bind, set, set_square}
+use Rattle.layer_ast.specs.Tree.{push, take, when, choose, each, emit, StatementTrees, none, more, Expected, always}
+use Rattle.layer_ast.specs.Tree.{common, rare, HandlerTree, ItemTree, ItemsTree, DeclarationTree, param, int, rows_cell}
+use Rattle.layer_ast.specs.Tree.{rows_array, header, LayerTree, GivenTree, PlaceTree, FileTree}
 use Rattle.layer_ast.specs.Print as print
-use Rattle.layer_ast.specs.Printed.{Printed, plain, name, kind, direction_sign, ending_sign, sort_sign, function_sign, operator_sign}
+use Rattle.layer_ast.specs.Printed.{Printed, plain, name, kind, direction_sign, ending_sign, sort_sign, function_sign}
+use Rattle.layer_ast.specs.Printed.{operator_sign}
 use Rattle.layer_ast.specs.Spells.{HasPlace}
-use Rattle.grammar_laws.specs.Machine.{Symbol, one, a_name, a_size, a_sort, an_ending, an_operator, an_expression, an_index, a_message, a_built, an_argument, more_arguments, some_arguments, a_pushed, a_likely, an_otherwise, a_statement, statements, a_block, more_names, some_names, a_popped, an_expected, handlers, a_shape, an_initial, a_capacity, more_items, a_declaration, declarations, a_layer, layers, more_given, some_given, a_place, places, Move, eats, skips, refuses, move, all_optional, moved, feed, operand, emission, handling, start}
+use Rattle.grammar_laws.specs.Machine.{Symbol, one, a_name, a_size, a_sort, an_ending, an_operator, an_expression}
+use Rattle.grammar_laws.specs.Machine.{an_index, a_message, a_built, an_argument, more_arguments, some_arguments}
+use Rattle.grammar_laws.specs.Machine.{a_pushed, a_likely, an_otherwise, a_statement, statements, a_block, more_names}
+use Rattle.grammar_laws.specs.Machine.{some_names, a_popped, an_expected, handlers, a_shape, an_initial, a_capacity}
+use Rattle.grammar_laws.specs.Machine.{more_items, a_declaration, declarations, a_layer, layers, more_given, some_given}
+use Rattle.grammar_laws.specs.Machine.{a_place, places, Move, eats, skips, refuses, move, all_optional, moved, feed}
+use Rattle.grammar_laws.specs.Machine.{operand, emission, handling, start}
 
 -- the tokens of what is printed
 abbrev pub toks : List Printed → List Token
@@ -46,7 +61,8 @@ abbrev pub IsLeftOut : Symbol → List Printed → Type 0
 IsLeftOut s [] = ⊥
 IsLeftOut s (p ∷ printed) = IsSkip (move s p.token)
 
-moved_skip : (m : Move) (stack : List Symbol) (skipped : Option (List Symbol)) → IsSkip m → moved m stack skipped ≡ skipped
+moved_skip : (m : Move) (stack : List Symbol) (skipped : Option (List Symbol)) → IsSkip m →
+    moved m stack skipped ≡ skipped
 moved_skip (eats expected) stack skipped free = absurd free
 moved_skip skips stack skipped free = refl
 moved_skip refuses stack skipped free = absurd free
@@ -174,7 +190,8 @@ mutual
       expression_drives condition
       (one sign.Comma ∷ an_expression ∷ one sign.Comma ∷ an_expression ∷ one sign.RightParen ∷ stack)
       (plain sign.Comma ∷ behind) tt
-      ∙ (expression_drives first (one sign.Comma ∷ an_expression ∷ one sign.RightParen ∷ stack) (plain sign.Comma ∷ last) tt
+      ∙ (expression_drives first (one sign.Comma ∷ an_expression ∷ one sign.RightParen ∷ stack)
+      (plain sign.Comma ∷ last) tt
       ∙ expression_drives second (one sign.RightParen ∷ stack) (plain sign.RightParen ∷ k) tt)
 
   pub queue_drives : (q : QueueTree) (stack : List Symbol) (k : List Printed) → IsLeftOut an_index k →
@@ -200,7 +217,8 @@ mutual
       message_drives m
       (one sign.Comma ∷ an_expression ∷ one sign.Comma ∷ an_expression ∷ one sign.RightParen ∷ stack)
       (plain sign.Comma ∷ print.expression from (plain sign.Comma ∷ last))
-      ∙ (expression_drives from (one sign.Comma ∷ an_expression ∷ one sign.RightParen ∷ stack) (plain sign.Comma ∷ last) tt
+      ∙ (expression_drives from (one sign.Comma ∷ an_expression ∷ one sign.RightParen ∷ stack) (plain sign.Comma ∷ last)
+      tt
       ∙ expression_drives length (one sign.RightParen ∷ stack) (plain sign.RightParen ∷ k) tt)
   built_drives (tail at m from) stack k =
       message_drives m (one sign.Comma ∷ an_expression ∷ one sign.RightParen ∷ stack)
@@ -254,7 +272,8 @@ more_arguments_drive : (rest : List ArgumentTree) (stack : List Symbol) (k : Lis
     ≡ accepts stack (toks (plain sign.RightParen ∷ k))
 more_arguments_drive [] stack k = refl
 more_arguments_drive (a ∷ rest) stack k =
-    argument_drives a (more_arguments ∷ stack) (print.more_arguments rest (plain sign.RightParen ∷ k)) (arguments_end rest k)
+    argument_drives a (more_arguments ∷ stack) (print.more_arguments rest (plain sign.RightParen ∷ k))
+    (arguments_end rest k)
     ∙ more_arguments_drive rest stack k
 
 arguments_drive : (es : ArgumentsTree) (stack : List Symbol) (k : List Printed) →
@@ -404,12 +423,14 @@ mutual
   statement_drives (set at n None e) stack k free =
       expression_drives e (one sign.Semicolon ∷ stack) (plain sign.Semicolon ∷ k) tt
   statement_drives (set at n (Some i) e) stack k free =
-      expression_drives i (one sign.RightBracket ∷ an_index ∷ one sign.Assign ∷ an_expression ∷ one sign.Semicolon ∷ stack)
+      expression_drives i (one sign.RightBracket ∷ an_index ∷ one sign.Assign ∷ an_expression ∷ one sign.Semicolon ∷
+      stack)
       (plain sign.RightBracket ∷ plain sign.Assign ∷ print.expression e (plain sign.Semicolon ∷ k)) tt
       ∙ expression_drives e (one sign.Semicolon ∷ stack) (plain sign.Semicolon ∷ k) tt
   statement_drives (set_square at n i j e) stack k free =
       let last = plain sign.Assign ∷ print.expression e (plain sign.Semicolon ∷ k) in
-      expression_drives i (one sign.RightBracket ∷ an_index ∷ one sign.Assign ∷ an_expression ∷ one sign.Semicolon ∷ stack)
+      expression_drives i (one sign.RightBracket ∷ an_index ∷ one sign.Assign ∷ an_expression ∷ one sign.Semicolon ∷
+      stack)
       (plain sign.RightBracket ∷ plain sign.LeftBracket ∷ print.expression j (plain sign.RightBracket ∷ last)) tt
       ∙ (expression_drives j (one sign.RightBracket ∷ one sign.Assign ∷ an_expression ∷ one sign.Semicolon ∷ stack)
       (plain sign.RightBracket ∷ last) tt
@@ -426,7 +447,8 @@ mutual
       queue_drives q
       (one sign.LeftParen ∷ a_name ∷ more_names ∷ one sign.RightParen ∷ a_block ++ one sign.Else ∷ a_block ++ stack)
       (plain sign.LeftParen ∷ print.names ns (plain sign.RightParen ∷ print.block b last)) tt
-      ∙ (more_names_drive ns.rest (one sign.RightParen ∷ a_block ++ one sign.Else ∷ a_block ++ stack) (print.block b last)
+      ∙ (more_names_drive ns.rest (one sign.RightParen ∷ a_block ++ one sign.Else ∷ a_block ++ stack)
+      (print.block b last)
       ∙ (statements_drive b (one sign.RightBrace ∷ one sign.Else ∷ a_block ++ stack) last
       ∙ statements_drive o (one sign.RightBrace ∷ stack) k))
   statement_drives (when at l c b) stack k free =
@@ -438,7 +460,8 @@ mutual
       ∙ (statements_drive b (one sign.RightBrace ∷ an_otherwise ∷ stack) last
       ∙ statements_drive o (one sign.RightBrace ∷ stack) k)
   statement_drives (each at n e m b) stack k free =
-      expression_drives e (one sign.Max ∷ a_size ∷ a_block ++ stack) (plain sign.Max ∷ print.size m ∷ print.block b k) tt
+      expression_drives e (one sign.Max ∷ a_size ∷ a_block ++ stack) (plain sign.Max ∷ print.size m ∷ print.block b k)
+      tt
       ∙ (size_drives m (a_block ++ stack) (print.block b k) ∙ statements_drive b (one sign.RightBrace ∷ stack) k)
   statement_drives (emit at direction what es p) stack k free =
       let behind = print.pushed p (plain sign.Semicolon ∷ k) in
@@ -477,7 +500,8 @@ popped_drives (Some p) e stack k =
 abbrev handling_of : HandlerTree → List Printed → List Printed
 handling_of h k =
     kind h.kind ∷ plain sign.LeftParen
-    ∷ print.names h.names (plain sign.RightParen ∷ print.popped h.popped (print.expected h.expected (print.block h.block k)))
+    ∷ print.names h.names
+    (plain sign.RightParen ∷ print.popped h.popped (print.expected h.expected (print.block h.block k)))
 
 handling_drives : (h : HandlerTree) (stack : List Symbol) (k : List Printed) →
     accepts (handling ++ stack) (toks (handling_of h k)) ≡ accepts stack (toks k)
@@ -560,7 +584,8 @@ declaration_drives : (d : DeclarationTree) (stack : List Symbol) (k : List Print
     accepts (a_declaration ∷ stack) (toks (print.declaration d k)) ≡ accepts stack (toks k)
 declaration_drives (param at n v) stack k = refl
 declaration_drives (int at n s v) stack k =
-    shape_drives s (an_initial ∷ one sign.Semicolon ∷ stack) (print.initial v (plain sign.Semicolon ∷ k)) (initial_end v k)
+    shape_drives s (an_initial ∷ one sign.Semicolon ∷ stack) (print.initial v (plain sign.Semicolon ∷ k))
+    (initial_end v k)
     ∙ initial_drives v (one sign.Semicolon ∷ stack) k
 declaration_drives (rows_cell at n capacity is) stack k =
     capacity_drives capacity (behind_capacity ++ stack) (rows_behind is k) ∙ items_drive is stack k

@@ -5,7 +5,9 @@ use Rattle.layer_ast.specs.declared.syntax.Shape.TheVariants.{One, Array, Square
 use Rattle.layer_ast.specs.declared.tokens.Sign.TheVariants as sign
 use Rattle.layer_ast.specs.Print as print
 use Rattle.layer_ast.specs.Printed.{Printed, plain, ending_sign}
-use Rattle.layer_ast.specs.Tree.{ExpressionTree, PoppedTree, Expected, always, common, rare, HandlerTree, SizeTree, fixed, sized, ItemTree, ItemsTree, DeclarationTree, param, int, rows_cell, rows_array, header}
+use Rattle.layer_ast.specs.Tree.{ExpressionTree, PoppedTree, Expected, always, common, rare, HandlerTree, SizeTree}
+use Rattle.layer_ast.specs.Tree.{fixed, sized, ItemTree, ItemsTree, DeclarationTree, param, int, rows_cell, rows_array}
+use Rattle.layer_ast.specs.Tree.{header}
 use Rattle.grammar_laws.proofs.Arguments.{names_once, some_names_once, size_once}
 use Rattle.grammar_laws.proofs.Begins.{begins_together, declaration_begins, direction_begins}
 use Rattle.grammar_laws.proofs.Expressions.{expression_once}
@@ -121,7 +123,8 @@ more_items_once : (a b : List ItemTree) (k l : List Printed) →
     (a ≡ b) × Together k l
 more_items_once [] [] k l (_, _, h) = (refl, h)
 more_items_once (i ∷ a) (j ∷ b) k l (_, _, h) =
-    let q = item_once i j (print.more_items a (plain sign.RightParen ∷ k)) (print.more_items b (plain sign.RightParen ∷ l)) h in
+    let q = item_once i j (print.more_items a (plain sign.RightParen ∷ k))
+    (print.more_items b (plain sign.RightParen ∷ l)) h in
     let r = more_items_once a b k l q.1 in
     (λ x. q.0 x ∷ r.0 x, r.1)
 more_items_once _ _ k l h = absurd (cc h.0)
@@ -157,7 +160,8 @@ declaration_once (rows_array at n c is) (rows_array bt m d js) k l
     (λ x. rows_array (at_same x) (name x) (r.0 x) (r.1 x), r.2)
 declaration_once (header at n a ea) (header bt m b eb) k l (_, at_same, (e, p, (_, _, h))) =
     let name = name_once n m e p in
-    let r = some_names_once a b (plain (ending_sign ea) ∷ plain sign.Semicolon ∷ k) (plain (ending_sign eb) ∷ plain sign.Semicolon ∷ l) h in
+    let r = some_names_once a b (plain (ending_sign ea) ∷ plain sign.Semicolon ∷ k)
+    (plain (ending_sign eb) ∷ plain sign.Semicolon ∷ l) h in
     let ending = ending_once ea eb r.1.0 in
     (λ x. header (at_same x) (name x) (r.0 x) (ending x), r.1.2.2)
 declaration_once (rows_cell at n (fixed c v) is) (rows_array bt m d js) k l (_, _, (_, _, (_, _, (_, _, (e, _, h))))) =

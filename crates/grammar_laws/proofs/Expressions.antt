@@ -4,7 +4,9 @@ use Rattle.layer_ast.specs.declared.names.Name.{Name}
 use Rattle.layer_ast.specs.declared.tokens.Sign.TheVariants as sign
 use Rattle.layer_ast.specs.Print as print
 use Rattle.layer_ast.specs.Printed.{Printed, plain, name, operator_sign}
-use Rattle.layer_ast.specs.Tree.{ExpressionTree, number, me, members, ltime, named, element, square, rows, item, size, binary, apply, pick, QueueTree, queue, queue_at, MessageTree, bare, built, BuiltTree, nothing, held, cut, tail, join}
+use Rattle.layer_ast.specs.Tree.{ExpressionTree, number, me, members, ltime, named, element, square, rows, item, size}
+use Rattle.layer_ast.specs.Tree.{binary, apply, pick, QueueTree, queue, queue_at, MessageTree, bare, built, BuiltTree}
+use Rattle.layer_ast.specs.Tree.{nothing, held, cut, tail, join}
 use Rattle.grammar_laws.proofs.Begins.{begins_together, NoIndex, Ends, built_begins}
 use Rattle.grammar_laws.proofs.Signs.{function_once, no_function, operator_once, operator_ends}
 use Rattle.grammar_laws.proofs.Together.{Together, name_once}
@@ -58,7 +60,8 @@ mutual
   expression_once (item at q i n) (item bt p j m) k l _ _ (_, at_same, (_, _, h)) =
       let r = queue_once q p (comma (print.expression i (close (plain sign.Dot ∷ name n ∷ k))))
       (comma (print.expression j (close (plain sign.Dot ∷ name m ∷ l)))) tt tt h in
-      let t = expression_once i j (close (plain sign.Dot ∷ name n ∷ k)) (close (plain sign.Dot ∷ name m ∷ l)) tt tt r.1.2 in
+      let t = expression_once i j (close (plain sign.Dot ∷ name n ∷ k)) (close (plain sign.Dot ∷ name m ∷ l)) tt tt
+      r.1.2 in
       let n_same = name_once n m t.1.2.2.0 t.1.2.2.1 in
       (λ x. item (at_same x) (r.0 x) (t.0 x) (n_same x), t.1.2.2.2)
   expression_once (size at m) (size bt n) k l _ _ (_, at_same, (_, _, h)) =
@@ -77,7 +80,8 @@ mutual
   expression_once (pick at a b c) (pick bt d e f) k l _ _ (_, at_same, (_, _, h)) =
       let r = expression_once a d (comma (print.expression b (comma (print.expression c (close k)))))
       (comma (print.expression e (comma (print.expression f (close l))))) tt tt h in
-      let q = expression_once b e (comma (print.expression c (close k))) (comma (print.expression f (close l))) tt tt r.1.2 in
+      let q = expression_once b e (comma (print.expression c (close k))) (comma (print.expression f (close l))) tt tt
+      r.1.2 in
       let t = expression_once c f (close k) (close l) tt tt q.1.2 in
       (λ x. pick (at_same x) (r.0 x) (q.0 x) (t.0 x), t.1.2)
   expression_once (named n) (element m j) k l ok _ (_, _, h) = absurd (no_index k _ ok h)
@@ -121,7 +125,8 @@ mutual
   built_once (cut at m a b) (cut bt n c d) k l (_, at_same, (_, _, h)) =
       let r = message_once m n (comma (print.expression a (comma (print.expression b (close k)))))
       (comma (print.expression c (comma (print.expression d (close l))))) h in
-      let q = expression_once a c (comma (print.expression b (close k))) (comma (print.expression d (close l))) tt tt r.1.2 in
+      let q = expression_once a c (comma (print.expression b (close k))) (comma (print.expression d (close l))) tt tt
+      r.1.2 in
       let t = expression_once b d (close k) (close l) tt tt q.1.2 in
       (λ x. cut (at_same x) (r.0 x) (q.0 x) (t.0 x), t.1.2)
   built_once (tail at m a) (tail bt n c) k l (_, at_same, (_, _, h)) =

@@ -7,7 +7,8 @@ use Rattle.layer_ast.specs.Tree.{LayerTree, GivenTree, PlaceTree, FileTree}
 use Rattle.grammar_laws.proofs.Declarations.{declarations_once, handlers_once}
 use Rattle.grammar_laws.proofs.Together.{Together, name_once}
 
-pub layer_once : (a b : LayerTree) (k l : List Printed) → Together (print.layer a k) (print.layer b l) → (a ≡ b) × Together k l
+pub layer_once : (a b : LayerTree) (k l : List Printed) → Together (print.layer a k) (print.layer b l) →
+    (a ≡ b) × Together k l
 layer_once a b k l (_, at, (e, s, (_, _, h))) =
     let name = name_once a.name b.name e s in
     let d = declarations_once a.declarations b.declarations a.handlers b.handlers k l h in
@@ -36,7 +37,8 @@ more_given_once : (a b : List GivenTree) (k l : List Printed) →
     (a ≡ b) × Together k l
 more_given_once [] [] k l (_, _, h) = (refl, h)
 more_given_once (g ∷ a) (f ∷ b) k l (_, _, h) =
-    let q = given_once g f (print.more_given a (plain sign.RightParen ∷ k)) (print.more_given b (plain sign.RightParen ∷ l)) h in
+    let q = given_once g f (print.more_given a (plain sign.RightParen ∷ k))
+    (print.more_given b (plain sign.RightParen ∷ l)) h in
     let r = more_given_once a b k l q.1 in
     (λ x. q.0 x ∷ r.0 x, r.1)
 more_given_once _ _ k l h = absurd (cc h.0)

@@ -1,5 +1,7 @@
--- What the machine expects, as printed tokens of trees. Each symbol has the tokens of some tree, and an optional one has none.
-use Rattle.std.proofs.Common.{◌≡◌, ℕ, Bool, true, false, ◌&&◌, List, [], ◌∷◌, ◌++◌, Option, None, codes, refl, sym, true≢false}
+-- What the machine expects, as printed tokens of trees. Each symbol has the tokens of some tree, and an optional one
+-- has none.
+use Rattle.std.proofs.Common.{◌≡◌, ℕ, Bool, true, false, ◌&&◌, List, [], ◌∷◌, ◌++◌, Option, None, codes, refl, sym}
+use Rattle.std.proofs.Common.{true≢false}
 use Rattle.layer_ast.specs.declared.names.At.{At}
 use Rattle.layer_ast.specs.declared.names.Name.{Name}
 use Rattle.layer_ast.specs.declared.tokens.Dir.TheVariants.{Up}
@@ -16,10 +18,20 @@ use Rattle.layer_ast.specs.declared.syntax.Shape.{Shape}
 use Rattle.layer_ast.specs.declared.syntax.Shape.TheVariants as shape_of
 use Rattle.layer_ast.specs.declared.syntax.Sort.{Sort}
 use Rattle.layer_ast.specs.declared.syntax.Sort.TheVariants as sort
-use Rattle.layer_ast.specs.Tree.{ExpressionTree, number, MessageTree, bare, BuiltTree, nothing, ArgumentTree, value, NamesTree, ArgumentsTree, PoppedTree, PushedTree, SizeTree, fixed, StatementTree, bind, StatementTrees, none, Expected, always, HandlerTree, ItemTree, DeclarationTree, param, int, LayerTree, GivenTree, PlaceTree}
+use Rattle.layer_ast.specs.Tree.{ExpressionTree, number, MessageTree, bare, BuiltTree, nothing, ArgumentTree, value}
+use Rattle.layer_ast.specs.Tree.{NamesTree, ArgumentsTree, PoppedTree, PushedTree, SizeTree, fixed, StatementTree, bind}
+use Rattle.layer_ast.specs.Tree.{StatementTrees, none, Expected, always, HandlerTree, ItemTree, DeclarationTree, param}
+use Rattle.layer_ast.specs.Tree.{int, LayerTree, GivenTree, PlaceTree}
 use Rattle.layer_ast.specs.Print as print
-use Rattle.layer_ast.specs.Printed.{Printed, plain, placed, plain_numeral, name, kind, ending_sign, sort_sign, operator_sign}
-use Rattle.grammar_laws.specs.Machine.{Symbol, one, a_name, a_number, a_kind, a_size, a_sort, an_ending, an_operator, an_expression, an_index, a_message, a_built, an_argument, more_arguments, some_arguments, a_pushed, a_likely, an_otherwise, a_statement, statements, more_names, some_names, a_popped, an_expected, a_handler, handlers, a_square, a_shape, an_initial, a_capacity, more_items, a_cell, a_declaration, declarations, a_layer, layers, more_given, some_given, a_place, places, is_optional, all_optional}
+use Rattle.layer_ast.specs.Printed.{Printed, plain, placed, plain_numeral, name, kind, ending_sign, sort_sign}
+use Rattle.layer_ast.specs.Printed.{operator_sign}
+use Rattle.grammar_laws.specs.Machine.{Symbol, one, a_name, a_number, a_kind, a_size, a_sort, an_ending, an_operator}
+use Rattle.grammar_laws.specs.Machine.{an_expression, an_index, a_message, a_built, an_argument, more_arguments}
+use Rattle.grammar_laws.specs.Machine.{some_arguments, a_pushed, a_likely, an_otherwise, a_statement, statements}
+use Rattle.grammar_laws.specs.Machine.{more_names, some_names, a_popped, an_expected, a_handler, handlers, a_square}
+use Rattle.grammar_laws.specs.Machine.{a_shape, an_initial, a_capacity, more_items, a_cell, a_declaration, declarations}
+use Rattle.grammar_laws.specs.Machine.{a_layer, layers, more_given, some_given, a_place, places, is_optional}
+use Rattle.grammar_laws.specs.Machine.{all_optional}
 use Rattle.grammar_laws.specs.Parts.{otherwise, capacity, square}
 
 -- printed tokens are those of some tree in front of others
@@ -173,7 +185,8 @@ some_phrase a_handler k = (
   ),
 )
 some_phrase a_capacity k = (_, ((false, fixed somewhere 1), refl))
-some_phrase a_cell k = (plain sign.Int ∷ name some_name ∷ plain sign.Semicolon ∷ k, λ at. (int at some_name shape_of.One None, refl))
+some_phrase a_cell k =
+    (plain sign.Int ∷ name some_name ∷ plain sign.Semicolon ∷ k, λ at. (int at some_name shape_of.One None, refl))
 some_phrase a_declaration k = (_, (param somewhere some_name 0, refl))
 some_phrase a_layer k =
     (_, ((record { at = somewhere; name = some_name; declarations = []; handlers = [] }), refl))

@@ -1,12 +1,14 @@
 -- What a run of the machine says of the trees whose tokens it reads.
-use Rattle.std.proofs.Common.{◌≡◌, ℕ, zero, suc, ◌+◌, if◌then◌else◌, Bool, true, false, List, [], ◌∷◌, ◌++◌, length, take, map, slice_get, Option, Some, None, IfSome, refl, sym, ap, arith}
+use Rattle.std.proofs.Common.{◌≡◌, ℕ, zero, suc, ◌+◌, if◌then◌else◌, Bool, true, false, List, [], ◌∷◌, ◌++◌, length}
+use Rattle.std.proofs.Common.{take, map, slice_get, Option, Some, None, IfSome, refl, sym, ap, arith}
 use Rattle.layer_ast.specs.declared.names.At.{At}
 use Rattle.layer_ast.specs.declared.tokens.Lexed.{Lexed}
 use Rattle.layer_ast.specs.declared.tokens.Token.{Token}
 use Rattle.layer_ast.specs.Depth.{room_behind, WithRoom, IsWithin}
 use Rattle.layer_ast.specs.Printed.{Printed}
 use Rattle.layer_ast.specs.Spells.{Fits}
-use Rattle.grammar_laws.specs.Machine.{Symbol, Move, eats, skips, refuses, move, moved, feed, all_optional, accepted, refused, step, run}
+use Rattle.grammar_laws.specs.Machine.{Symbol, Move, eats, skips, refuses, move, moved, feed, all_optional, accepted}
+use Rattle.grammar_laws.specs.Machine.{refused, step, run}
 use Rattle.grammar_laws.proofs.Back.{Back, back}
 use Rattle.grammar_laws.proofs.Complete.{toks, accepts, accepts_behind}
 use Rattle.grammar_laws.proofs.Phrases.{Phrases, split, leave_all, some_phrases}
@@ -149,7 +151,8 @@ whole_of (l ∷ lexed) stack takes =
 abbrev pub BegunBy : List Symbol → List Token → Type 0
 BegunBy stack tokens = (p : List Printed) × Phrases stack p × (rest : List Token) × (toks p ≡ tokens ++ rest)
 
-begun_step : (stack : List Symbol) (t : Token) (tokens : List Token) (at : At) (behind : Option ℕ) (fed : Option (List Symbol)) →
+begun_step : (stack : List Symbol) (t : Token) (tokens : List Token) (at : At) (behind : Option ℕ)
+    (fed : Option (List Symbol)) →
     BackFed stack (record { token = t; at = at }) fed →
     ((room : ℕ) (next : List Symbol) → Goes room next tokens → BegunBy next tokens) →
     GoesBehind behind fed (λ left next. Goes left next tokens) → BegunBy stack (t ∷ tokens)
@@ -222,7 +225,8 @@ stop_steps : (room : ℕ) (stack : List Symbol) (l : Lexed) (lexed : List Lexed)
     ((inside : ℕ) (next : List Symbol) → run inside next lexed ≡ refused left → StopsWith inside next lexed left) →
     step behind fed (suc (length lexed)) (λ inside next. run inside next lexed) ≡ refused left →
     StopsWith room stack (l ∷ lexed) left
-stop_steps room stack l lexed left None fed fits takes go is = stuck_here room stack l lexed left (λ goes. rw fits at goes) is
+stop_steps room stack l lexed left None fed fits takes go is =
+    stuck_here room stack l lexed left (λ goes. rw fits at goes) is
 stop_steps room stack l lexed left (Some inside) None fits takes go is =
     stuck_here room stack l lexed left (λ goes. rw (fits, takes) at goes) is
 stop_steps room stack l lexed left (Some inside) (Some next) fits takes go is =
@@ -235,7 +239,8 @@ stop_end room stack zero false optional is = record { goes = tt; short = optiona
 stop_end room stack (suc left) false optional is = absurd (cc is)
 
 -- a run that is refused tells where the machine stops
-pub stops_with : (lexed : List Lexed) (room : ℕ) (stack : List Symbol) (left : ℕ) → run room stack lexed ≡ refused left →
+pub stops_with : (lexed : List Lexed) (room : ℕ) (stack : List Symbol) (left : ℕ) →
+    run room stack lexed ≡ refused left →
     StopsWith room stack lexed left
 stops_with [] room stack left is = stop_end room stack left (all_optional stack) refl is
 stops_with (l ∷ lexed) room stack left is =

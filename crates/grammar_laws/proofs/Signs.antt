@@ -5,7 +5,9 @@ use Rattle.layer_ast.specs.declared.syntax.Ending.TheVariants.{Passes, Ends}
 use Rattle.layer_ast.specs.declared.syntax.Function.{Function}
 use Rattle.layer_ast.specs.declared.syntax.Function.TheVariants.{Not, Bit, Count, Lowest}
 use Rattle.layer_ast.specs.declared.syntax.Operator.{Operator}
-use Rattle.layer_ast.specs.declared.syntax.Operator.TheVariants.{Add, Subtract, Multiply, Equal, NotEqual, Less, LessOrEqual, Greater, GreaterOrEqual, And, Or, BitAnd, BitOr, BitXor}
+use Rattle.layer_ast.specs.declared.syntax.Operator.TheVariants.{Add, Subtract, Multiply, Equal, NotEqual, Less}
+use Rattle.layer_ast.specs.declared.syntax.Operator.TheVariants.{LessOrEqual, Greater, GreaterOrEqual, And, Or, BitAnd}
+use Rattle.layer_ast.specs.declared.syntax.Operator.TheVariants.{BitOr, BitXor}
 use Rattle.layer_ast.specs.declared.syntax.Sort.{Sort}
 use Rattle.layer_ast.specs.declared.syntax.Sort.TheVariants.{Int, Msg, Part}
 use Rattle.layer_ast.specs.declared.tokens.Dir.{Dir}

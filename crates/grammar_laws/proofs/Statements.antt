@@ -5,7 +5,8 @@ use Rattle.layer_ast.specs.declared.syntax.Likely.TheVariants.{First, Else, Two}
 use Rattle.layer_ast.specs.declared.tokens.Sign.TheVariants as sign
 use Rattle.layer_ast.specs.Print as print
 use Rattle.layer_ast.specs.Printed.{Printed, plain}
-use Rattle.layer_ast.specs.Tree.{ExpressionTree, StatementTree, bind, set, set_square, push, take, when, choose, each, emit, StatementTrees, none, more}
+use Rattle.layer_ast.specs.Tree.{ExpressionTree, StatementTree, bind, set, set_square, push, take, when, choose, each}
+use Rattle.layer_ast.specs.Tree.{emit, StatementTrees, none, more}
 use Rattle.grammar_laws.proofs.Begins.{begins_together, Over, NoOtherwise, expression_begins, statement_begins}
 use Rattle.grammar_laws.proofs.Arguments.{names_once, arguments_once, pushed_once, size_once}
 use Rattle.grammar_laws.proofs.Expressions.{expression_once, queue_once}
@@ -116,7 +117,8 @@ mutual
   statement_once (set_square at n i j v) (set_square bt m f g w) k l _ _ (_, at_same, (e, s, (_, _, h))) =
       let name = name_once n m e s in
       let p = expression_once i f (column j v k) (column g w l) tt tt h in
-      let q = expression_once j g (plain sign.RightBracket ∷ assign v k) (plain sign.RightBracket ∷ assign w l) tt tt p.1.2.2 in
+      let q = expression_once j g (plain sign.RightBracket ∷ assign v k) (plain sign.RightBracket ∷ assign w l) tt tt
+      p.1.2.2 in
       let r = expression_once v w (ends k) (ends l) tt tt q.1.2.2 in
       (λ x. set_square (at_same x) (name x) (p.0 x) (q.0 x) (r.0 x), r.1.2)
   statement_once (push at q es o) (push bt p fs u) k l _ _ (_, at_same, h) =

@@ -1,5 +1,6 @@
 -- What a run of the machine over the tokens of a text says of the text.
-use Rattle.std.proofs.Common.{◌≡◌, ℕ, zero, suc, ◌+◌, ◌<◌, List, [], ◌∷◌, ◌++◌, length, take, drop, slice_get, Option, Some, None, true, refl, sym, ap, subst, ◌∙◌, arith, append_assoc, append-nil}
+use Rattle.std.proofs.Common.{◌≡◌, ℕ, zero, suc, ◌+◌, ◌<◌, List, [], ◌∷◌, ◌++◌, length, take, drop, slice_get, Option}
+use Rattle.std.proofs.Common.{Some, None, true, refl, sym, ap, subst, ◌∙◌, arith, append_assoc, append-nil}
 use Rattle.std.proofs.lemmas.List.{take-append-drop, take-take}
 use Rattle.layer_ast.specs.declared.names.At.{At}
 use Rattle.layer_ast.specs.declared.tokens.Lexed.{Lexed}
@@ -15,7 +16,8 @@ use Rattle.grammar_laws.specs.Machine.{start, Outcome, accepted, refused, run}
 use Rattle.grammar_laws.specs.Verdict.{Verdict, a_file, bad, inside, at_end, Holds, SpellsSome, EachDecided}
 use Rattle.grammar_laws.proofs.Complete.{toks, accepts, file_drives}
 use Rattle.grammar_laws.proofs.Phrases.{Phrases}
-use Rattle.grammar_laws.proofs.Runs.{Goes, tokens_fit, accepted_takes, goes_within, goes_if, whole_of, begun_by, stops_with}
+use Rattle.grammar_laws.proofs.Runs.{Goes, tokens_fit, accepted_takes, goes_within, goes_if, whole_of, begun_by}
+use Rattle.grammar_laws.proofs.Runs.{stops_with}
 
 -- the printed tokens of the stack at the start of a file are those of a file with a place
 pub record PrintsFile (printed : List Printed) : Type 0 where
@@ -69,13 +71,15 @@ module _ (text : List ℕ) where
       }
 
   -- a bad token behind tokens that the machine takes, or behind which it goes on
-  pub accepted_bad : (at : At) → (cut text).bad_at ≡ Some at → run 100 start (cut text).tokens ≡ accepted → StopsBad text at
+  pub accepted_bad : (at : At) → (cut text).bad_at ≡ Some at → run 100 start (cut text).tokens ≡ accepted →
+      StopsBad text at
   accepted_bad at is takes = record {
     bad = is;
     before = goes_on (tokens_of text) (accepted_takes (cut text).tokens 100 start takes).1;
   }
 
-  pub refused_bad : (at : At) → (cut text).bad_at ≡ Some at → run 100 start (cut text).tokens ≡ refused 0 → StopsBad text at
+  pub refused_bad : (at : At) → (cut text).bad_at ≡ Some at → run 100 start (cut text).tokens ≡ refused 0 →
+      StopsBad text at
   refused_bad at is stops = record {
     bad = is;
     before = goes_on (tokens_of text) (stops_with (cut text).tokens 100 start 0 stops).goes;
@@ -87,7 +91,8 @@ module _ (text : List ℕ) where
       ap (accepts start) (tokens_fit (print.file f) (cut text).tokens spells.fits) ∙ file_drives f spells.placed
 
   -- the text ends too early
-  pub refused_end : (cut text).bad_at ≡ None → run 100 start (cut text).tokens ≡ refused 0 → StopsAtEnd text (end_of text)
+  pub refused_end : (cut text).bad_at ≡ None → run 100 start (cut text).tokens ≡ refused 0 →
+      StopsAtEnd text (end_of text)
   refused_end good stops =
       let h = stops_with (cut text).tokens 100 start 0 stops in
       record {
@@ -110,7 +115,8 @@ module _ (text : List ℕ) where
         token = token;
         is = is;
         place = refl;
-        before = goes_on (take number (tokens_of text)) (subst (λ n. Goes 100 start (take n (tokens_of text))) same h.goes);
+        before = goes_on (take number (tokens_of text))
+            (subst (λ n. Goes 100 start (take n (tokens_of text))) same h.goes);
         behind = λ may. h.stuck (subst (λ n. Goes 100 start (take n (tokens_of text))) one_more (goes_where _ may));
       }
 
@@ -168,7 +174,8 @@ module _ (text : List ℕ) where
       whole = is.file;
       placed = is.spelled.placed;
       rest = [];
-      begins = sym (tokens_fit (print.file is.file) (cut text).tokens is.spelled.fits) ∙ sym (append-nil (tokens_of text));
+      begins = sym (tokens_fit (print.file is.file) (cut text).tokens is.spelled.fits) ∙
+          sym (append-nil (tokens_of text));
     };
     within = is.spelled.within;
   }

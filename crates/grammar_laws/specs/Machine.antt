@@ -1,6 +1,7 @@
 -- A machine with a stack that reads the tokens of a file from left to right, one token after another: what it expects
 -- next lies on the stack. It joins the readers to the printer; no promise of the parser speaks of it.
-use Rattle.std.specs.Prelude.{ℕ, suc, Bool, true, false, ◌&&◌, if◌then◌else◌, List, [], ◌∷◌, ◌++◌, length, Option, Some, None}
+use Rattle.std.specs.Prelude.{ℕ, suc, Bool, true, false, ◌&&◌, if◌then◌else◌, List, [], ◌∷◌, ◌++◌, length, Option, Some}
+use Rattle.std.specs.Prelude.{None}
 use denote.Enum.Bare.{sameb}
 use Rattle.layer_ast.specs.contracts.tokens.Sign.{the_type}
 use Rattle.layer_ast.specs.declared.tokens.Lexed.{Lexed}
@@ -140,7 +141,8 @@ expression_move (token.Sign sign.Ltime) = eats []
 expression_move (token.Sign sign.Len) = eats (one sign.LeftParen ∷ a_name ∷ an_index ∷ one sign.RightParen ∷ [])
 expression_move (token.Sign sign.AtRow) =
     eats (
-    one sign.LeftParen ∷ a_name ∷ an_index ∷ one sign.Comma ∷ an_expression ∷ one sign.RightParen ∷ one sign.Dot ∷ a_name ∷ []
+    one sign.LeftParen ∷ a_name ∷ an_index ∷ one sign.Comma ∷ an_expression ∷ one sign.RightParen ∷ one sign.Dot ∷
+    a_name ∷ []
     )
 expression_move (token.Sign sign.Size) = eats (one sign.LeftParen ∷ a_message ∷ one sign.RightParen ∷ [])
 expression_move (token.Sign sign.LeftParen) =
@@ -225,11 +227,13 @@ statement_move (token.Sign sign.Set) =
     eats (a_name ∷ an_index ∷ an_index ∷ one sign.Assign ∷ an_expression ∷ one sign.Semicolon ∷ [])
 statement_move (token.Sign sign.Push) =
     eats (
-    a_name ∷ an_index ∷ one sign.LeftParen ∷ an_argument ∷ more_arguments ∷ one sign.RightParen ∷ one sign.Else ∷ a_block
+    a_name ∷ an_index ∷ one sign.LeftParen ∷ an_argument ∷ more_arguments ∷ one sign.RightParen ∷ one sign.Else ∷
+    a_block
     )
 statement_move (token.Sign sign.Take) =
     eats (
-    a_name ∷ an_index ∷ one sign.LeftParen ∷ a_name ∷ more_names ∷ one sign.RightParen ∷ a_block ++ one sign.Else ∷ a_block
+    a_name ∷ an_index ∷ one sign.LeftParen ∷ a_name ∷ more_names ∷ one sign.RightParen ∷ a_block ++ one sign.Else ∷
+    a_block
     )
 statement_move (token.Sign sign.If) = eats (a_likely ∷ an_expression ∷ a_block ++ an_otherwise ∷ [])
 statement_move (token.Sign sign.Each) =
@@ -437,7 +441,8 @@ step (Some room) (Some stack) left go = go room stack
 abbrev pub run : ℕ → List Symbol → List Lexed → Outcome
 run room stack [] = if all_optional stack then accepted else refused 0
 run room stack (t ∷ tokens) =
-    step (room_behind t.token room) (feed stack t.token) (suc (length tokens)) (λ left expected. run left expected tokens)
+    step (room_behind t.token room) (feed stack t.token) (suc (length tokens))
+    (λ left expected. run left expected tokens)
 
 -- the stack at the start of a file
 abbrev pub start : List Symbol

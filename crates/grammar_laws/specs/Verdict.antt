@@ -30,6 +30,7 @@ pub record IsDecided (text : List ℕ) : Type 0 where
   pub holds : Holds text verdict
   pub only : (other : Verdict) → Holds text other → other ≡ verdict
 
--- of each text one verdict holds: it spells a file, or it stops being the beginning of one at one place and for one cause
+-- of each text one verdict holds: it spells a file, or it stops being the beginning of one at one place and for one
+-- cause
 abbrev pub EachDecided : Type 0
 EachDecided = (text : List ℕ) → IsDecided text

@@ -1,5 +1,6 @@
-//! Laws of the syntax of layer files, each the contract of a function that does nothing: a text spells at most one file, or stops being the
-//! beginning of one at one place, and what is printed of a layer fits in front of others. Nothing runs here.
+//! Laws of the syntax of layer files, each the contract of a function that does nothing: a text spells at most one
+//! file, or stops being the beginning of one at one place, and what is printed of a layer fits in front of others.
+//! Nothing runs here.
 #![tactic(auto)]
 
 ghost use Rattle.grammar_laws.specs.Once.{PrintedOnce, SpelledOnce};

@@ -20,7 +20,8 @@ pub record SomeWorld (c : Peopled) : Type 0 where
   pub stands : Stands c world
 
 -- It is where a group of so many members begins.
-pub record IsAtFirst (mode : Mode) (stack : List LayerTree) (plans : List Plan) (group stamp members : ℕ) (c : Peopled) (room : ℕ) : Type 0 where
+pub record IsAtFirst (mode : Mode) (stack : List LayerTree) (plans : List Plan) (group stamp members : ℕ) (c : Peopled)
+    (room : ℕ) : Type 0 where
   pub ready : IsReady mode stack plans c room
   pub world : Stands c (first_world stack group stamp members)
   pub count : length c.members ≡ members

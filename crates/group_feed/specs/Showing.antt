@@ -19,7 +19,8 @@ abbrev pub state_shown : Member → ℕ → State
 state_shown (inside view states) place = slice_index_or states place no_state
 state_shown out place = no_state
 
--- A member of a group by its id, where the group doesn't have it one that is in no view; and the state of its layer at a place.
+-- A member of a group by its id, where the group doesn't have it one that is in no view; and the state of its layer at
+-- a place.
 abbrev pub shown_in : Peopled → ℕ → Member
 shown_in c id = slice_index_or c.members id out
 

@@ -8,8 +8,8 @@ use Rattle.run_mean.specs.Mode.{Mode}
 use Rattle.run_mean.specs.Member.{Member, Output, packet_in}
 use Rattle.run_mean.specs.World.{World}
 
--- A group as it is kept: the mode in which its members run their stack, its members by id, and every packet ever sent as its full spelling, in the
--- order of output.
+-- A group as it is kept: the mode in which its members run their stack, its members by id, and every packet ever sent
+-- as its full spelling, in the order of output.
 pub record Peopled : Type 0 where
   pub mode : Mode
   pub stack : List LayerTree

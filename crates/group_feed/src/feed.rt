@@ -12,14 +12,15 @@ use script_mean::ScriptEvent;
 use step_outputs::Outputs;
 use view_core::Did;
 
-/// A group that takes the events of a script, one at a time. The mode in which its members run their stack, by layers or by bypasses where these
-/// hold, is one for all and stays: it says which packets are sent short and how many visits a step counts for, and nothing else.
+/// A group that takes the events of a script, one at a time. The mode in which its members run their stack, by layers
+/// or by bypasses where these hold, is one for all and stays: it says which packets are sent short and how many visits
+/// a step counts for, and nothing else.
 pub trait Feed {
     /// The group as it is kept: its members, and every packet ever sent in it.
     ghost group: { Self → Peopled };
 
-    /// One event of a script. Behind it `out` has the outputs of the step alone, and the visits that it made are counted. Where memory runs
-    /// out, the group may only be let go.
+    /// One event of a script. Behind it `out` has the outputs of the step alone, and the visits that it made are
+    /// counted. Where memory runs out, the group may only be let go.
     fn feed(
         &mut self,
         event: &ScriptEvent,
@@ -30,7 +31,8 @@ pub trait Feed {
         requires out { out.old.places ≡ largest_weight (group self.old).stack }
         requires visits { visits.old ≤ 2 ^ 63 }
         ensures fed { (w : mean.World) → Stands (group self.old) w →
-            Fed (group self.old) (mean.happens (group self.old).stack (group self.old).plans w event.now) (group self.new) out.new.outputs visits.old
+            Fed (group self.old) (mean.happens (group self.old).stack (group self.old).plans w event.now)
+            (group self.new) out.new.outputs visits.old
             visits.new result }
         ensures stays { Stays (group self.old) (group self.new) }
         ensures places { out.new.places ≡ out.old.places }

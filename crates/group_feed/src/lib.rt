@@ -1,4 +1,5 @@
-//! What it is to feed a group with events, and to read its members: its meaning, and what its answers say, for whatever keeps the group's members.
+//! What it is to feed a group with events, and to read its members: its meaning, and what its answers say, for whatever
+//! keeps the group's members.
 #![tactic(auto)]
 
 mod feed;

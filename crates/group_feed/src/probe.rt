@@ -16,14 +16,17 @@ use step_outputs::Outputs;
 
 /// A group that runs by bypasses and tells of an event why it is no common step.
 pub trait Probe: Feed {
-    /// Tries an event of a script as a common step. If it is one, it is made, as `feed` would make it; else nothing changes, and of a cast, a send or
-    /// a packet that would be taken it is told what each case of its entry lacks. Where memory runs out, the group may only be let go.
+    /// Tries an event of a script as a common step. If it is one, it is made, as `feed` would make it; else nothing
+    /// changes, and of a cast, a send or a packet that would be taken it is told what each case of its entry lacks.
+    /// Where memory runs out, the group may only be let go.
     fn probe(&mut self, event: &ScriptEvent, out: &mut Outputs) -> Result<Probed, Memory>
         requires mode { (Self.group self.old).mode ≡ bypass }
         requires member { member_of event.now < length (Self.group self.old).members }
         requires out { out.old.places ≡ largest_weight (Self.group self.old).stack }
         ensures probed { (w : mean.World) → Stands (Self.group self.old) w →
-            Probes (Self.group self.old) (mean.happens (Self.group self.old).stack (Self.group self.old).plans w event.now) (Self.group self.new) result }
+            Probes (Self.group self.old)
+            (mean.happens (Self.group self.old).stack (Self.group self.old).plans w event.now) (Self.group self.new)
+            result }
         ensures stays { Stays (Self.group self.old) (Self.group self.new) }
         ensures places { out.new.places ≡ out.old.places };
 }

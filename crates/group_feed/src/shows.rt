@@ -9,8 +9,9 @@ use crate::row::RowView;
 use crate::spot::Spot;
 use msg_core::View;
 
-/// A group whose members are read in place: where each is, and what the cells of its layers hold. A member that the group doesn't have is read as one
-/// that is in no view, and where a member has no such layer, or is in no view, a state without cells is read.
+/// A group whose members are read in place: where each is, and what the cells of its layers hold. A member that the
+/// group doesn't have is read as one that is in no view, and where a member has no such layer, or is in no view, a
+/// state without cells is read.
 pub trait Shows: Feed {
     /// The view that a member is in, if it is in one.
     fn view(&self, id: u8) -> Option<View>
@@ -34,5 +35,6 @@ pub trait Shows: Feed {
 
     /// A row of a queue of a cell, the front one being 0.
     fn row(&self, spot: Spot, queue: u32, row: u32) -> Option<RowView<'_>>
-        ensures { option_map row_meant result ≡ row_at (state_at (Self.group self.now) spot.id spot.place) spot.cell queue row };
+        ensures { option_map row_meant result ≡ row_at (state_at (Self.group self.now) spot.id spot.place) spot.cell
+            queue row };
 }

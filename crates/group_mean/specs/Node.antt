@@ -7,8 +7,8 @@ use Rattle.run_mean.specs.Mode.{Mode}
 use Rattle.run_mean.specs.Journal.{Heard, failure, Note, notes_of, node_run, Handed, handed}
 use Rattle.run_mean.specs.Report.{Moment}
 
--- What the clock and the network of a node told: the moment of each turn, what each own member heard in each turn, and the packet of each
--- sending that failed, by its number.
+-- What the clock and the network of a node told: the moment of each turn, what each own member heard in each turn, and
+-- the packet of each sending that failed, by its number.
 pub record Surroundings : Type 0 where
   pub clock : List ℕ
   pub heard : List Heard
@@ -18,7 +18,8 @@ pub record Surroundings : Type 0 where
 abbrev pub failed : Surroundings → ℕ → ℕ
 failed s k = count_by (λ lost. lost == k) s.lost
 
--- What the words of a node say: how many turns it makes, its own members, how many failed receives it bears, and its mode.
+-- What the words of a node say: how many turns it makes, its own members, how many failed receives it bears, and its
+-- mode.
 pub record NodeWords : Type 0 where
   pub turns : ℕ
   pub me : List ℕ

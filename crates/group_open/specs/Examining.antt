@@ -14,7 +14,8 @@ use Rattle.bypass_member.specs.declared.error.OpenError.TheVariants.{TooLarge, M
 use Rattle.group_feed.specs.Beginning.{IsAtFirst}
 use Rattle.group_open.specs.declared.run.Examination.{Examination}
 
--- A group is where it begins by bypasses, and its members have room; the shapes of its stack's entries are those that aren't too long.
+-- A group is where it begins by bypasses, and its members have room; the shapes of its stack's entries are those that
+-- aren't too long.
 pub record IsExamination (stack : List LayerTree) (group stamp members : ℕ) (e : Examination) : Type 0 where
   pub stack_is : stack_tree e.stack ≡ stack
   pub plans_are : plans_tree (rc_value e.plans) ≡ plans_of stack

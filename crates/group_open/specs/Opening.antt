@@ -35,7 +35,8 @@ pub record CodesFor (mode : Mode) (stack : List LayerTree) (codes : Option Codes
   pub mode_is : mode_with codes ≡ mode
   pub codes_are : AreCodes stack codes
 
--- A stack that is drawn: its plans, what is predicted of its entries, the numbers of their first plans, and a maker that made no layer yet.
+-- A stack that is drawn: its plans, what is predicted of its entries, the numbers of their first plans, and a maker
+-- that made no layer yet.
 pub record IsDrawn (stack : List LayerTree) (d : Drawn) : Type 0 where
   pub maker : making d.maker ≡ record { stack = stack; made = 0 }
   pub stack_is : stack_tree d.stack ≡ stack
@@ -43,8 +44,8 @@ pub record IsDrawn (stack : List LayerTree) (d : Drawn) : Type 0 where
   pub entries_are : d.shapes.entries ≡ short_shapes stack (plans_of stack)
   pub starts_are : starts_tree d.shapes.starts ≡ starts_of stack
 
--- What a run over a stack in a mode is made of: its plans, what is predicted of its entries, the numbers of their first plans, the code by which
--- its members run, room for its outputs, and a maker that made no layer yet.
+-- What a run over a stack in a mode is made of: its plans, what is predicted of its entries, the numbers of their first
+-- plans, the code by which its members run, room for its outputs, and a maker that made no layer yet.
 pub record IsPrepared (mode : Mode) (stack : List LayerTree) (p : Parts) : Type 0 where
   pub maker : making p.maker ≡ record { stack = stack; made = 0 }
   pub stack_is : stack_tree p.stack ≡ stack

@@ -1,4 +1,5 @@
-//! What is made of a stack's bypasses: the code by which the members of a group may run, and the checks by which it is told what a step lacked.
+//! What is made of a stack's bypasses: the code by which the members of a group may run, and the checks by which it is
+//! told what a step lacked.
 
 ghost use Rattle.std.specs.Prelude.{◌≡◌, IfOk};
 ghost use Rattle.std.specs.Option.{option_map};
@@ -80,7 +81,8 @@ fn code_and_checks(
     alloc: Global,
     bypasses: &Bypasses,
 ) -> Result<(Rc<Codes>, StackChecks), AllocError>
-    ensures { IfOk result (λ made. (rc_value made.0 ≡ codes_of (bypasses_tree bypasses.now)) × (made.1 ≡ all_asked (bypasses_tree bypasses.now))) }
+    ensures { IfOk result (λ made. (rc_value made.0 ≡ codes_of (bypasses_tree bypasses.now)) ×
+        (made.1 ≡ all_asked (bypasses_tree bypasses.now))) }
 {
     let codes = code_of(alloc, bypasses)?;
     let checks = StackChecks::of(alloc, bypasses)?;

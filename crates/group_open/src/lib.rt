@@ -1,4 +1,5 @@
-//! Groups that are opened over a stack: to be played layer by layer or by bypasses, or to be examined by the checks of the bypasses.
+//! Groups that are opened over a stack: to be played layer by layer or by bypasses, or to be examined by the checks of
+//! the bypasses.
 #![tactic(auto)]
 
 mod codes;

@@ -29,7 +29,8 @@ pub(crate) struct Parts {
     pub outputs: Outputs,
 }
 
-/// A group that begins, with the stack that it is over, its plans, the shapes of its entries, and room for the outputs of a step.
+/// A group that begins, with the stack that it is over, its plans, the shapes of its entries, and room for the outputs
+/// of a step.
 pub struct Opened {
     pub stack: NamedStack,
     pub plans: Rc<Plans>,

@@ -1,36 +1,45 @@
 -- Neither hoisting nor simplifying nor the code adds a join or an output.
-use Rattle.std.proofs.Common.{◌≡◌, ℕ, ◌+◌, List, [], ◌∷◌, ◌++◌, map, Option, Some, None, fold, refl, sym, ap, ap₂, ◌∙◌, arith, zero-add}
+use Rattle.std.proofs.Common.{◌≡◌, ℕ, ◌+◌, List, [], ◌∷◌, ◌++◌, map, Option, Some, None, fold, refl, sym, ap, ap₂, ◌∙◌}
+use Rattle.std.proofs.Common.{arith, zero-add}
 use Rattle.std.specs.List.{sum_by}
 use Rattle.std.proofs.lemmas.List.Sums.{sum_by-cons, sum_by-append}
-use Rattle.trace_mean.specs.Trace.{Core, body, noted, taken_message, nothing, TraceNumber, TraceMessage, core, held, cut, tail, join, Chained, Operation, bind, note, check, set, set_square, push, take, output}
+use Rattle.trace_mean.specs.Trace.{Core, body, noted, taken_message, nothing, TraceNumber, TraceMessage, core, held}
+use Rattle.trace_mean.specs.Trace.{cut, tail, join, Chained, Operation, bind, note, check, set, set_square, push, take}
+use Rattle.trace_mean.specs.Trace.{output}
 use Rattle.trace_mean.specs.Follow.{unchecked}
 use Rattle.trace_mean.specs.Counts.{message_joins, note_joins, an_output}
 use Rattle.guard_mean.specs.Simplify.{reduced_message, reduced_operation, keeps, guarded_by}
 use Rattle.guard_mean.specs.Code as code
 use Rattle.guard_mean.specs.Code.{Reading, Making, Step, make, keep, Code}
-use Rattle.guard_mean.specs.Straight.{straight, all_straight, Sheet, sheet_line, makes, placed_core, placed, sending, writes, guarding, first_sheet}
+use Rattle.guard_mean.specs.Straight.{straight, all_straight, Sheet, sheet_line, makes, placed_core, placed, sending}
+use Rattle.guard_mean.specs.Straight.{writes, guarding, first_sheet}
 use Rattle.guard_laws.specs.Counts.{a_join, a_put, HoistedAddsNothing, SimplifiedAddsNothing, CodeAddsNothing}
 
 -- joins and outputs
 module _ (f : Operation → ℕ) (none : (e : TraceNumber) → f (check e) ≡ 0) where
-  same_tail : (o : Operation) (os ps : List Operation) → sum_by f os ≡ sum_by f ps → sum_by f (o ∷ os) ≡ sum_by f (o ∷ ps)
+  same_tail : (o : Operation) (os ps : List Operation) → sum_by f os ≡ sum_by f ps →
+      sum_by f (o ∷ os) ≡ sum_by f (o ∷ ps)
   same_tail o os ps same = sum_by-cons f o os ∙ ap (λ n. f o + n) same ∙ sym (sum_by-cons f o ps)
 
   sum_unchecked : (os : List Operation) → sum_by f (unchecked os) ≡ sum_by f os
   sum_unchecked [] = refl
   sum_unchecked (check e ∷ os) = sum_unchecked os
-      ∙ (let zero_there = none e in let r : sum_by f os ≡ f (check e) + sum_by f os = omega (arith, zero_there) in r) ∙ sym (sum_by-cons f (check e) os)
+      ∙ (let zero_there = none e in let r : sum_by f os ≡ f (check e) + sum_by f os = omega (arith, zero_there) in r) ∙
+      sym (sum_by-cons f (check e) os)
   sum_unchecked (bind e ∷ os) = same_tail (bind e) (unchecked os) os (sum_unchecked os)
   sum_unchecked (note m ∷ os) = same_tail (note m) (unchecked os) os (sum_unchecked os)
   sum_unchecked (set p c e v ∷ os) = same_tail (set p c e v) (unchecked os) os (sum_unchecked os)
   sum_unchecked (set_square p c r k v ∷ os) = same_tail (set_square p c r k v) (unchecked os) os (sum_unchecked os)
   sum_unchecked (push p c e numbers m ∷ os) = same_tail (push p c e numbers m) (unchecked os) os (sum_unchecked os)
   sum_unchecked (take p c e ∷ os) = same_tail (take p c e) (unchecked os) os (sum_unchecked os)
-  sum_unchecked (output dir kind numbers m ∷ os) = same_tail (output dir kind numbers m) (unchecked os) os (sum_unchecked os)
+  sum_unchecked (output dir kind numbers m ∷ os) = same_tail (output dir kind numbers m) (unchecked os) os
+      (sum_unchecked os)
 
-  sum_reduced : ((o : Operation) → f (reduced_operation o) ≡ f o) → (os : List Operation) → sum_by f (map reduced_operation os) ≡ sum_by f os
+  sum_reduced : ((o : Operation) → f (reduced_operation o) ≡ f o) → (os : List Operation) →
+      sum_by f (map reduced_operation os) ≡ sum_by f os
   sum_reduced same [] = refl
-  sum_reduced same (o ∷ os) = sum_by-cons f (reduced_operation o) (map reduced_operation os) ∙ ap₂ (λ a b. a + b) (same o) (sum_reduced same os)
+  sum_reduced same (o ∷ os) = sum_by-cons f (reduced_operation o) (map reduced_operation os) ∙
+      ap₂ (λ a b. a + b) (same o) (sum_reduced same os)
       ∙ sym (sum_by-cons f o os)
 
 joins_stay : (m : TraceMessage) → message_joins (reduced_message [] [] m) ≡ message_joins m
@@ -68,14 +77,17 @@ by_kept f values os (Some ks) = refl
 -- readings join nothing and put nothing out
 readings_none : (f : Step → ℕ) → ((r : Reading) → f (make r) ≡ 0) → (rs : List Reading) → sum_by f (map make rs) ≡ 0
 readings_none f none [] = refl
-readings_none f none (r ∷ rs) = sum_by-cons f (make r) (map make rs) ∙ ap₂ (λ a b. a + b) (none r) (readings_none f none rs)
+readings_none f none (r ∷ rs) = sum_by-cons f (make r) (map make rs) ∙
+    ap₂ (λ a b. a + b) (none r) (readings_none f none rs)
 
-more_readings : (f : Step → ℕ) → ((r : Reading) → f (make r) ≡ 0) → (ss : List Step) (rs : List Reading) → sum_by f (ss ++ map make rs) ≡ sum_by f ss
+more_readings : (f : Step → ℕ) → ((r : Reading) → f (make r) ≡ 0) → (ss : List Step) (rs : List Reading) →
+    sum_by f (ss ++ map make rs) ≡ sum_by f ss
 more_readings f none ss rs = sum_by-append f ss (map make rs) ∙ ap (λ n. sum_by f ss + n) (readings_none f none rs)
     ∙ (let e : sum_by f ss + 0 ≡ sum_by f ss = omega arith in e)
 
 one_step : (f : Step → ℕ) (ss : List Step) (s : Step) → sum_by f (ss ++ s ∷ []) ≡ sum_by f ss + f s
-one_step f ss s = sum_by-append f ss (s ∷ []) ∙ ap (λ n. sum_by f ss + n) (sum_by-cons f s [] ∙ (let e : f s + sum_by f [] ≡ f s = omega arith in e))
+one_step f ss s = sum_by-append f ss (s ∷ []) ∙
+    ap (λ n. sum_by f ss + n) (sum_by-cons f s [] ∙ (let e : f s + sum_by f [] ≡ f s = omega arith in e))
 
 -- a step behind readings
 after_readings : (f : Step → ℕ) → ((r : Reading) → f (make r) ≡ 0) → (ss : List Step) (rs : List Reading) (s : Step) →
@@ -99,7 +111,8 @@ record Counts (f : Step → ℕ) (g : TraceMessage → ℕ) (h : Operation → �
   note_same : (m : TraceMessage) → h (note m) ≡ g m
   set_same : (p c : ℕ) (e v : TraceNumber) (i x : _) → f (code.set p c i x) ≡ h (set p c e v)
   square_same : (p c : ℕ) (r k v : TraceNumber) (i j x : _) → f (code.set_square p c i j x) ≡ h (set_square p c r k v)
-  push_same : (p c : ℕ) (e : TraceNumber) (ns : List TraceNumber) (m : Option Chained) (i xs s : _) → f (code.push p c i xs s) ≡ h (push p c e ns m)
+  push_same : (p c : ℕ) (e : TraceNumber) (ns : List TraceNumber) (m : Option Chained) (i xs s : _) →
+      f (code.push p c i xs s) ≡ h (push p c e ns m)
   take_same : (p c : ℕ) (e : TraceNumber) (i : _) → f (code.take p c i) ≡ h (take p c e)
   output_same : (d k ns : _) (m : Option Chained) (xs s : _) → f (code.output d k xs s) ≡ h (output d k ns m)
 
@@ -111,17 +124,21 @@ module _ (f : Step → ℕ) (g : TraceMessage → ℕ) (h : Operation → ℕ) (
   core_sum body s = refl
   core_sum (noted k) s = refl
   core_sum (taken_message r carried) s = one_step f s.steps (keep (code.taken_message r carried)) ∙
-      (let e = so.takes_none r carried in let t : sum s + f (keep (code.taken_message r carried)) ≡ sum s = omega (arith, e) in t)
+      (let e = so.takes_none r carried in let t : sum s + f (keep (code.taken_message r carried)) ≡ sum s =
+      omega (arith, e) in t)
   core_sum nothing s = refl
 
   placed_sum : (m : TraceMessage) (s : Sheet) → sum (placed m s).sheet ≡ sum s + g m
-  placed_sum (core c) s = core_sum c s ∙ (let e = so.core_none c in let t : sum s ≡ sum s + g (core c) = omega (arith, e) in t)
+  placed_sum (core c) s = core_sum c s ∙
+      (let e = so.core_none c in let t : sum s ≡ sum s + g (core c) = omega (arith, e) in t)
   placed_sum (held p c e r carried) s =
       let x = straight s.names e (sheet_line s) in let y = straight s.names r x.line in
       after_readings f so.makes_none s.steps y.line.readings (keep (code.held p c x.at y.at carried))
-      ∙ ap₂ (λ a b. sum s + a) (so.holds_none p c x.at y.at carried ∙ sym (so.held_none p c e r carried)) (so.held_none p c e r carried)
+      ∙ ap₂ (λ a b. sum s + a) (so.holds_none p c x.at y.at carried ∙ sym (so.held_none p c e r carried))
+      (so.held_none p c e r carried)
   placed_sum (cut m a b) s =
-      let d = placed m s in let x = straight d.sheet.names a (sheet_line d.sheet) in let y = straight d.sheet.names b x.line in
+      let d = placed m s in let x = straight d.sheet.names a (sheet_line d.sheet) in let y =
+      straight d.sheet.names b x.line in
       after_readings f so.makes_none d.sheet.steps y.line.readings (keep (code.cut d.at x.at y.at))
       ∙ (let rest = placed_sum m s in let e = so.cuts_none d.at x.at y.at in let k = so.cut_same m a b in
       let t : sum d.sheet + f (keep (code.cut d.at x.at y.at)) ≡ sum s + g (cut m a b) = omega (arith, rest, e, k) in t)
@@ -134,32 +151,38 @@ module _ (f : Step → ℕ) (g : TraceMessage → ℕ) (h : Operation → ℕ) (
       let a = placed p s in let b = placed m a.sheet in
       one_step f b.sheet.steps (keep (code.join a.at b.at))
       ∙ (let first = placed_sum p s in let second = placed_sum m a.sheet in let e = so.joins_one p m a.at b.at in
-      let t : sum b.sheet + f (keep (code.join a.at b.at)) ≡ sum s + g (join p m) = omega (arith, first, second, e) in t)
+      let t : sum b.sheet + f (keep (code.join a.at b.at)) ≡ sum s + g (join p m) = omega (arith, first, second, e) in
+      t)
 
   sending_sum : (m : Option Chained) (s : Sheet) → sum (sending m s).sheet ≡ sum s
   sending_sum None s = refl
   sending_sum (Some m) s = core_sum m.core s
 
   writes_sum : (s : Sheet) (o : Operation) → sum (writes s o) ≡ sum s + h o
-  writes_sum s (bind e) = let x = straight s.names e (sheet_line s) in more_readings f so.makes_none s.steps x.line.readings
+  writes_sum s (bind e) = let x = straight s.names e (sheet_line s) in
+      more_readings f so.makes_none s.steps x.line.readings
       ∙ (let k = so.bind_none e in let t : sum s ≡ sum s + h (bind e) = omega (arith, k) in t)
   writes_sum s (note m) = placed_sum m s ∙ ap (λ n. sum s + n) (sym (so.note_same m))
   writes_sum s (check e) = let k = so.check_none e in let t : sum s ≡ sum s + h (check e) = omega (arith, k) in t
   writes_sum s (set p c e v) =
       let x = straight s.names e (sheet_line s) in let y = straight s.names v x.line in
-      after_readings f so.makes_none s.steps y.line.readings (code.set p c x.at y.at) ∙ ap (λ n. sum s + n) (so.set_same p c e v x.at y.at)
+      after_readings f so.makes_none s.steps y.line.readings (code.set p c x.at y.at) ∙
+      ap (λ n. sum s + n) (so.set_same p c e v x.at y.at)
   writes_sum s (set_square p c r k v) =
-      let x = straight s.names r (sheet_line s) in let y = straight s.names k x.line in let z = straight s.names v y.line in
+      let x = straight s.names r (sheet_line s) in let y = straight s.names k x.line in let z =
+      straight s.names v y.line in
       after_readings f so.makes_none s.steps z.line.readings (code.set_square p c x.at y.at z.at)
       ∙ ap (λ n. sum s + n) (so.square_same p c r k v x.at y.at z.at)
   writes_sum s (push p c e ns m) =
       let x = straight s.names e (sheet_line s) in let y = all_straight s.names ns x.line in
       let b = makes s y.line in let d = sending m b in
       one_step f d.sheet.steps (code.push p c x.at y.at d.sent)
-      ∙ ap₂ (λ a b. a + b) (sending_sum m b ∙ more_readings f so.makes_none s.steps y.line.readings) (so.push_same p c e ns m x.at y.at d.sent)
+      ∙ ap₂ (λ a b. a + b) (sending_sum m b ∙ more_readings f so.makes_none s.steps y.line.readings)
+      (so.push_same p c e ns m x.at y.at d.sent)
   writes_sum s (take p c e) =
       let x = straight s.names e (sheet_line s) in
-      after_readings f so.makes_none s.steps x.line.readings (code.take p c x.at) ∙ ap (λ n. sum s + n) (so.take_same p c e x.at)
+      after_readings f so.makes_none s.steps x.line.readings (code.take p c x.at) ∙
+      ap (λ n. sum s + n) (so.take_same p c e x.at)
   writes_sum s (output d k ns m) =
       let b = sending m s in
       one_step f b.sheet.steps _ ∙ ap₂ (λ a b. a + b) (sending_sum m s) (so.output_same d k ns m _ b.sent)
@@ -171,7 +194,8 @@ module _ (f : Step → ℕ) (g : TraceMessage → ℕ) (h : Operation → ℕ) (
       let t : sum (writes s o) + sum_by h os ≡ sum s + sum_by h (o ∷ os) = omega (arith, one, rest) in t)
 
 pub hoisted_adds_nothing : HoistedAddsNothing
-hoisted_adds_nothing os = record { joins = sum_unchecked note_joins (λ e. refl) os; outputs = sum_unchecked an_output (λ e. refl) os }
+hoisted_adds_nothing os =
+    record { joins = sum_unchecked note_joins (λ e. refl) os; outputs = sum_unchecked an_output (λ e. refl) os }
 
 pub simplified_adds_nothing : SimplifiedAddsNothing
 simplified_adds_nothing g = record {

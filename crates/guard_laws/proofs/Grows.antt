@@ -1,12 +1,17 @@
 -- Entry values are only added behind others.
-use Rattle.std.proofs.Common.{◌≡◌, ℕ, ◌+◌, Bool, true, false, List, [], ◌∷◌, ◌++◌, length, Option, Some, None, fold, refl, sym, ap, ◌∙◌, subst, arith, append_assoc, append-nil, zero-add}
+use Rattle.std.proofs.Common.{◌≡◌, ℕ, ◌+◌, Bool, true, false, List, [], ◌∷◌, ◌++◌, length, Option, Some, None, fold}
+use Rattle.std.proofs.Common.{refl, sym, ap, ◌∙◌, subst, arith, append_assoc, append-nil, zero-add}
 use Rattle.std.proofs.lemmas.List.{length-append}
 use Rattle.std.proofs.lemmas.List.Sums.{fold-append}
 use Rattle.layer_mean.specs.State.{State}
-use Rattle.trace_mean.specs.Trace.{number, peer, field, bound, taken_number, value, TraceNumber, atom, me, count, ltime, element, square, rows, item, size, binary, apply, pick, body, noted, taken_message, nothing, TraceMessage, core, held, cut, tail, join, Chained, Operation, bind, note, check, set, set_square, push, take, output}
+use Rattle.trace_mean.specs.Trace.{number, peer, field, bound, taken_number, value, TraceNumber, atom, me, count, ltime}
+use Rattle.trace_mean.specs.Trace.{element, square, rows, item, size, binary, apply, pick, body, noted, taken_message}
+use Rattle.trace_mean.specs.Trace.{nothing, TraceMessage, core, held, cut, tail, join, Chained, Operation, bind, note}
+use Rattle.trace_mean.specs.Trace.{check, set, set_square, push, take, output}
 use Rattle.trace_mean.specs.Worth.{Input, number_of, only_values}
 use Rattle.guard_mean.specs.Perform.{with_value, values_of}
-use Rattle.guard_mean.specs.Hoist.{Hoisting, AtEntry, named_term, named, named_if, sets, squares, moves, back, size_back, all_back, put_size_back, hoists}
+use Rattle.guard_mean.specs.Hoist.{Hoisting, AtEntry, named_term, named, named_if, sets, squares, moves, back}
+use Rattle.guard_mean.specs.Hoist.{size_back, all_back, put_size_back, hoists}
 
 -- a list with more behind it
 abbrev pub Grown : {A : Type 0} → List A → List A → Type 0
@@ -55,7 +60,8 @@ mutual
   back_grows h (apply f a) vs = back_grows h a vs
   back_grows h (pick c a b) vs =
       let x = back h c vs in let y = back h a x.values in
-      grown_then vs _ _ (back_grows h c vs) (grown_then x.values _ _ (back_grows h a x.values) (back_grows h b y.values))
+      grown_then vs _ _ (back_grows h c vs)
+      (grown_then x.values _ _ (back_grows h a x.values) (back_grows h b y.values))
 
   pub size_grows : (h : Hoisting) (m : TraceMessage) (vs : List TraceNumber) → Grown vs (size_back h m vs).values
   size_grows h (core body) vs = grown_same vs
@@ -67,7 +73,8 @@ mutual
   size_grows h (cut m f n) vs =
       let x = named (size_back h m vs) in let y = named (back h f x.values) in
       grown_then vs _ _ (name_grows vs _ (size_grows h m vs))
-      (grown_then x.values _ _ (name_grows x.values _ (back_grows h f x.values)) (name_grows y.values _ (back_grows h n y.values)))
+      (grown_then x.values _ _ (name_grows x.values _ (back_grows h f x.values))
+      (name_grows y.values _ (back_grows h n y.values)))
   size_grows h (tail m f) vs =
       let x = named (size_back h m vs) in
       grown_then vs _ _ (name_grows vs _ (size_grows h m vs)) (name_grows x.values _ (back_grows h f x.values))
@@ -87,13 +94,16 @@ pub hoists_grow : (h : Hoisting) (o : Operation) → Grown h.values (hoists h o)
 hoists_grow h (bind e) = name_grows h.values _ (back_grows h e h.values)
 hoists_grow h (note m) = name_grows h.values _ (size_grows h m h.values)
 hoists_grow h (check e) = back_grows h e h.values
-hoists_grow h (set p c e v) = grown_then h.values _ _ (back_grows h e h.values) (back_grows h v (back h e h.values).values)
+hoists_grow h (set p c e v) =
+    grown_then h.values _ _ (back_grows h e h.values) (back_grows h v (back h e h.values).values)
 hoists_grow h (set_square p c r k v) =
     let x = back h r h.values in let y = back h k x.values in
-    grown_then h.values _ _ (back_grows h r h.values) (grown_then x.values _ _ (back_grows h k x.values) (back_grows h v y.values))
+    grown_then h.values _ _ (back_grows h r h.values)
+    (grown_then x.values _ _ (back_grows h k x.values) (back_grows h v y.values))
 hoists_grow h (push p c e numbers m) =
     let x = back h e h.values in let y = all_back h numbers x.values in
-    grown_then h.values _ _ (back_grows h e h.values) (grown_then x.values _ _ (all_grows h numbers x.values) (put_grows h m y.values))
+    grown_then h.values _ _ (back_grows h e h.values)
+    (grown_then x.values _ _ (all_grows h numbers x.values) (put_grows h m y.values))
 hoists_grow h (take p c e) = back_grows h e h.values
 hoists_grow h (output dir kind numbers m) = grown_same h.values
 
@@ -107,7 +117,8 @@ module _ (i : Input) (ss : List State) where
   fold_grows [] vs = grown_same vs
   fold_grows (e ∷ es) vs = grown_then vs _ _ (grown_one vs _) (fold_grows es (with_value i ss vs e))
 
-  pub values_append : (es fs : List TraceNumber) → values_of i ss (es ++ fs) ≡ fold (with_value i ss) (values_of i ss es) fs
+  pub values_append : (es fs : List TraceNumber) →
+      values_of i ss (es ++ fs) ≡ fold (with_value i ss) (values_of i ss es) fs
   values_append es fs = fold-append (with_value i ss) [] es fs
 
   pub values_grow : (es fs : List TraceNumber) → Grown es fs → Grown (values_of i ss es) (values_of i ss fs)

@@ -1,17 +1,21 @@
 -- Messages that have no more bytes than a body may have, and what then is to be known of the operations of a trace.
-use Rattle.std.specs.Prelude.{◌≡◌, ℕ, suc, ◌*◌, ◌^◌, ◌<◌, ◌≤◌, true, false, List, [], ◌∷◌, length, slice_index_or, Option, None}
+use Rattle.std.specs.Prelude.{◌≡◌, ℕ, suc, ◌*◌, ◌^◌, ◌<◌, ◌≤◌, true, false, List, [], ◌∷◌, length, slice_index_or}
+use Rattle.std.specs.Prelude.{Option, None}
 use Rattle.msg_core.specs.Chain.{plain}
 use Rattle.msg_core.specs.Parts.{longest_body}
 use Rattle.layer_mean.specs.declared.run.Row.{Row}
 use Rattle.layer_mean.specs.State.{row_at}
 use Rattle.layer_mean.specs.Tree.{part}
 use Rattle.layer_mean.specs.Value.{message_in}
-use Rattle.trace_mean.specs.Trace.{TraceNumber, element, square, rows, item, size, binary, apply, pick, TraceMessage, held, cut, tail, join, Operation, bind, note, check, set, set_square, push, take, output}
+use Rattle.trace_mean.specs.Trace.{TraceNumber, element, square, rows, item, size, binary, apply, pick, TraceMessage}
+use Rattle.trace_mean.specs.Trace.{held, cut, tail, join, Operation, bind, note, check, set, set_square, push, take}
+use Rattle.trace_mean.specs.Trace.{output}
 use Rattle.trace_mean.specs.Worth.{Input, state_of, number_of}
 use Rattle.trace_mean.specs.Follow.{Trail, Followed, on, stopped_at, operates}
 use Rattle.guard_laws.specs.Sound.{extent, queue_count, row_count, fits_extent, Squares}
 
--- What there is to read is short: the body, the notes, and the messages of rows that were taken and of rows that are held.
+-- What there is to read is short: the body, the notes, and the messages of rows that were taken and of rows that are
+-- held.
 abbrev pub IsShortRow : Option Row → Type 0
 IsShortRow r = length (message_in part r).body ≤ longest_body
 
@@ -60,10 +64,12 @@ abbrev pub RoomAt : Input → Trail → Operation → Type 0
 RoomAt i t (set p c e v) = (0 < i.count) × (fits_extent i.count (extent t.states p c) e ≡ true)
 RoomAt i t (set_square p c r k v) = extent t.states p c ≡ i.count * i.count
 RoomAt i t (push p c e numbers m) =
-    (number_of i t.kept t.states e < queue_count t.states p c) × (suc (row_count t.states p c (number_of i t.kept t.states e)) < 2 ^ 32) ×
+    (number_of i t.kept t.states e < queue_count t.states p c) ×
+    (suc (row_count t.states p c (number_of i t.kept t.states e)) < 2 ^ 32) ×
     ((j : ℕ) → row_count t.states p c j < 2 ^ 32)
 RoomAt i t (take p c e) =
-    (number_of i t.kept t.states e < queue_count t.states p c) × (0 < row_count t.states p c (number_of i t.kept t.states e)) ×
+    (number_of i t.kept t.states e < queue_count t.states p c) ×
+    (0 < row_count t.states p c (number_of i t.kept t.states e)) ×
     ((j : ℕ) → row_count t.states p c j < 2 ^ 32)
 RoomAt i t _ = Unit {0}
 

@@ -1,5 +1,7 @@
 -- A guard without the entry values that it doesn't need holds where it held.
-use Rattle.std.proofs.Common.{◌≡◌, ℕ, suc, ◌+◌, ◌<◌, Bool, true, false, ◌&&◌, ◌||◌, ◌⊎◌, inl, inr, if◌then◌else◌, List, [], ◌∷◌, ◌++◌, map, length, slice_index, slice_index_or, fold, refl, sym, ap, ap₂, ◌∙◌, subst, arith}
+use Rattle.std.proofs.Common.{◌≡◌, ℕ, suc, ◌+◌, ◌<◌, Bool, true, false, ◌&&◌, ◌||◌, ◌⊎◌, inl, inr, if◌then◌else◌, List}
+use Rattle.std.proofs.Common.{[], ◌∷◌, ◌++◌, map, length, slice_index, slice_index_or, fold, refl, sym, ap, ap₂, ◌∙◌}
+use Rattle.std.proofs.Common.{subst, arith}
 use Rattle.std.proofs.lemmas.Bool.{eq-eqb, and_from, or_left, or_right, false≢true, cases_order}
 use Rattle.std.proofs.lemmas.List.{length-append, get_or_past, get_or_at, get_or_append_left}
 use Rattle.std.specs.List.{list_all}
@@ -7,11 +9,14 @@ use Rattle.msg_core.specs.Chain.{Content}
 use Rattle.msg_core.specs.Parts as parts
 use Rattle.layer_mean.specs.State.{State, number_at, flat_index, rows_at, row_at}
 use Rattle.layer_mean.specs.Value.{is_true, applied, function_of, number_in, message_in}
-use Rattle.trace_mean.specs.Trace.{Atom, number, peer, field, bound, taken_number, value, TraceNumber, atom, me, count, ltime, element, square, rows, item, size, binary, apply, pick, Core, body, noted, taken_message, nothing, TraceMessage, core, held, cut, tail, join, Guarded}
+use Rattle.trace_mean.specs.Trace.{Atom, number, peer, field, bound, taken_number, value, TraceNumber, atom, me, count}
+use Rattle.trace_mean.specs.Trace.{ltime, element, square, rows, item, size, binary, apply, pick, Core, body, noted}
+use Rattle.trace_mean.specs.Trace.{taken_message, nothing, TraceMessage, core, held, cut, tail, join, Guarded}
 use Rattle.trace_mean.specs.Worth.{Input, Kept, core_at, state_of, atom_at, number_of, message_of, only_values}
 use Rattle.guard_mean.specs.Perform.{with_value, values_of, holds_at, holds}
 use Rattle.guard_mean.specs.Simplify.{Left, make_atom}
-use Rattle.guard_mean.specs.Prune.{reads_atom, reads, reads_message, renamed, renamed_message, any_reads, needed, flags, prunes_one, prunes, pruned}
+use Rattle.guard_mean.specs.Prune.{reads_atom, reads, reads_message, renamed, renamed_message, any_reads, needed, flags}
+use Rattle.guard_mean.specs.Prune.{prunes_one, prunes, pruned}
 use Rattle.guard_laws.proofs.Grows.{Grown, grown_same, grown_one, grown_then, values_grow}
 use Rattle.guard_laws.proofs.Means.{value_here}
 use Rattle.guard_laws.proofs.Simpler.{any_cell}
@@ -24,7 +29,8 @@ module _ (i : Input) (kept : Kept) (ss : List State) (ws : List ℕ) (ns : List 
   abbrev pub Fits : ℕ → Type 0
   Fits k = atom_at i now (slice_index_or ns k (number 0)) ≡ slice_index kept.values k
 
-  atom_renamed : (a : Atom) → ((k : ℕ) → reads_atom k a ≡ true → Fits k) → atom_at i now (make_atom ns a) ≡ atom_at i kept a
+  atom_renamed : (a : Atom) → ((k : ℕ) → reads_atom k a ≡ true → Fits k) → atom_at i now (make_atom ns a) ≡
+      atom_at i kept a
   atom_renamed (number n) f = refl
   atom_renamed peer f = refl
   atom_renamed (field k) f = refl
@@ -39,36 +45,47 @@ module _ (i : Input) (kept : Kept) (ss : List State) (ws : List ℕ) (ns : List 
   core_renamed nothing = refl
 
   mutual
-    pub renamed_worth : (e : TraceNumber) → ((k : ℕ) → reads k e ≡ true → Fits k) → number_of i now ss (renamed ns e) ≡ number_of i kept ss e
+    pub renamed_worth : (e : TraceNumber) → ((k : ℕ) → reads k e ≡ true → Fits k) → number_of i now ss (renamed ns e) ≡
+        number_of i kept ss e
     renamed_worth (atom a) f = atom_renamed a f
     renamed_worth me f = refl
     renamed_worth count f = refl
     renamed_worth ltime f = refl
     renamed_worth (element p c e) f = ap (number_at (state_of ss p) c) (renamed_worth e f)
     renamed_worth (square p c r k) f = ap₂ (λ a b. number_at (state_of ss p) c (flat_index i.count a b))
-        (renamed_worth r (λ v is. f v (or_left (reads v r) (reads v k) is))) (renamed_worth k (λ v is. f v (or_right (reads v r) (reads v k) is)))
+        (renamed_worth r (λ v is. f v (or_left (reads v r) (reads v k) is)))
+        (renamed_worth k (λ v is. f v (or_right (reads v r) (reads v k) is)))
     renamed_worth (rows p c e) f = ap (λ j. length (rows_at (state_of ss p) c j)) (renamed_worth e f)
     renamed_worth (item p c e r k) f = ap₂ (λ a b. number_in k (row_at (state_of ss p) c a b))
-        (renamed_worth e (λ v is. f v (or_left (reads v e) (reads v r) is))) (renamed_worth r (λ v is. f v (or_right (reads v e) (reads v r) is)))
+        (renamed_worth e (λ v is. f v (or_left (reads v e) (reads v r) is)))
+        (renamed_worth r (λ v is. f v (or_right (reads v e) (reads v r) is)))
     renamed_worth (size m) f = ap (λ (x : Content). length x.body) (message_renamed m f)
     renamed_worth (binary o a b) f = ap₂ (applied o)
-        (renamed_worth a (λ v is. f v (or_left (reads v a) (reads v b) is))) (renamed_worth b (λ v is. f v (or_right (reads v a) (reads v b) is)))
+        (renamed_worth a (λ v is. f v (or_left (reads v a) (reads v b) is)))
+        (renamed_worth b (λ v is. f v (or_right (reads v a) (reads v b) is)))
     renamed_worth (apply g a) f = ap (function_of g) (renamed_worth a f)
     renamed_worth (pick c a b) f =
         let ec = renamed_worth c (λ v is. f v (or_left (reads v c) (reads v a || reads v b) is)) in
-        let ea = renamed_worth a (λ v is. f v (or_right (reads v c) (reads v a || reads v b) (or_left (reads v a) (reads v b) is))) in
-        let eb = renamed_worth b (λ v is. f v (or_right (reads v c) (reads v a || reads v b) (or_right (reads v a) (reads v b) is))) in
+        let ea = renamed_worth a
+        (λ v is. f v (or_right (reads v c) (reads v a || reads v b) (or_left (reads v a) (reads v b) is))) in
+        let eb = renamed_worth b
+        (λ v is. f v (or_right (reads v c) (reads v a || reads v b) (or_right (reads v a) (reads v b) is))) in
         λ z. if is_true (ec z) then ea z else eb z
 
     pub message_renamed : (m : TraceMessage) → ((k : ℕ) → reads_message k m ≡ true → Fits k) →
         message_of i now ss (renamed_message ns m) ≡ message_of i kept ss m
     message_renamed (core c) f = core_renamed c
     message_renamed (held p c e r carried) f = ap₂ (λ a b. message_in carried (row_at (state_of ss p) c a b))
-        (renamed_worth e (λ v is. f v (or_left (reads v e) (reads v r) is))) (renamed_worth r (λ v is. f v (or_right (reads v e) (reads v r) is)))
+        (renamed_worth e (λ v is. f v (or_left (reads v e) (reads v r) is)))
+        (renamed_worth r (λ v is. f v (or_right (reads v e) (reads v r) is)))
     message_renamed (cut m g n) f =
         let em = message_renamed m (λ v is. f v (or_left (reads_message v m) (reads v g || reads v n) is)) in
-        let eg = renamed_worth g (λ v is. f v (or_right (reads_message v m) (reads v g || reads v n) (or_left (reads v g) (reads v n) is))) in
-        let en = renamed_worth n (λ v is. f v (or_right (reads_message v m) (reads v g || reads v n) (or_right (reads v g) (reads v n) is))) in
+        let eg = renamed_worth g
+        (λ v is. f v (or_right (reads_message v m) (reads v g || reads v n) (or_left (reads v g) (reads v n) is)))
+        in
+        let en = renamed_worth n
+        (λ v is. f v (or_right (reads_message v m) (reads v g || reads v n) (or_right (reads v g) (reads v n) is)))
+        in
         λ z. parts.cut (em z) (eg z) (en z)
     message_renamed (tail m g) f = ap₂ parts.tail
         (message_renamed m (λ v is. f v (or_left (reads_message v m) (reads v g) is)))
@@ -85,7 +102,8 @@ module _ (i : Input) (ss : List State) (cs : List TraceNumber) where
         Fits i (only_values vs) ss ws l.names k
 
   -- one name more, at one place
-  name_at : (ws vs : List ℕ) (names : List Atom) (a : Atom) (v k : ℕ) → length names ≡ length vs → (k ≡ length names → atom_at i (only_values ws) a ≡ v) →
+  name_at : (ws vs : List ℕ) (names : List Atom) (a : Atom) (v k : ℕ) → length names ≡ length vs →
+      (k ≡ length names → atom_at i (only_values ws) a ≡ v) →
       Fits i (only_values vs) ss ws names k → Fits i (only_values (vs ++ v ∷ [])) ss ws (names ++ a ∷ []) k
   name_at ws vs names a v k same new old = go (cases_order k (length names)) where
     worth : Atom → ℕ
@@ -97,20 +115,24 @@ module _ (i : Input) (ss : List State) (cs : List TraceNumber) where
     one' : length (vs ++ v ∷ []) ≡ length vs + 1
     one' = length-append vs (v ∷ [])
 
-    go : (k ≡ length names) ⊎ ((k < length names) ⊎ (length names < k)) → worth (slice_index_or (names ++ a ∷ []) k (number 0)) ≡ slice_index (vs ++ v ∷ []) k
-    go (inl at) = ap worth (get_or_at names a [] (number 0) k (sym at)) ∙ new at ∙ sym (get_or_at vs v [] 0 k (sym (at ∙ same)))
+    go : (k ≡ length names) ⊎ ((k < length names) ⊎ (length names < k)) →
+        worth (slice_index_or (names ++ a ∷ []) k (number 0)) ≡ slice_index (vs ++ v ∷ []) k
+    go (inl at) = ap worth (get_or_at names a [] (number 0) k (sym at)) ∙ new at ∙
+        sym (get_or_at vs v [] 0 k (sym (at ∙ same)))
     go (inr (inl less)) = ap worth (get_or_append_left names (a ∷ []) (number 0) k less) ∙ old
         ∙ sym (get_or_append_left vs (v ∷ []) 0 k (omega (arith, less, same)))
     go (inr (inr more)) = ap worth (get_or_past (names ++ a ∷ []) k (number 0) (omega (arith, one, more)))
         ∙ sym (get_or_past (vs ++ v ∷ []) k 0 (omega (arith, one', more, same)))
 
-  prune_step : (e : TraceNumber) (es : List TraceNumber) (vs : List ℕ) (l : Left) → Going (e ∷ es) vs l → (flag : Bool) →
+  prune_step : (e : TraceNumber) (es : List TraceNumber) (vs : List ℕ) (l : Left) → Going (e ∷ es) vs l →
+      (flag : Bool) →
       needed (length l.names) es cs (suc (length l.names)) ≡ flag →
       Going es (with_value i ss vs e) (prunes_one l e flag)
   prune_step e es vs l so true is = record {
     lengths = more_lengths (value (length l.values));
     named = λ ws b k need. name_at ws vs l.names (value (length l.values)) v k so.lengths (λ at. new_here ws b)
-        (so.named ws (before ws b) k (or_right _ (needed k es cs (suc (length l.names))) (sooner (value (length l.values)) k need)));
+        (so.named ws (before ws b) k
+        (or_right _ (needed k es cs (suc (length l.names))) (sooner (value (length l.values)) k need)));
   } where
     v : ℕ
     v = number_of i (only_values vs) ss e
@@ -121,7 +143,8 @@ module _ (i : Input) (ss : List State) (cs : List TraceNumber) where
     more_lengths : (a : Atom) → length (l.names ++ a ∷ []) ≡ length (vs ++ v ∷ [])
     more_lengths a = length-append l.names (a ∷ []) ∙ ap (λ n. n + 1) so.lengths ∙ sym (length-append vs (v ∷ []))
 
-    sooner : (a : Atom) (k : ℕ) → needed k es cs (length (l.names ++ a ∷ [])) ≡ true → needed k es cs (suc (length l.names)) ≡ true
+    sooner : (a : Atom) (k : ℕ) → needed k es cs (length (l.names ++ a ∷ [])) ≡ true →
+        needed k es cs (suc (length l.names)) ≡ true
     sooner a k need = ap (needed k es cs) (let one = length-append l.names (a ∷ []) in
         let e : suc (length l.names) ≡ length (l.names ++ a ∷ []) = omega (arith, one) in e) ∙ need
 
@@ -144,7 +167,8 @@ module _ (i : Input) (ss : List State) (cs : List TraceNumber) where
     v : ℕ
     v = number_of i (only_values vs) ss e
 
-    sooner : (k : ℕ) → needed k es cs (length (l.names ++ number 0 ∷ [])) ≡ true → needed k es cs (suc (length l.names)) ≡ true
+    sooner : (k : ℕ) → needed k es cs (length (l.names ++ number 0 ∷ [])) ≡ true →
+        needed k es cs (suc (length l.names)) ≡ true
     sooner k need = ap (needed k es cs) (let one = length-append l.names (number 0 ∷ []) in
         let e : suc (length l.names) ≡ length (l.names ++ number 0 ∷ []) = omega (arith, one) in e) ∙ need
 
@@ -164,7 +188,8 @@ module _ (i : Input) (ss : List State) (cs : List TraceNumber) where
       (subst (λ n. Going es (with_value i ss vs e) (prunes_one l e (needed n es cs (suc n)))) (sym same)
       (prune_step e es vs l so (needed (length l.names) es cs (suc (length l.names))) refl))
 
-  conjuncts_same : (vs ws : List ℕ) (ns : List Atom) (ds : List TraceNumber) → ((k : ℕ) → any_reads k ds ≡ true → Fits i (only_values vs) ss ws ns k) →
+  conjuncts_same : (vs ws : List ℕ) (ns : List Atom) (ds : List TraceNumber) →
+      ((k : ℕ) → any_reads k ds ≡ true → Fits i (only_values vs) ss ws ns k) →
       list_all (holds_at i (only_values ws) ss) (map (renamed ns) ds) ≡ list_all (holds_at i (only_values vs) ss) ds
   conjuncts_same vs ws ns [] f = refl
   conjuncts_same vs ws ns (d ∷ ds) f = ap₂ (λ x y. is_true x && y)

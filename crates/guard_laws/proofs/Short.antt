@@ -1,5 +1,7 @@
 -- Messages stay short, so following what fits and has room is sound.
-use Rattle.std.proofs.Common.{◌≡◌, ℕ, zero, suc, ◌+◌, ◌<◌, ◌≤◌, nat_le, Bool, true, false, ◌⊎◌, inl, inr, if◌then◌else◌, List, [], ◌∷◌, ◌++◌, map, length, drop, slice_get, slice_index_or, Option, option_map, Some, None, refl, sym, subst, arith, zero-le}
+use Rattle.std.proofs.Common.{◌≡◌, ℕ, zero, suc, ◌+◌, ◌<◌, ◌≤◌, nat_le, Bool, true, false, ◌⊎◌, inl, inr, if◌then◌else◌}
+use Rattle.std.proofs.Common.{List, [], ◌∷◌, ◌++◌, map, length, drop, slice_get, slice_index_or, Option, option_map}
+use Rattle.std.proofs.Common.{Some, None, refl, sym, subst, arith, zero-le}
 use Rattle.std.proofs.lemmas.Bool.{leb-true, cases_order}
 use Rattle.std.proofs.lemmas.List.{length-take, length-drop, length-append, get_or_past, get_or_at, get_or_append_left}
 use Rattle.std.proofs.Math.Nat.{min-le_right}
@@ -11,11 +13,15 @@ use Rattle.layer_mean.specs.declared.run.Row.{Row}
 use Rattle.layer_mean.specs.Tree.{Carried, part, whole}
 use Rattle.layer_mean.specs.State.{rows_at, row_at, flat_index}
 use Rattle.layer_mean.specs.Value.{is_true, message_in, missing}
-use Rattle.trace_mean.specs.Trace.{TraceNumber, atom, me, count, ltime, element, square, rows, item, size, binary, apply, pick, Core, body, noted, taken_message, nothing, TraceMessage, core, held, cut, tail, join, Chained, Operation, bind, note, check, set, set_square, push, take, output}
+use Rattle.trace_mean.specs.Trace.{TraceNumber, atom, me, count, ltime, element, square, rows, item, size, binary}
+use Rattle.trace_mean.specs.Trace.{apply, pick, Core, body, noted, taken_message, nothing, TraceMessage, core, held}
+use Rattle.trace_mean.specs.Trace.{cut, tail, join, Chained, Operation, bind, note, check, set, set_square, push, take}
+use Rattle.trace_mean.specs.Trace.{output}
 use Rattle.trace_mean.specs.Worth.{Input, core_at, state_of, number_of, message_of, content_at}
 use Rattle.trace_mean.specs.Follow.{Trail, on, stopped_at, does}
 use Rattle.guard_laws.specs.Sound.{Squares, IsShort, Reads, ReadsMessage, ReadsAll, SoundAt, Sound}
-use Rattle.guard_laws.proofs.Premises.{IsShortRow, IsShortTrail, Fits, FitsMessage, FitsAll, FitsOperation, RoomAt, Roomy, AllFit}
+use Rattle.guard_laws.proofs.Premises.{IsShortRow, IsShortTrail, Fits, FitsMessage, FitsAll, FitsOperation, RoomAt}
+use Rattle.guard_laws.proofs.Premises.{Roomy, AllFit}
 use Rattle.guard_laws.proofs.Lines.{get_behind}
 use Rattle.guard_laws.proofs.States.{queues_after, rows_after}
 
@@ -28,7 +34,8 @@ module _ (i : Input) (t : Trail) (short : IsShortTrail i t) where
   missing_short (whole blank) = zero-le
 
   -- what a row carries, where it may be missing
-  carried_short : (carried : Carried) (r : Option Row) → IsShortRow r → length (message_in carried r).body ≤ longest_body
+  carried_short : (carried : Carried) (r : Option Row) → IsShortRow r →
+      length (message_in carried r).body ≤ longest_body
   carried_short carried None is = missing_short carried
   carried_short carried (Some r) is = either r.message is where
     either : (m : Option Content) → length (option_map_or (λ m. m) m (plain [])).body ≤ longest_body →
@@ -40,7 +47,8 @@ module _ (i : Input) (t : Trail) (short : IsShortTrail i t) where
   join_short a b is = go (nat_le (length a.body + length b.body) longest_body) refl where
     go : (t : Bool) → nat_le (length a.body + length b.body) longest_body ≡ t →
         length (if t then record { headers = b.headers; body = a.body ++ b.body } else b).body ≤ longest_body
-    go true fits = let all = leb-true (length a.body + length b.body) longest_body fits in let whole = length-append a.body b.body in omega (arith, all, whole)
+    go true fits = let all = leb-true (length a.body + length b.body) longest_body fits in let whole =
+        length-append a.body b.body in omega (arith, all, whole)
     go false other = is
 
   pub core_short : (c : Core) → length (core_at i t.kept c).body ≤ longest_body
@@ -51,17 +59,22 @@ module _ (i : Input) (t : Trail) (short : IsShortTrail i t) where
 
   pub message_short : (m : TraceMessage) → IsShort i t m
   message_short (core c) = core_short c
-  message_short (held p c e r carried) = carried_short carried (row_at (state_of t.states p) c (number_of i t.kept t.states e)
+  message_short (held p c e r carried) =
+      carried_short carried (row_at (state_of t.states p) c (number_of i t.kept t.states e)
       (number_of i t.kept t.states r)) (short.held p c (number_of i t.kept t.states e) (number_of i t.kept t.states r))
   message_short (cut m f n) =
       let all = message_short m in
-      let taken = length-take (number_of i t.kept t.states n) (drop (number_of i t.kept t.states f) (message_of i t.kept t.states m).body) in
+      let taken = length-take (number_of i t.kept t.states n)
+      (drop (number_of i t.kept t.states f) (message_of i t.kept t.states m).body) in
       let left = length-drop (number_of i t.kept t.states f) (message_of i t.kept t.states m).body in
-      let least = min-le_right (number_of i t.kept t.states n) (length (drop (number_of i t.kept t.states f) (message_of i t.kept t.states m).body)) in
+      let least = min-le_right (number_of i t.kept t.states n)
+      (length (drop (number_of i t.kept t.states f) (message_of i t.kept t.states m).body)) in
       omega (arith, all, taken, left, least)
   message_short (tail m f) =
-      let all = message_short m in let left = length-drop (number_of i t.kept t.states f) (message_of i t.kept t.states m).body in omega (arith, all, left)
-  message_short (join a b) = join_short (message_of i t.kept t.states a) (message_of i t.kept t.states b) (message_short b)
+      let all = message_short m in let left =
+      length-drop (number_of i t.kept t.states f) (message_of i t.kept t.states m).body in omega (arith, all, left)
+  message_short (join a b) = join_short (message_of i t.kept t.states a) (message_of i t.kept t.states b)
+      (message_short b)
 
   mutual
     pub reads_all : (sq : Squares) (e : TraceNumber) → Fits sq e → Reads sq i t e
@@ -81,9 +94,11 @@ module _ (i : Input) (t : Trail) (short : IsShortTrail i t) where
     pub reads_message_all : (sq : Squares) (m : TraceMessage) → FitsMessage sq m → ReadsMessage sq i t m
     reads_message_all sq (core c) f = tt
     reads_message_all sq (held p c e r carried) f = (reads_all sq e f.0, reads_all sq r f.1)
-    reads_message_all sq (cut m g n) f = (message_short m, reads_message_all sq m f.0, reads_all sq g f.1, reads_all sq n f.2)
+    reads_message_all sq (cut m g n) f =
+        (message_short m, reads_message_all sq m f.0, reads_all sq g f.1, reads_all sq n f.2)
     reads_message_all sq (tail m g) f = (message_short m, reads_message_all sq m f.0, reads_all sq g f.1)
-    reads_message_all sq (join a b) f = (message_short a, message_short b, reads_message_all sq a f.0, reads_message_all sq b f.1)
+    reads_message_all sq (join a b) f =
+        (message_short a, message_short b, reads_message_all sq a f.0, reads_message_all sq b f.1)
 
   reads_list : (sq : Squares) (es : List TraceNumber) → FitsAll sq es → ReadsAll sq i t es
   reads_list sq [] f = tt
@@ -100,7 +115,8 @@ module _ (i : Input) (t : Trail) (short : IsShortTrail i t) where
   sound_at sq (output dir kind numbers m) f r = tt
 
 -- a list with one more
-more_short : {A : Type 0} (P : A → Type 0) (xs : List A) (x d : A) → ((k : ℕ) → P (slice_index_or xs k d)) → P x → P d → (k : ℕ) →
+more_short : {A : Type 0} (P : A → Type 0) (xs : List A) (x d : A) → ((k : ℕ) → P (slice_index_or xs k d)) → P x → P d →
+    (k : ℕ) →
     P (slice_index_or (xs ++ x ∷ []) k d)
 more_short P xs x d old new default k = go (cases_order k (length xs)) where
   go : (k ≡ length xs) ⊎ ((k < length xs) ⊎ (length xs < k)) → P (slice_index_or (xs ++ x ∷ []) k d)
@@ -113,7 +129,8 @@ pub either_way : {A : Type 0} (P : A → Type 0) (b : Bool) (x y : A) → P x �
 either_way P true x y px py = px
 either_way P false x y px py = py
 
-pushed_short : (rs : List Row) (x : Row) → ((k : ℕ) → IsShortRow (slice_get rs k)) → IsShortRow (Some x) → (k : ℕ) → IsShortRow (slice_get (rs ++ x ∷ []) k)
+pushed_short : (rs : List Row) (x : Row) → ((k : ℕ) → IsShortRow (slice_get rs k)) → IsShortRow (Some x) → (k : ℕ) →
+    IsShortRow (slice_get (rs ++ x ∷ []) k)
 pushed_short [] x old new zero = new
 pushed_short [] x old new (suc k) = zero-le
 pushed_short (r ∷ rs) x old new zero = old zero
@@ -123,7 +140,8 @@ stays_short : (i : Input) (t : Trail) (o : Operation) → IsShortTrail i t → R
 stays_short i t (bind e) h r = record { body = h.body; notes = h.notes; rows = h.rows; held = h.held }
 stays_short i t (note m) h r = record {
   body = h.body;
-  notes = more_short (λ (c : Content). length c.body ≤ longest_body) t.kept.messages (message_of i t.kept t.states m) (plain []) h.notes
+  notes = more_short (λ (c : Content). length c.body ≤ longest_body) t.kept.messages (message_of i t.kept t.states m)
+      (plain []) h.notes
       (message_short i t h m) zero-le;
   rows = h.rows;
   held = h.held;
@@ -133,7 +151,8 @@ stays_short i t (set p c e v) h r = record {
   body = h.body;
   notes = h.notes;
   rows = h.rows;
-  held = λ q d j k. subst (λ l. IsShortRow (slice_get l k)) (sym (queues_after t.states p c (number_of i t.kept t.states e)
+  held = λ q d j k. subst (λ l. IsShortRow (slice_get l k))
+      (sym (queues_after t.states p c (number_of i t.kept t.states e)
       (number_of i t.kept t.states v) q d j)) (h.held q d j k);
 }
 stays_short i t (set_square p c e f v) h r = record {
@@ -141,7 +160,8 @@ stays_short i t (set_square p c e f v) h r = record {
   notes = h.notes;
   rows = h.rows;
   held = λ q d j k. subst (λ l. IsShortRow (slice_get l k))
-      (sym (queues_after t.states p c (flat_index i.count (number_of i t.kept t.states e) (number_of i t.kept t.states f))
+      (sym (queues_after t.states p c
+      (flat_index i.count (number_of i t.kept t.states e) (number_of i t.kept t.states f))
       (number_of i t.kept t.states v) q d j)) (h.held q d j k);
 }
 stays_short i t (push p c e numbers m) h r = record {
@@ -168,16 +188,19 @@ stays_short i t (push p c e numbers m) h r = record {
 stays_short i t (take p c e) h r = record {
   body = h.body;
   notes = h.notes;
-  rows = more_short IsShortRow t.kept.rows (row_at (state_of t.states p) c (number_of i t.kept t.states e) 0) None h.rows
+  rows = more_short IsShortRow t.kept.rows (row_at (state_of t.states p) c (number_of i t.kept t.states e) 0) None
+      h.rows
       (h.held p c (number_of i t.kept t.states e) 0) zero-le;
   held = λ q d j k. subst (λ l. IsShortRow (slice_get l k))
       (sym (rows_after t.states p c (number_of i t.kept t.states e) (drop 1 old) r.0 q d j))
       (either_way (λ l. IsShortRow (slice_get l k)) _ (drop 1 old) (rows_at (state_of t.states q) d j)
-      (subst IsShortRow (sym (get_behind old k)) (h.held p c (number_of i t.kept t.states e) (suc k))) (h.held q d j k));
+      (subst IsShortRow (sym (get_behind old k)) (h.held p c (number_of i t.kept t.states e) (suc k)))
+      (h.held q d j k));
 } where
   old : List Row
   old = rows_at (state_of t.states p) c (number_of i t.kept t.states e)
-stays_short i t (output dir kind numbers m) h r = record { body = h.body; notes = h.notes; rows = h.rows; held = h.held }
+stays_short i t (output dir kind numbers m) h r =
+    record { body = h.body; notes = h.notes; rows = h.rows; held = h.held }
 
 stopped_sound : (sq : Squares) (i : Input) (os : List Operation) (k : ℕ) → Sound sq i os (stopped_at k)
 stopped_sound sq i [] k = tt
@@ -191,19 +214,23 @@ checked_sound sq i os t true r so = so r
 checked_sound sq i os t false r so = stopped_sound sq i os t.checks
 
 -- what fits and has room is sound
-pub sound_of : (sq : Squares) (i : Input) (os : List Operation) (t : Trail) → IsShortTrail i t → AllFit sq os → Roomy i os (on t) → Sound sq i os (on t)
+pub sound_of : (sq : Squares) (i : Input) (os : List Operation) (t : Trail) → IsShortTrail i t → AllFit sq os →
+    Roomy i os (on t) → Sound sq i os (on t)
 sound_of sq i [] t h f r = tt
 sound_of sq i (check e ∷ os) t h f r = (
   sound_at i t h sq (check e) f.0 r.0,
   checked_sound sq i os t (is_true (number_of i t.kept t.states e)) r.1
-      (sound_of sq i os (record t { checks = t.checks + 1 }) (record { body = h.body; notes = h.notes; rows = h.rows; held = h.held }) f.1),
+      (sound_of sq i os (record t { checks = t.checks + 1 })
+      (record { body = h.body; notes = h.notes; rows = h.rows; held = h.held }) f.1),
 )
 sound_of sq i (bind e ∷ os) t h f r =
     (sound_at i t h sq (bind e) f.0 r.0, sound_of sq i os (does i t (bind e)) (stays_short i t (bind e) h r.0) f.1 r.1)
 sound_of sq i (note m ∷ os) t h f r =
     (sound_at i t h sq (note m) f.0 r.0, sound_of sq i os (does i t (note m)) (stays_short i t (note m) h r.0) f.1 r.1)
-sound_of sq i (set p c e v ∷ os) t h f r =
-    (sound_at i t h sq (set p c e v) f.0 r.0, sound_of sq i os (does i t (set p c e v)) (stays_short i t (set p c e v) h r.0) f.1 r.1)
+sound_of sq i (set p c e v ∷ os) t h f r = (
+  sound_at i t h sq (set p c e v) f.0 r.0,
+  sound_of sq i os (does i t (set p c e v)) (stays_short i t (set p c e v) h r.0) f.1 r.1,
+)
 sound_of sq i (set_square p c e k v ∷ os) t h f r = (
   sound_at i t h sq (set_square p c e k v) f.0 r.0,
   sound_of sq i os (does i t (set_square p c e k v))
@@ -214,8 +241,10 @@ sound_of sq i (push p c e numbers m ∷ os) t h f r = (
   sound_of sq i os (does i t (push p c e numbers m))
       (stays_short i t (push p c e numbers m) h r.0) f.1 r.1,
 )
-sound_of sq i (take p c e ∷ os) t h f r =
-    (sound_at i t h sq (take p c e) f.0 r.0, sound_of sq i os (does i t (take p c e)) (stays_short i t (take p c e) h r.0) f.1 r.1)
+sound_of sq i (take p c e ∷ os) t h f r = (
+  sound_at i t h sq (take p c e) f.0 r.0,
+  sound_of sq i os (does i t (take p c e)) (stays_short i t (take p c e) h r.0) f.1 r.1,
+)
 sound_of sq i (output dir kind numbers m ∷ os) t h f r = (
   sound_at i t h sq (output dir kind numbers m) f.0 r.0,
   sound_of sq i os (does i t (output dir kind numbers m))

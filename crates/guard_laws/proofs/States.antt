@@ -1,9 +1,11 @@
 -- What writes change of the states of places.
-use Rattle.std.proofs.Common.{◌≡◌, ℕ, ◌<◌, ◌==◌, nat_lt, Bool, true, false, ◌&&◌, if◌then◌else◌, List, [], length, slice_index, slice_index_or, slice_set, refl, sym, ap, ap₂, ◌∙◌, subst, arith}
+use Rattle.std.proofs.Common.{◌≡◌, ℕ, ◌<◌, ◌==◌, nat_lt, Bool, true, false, ◌&&◌, if◌then◌else◌, List, [], length}
+use Rattle.std.proofs.Common.{slice_index, slice_index_or, slice_set, refl, sym, ap, ap₂, ◌∙◌, subst, arith}
 use Rattle.std.proofs.lemmas.Bool.{eqb-true, eqb-false, ltb-true, ltb-false, lt-ltb, le-ltb, and_parts}
 use Rattle.std.proofs.lemmas.List.{length-set, get_or-set_same, get_or-set_other, get_or_past, set_past}
 use Rattle.layer_mean.specs.declared.run.Row.{Row}
-use Rattle.layer_mean.specs.State.{State, Contents, numbers, queues, no_cell, numbers_in, queues_in, cell_at, number_at, rows_at, with_cell, written, filled}
+use Rattle.layer_mean.specs.State.{State, Contents, numbers, queues, no_cell, numbers_in, queues_in, cell_at, number_at}
+use Rattle.layer_mean.specs.State.{rows_at, with_cell, written, filled}
 use Rattle.layer_mean.specs.Visit.{no_state}
 use Rattle.guard_mean.specs.Hoist.{is_here}
 use Rattle.guard_laws.specs.Sound.{extent, queue_count}
@@ -17,12 +19,15 @@ and-false false = refl
 pub get_set : {A : Type 0} (xs : List A) (k j : ℕ) (v d : A) →
     slice_index_or (slice_set xs k v) j d ≡ (if (j == k) && nat_lt j (length xs) then v else slice_index_or xs j d)
 get_set xs k j v d = go (j == k) refl where
-  inside : (b : Bool) → nat_lt j (length xs) ≡ b → j ≡ k → slice_index_or (slice_set xs k v) j d ≡ (if b then v else slice_index_or xs j d)
-  inside true is same = subst (λ k. slice_index_or (slice_set xs k v) j d ≡ v) same (get_or-set_same xs j v d (ltb-true j (length xs) is))
+  inside : (b : Bool) → nat_lt j (length xs) ≡ b → j ≡ k → slice_index_or (slice_set xs k v) j d ≡
+      (if b then v else slice_index_or xs j d)
+  inside true is same = subst (λ k. slice_index_or (slice_set xs k v) j d ≡ v) same
+      (get_or-set_same xs j v d (ltb-true j (length xs) is))
   inside false is same = let past = ltb-false j (length xs) is in
       ap (λ ys. slice_index_or ys j d) (set_past xs k v (omega (arith, past, same)))
 
-  go : (b : Bool) → (j == k) ≡ b → slice_index_or (slice_set xs k v) j d ≡ (if b && nat_lt j (length xs) then v else slice_index_or xs j d)
+  go : (b : Bool) → (j == k) ≡ b → slice_index_or (slice_set xs k v) j d ≡
+      (if b && nat_lt j (length xs) then v else slice_index_or xs j d)
   go true is = inside (nat_lt j (length xs)) refl (eqb-true j k is)
   go false is = get_or-set_other xs k j v d (eqb-false j k is)
 
@@ -38,7 +43,8 @@ celled ss q d held = slice_set ss q (with_cell (state_of ss q) d held)
 -- a cell that isn't there
 pub not_there : (ss : List State) (q d : ℕ) → is_there ss q d ≡ false → cell_in ss q d ≡ no_cell
 not_there ss q d is = go (nat_lt q (length ss)) refl is where
-  go : (b : Bool) → nat_lt q (length ss) ≡ b → (b && nat_lt d (length (state_of ss q).cells)) ≡ false → cell_in ss q d ≡ no_cell
+  go : (b : Bool) → nat_lt q (length ss) ≡ b → (b && nat_lt d (length (state_of ss q).cells)) ≡ false →
+      cell_in ss q d ≡ no_cell
   go true there is = get_or_past (state_of ss q).cells d no_cell (ltb-false d (length (state_of ss q).cells) is)
   go false there is = ap (λ s. cell_at s d) (get_or_past ss q no_state (ltb-false q (length ss) there))
 
@@ -50,22 +56,26 @@ cell_after ss q d held p c = go (p == q) refl where
   s = state_of ss q
 
   placed : (b : Bool) → nat_lt p (length ss) ≡ b → p ≡ q →
-      cell_at (if b then with_cell s d held else state_of ss p) c ≡ (if (c == d) && (b && nat_lt d (length s.cells)) then held else cell_at s c)
+      cell_at (if b then with_cell s d held else state_of ss p) c ≡
+      (if (c == d) && (b && nat_lt d (length s.cells)) then held else cell_at s c)
   placed true is same = get_set s.cells d c held no_cell
       ∙ swapped (c == d) refl where
         swapped : (b : Bool) → (c == d) ≡ b → (if b && nat_lt c (length s.cells) then held else cell_at s c) ≡
             (if b && nat_lt d (length s.cells) then held else cell_at s c)
         swapped true is = ap (λ n. if nat_lt n (length s.cells) then held else cell_at s c) (eqb-true c d is)
         swapped false is = refl
-  placed false is same = ap (λ x. cell_at (state_of ss x) c) same ∙ ap (λ (b : Bool). if b then held else cell_at s c) (sym (and-false (c == d)))
+  placed false is same = ap (λ x. cell_at (state_of ss x) c) same ∙
+      ap (λ (b : Bool). if b then held else cell_at s c) (sym (and-false (c == d)))
 
-  go : (b : Bool) → (p == q) ≡ b → cell_in (celled ss q d held) p c ≡ (if (b && (c == d)) && is_there ss q d then held else cell_in ss p c)
+  go : (b : Bool) → (p == q) ≡ b → cell_in (celled ss q d held) p c ≡
+      (if (b && (c == d)) && is_there ss q d then held else cell_in ss p c)
   go true is =
       let same = eqb-true p q is in
       ap (λ x. cell_at x c) (get_set ss q p (with_cell s d held) no_state
       ∙ ap (λ b. if b && nat_lt p (length ss) then with_cell s d held else state_of ss p) is)
       ∙ placed (nat_lt p (length ss)) refl same
-      ∙ ap₂ (λ x y. if (c == d) && (nat_lt x (length ss) && nat_lt d (length s.cells)) then held else cell_at (state_of ss y) c) same (sym same)
+      ∙ ap₂ (λ x y. if (c == d) && (nat_lt x (length ss) && nat_lt d (length s.cells)) then held else cell_at
+      (state_of ss y) c) same (sym same)
   go false is = ap (λ x. cell_at x c) (get_or-set_other ss q p (with_cell s d held) no_state (eqb-false p q is))
 
 -- what is seen of a cell behind a change of one
@@ -80,15 +90,18 @@ pub here : (p c q d : ℕ) → is_here p c q d ≡ true → (p ≡ q) × (c ≡ 
 here p c q d is = let parts = and_parts (p == q) (c == d) is in (eqb-true p q parts.0, eqb-true c d parts.1)
 
 -- what no change of a cell changes stays everywhere
-pub same_after : {A : Type 0} (f : Contents → A) (ss : List State) (q d : ℕ) (held : Contents) (p c : ℕ) → f held ≡ f (cell_in ss q d) →
+pub same_after : {A : Type 0} (f : Contents → A) (ss : List State) (q d : ℕ) (held : Contents) (p c : ℕ) →
+    f held ≡ f (cell_in ss q d) →
     f (cell_in (celled ss q d held) p c) ≡ f (cell_in ss p c)
 same_after f ss q d held p c same = seen_after f ss q d held p c ∙ go (is_here p c q d) refl where
   again : (b : Bool) → f held ≡ f (cell_in ss p c) → (if b then f held else f (cell_in ss p c)) ≡ f (cell_in ss p c)
   again true is = is
   again false is = refl
 
-  go : (b : Bool) → is_here p c q d ≡ b → (if b && is_there ss q d then f held else f (cell_in ss p c)) ≡ f (cell_in ss p c)
-  go true is = let at = here p c q d is in again (is_there ss q d) (same ∙ ap₂ (λ x y. f (cell_in ss x y)) (sym at.0) (sym at.1))
+  go : (b : Bool) → is_here p c q d ≡ b → (if b && is_there ss q d then f held else f (cell_in ss p c)) ≡
+      f (cell_in ss p c)
+  go true is = let at = here p c q d is in again
+      (is_there ss q d) (same ∙ ap₂ (λ x y. f (cell_in ss x y)) (sym at.0) (sym at.1))
   go false is = refl
 
 written_numbers : (k v : ℕ) (cell : Contents) → numbers_in (written k v cell) ≡ slice_set (numbers_in cell) k v
@@ -103,7 +116,8 @@ filled_numbers : (k : ℕ) (rows : List Row) (cell : Contents) → numbers_in (f
 filled_numbers k rows (numbers ns) = refl
 filled_numbers k rows (queues qs) = refl
 
-filled_queues : (k : ℕ) (rows : List Row) (cell : Contents) → queues_in (filled k rows cell) ≡ slice_set (queues_in cell) k rows
+filled_queues : (k : ℕ) (rows : List Row) (cell : Contents) → queues_in (filled k rows cell) ≡
+    slice_set (queues_in cell) k rows
 filled_queues k rows (numbers ns) = refl
 filled_queues k rows (queues qs) = refl
 
@@ -124,10 +138,13 @@ module _ (ss : List State) (q d k v : ℕ) where
         go : (b t : Bool) → is_here p c q d ≡ b → is_there ss q d ≡ t →
             (if b && t then new else old) ≡ (if b && ((j == k) && nat_lt j (extent ss p c)) then v else old)
         go true true is there = let at = here p c q d is in
-            ap (λ ns. slice_index ns j) (written_numbers k v (cell_in ss q d)) ∙ get_set (numbers_in (cell_in ss q d)) k j v 0
-            ∙ ap₂ (λ x y. if (j == k) && nat_lt j (extent ss x y) then v else number_at (state_of ss x) y j) (sym at.0) (sym at.1)
+            ap (λ ns. slice_index ns j) (written_numbers k v (cell_in ss q d)) ∙
+            get_set (numbers_in (cell_in ss q d)) k j v 0
+            ∙ ap₂ (λ x y. if (j == k) && nat_lt j (extent ss x y) then v else number_at (state_of ss x) y j) (sym at.0)
+            (sym at.1)
         go true false is there = let at = here p c q d is in
-            let none : extent ss p c ≡ 0 = ap₂ (extent ss) at.0 at.1 ∙ ap (λ cell. length (numbers_in cell)) (not_there ss q d there) in
+            let none : extent ss p c ≡ 0 = ap₂ (extent ss) at.0 at.1 ∙
+            ap (λ cell. length (numbers_in cell)) (not_there ss q d there) in
             let outside : nat_lt j (extent ss p c) ≡ false = le-ltb j (extent ss p c) (omega (arith, none)) in
             sym (ap (λ (b : Bool). if b then v else old) (ap (λ b. (j == k) && b) outside ∙ and-false (j == k)))
         go false t is there = refl
@@ -137,7 +154,8 @@ module _ (ss : List State) (q d k v : ℕ) where
       (ap length (written_numbers k v (cell_in ss q d)) ∙ length-set (numbers_in (cell_in ss q d)) k v)
 
   pub queues_after : (p c j : ℕ) → rows_at (state_of numbered p) c j ≡ rows_at (state_of ss p) c j
-  queues_after p c j = same_after (λ cell. slice_index_or (queues_in cell) j []) ss q d (written k v (cell_in ss q d)) p c
+  queues_after p c j = same_after (λ cell. slice_index_or (queues_in cell) j []) ss q d (written k v (cell_in ss q d)) p
+      c
       (ap (λ qs. slice_index_or qs j []) (written_queues k v (cell_in ss q d)))
 
 module _ (ss : List State) (q d k : ℕ) (new : List Row) where
@@ -154,7 +172,8 @@ module _ (ss : List State) (q d k : ℕ) (new : List Row) where
 
   pub rows_after : k < queue_count ss q d → (p c j : ℕ) → rows_at (state_of queued p) c j ≡
       (if is_here p c q d && (j == k) then new else rows_at (state_of ss p) c j)
-  rows_after there p c j = seen_after (λ cell. slice_index_or (queues_in cell) j []) ss q d (filled k new (cell_in ss q d)) p c
+  rows_after there p c j = seen_after (λ cell. slice_index_or (queues_in cell) j []) ss q d
+      (filled k new (cell_in ss q d)) p c
       ∙ go (is_here p c q d) (is_there ss q d) refl refl where
         old : List Row
         old = rows_at (state_of ss p) c j
@@ -166,11 +185,15 @@ module _ (ss : List State) (q d k : ℕ) (new : List Row) where
         inside true is = let same = eqb-true j k is in lt-ltb j (queue_count ss q d) (omega (arith, same, there))
         inside false is = refl
 
-        go : (b t : Bool) → is_here p c q d ≡ b → is_there ss q d ≡ t → (if b && t then now else old) ≡ (if b && (j == k) then new else old)
+        go : (b t : Bool) → is_here p c q d ≡ b → is_there ss q d ≡ t → (if b && t then now else old) ≡
+            (if b && (j == k) then new else old)
         go true true is is_in = let at = here p c q d is in
-            ap (λ qs. slice_index_or qs j []) (filled_queues k new (cell_in ss q d)) ∙ get_set (queues_in (cell_in ss q d)) k j new []
-            ∙ ap (λ (b : Bool). if b then new else slice_index_or (queues_in (cell_in ss q d)) j []) (inside (j == k) refl)
+            ap (λ qs. slice_index_or qs j []) (filled_queues k new (cell_in ss q d)) ∙
+            get_set (queues_in (cell_in ss q d)) k j new []
+            ∙ ap (λ (b : Bool). if b then new else slice_index_or (queues_in (cell_in ss q d)) j [])
+            (inside (j == k) refl)
             ∙ ap₂ (λ x y. if j == k then new else rows_at (state_of ss x) y j) (sym at.0) (sym at.1)
         go true false is is_in =
-            let none : queue_count ss q d ≡ 0 = ap (λ cell. length (queues_in cell)) (not_there ss q d is_in) in absurd (omega (arith, none, there))
+            let none : queue_count ss q d ≡ 0 = ap (λ cell. length (queues_in cell)) (not_there ss q d is_in) in
+            absurd (omega (arith, none, there))
         go false t is is_in = refl

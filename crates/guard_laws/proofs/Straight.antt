@@ -1,5 +1,8 @@
 -- The code of a guarded handler passes its tests where that holds, and does what that does.
-use Rattle.std.proofs.Common.{◌≡◌, ℕ, suc, ◌+◌, ◌<◌, nat_lt, Bool, true, false, ◌&&◌, ◌⊎◌, inl, inr, if◌then◌else◌, List, [], ◌∷◌, ◌++◌, map, min, length, drop, slice_get, slice_index, slice_index_or, slice_set, Option, option_map, Some, None, fold, refl, sym, ap, ap₂, ◌∙◌, subst, arith, append-nil, append_assoc}
+use Rattle.std.proofs.Common.{◌≡◌, ℕ, suc, ◌+◌, ◌<◌, nat_lt, Bool, true, false, ◌&&◌, ◌⊎◌, inl, inr, if◌then◌else◌}
+use Rattle.std.proofs.Common.{List, [], ◌∷◌, ◌++◌, map, min, length, drop, slice_get, slice_index, slice_index_or}
+use Rattle.std.proofs.Common.{slice_set, Option, option_map, Some, None, fold, refl, sym, ap, ap₂, ◌∙◌, subst, arith}
+use Rattle.std.proofs.Common.{append-nil, append_assoc}
 use Rattle.std.proofs.lemmas.Bool.{ltb-true, ltb-false, cases_order}
 use Rattle.std.proofs.lemmas.List.{length-append, length-take, length-drop, get_or_past, get_or_at, get_or_append_left}
 use Rattle.std.proofs.lemmas.List.Sums.{fold-append}
@@ -15,15 +18,26 @@ use Rattle.layer_mean.specs.Value.{is_true, applied, function_of, number_in, mes
 use Rattle.layer_mean.specs.Event.{event_of}
 use Rattle.layer_mean.specs.declared.run.Event.{Event}
 use Rattle.layer_ast.specs.declared.tokens.Dir.{Dir}
-use Rattle.trace_mean.specs.Trace.{Atom, number, peer, field, bound, taken_number, value, Core, body, noted, taken_message, nothing, TraceNumber, atom, me, count, ltime, element, square, rows, item, size, binary, apply, pick, TraceMessage, core, held, cut, tail, join, Link, Chained, Operation, bind, note, check, set, set_square, push, take, output, Guarded}
-use Rattle.trace_mean.specs.Worth.{Input, Kept, only_values, state_of, atom_at, core_at, number_of, message_of, header_at, content_at}
+use Rattle.trace_mean.specs.Trace.{Atom, number, peer, field, bound, taken_number, value, Core, body, noted}
+use Rattle.trace_mean.specs.Trace.{taken_message, nothing, TraceNumber, atom, me, count, ltime, element, square, rows}
+use Rattle.trace_mean.specs.Trace.{item, size, binary, apply, pick, TraceMessage, core, held, cut, tail, join, Link}
+use Rattle.trace_mean.specs.Trace.{Chained, Operation, bind, note, check, set, set_square, push, take, output, Guarded}
+use Rattle.trace_mean.specs.Worth.{Input, Kept, only_values, state_of, atom_at, core_at, number_of, message_of}
+use Rattle.trace_mean.specs.Worth.{header_at, content_at}
 use Rattle.trace_mean.specs.Follow.{Trail, with_bound, with_noted, does, before, perform}
 use Rattle.guard_mean.specs.Perform.{with_value, values_of, holds_at, holds}
 use Rattle.guard_mean.specs.Code as code
-use Rattle.guard_mean.specs.Code.{Operand, Source, Reading, Making, Heading, Sent, Test, prepare, require, require_operand, Step, make, keep, Code}
+use Rattle.guard_mean.specs.Code.{Operand, Source, Reading, Making, Heading, Sent, Test, prepare, require}
+use Rattle.guard_mean.specs.Code.{require_operand, Step, make, keep, Code}
 use Rattle.guard_mean.specs.Same.{same_reading}
-use Rattle.guard_mean.specs.Machine.{operand_at, source_at, cut_bytes, tail_bytes, join_bytes, reading_of, making_of, heading_at, sent_at, reads, Tested, tests, untested, tested, begun, steps}
-use Rattle.guard_mean.specs.Straight.{Names, zero_operand, operand_for, Registers, made_count, Line, Top, given, reading, Topped, Spot, reads_line, place_from, read_at, settled_top, settled, topped, given_at, core_parts, parts, size_parts, straight, Spots, all_straight, line_at, Guarding, value_tests, required, one_test, conjunct_tests, unguarded, guarding, Sheet, sheet_line, makes, adds, changes, Placed, keeps_message, placed_core, placed, Sending, heading_for, sending, writes, first_sheet, code_of}
+use Rattle.guard_mean.specs.Machine.{operand_at, source_at, cut_bytes, tail_bytes, join_bytes, reading_of, making_of}
+use Rattle.guard_mean.specs.Machine.{heading_at, sent_at, reads, Tested, tests, untested, tested, begun, steps}
+use Rattle.guard_mean.specs.Straight.{Names, zero_operand, operand_for, Registers, made_count, Line, Top, given}
+use Rattle.guard_mean.specs.Straight.{reading, Topped, Spot, reads_line, place_from, read_at, settled_top, settled}
+use Rattle.guard_mean.specs.Straight.{topped, given_at, core_parts, parts, size_parts, straight, Spots, all_straight}
+use Rattle.guard_mean.specs.Straight.{line_at, Guarding, value_tests, required, one_test, conjunct_tests, unguarded}
+use Rattle.guard_mean.specs.Straight.{guarding, Sheet, sheet_line, makes, adds, changes, Placed, keeps_message}
+use Rattle.guard_mean.specs.Straight.{placed_core, placed, Sending, heading_for, sending, writes, first_sheet, code_of}
 use Rattle.guard_laws.proofs.SameReading.{same_worth}
 use Rattle.guard_laws.specs.Code.{CodeIsSame}
 use Rattle.guard_laws.proofs.Grows.{Grown, grown_same, grown_one, grown_then}
@@ -38,7 +52,8 @@ no_bytes part = refl
 no_bytes (whole blank) = refl
 
 -- a list of names with one more
-more_names : {N A : Type 0} (worth : N → A) (names : List N) (vs : List A) (a d : N) (w z : A) → length names ≡ length vs → worth d ≡ z →
+more_names : {N A : Type 0} (worth : N → A) (names : List N) (vs : List A) (a d : N) (w z : A) →
+    length names ≡ length vs → worth d ≡ z →
     ((k : ℕ) → worth (slice_index_or names k d) ≡ slice_index_or vs k z) → worth a ≡ w →
     (k : ℕ) → worth (slice_index_or (names ++ a ∷ []) k d) ≡ slice_index_or (vs ++ w ∷ []) k z
 more_names worth names vs a d w z same none old new k = go (cases_order k (length names)) where
@@ -48,14 +63,16 @@ more_names worth names vs a d w z same none old new k = go (cases_order k (lengt
   one' : length (vs ++ w ∷ []) ≡ length vs + 1
   one' = length-append vs (w ∷ [])
 
-  go : (k ≡ length names) ⊎ ((k < length names) ⊎ (length names < k)) → worth (slice_index_or (names ++ a ∷ []) k d) ≡ slice_index_or (vs ++ w ∷ []) k z
+  go : (k ≡ length names) ⊎ ((k < length names) ⊎ (length names < k)) → worth (slice_index_or (names ++ a ∷ []) k d) ≡
+      slice_index_or (vs ++ w ∷ []) k z
   go (inl at) = ap worth (get_or_at names a [] d k (sym at)) ∙ new ∙ sym (get_or_at vs w [] z k (sym (at ∙ same)))
   go (inr (inl less)) = ap worth (get_or_append_left names (a ∷ []) d k less) ∙ old k
       ∙ sym (get_or_append_left vs (w ∷ []) z k (omega (arith, less, same)))
   go (inr (inr more)) = ap worth (get_or_past (names ++ a ∷ []) k d (omega (arith, one, more))) ∙ none
       ∙ sym (get_or_past (vs ++ w ∷ []) k z (omega (arith, one', more, same)))
 
-one_longer : {A B : Type 0} (xs : List A) (ys : List B) (x : A) (y : B) → length xs ≡ length ys → length (xs ++ x ∷ []) ≡ length (ys ++ y ∷ [])
+one_longer : {A B : Type 0} (xs : List A) (ys : List B) (x : A) (y : B) → length xs ≡ length ys →
+    length (xs ++ x ∷ []) ≡ length (ys ++ y ∷ [])
 one_longer xs ys x y same = length-append xs (x ∷ []) ∙ ap (λ n. n + 1) same ∙ sym (length-append ys (y ∷ []))
 
 and-true : (b : Bool) → (b && true) ≡ b
@@ -71,10 +88,13 @@ found_reading : (xs : List Reading) (r : Reading) (k place : ℕ) {C : Type 0} �
     ((j : ℕ) (x : Reading) → place ≡ k + j → slice_get xs j ≡ Some x → same_reading x r ≡ true → C) → C
 found_reading [] r k place is so = absurd (cc is)
 found_reading (x ∷ xs) r k place {C = C} is so =
-    go (same_reading x r) refl is (λ later. found_reading xs r (suc k) place later (λ j y at got same. so (suc j) y (omega (arith, at)) got same)) where
-      go : (t : Bool) → same_reading x r ≡ t → (if t then Some k else place_from (suc k) xs r) ≡ Some place → (place_from (suc k) xs r ≡ Some place → C) → C
-      go true same is rest = so 0 x (let at : k ≡ place = cc is in omega (arith, at)) refl same
-      go false other is rest = rest is
+    go (same_reading x r) refl is
+    (λ later. found_reading xs r (suc k) place later (λ j y at got same. so (suc j) y (omega (arith, at)) got same))
+  where
+    go : (t : Bool) → same_reading x r ≡ t → (if t then Some k else place_from (suc k) xs r) ≡ Some place →
+        (place_from (suc k) xs r ≡ Some place → C) → C
+    go true same is rest = so 0 x (let at : k ≡ place = cc is in omega (arith, at)) refl same
+    go false other is rest = rest is
 
 -- what is kept later: more numbers, messages and rows behind those that there are
 record Later (k u : Kept) : Type 0 where
@@ -107,9 +127,12 @@ module _ (i : Input) (ss : List State) where
     same_values : length n.values ≡ length t.values
     same_numbers : length n.numbers ≡ length t.numbers
     same_messages : length n.messages ≡ length t.messages
-    value_names : (u : Kept) → Later k u → (j : ℕ) → operand_at i u (slice_index_or n.values j zero_operand) ≡ slice_index t.values j
-    number_names : (u : Kept) → Later k u → (j : ℕ) → operand_at i u (slice_index_or n.numbers j zero_operand) ≡ slice_index t.numbers j
-    message_names : (u : Kept) → Later k u → (j : ℕ) → source_at i u (slice_index_or n.messages j code.nothing) ≡ slice_index_or t.messages j (plain [])
+    value_names : (u : Kept) → Later k u → (j : ℕ) → operand_at i u (slice_index_or n.values j zero_operand) ≡
+        slice_index t.values j
+    number_names : (u : Kept) → Later k u → (j : ℕ) → operand_at i u (slice_index_or n.numbers j zero_operand) ≡
+        slice_index t.numbers j
+    message_names : (u : Kept) → Later k u → (j : ℕ) → source_at i u (slice_index_or n.messages j code.nothing) ≡
+        slice_index_or t.messages j (plain [])
 
   known_later : (k k' : Kept) (known : Registers) → Later k k' → Known k known → Known k' known
   known_later k k' known later is j r at u g = is j r at u (later_then k k' u later g)
@@ -169,14 +192,20 @@ module _ (i : Input) (ss : List State) where
       top : Tops (at_line x.line) x.top w
 
     -- a reading that is made
-    reads_new : (l m : Line) (r : Reading) (w : ℕ) → Quiet (at_line l) (at_line m) → length (at_line m).numbers ≡ made_count m.registers →
-        Known (at_line m) m.registers → ((u : Kept) → Later (at_line m) u → reading_of i u ss r ≡ w) → SpotIs l (read_at m r None) w
+    reads_new : (l m : Line) (r : Reading) (w : ℕ) → Quiet (at_line l) (at_line m) → length (at_line m).numbers ≡
+        made_count m.registers →
+        Known (at_line m) m.registers → ((u : Kept) → Later (at_line m) u → reading_of i u ss r ≡ w) →
+        SpotIs l (read_at m r None) w
     reads_new l m r w q many read is = record {
-      quiet = subst (Quiet (at_line l)) (sym (read_more start m.readings r)) (quiet_then (at_line l) k (reads i ss k r) q here);
+      quiet = subst (Quiet (at_line l)) (sym (read_more start m.readings r))
+          (quiet_then (at_line l) k (reads i ss k r) q here);
       many = ap (λ u. length u.numbers) (read_more start m.readings r) ∙ length-append k.numbers _
           ∙ (let more = length-append m.registers.readings (r ∷ []) in let just : length (r ∷ []) ≡ 1 = refl in
-          let one : length k.numbers + 1 ≡ m.registers.first + length (m.registers.readings ++ r ∷ []) = omega (arith, many, more, just) in one);
-      read = λ j x at u later. known_more j x at u (sooner u later) (newest u (subst (λ v. Later v u) (read_more start m.readings r) later).numbers);
+          let one : length k.numbers + 1 ≡ m.registers.first + length (m.registers.readings ++ r ∷ []) =
+          omega (arith, many, more, just) in one);
+      read = λ j x at u later.
+          known_more j x at u (sooner u later)
+          (newest u (subst (λ v. Later v u) (read_more start m.readings r) later).numbers);
       worth = λ u later. newest u (subst (λ v. Later v u) (read_more start m.readings r) later).numbers;
     } where
       k : Kept
@@ -186,24 +215,32 @@ module _ (i : Input) (ss : List State) where
       here = record { values = refl; messages = refl; rows = refl; numbers = grown_one k.numbers (reading_of i k ss r) }
 
       sooner : (u : Kept) → Later (at_line (reads_line m r)) u → Later k u
-      sooner u later = later_then k (reads i ss k r) u (quiet_later k (reads i ss k r) here) (subst (λ v. Later v u) (read_more start m.readings r) later)
+      sooner u later = later_then k (reads i ss k r) u (quiet_later k (reads i ss k r) here)
+          (subst (λ v. Later v u) (read_more start m.readings r) later)
 
-      newest : (u : Kept) → Grown (k.numbers ++ reading_of i k ss r ∷ []) u.numbers → slice_index u.numbers (made_count m.registers) ≡ w
-      newest u g = ap (λ xs. slice_index xs (made_count m.registers)) (g.1 ∙ append_assoc k.numbers (reading_of i k ss r ∷ []) g.0)
+      newest : (u : Kept) → Grown (k.numbers ++ reading_of i k ss r ∷ []) u.numbers →
+          slice_index u.numbers (made_count m.registers) ≡ w
+      newest u g = ap (λ xs. slice_index xs (made_count m.registers))
+          (g.1 ∙ append_assoc k.numbers (reading_of i k ss r ∷ []) g.0)
           ∙ get_or_at k.numbers (reading_of i k ss r) g.0 0 (made_count m.registers) many ∙ is k (later_same k)
 
-      known_more : (j : ℕ) (x : Reading) → slice_get (m.registers.readings ++ r ∷ []) j ≡ Some x → (u : Kept) → Later k u →
-          slice_index u.numbers (made_count m.registers) ≡ w → reading_of i u ss x ≡ slice_index u.numbers (m.registers.first + j)
+      known_more : (j : ℕ) (x : Reading) → slice_get (m.registers.readings ++ r ∷ []) j ≡ Some x → (u : Kept) →
+          Later k u →
+          slice_index u.numbers (made_count m.registers) ≡ w →
+          reading_of i u ss x ≡ slice_index u.numbers (m.registers.first + j)
       known_more j x at u later new = go (get_push m.registers.readings r j) where
-        go : ((slice_get (m.registers.readings ++ r ∷ []) j ≡ slice_get m.registers.readings j) × (j ≡ length m.registers.readings → ⊥)) ⊎
+        go : ((slice_get (m.registers.readings ++ r ∷ []) j ≡ slice_get m.registers.readings j) ×
+            (j ≡ length m.registers.readings → ⊥)) ⊎
             ((j ≡ length m.registers.readings) × (slice_get (m.registers.readings ++ r ∷ []) j ≡ Some r)) →
             reading_of i u ss x ≡ slice_index u.numbers (m.registers.first + j)
         go (inl old) = read j x (sym old.0 ∙ at) u later
         go (inr last) = let same : r ≡ x = cc (last.1, at) in
-            ap (reading_of i u ss) (sym same) ∙ is u later ∙ sym new ∙ ap (λ n. slice_index u.numbers (m.registers.first + n)) (sym last.0)
+            ap (reading_of i u ss) (sym same) ∙ is u later ∙ sym new ∙
+            ap (λ n. slice_index u.numbers (m.registers.first + n)) (sym last.0)
 
     -- or was made already
-    reads_known : (l m : Line) (r : Reading) (w : ℕ) → Quiet (at_line l) (at_line m) → length (at_line m).numbers ≡ made_count m.registers →
+    reads_known : (l m : Line) (r : Reading) (w : ℕ) → Quiet (at_line l) (at_line m) → length (at_line m).numbers ≡
+        made_count m.registers →
         Known (at_line m) m.registers → ((u : Kept) → Later (at_line m) u → reading_of i u ss r ≡ w) → (o : Option ℕ) →
         place_from m.registers.first m.registers.readings r ≡ o →
         SpotIs l (read_at m r o) w
@@ -216,10 +253,12 @@ module _ (i : Input) (ss : List State) where
           ap (slice_index u.numbers) where_is ∙ sym (read j x got u later) ∙ same_worth i u ss x r same ∙ is u later);
     }
 
-    settles : (l m : Line) (t : Top) (w : ℕ) → Quiet (at_line l) (at_line m) → length (at_line m).numbers ≡ made_count m.registers →
+    settles : (l m : Line) (t : Top) (w : ℕ) → Quiet (at_line l) (at_line m) → length (at_line m).numbers ≡
+        made_count m.registers →
         Known (at_line m) m.registers → Tops (at_line m) t w → SpotIs l (settled_top m t) w
     settles l m (given a) w q many read is = record { quiet = q; many = many; read = read; worth = is }
-    settles l m (reading r) w q many read is = reads_known l m r w q many read is (place_from m.registers.first m.registers.readings r) refl
+    settles l m (reading r) w q many read is =
+        reads_known l m r w q many read is (place_from m.registers.first m.registers.readings r) refl
 
     settle : (l : Line) (x : Topped) (w : ℕ) → Parted l x w → SpotIs l (settled x) w
     settle l x w p = settles l x.line x.top w p.quiet p.many p.read p.top
@@ -228,7 +267,8 @@ module _ (i : Input) (ss : List State) where
       abbrev Stands : Line → Type 0
       Stands l = Stand t n (at_line l) l.registers
 
-      further : (l m : Line) → Stands l → Quiet (at_line l) (at_line m) → length (at_line m).numbers ≡ made_count m.registers →
+      further : (l m : Line) → Stands l → Quiet (at_line l) (at_line m) → length (at_line m).numbers ≡
+          made_count m.registers →
           Known (at_line m) m.registers → Stands m
       further l m s q many read = record {
         rows = q.rows ∙ s.rows;
@@ -238,22 +278,27 @@ module _ (i : Input) (ss : List State) where
         same_values = s.same_values;
         same_numbers = s.same_numbers;
         same_messages = s.same_messages;
-        value_names = λ u g. s.value_names u (later_then (at_line l) (at_line m) u (quiet_later (at_line l) (at_line m) q) g);
-        number_names = λ u g. s.number_names u (later_then (at_line l) (at_line m) u (quiet_later (at_line l) (at_line m) q) g);
-        message_names = λ u g. s.message_names u (later_then (at_line l) (at_line m) u (quiet_later (at_line l) (at_line m) q) g);
+        value_names = λ u g. s.value_names u
+            (later_then (at_line l) (at_line m) u (quiet_later (at_line l) (at_line m) q) g);
+        number_names = λ u g.
+            s.number_names u (later_then (at_line l) (at_line m) u (quiet_later (at_line l) (at_line m) q) g);
+        message_names = λ u g.
+            s.message_names u (later_then (at_line l) (at_line m) u (quiet_later (at_line l) (at_line m) q) g);
       }
 
       after : (l : Line) (x : Spot) (w : ℕ) → Stands l → SpotIs l x w → Stands x.line
       after l x w s f = further l x.line s f.quiet f.many f.read
 
       -- what the names of atoms stand for
-      atom_same : (a : Atom) (k : Kept) (known : Registers) → Stand t n k known → (u : Kept) → Later k u → operand_at i u (operand_for n a) ≡ atom_at i t a
+      atom_same : (a : Atom) (k : Kept) (known : Registers) → Stand t n k known → (u : Kept) → Later k u →
+          operand_at i u (operand_for n a) ≡ atom_at i t a
       atom_same (number j) k known s u g = refl
       atom_same peer k known s u g = refl
       atom_same (field j) k known s u g = refl
       atom_same (bound j) k known s u g = s.number_names u g j
       atom_same (taken_number r j) k known s u g = go (nat_lt r n.rows) refl where
-        go : (b : Bool) → nat_lt r n.rows ≡ b → operand_at i u (if b then code.taken r j else zero_operand) ≡ number_in j (slice_index_or t.rows r None)
+        go : (b : Bool) → nat_lt r n.rows ≡ b → operand_at i u (if b then code.taken r j else zero_operand) ≡ number_in
+            j (slice_index_or t.rows r None)
         go true is = let less = ltb-true r n.rows is in let e = s.taken in let f = ap length s.rows in
             ap (number_in j) (ap (λ rs. slice_index_or rs r None) g.rows.1
             ∙ get_or_append_left k.rows g.rows.0 None r (omega (arith, less, e, f))
@@ -271,7 +316,8 @@ module _ (i : Input) (ss : List State) where
           map (heading_at i u) (map (heading_for n) links) ≡ map (header_at i t) links
       links_same [] k known s u g = refl
       links_same (x ∷ links) k known s u g = ap₂ (λ y ys. y ∷ ys)
-          (ap (λ fields. record { layer = x.place; tag = x.tag; fields = fields }) (atoms_same x.fields k known s u g)) (links_same links k known s u g)
+          (ap (λ fields. record { layer = x.place; tag = x.tag; fields = fields }) (atoms_same x.fields k known s u g))
+          (links_same links k known s u g)
 
       -- one, two and three operands before an operator
       one : (l : Line) (x : Spot) (w : ℕ) → SpotIs l x w → (r : Reading) (v : ℕ) →
@@ -279,31 +325,40 @@ module _ (i : Input) (ss : List State) where
       one l x w f r v is = record { quiet = f.quiet; many = f.many; read = f.read; top = λ u g. is u (f.worth u g) }
 
       two : (l : Line) (x y : Spot) (w z : ℕ) → SpotIs l x w → SpotIs x.line y z → (r : Reading) (v : ℕ) →
-          ((u : Kept) → operand_at i u x.at ≡ w → operand_at i u y.at ≡ z → reading_of i u ss r ≡ v) → Parted l (topped y.line r) v
+          ((u : Kept) → operand_at i u x.at ≡ w → operand_at i u y.at ≡ z → reading_of i u ss r ≡ v) →
+          Parted l (topped y.line r) v
       two l x y w z f g r v is = record {
         quiet = quiet_then (at_line l) (at_line x.line) (at_line y.line) f.quiet g.quiet;
         many = g.many;
         read = g.read;
-        top = λ u h. is u (f.worth u (later_then (at_line x.line) (at_line y.line) u (quiet_later (at_line x.line) (at_line y.line) g.quiet) h)) (g.worth u h);
+        top = λ u h. is u (f.worth u
+            (later_then (at_line x.line) (at_line y.line) u (quiet_later (at_line x.line) (at_line y.line) g.quiet) h))
+            (g.worth u h);
       }
 
-      three : (l : Line) (x y q : Spot) (w z a : ℕ) → SpotIs l x w → SpotIs x.line y z → SpotIs y.line q a → (r : Reading) (v : ℕ) →
-          ((u : Kept) → operand_at i u x.at ≡ w → operand_at i u y.at ≡ z → operand_at i u q.at ≡ a → reading_of i u ss r ≡ v) → Parted l (topped q.line r) v
+      three : (l : Line) (x y q : Spot) (w z a : ℕ) → SpotIs l x w → SpotIs x.line y z → SpotIs y.line q a →
+          (r : Reading) (v : ℕ) →
+          ((u : Kept) → operand_at i u x.at ≡ w → operand_at i u y.at ≡ z → operand_at i u q.at ≡ a →
+          reading_of i u ss r ≡ v) → Parted l (topped q.line r) v
       three l x y q w z a f g h r v is = record {
         quiet = quiet_then (at_line l) (at_line x.line) (at_line q.line) f.quiet both;
         many = h.many;
         read = h.read;
         top = λ u later. is u
-            (f.worth u (later_then (at_line x.line) (at_line q.line) u (quiet_later (at_line x.line) (at_line q.line) both) later))
-            (g.worth u (later_then (at_line y.line) (at_line q.line) u (quiet_later (at_line y.line) (at_line q.line) h.quiet) later)) (h.worth u later);
+            (f.worth u (later_then (at_line x.line) (at_line q.line) u
+            (quiet_later (at_line x.line) (at_line q.line) both) later))
+            (g.worth u (later_then (at_line y.line) (at_line q.line) u
+            (quiet_later (at_line y.line) (at_line q.line) h.quiet) later)) (h.worth u later);
       } where
         both : Quiet (at_line x.line) (at_line q.line)
         both = quiet_then (at_line x.line) (at_line y.line) (at_line q.line) g.quiet h.quiet
 
-      given_here : (l : Line) (a : Operand) (w : ℕ) → Stands l → ((u : Kept) → Later (at_line l) u → operand_at i u a ≡ w) → Parted l (given_at l a) w
+      given_here : (l : Line) (a : Operand) (w : ℕ) → Stands l →
+          ((u : Kept) → Later (at_line l) u → operand_at i u a ≡ w) → Parted l (given_at l a) w
       given_here l a w s is = record { quiet = quiet_same (at_line l); many = s.many; read = s.read; top = is }
 
-      read_here : (l : Line) (r : Reading) (w : ℕ) → Stands l → ((u : Kept) → Later (at_line l) u → reading_of i u ss r ≡ w) → Parted l (topped l r) w
+      read_here : (l : Line) (r : Reading) (w : ℕ) → Stands l →
+          ((u : Kept) → Later (at_line l) u → reading_of i u ss r ≡ w) → Parted l (topped l r) w
       read_here l r w s is = record { quiet = quiet_same (at_line l); many = s.many; read = s.read; top = is }
 
       core_parted : (c : Core) (l : Line) → Stands l → Parted l (core_parts n c l) (length (core_at i t c).body)
@@ -311,7 +366,8 @@ module _ (i : Input) (ss : List State) where
       core_parted (noted k) l s = read_here l (code.size (slice_index_or n.messages k code.nothing)) _ s
           (λ u g. ap (λ (m : Content). length m.body) (s.message_names u g k))
       core_parted (taken_message r carried) l s = go (nat_lt r n.rows) refl where
-        go : (b : Bool) → nat_lt r n.rows ≡ b → Parted l (if b then topped l (code.taken_size r) else given_at l zero_operand)
+        go : (b : Bool) → nat_lt r n.rows ≡ b →
+            Parted l (if b then topped l (code.taken_size r) else given_at l zero_operand)
             (length (core_at i t (taken_message r carried)).body)
         go true is = let less = ltb-true r n.rows is in let e = s.taken in let f = ap length s.rows in
             read_here l (code.taken_size r) _ s (λ u g.
@@ -321,7 +377,9 @@ module _ (i : Input) (ss : List State) where
             ∙ ap (λ rs. slice_index_or rs r None) s.rows)
             ∙ held_bytes i t ss part carried (slice_index_or t.rows r None))
         go false is = let past = ltb-false r n.rows is in let e = s.taken in
-            given_here l zero_operand _ s (λ u g. sym (ap (λ o. length (message_in carried o).body) (get_or_past t.rows r None (omega (arith, past, e)))
+            given_here l zero_operand _ s
+            (λ u g. sym (ap (λ o. length (message_in carried o).body)
+            (get_or_past t.rows r None (omega (arith, past, e)))
             ∙ no_bytes carried))
       core_parted nothing l s = given_here l zero_operand 0 s (λ u g. refl)
 
@@ -336,53 +394,69 @@ module _ (i : Input) (ss : List State) where
             one l x _ f (code.element p c x.at) _ (λ u is. ap (number_at (state_of ss p) c) is)
         parted (square p c r k) l s =
             let x = straight n r l in let f = settle l (parts n r l) (number_of i t ss r) (parted r l s) in
-            let y = straight n k x.line in let g = settle x.line (parts n k x.line) (number_of i t ss k) (parted k x.line (after l x _ s f)) in
-            two l x y _ _ f g (code.square p c x.at y.at) _ (λ u is too. ap₂ (λ a b. number_at (state_of ss p) c (flat_index i.count a b)) is too)
+            let y = straight n k x.line in let g = settle x.line (parts n k x.line) (number_of i t ss k)
+            (parted k x.line (after l x _ s f)) in
+            two l x y _ _ f g (code.square p c x.at y.at) _
+            (λ u is too. ap₂ (λ a b. number_at (state_of ss p) c (flat_index i.count a b)) is too)
         parted (rows p c e) l s =
             let x = straight n e l in let f = settle l (parts n e l) (number_of i t ss e) (parted e l s) in
             one l x _ f (code.rows p c x.at) _ (λ u is. ap (λ j. length (rows_at (state_of ss p) c j)) is)
         parted (item p c e r k) l s =
             let x = straight n e l in let f = settle l (parts n e l) (number_of i t ss e) (parted e l s) in
-            let y = straight n r x.line in let g = settle x.line (parts n r x.line) (number_of i t ss r) (parted r x.line (after l x _ s f)) in
-            two l x y _ _ f g (code.item p c x.at y.at k) _ (λ u is too. ap₂ (λ a b. number_in k (row_at (state_of ss p) c a b)) is too)
+            let y = straight n r x.line in let g = settle x.line (parts n r x.line) (number_of i t ss r)
+            (parted r x.line (after l x _ s f)) in
+            two l x y _ _ f g (code.item p c x.at y.at k) _
+            (λ u is too. ap₂ (λ a b. number_in k (row_at (state_of ss p) c a b)) is too)
         parted (size m) l s = size_parted m l s
         parted (binary o a b) l s =
             let x = straight n a l in let f = settle l (parts n a l) (number_of i t ss a) (parted a l s) in
-            let y = straight n b x.line in let g = settle x.line (parts n b x.line) (number_of i t ss b) (parted b x.line (after l x _ s f)) in
+            let y = straight n b x.line in let g = settle x.line (parts n b x.line) (number_of i t ss b)
+            (parted b x.line (after l x _ s f)) in
             two l x y _ _ f g (code.binary o x.at y.at) _ (λ u is too. ap₂ (applied o) is too)
         parted (apply o a) l s =
             let x = straight n a l in let f = settle l (parts n a l) (number_of i t ss a) (parted a l s) in
             one l x _ f (code.apply o x.at) _ (λ u is. ap (function_of o) is)
         parted (pick c a b) l s =
-            let x = straight n c l in let f = settle l (parts n c l) (number_of i t ss c) (parted c l s) in let sx = after l x _ s f in
-            let y = straight n a x.line in let g = settle x.line (parts n a x.line) (number_of i t ss a) (parted a x.line sx) in
-            let z = straight n b y.line in let h = settle y.line (parts n b y.line) (number_of i t ss b) (parted b y.line (after x.line y _ sx g)) in
-            three l x y z _ _ _ f g h (code.pick x.at y.at z.at) _ (λ u is too more. λ w. if is_true (is w) then too w else more w)
+            let x = straight n c l in let f = settle l (parts n c l) (number_of i t ss c) (parted c l s) in let sx =
+            after l x _ s f in
+            let y = straight n a x.line in let g = settle x.line (parts n a x.line) (number_of i t ss a)
+            (parted a x.line sx) in
+            let z = straight n b y.line in let h = settle y.line (parts n b y.line) (number_of i t ss b)
+            (parted b y.line (after x.line y _ sx g)) in
+            three l x y z _ _ _ f g h (code.pick x.at y.at z.at) _
+            (λ u is too more. λ w. if is_true (is w) then too w else more w)
 
-        size_parted : (m : TraceMessage) (l : Line) → Stands l → Parted l (size_parts n m l) (length (message_of i t ss m).body)
+        size_parted : (m : TraceMessage) (l : Line) → Stands l →
+            Parted l (size_parts n m l) (length (message_of i t ss m).body)
         size_parted (core c) l s = core_parted c l s
         size_parted (held p c e r carried) l s =
             let x = straight n e l in let f = settle l (parts n e l) (number_of i t ss e) (parted e l s) in
-            let y = straight n r x.line in let g = settle x.line (parts n r x.line) (number_of i t ss r) (parted r x.line (after l x _ s f)) in
+            let y = straight n r x.line in let g = settle x.line (parts n r x.line) (number_of i t ss r)
+            (parted r x.line (after l x _ s f)) in
             two l x y _ _ f g (code.held_size p c x.at y.at) _ (λ u is too.
             ap₂ (λ a b. length (message_in part (row_at (state_of ss p) c a b)).body) is too
             ∙ held_bytes i t ss part carried (row_at (state_of ss p) c (number_of i t ss e) (number_of i t ss r)))
         size_parted (cut m e k) l s =
-            let x = settled (size_parts n m l) in let f = settle l (size_parts n m l) _ (size_parted m l s) in let sx = after l x _ s f in
-            let y = straight n e x.line in let g = settle x.line (parts n e x.line) (number_of i t ss e) (parted e x.line sx) in
-            let z = straight n k y.line in let h = settle y.line (parts n k y.line) (number_of i t ss k) (parted k y.line (after x.line y _ sx g)) in
+            let x = settled (size_parts n m l) in let f = settle l (size_parts n m l) _ (size_parted m l s) in let sx =
+            after l x _ s f in
+            let y = straight n e x.line in let g = settle x.line (parts n e x.line) (number_of i t ss e)
+            (parted e x.line sx) in
+            let z = straight n k y.line in let h = settle y.line (parts n k y.line) (number_of i t ss k)
+            (parted k y.line (after x.line y _ sx g)) in
             three l x y z _ _ _ f g h (code.cut_size x.at y.at z.at) _ (λ u is too more.
             (λ w. cut_bytes (is w) (too w) (more w))
             ∙ sym (length-take (number_of i t ss k) (drop (number_of i t ss e) (message_of i t ss m).body)
             ∙ ap (min (number_of i t ss k)) (length-drop (number_of i t ss e) (message_of i t ss m).body)))
         size_parted (tail m e) l s =
             let x = settled (size_parts n m l) in let f = settle l (size_parts n m l) _ (size_parted m l s) in
-            let y = straight n e x.line in let g = settle x.line (parts n e x.line) (number_of i t ss e) (parted e x.line (after l x _ s f)) in
+            let y = straight n e x.line in let g = settle x.line (parts n e x.line) (number_of i t ss e)
+            (parted e x.line (after l x _ s f)) in
             two l x y _ _ f g (code.tail_size x.at y.at) _ (λ u is too.
             ap₂ tail_bytes is too ∙ sym (length-drop (number_of i t ss e) (message_of i t ss m).body))
         size_parted (join a b) l s =
             let x = settled (size_parts n a l) in let f = settle l (size_parts n a l) _ (size_parted a l s) in
-            let y = settled (size_parts n b x.line) in let g = settle x.line (size_parts n b x.line) _ (size_parted b x.line (after l x _ s f)) in
+            let y = settled (size_parts n b x.line) in let g =
+            settle x.line (size_parts n b x.line) _ (size_parted b x.line (after l x _ s f)) in
             two l x y _ _ f g (code.join_size x.at y.at) _ (λ u is too.
             ap₂ join_bytes is too ∙ sym (join_size_is i t ss (message_of i t ss a) (message_of i t ss b)))
 
@@ -395,7 +469,8 @@ module _ (i : Input) (ss : List State) where
         read : Known (at_line x.line) x.line.registers
         worth : (u : Kept) → Later (at_line x.line) u → map (operand_at i u) x.at ≡ ws
 
-      all_spotted : (es : List TraceNumber) (l : Line) → Stands l → SpotsAre l (all_straight n es l) (map (number_of i t ss) es)
+      all_spotted : (es : List TraceNumber) (l : Line) → Stands l →
+          SpotsAre l (all_straight n es l) (map (number_of i t ss) es)
       all_spotted [] l s = record { quiet = quiet_same (at_line l); many = s.many; read = s.read; worth = λ u g. refl }
       all_spotted (e ∷ es) l s =
           let x = straight n e l in let f = spotted e l s in
@@ -405,12 +480,14 @@ module _ (i : Input) (ss : List State) where
             many = g.many;
             read = g.read;
             worth = λ u h. ap₂ (λ a rest. a ∷ rest)
-                (f.worth u (later_then (at_line x.line) (at_line y.line) u (quiet_later (at_line x.line) (at_line y.line) g.quiet) h)) (g.worth u h);
+                (f.worth u (later_then (at_line x.line) (at_line y.line) u
+                (quiet_later (at_line x.line) (at_line y.line) g.quiet) h)) (g.worth u h);
           }
 
 -- tests
 module _ (i : Input) (ss : List State) where
-  prepared : (d : Tested) (rs : List Reading) → fold (tests i ss) d (map prepare rs) ≡ record d { kept = read_all i ss d.kept rs }
+  prepared : (d : Tested) (rs : List Reading) → fold (tests i ss) d (map prepare rs) ≡
+      record d { kept = read_all i ss d.kept rs }
   prepared d [] = refl
   prepared d (r ∷ rs) = prepared (record d { kept = reads i ss d.kept r }) rs
 
@@ -421,10 +498,13 @@ module _ (i : Input) (ss : List State) where
 
   tests_more : (g : Guarding) (l : Line) → tested i (g.tests ++ map prepare l.readings) ss ≡
       record (tested i g.tests ss) { kept = read_all i ss (tested i g.tests ss).kept l.readings }
-  tests_more g l = fold-append (tests i ss) untested g.tests (map prepare l.readings) ∙ prepared (tested i g.tests ss) l.readings
+  tests_more g l = fold-append (tests i ss) untested g.tests (map prepare l.readings) ∙
+      prepared (tested i g.tests ss) l.readings
 
-  stand_value : (vs : List ℕ) (n : Names) (k : Kept) (known : Registers) (a : Operand) (w : ℕ) → Stand i ss (only_values vs) n k known →
-      ((u : Kept) → Later k u → operand_at i u a ≡ w) → Stand i ss (only_values (vs ++ w ∷ [])) (record n { values = n.values ++ a ∷ [] }) k known
+  stand_value : (vs : List ℕ) (n : Names) (k : Kept) (known : Registers) (a : Operand) (w : ℕ) →
+      Stand i ss (only_values vs) n k known →
+      ((u : Kept) → Later k u → operand_at i u a ≡ w) →
+      Stand i ss (only_values (vs ++ w ∷ [])) (record n { values = n.values ++ a ∷ [] }) k known
   stand_value vs n k known a w s is = record {
     rows = s.rows;
     many = s.many;
@@ -433,14 +513,17 @@ module _ (i : Input) (ss : List State) where
     same_numbers = s.same_numbers;
     same_messages = s.same_messages;
     same_values = one_longer n.values vs a w s.same_values;
-    value_names = λ u g. more_names (operand_at i u) n.values vs a zero_operand w 0 s.same_values refl (s.value_names u g) (is u g);
+    value_names = λ u g. more_names (operand_at i u) n.values vs a zero_operand w 0 s.same_values refl
+        (s.value_names u g) (is u g);
     number_names = s.number_names;
     message_names = s.message_names;
   }
 
-  value_step : (p : Bool) (vs : List ℕ) (g : Guarding) (e : TraceNumber) → Guards p vs g → Guards p (with_value i ss vs e) (value_tests g e)
+  value_step : (p : Bool) (vs : List ℕ) (g : Guarding) (e : TraceNumber) → Guards p vs g →
+      Guards p (with_value i ss vs e) (value_tests g e)
   value_step p vs g e so = record {
-    stand = subst (λ d. Stand i ss (only_values (vs ++ w ∷ [])) (record g.names { values = g.names.values ++ x.at ∷ [] }) d.kept x.line.registers)
+    stand = subst (λ d. Stand i ss (only_values (vs ++ w ∷ []))
+        (record g.names { values = g.names.values ++ x.at ∷ [] }) d.kept x.line.registers)
         (sym (tests_more g x.line))
         (stand_value vs g.names (read_all i ss start x.line.readings) x.line.registers x.at w
         (after i ss start (only_values vs) g.names (line_at g.registers) x w so.stand f) f.worth);
@@ -458,7 +541,8 @@ module _ (i : Input) (ss : List State) where
     f : SpotIs i ss start (line_at g.registers) x w
     f = spotted i ss start (only_values vs) g.names e (line_at g.registers) so.stand
 
-  values_all : (p : Bool) (es : List TraceNumber) (vs : List ℕ) (g : Guarding) → Guards p vs g → Guards p (fold (with_value i ss) vs es) (fold value_tests g es)
+  values_all : (p : Bool) (es : List TraceNumber) (vs : List ℕ) (g : Guarding) → Guards p vs g →
+      Guards p (fold (with_value i ss) vs es) (fold value_tests g es)
   values_all p [] vs g so = so
   values_all p (e ∷ es) vs g so = values_all p es (with_value i ss vs e) (value_tests g e) (value_step p vs g e so)
 
@@ -490,10 +574,12 @@ module _ (i : Input) (ss : List State) where
     f : Parted i ss start (line_at g.registers) x w
     f = parted i ss start (only_values vs) g.names e (line_at g.registers) so.stand
 
-    came : tested i (one_test g e).tests ss ≡ record { kept = read_all i ss start x.line.readings; passes = (tested i g.tests ss).passes && is_true w }
+    came : tested i (one_test g e).tests ss ≡
+        record { kept = read_all i ss start x.line.readings; passes = (tested i g.tests ss).passes && is_true w }
     came = fold-append (tests i ss) untested (g.tests ++ map prepare x.line.readings) (required x.top ∷ [])
         ∙ ap (λ d. tests i ss d (required x.top)) (tests_more g x.line)
-        ∙ asked start x.line (record (tested i g.tests ss) { kept = read_all i ss start x.line.readings }) x.top w refl f.top
+        ∙ asked start x.line (record (tested i g.tests ss) { kept = read_all i ss start x.line.readings }) x.top w refl
+        f.top
 
   -- where two are asked for, both are
   both_asked : (p : Bool) (x y : ℕ) → ((p && is_true x) && is_true y) ≡ (p && is_true (applied And x y))
@@ -503,7 +589,8 @@ module _ (i : Input) (ss : List State) where
       Guards (p && is_true (number_of i (only_values vs) ss e)) vs (conjunct_tests g e)
   conjunct_step p vs g (binary And a b) so = subst (λ q. Guards q vs (conjunct_tests (conjunct_tests g a) b))
       (both_asked p (number_of i (only_values vs) ss a) (number_of i (only_values vs) ss b))
-      (conjunct_step (p && is_true (number_of i (only_values vs) ss a)) vs (conjunct_tests g a) b (conjunct_step p vs g a so))
+      (conjunct_step (p && is_true (number_of i (only_values vs) ss a)) vs (conjunct_tests g a) b
+      (conjunct_step p vs g a so))
   conjunct_step p vs g e so = one_step p vs g e so
 
   conjuncts_all : (p : Bool) (es : List TraceNumber) (vs : List ℕ) (g : Guarding) → Guards p vs g →
@@ -511,29 +598,32 @@ module _ (i : Input) (ss : List State) where
   conjuncts_all p [] vs g so = subst (λ b. Guards b vs g) (sym (and-true p)) so
   conjuncts_all p (e ∷ es) vs g so = subst (λ b. Guards b vs (fold conjunct_tests g (e ∷ es)))
       (and_assoc p (is_true (number_of i (only_values vs) ss e)) (list_all (holds_at i (only_values vs) ss) es))
-      (conjuncts_all (p && is_true (number_of i (only_values vs) ss e)) es vs (conjunct_tests g e) (conjunct_step p vs g e so))
+      (conjuncts_all (p && is_true (number_of i (only_values vs) ss e)) es vs (conjunct_tests g e)
+      (conjunct_step p vs g e so))
 
   guarded : (g : Guarded) → Guards (holds i g ss) (values_of i ss g.values) (guarding g)
-  guarded g = conjuncts_all true g.conjuncts (values_of i ss g.values) (fold value_tests unguarded g.values) (values_all true g.values [] unguarded first) where
-    first : Guards true [] unguarded
-    first = record {
-      stand = record {
-        rows = refl;
-        many = refl;
-        taken = refl;
-        same_values = refl;
-        same_numbers = refl;
-        same_messages = refl;
-        read = λ j r at. absurd (cc at);
-        value_names = λ u g k. refl;
-        number_names = λ u g k. refl;
-        message_names = λ u g k. refl;
-      };
-      passing = refl;
-    }
+  guarded g = conjuncts_all true g.conjuncts (values_of i ss g.values) (fold value_tests unguarded g.values)
+      (values_all true g.values [] unguarded first) where
+        first : Guards true [] unguarded
+        first = record {
+          stand = record {
+            rows = refl;
+            many = refl;
+            taken = refl;
+            same_values = refl;
+            same_numbers = refl;
+            same_messages = refl;
+            read = λ j r at. absurd (cc at);
+            value_names = λ u g k. refl;
+            number_names = λ u g k. refl;
+            message_names = λ u g k. refl;
+          };
+          passing = refl;
+        }
 
 -- tests make no messages
-tested_messages : (i : Input) (ss : List State) (ts : List Test) (d : Tested) → (fold (tests i ss) d ts).kept.messages ≡ d.kept.messages
+tested_messages : (i : Input) (ss : List State) (ts : List Test) (d : Tested) → (fold (tests i ss) d ts).kept.messages ≡
+    d.kept.messages
 tested_messages i ss [] d = refl
 tested_messages i ss (prepare r ∷ ts) d = tested_messages i ss ts (tests i ss d (prepare r))
 tested_messages i ss (require r ∷ ts) d = tested_messages i ss ts (tests i ss d (require r))
@@ -548,7 +638,8 @@ module _ (i : Input) (begin : Trail) where
       fold (steps i) u (map make rs) ≡ record u { kept = read_all i here u.kept rs }
   made_all u here [] is = refl
   made_all u here (r ∷ rs) is =
-      made_all (with_bound u (reading_of i u.kept u.states r)) here rs is ∙ ap (λ s. record u { kept = read_all i here (reads i s u.kept r) rs }) is
+      made_all (with_bound u (reading_of i u.kept u.states r)) here rs is ∙
+      ap (λ s. record u { kept = read_all i here (reads i s u.kept r) rs }) is
 
   abbrev pub ran : Sheet → Trail
   ran s = fold (steps i) begin s.steps
@@ -568,12 +659,14 @@ module _ (i : Input) (begin : Trail) where
   lined t s l = record (ran s) { kept = read_all i t.states (ran s).kept l.readings }
 
   ran_makes : (t : Trail) (s : Sheet) (l : Line) → Written t s → ran (makes s l) ≡ lined t s l
-  ran_makes t s l a = fold-append (steps i) begin s.steps (map make l.readings) ∙ made_all (ran s) t.states l.readings a.states
+  ran_makes t s l a = fold-append (steps i) begin s.steps (map make l.readings) ∙
+      made_all (ran s) t.states l.readings a.states
 
   agrees_lined : (t : Trail) (s : Sheet) (l : Line) → Written t s →
       Quiet i t.states (ran s).kept (ran s).kept (read_all i t.states (ran s).kept l.readings) →
       length (read_all i t.states (ran s).kept l.readings).numbers ≡ made_count l.registers →
-      Known i t.states (read_all i t.states (ran s).kept l.readings) l.registers → Agrees t s.names l.registers s.messages (lined t s l)
+      Known i t.states (read_all i t.states (ran s).kept l.readings) l.registers →
+      Agrees t s.names l.registers s.messages (lined t s l)
   agrees_lined t s l a q many read = record {
     stand = further i t.states (ran s).kept t.kept s.names (sheet_line s) l a.stand q many read;
     many = ap length q.messages ∙ a.many;
@@ -585,7 +678,8 @@ module _ (i : Input) (begin : Trail) where
       Quiet i t.states (ran s).kept (ran s).kept (read_all i t.states (ran s).kept l.readings) →
       length (read_all i t.states (ran s).kept l.readings).numbers ≡ made_count l.registers →
       Known i t.states (read_all i t.states (ran s).kept l.readings) l.registers → Written t (makes s l)
-  makes_written t s l a q many read = subst (Agrees t s.names l.registers s.messages) (sym (ran_makes t s l a)) (agrees_lined t s l a q many read)
+  makes_written t s l a q many read = subst (Agrees t s.names l.registers s.messages) (sym (ran_makes t s l a))
+      (agrees_lined t s l a q many read)
 
   -- a message that is made
   record Places (t : Trail) (s : Sheet) (x : Placed) (w : Content) : Type 0 where
@@ -593,7 +687,8 @@ module _ (i : Input) (begin : Trail) where
     later : Later (ran s).kept (ran x.sheet).kept
     worth : (u : Kept) → Later (ran x.sheet).kept u → source_at i u x.at ≡ w
 
-  keeps : (t : Trail) (s : Sheet) (m : Making) (w : Content) → Written t s → making_of i (ran s).kept t.states m ≡ w → Places t s (keeps_message s m) w
+  keeps : (t : Trail) (s : Sheet) (m : Making) (w : Content) → Written t s → making_of i (ran s).kept t.states m ≡ w →
+      Places t s (keeps_message s m) w
   keeps t s m w a is = record {
     written = subst (Agrees t s.names s.registers (suc s.messages)) (sym came) (record {
       stand = record {
@@ -608,7 +703,8 @@ module _ (i : Input) (begin : Trail) where
         number_names = λ u g. a.stand.number_names u (later_then k k' u grown g);
         message_names = λ u g. a.stand.message_names u (later_then k k' u grown g);
       };
-      many = length-append k.messages _ ∙ (let e = a.many in let r : length k.messages + 1 ≡ suc s.messages = omega (arith, e) in r);
+      many = length-append k.messages _ ∙
+          (let e = a.many in let r : length k.messages + 1 ≡ suc s.messages = omega (arith, e) in r);
       states = a.states;
       outs = a.outs;
     });
@@ -639,68 +735,93 @@ module _ (i : Input) (begin : Trail) where
       Quiet i t.states (ran s).kept (ran s).kept (read_all i t.states (ran s).kept l.readings) →
       length (read_all i t.states (ran s).kept l.readings).numbers ≡ made_count l.registers →
       Known i t.states (read_all i t.states (ran s).kept l.readings) l.registers →
-      making_of i (read_all i t.states (ran s).kept l.readings) t.states m ≡ w → Places t s (keeps_message (makes s l) m) w
+      making_of i (read_all i t.states (ran s).kept l.readings) t.states m ≡ w →
+      Places t s (keeps_message (makes s l) m) w
   keeps_after t s l m w a q many read is =
-      let p = keeps t (makes s l) m w (makes_written t s l a q many read) (ap (λ (u : Trail). making_of i u.kept t.states m) (ran_makes t s l a) ∙ is) in
+      let p = keeps t (makes s l) m w (makes_written t s l a q many read)
+      (ap (λ (u : Trail). making_of i u.kept t.states m) (ran_makes t s l a) ∙ is) in
       record {
         written = p.written;
         later = later_then (ran s).kept (ran (makes s l)).kept _
-            (subst (λ (u : Trail). Later (ran s).kept u.kept) (sym (ran_makes t s l a)) (quiet_later i t.states (ran s).kept (ran s).kept _ q)) p.later;
+            (subst (λ (u : Trail). Later (ran s).kept u.kept) (sym (ran_makes t s l a))
+            (quiet_later i t.states (ran s).kept (ran s).kept _ q)) p.later;
         worth = p.worth;
       }
 
   core_placed : (t : Trail) (c : Core) (s : Sheet) → Written t s → Places t s (placed_core c s) (core_at i t.kept c)
   core_placed t body s a = record { written = a; later = later_same (ran s).kept; worth = λ u g. refl }
-  core_placed t (noted k) s a = record { written = a; later = later_same (ran s).kept; worth = λ u g. a.stand.message_names u g k }
+  core_placed t (noted k) s a =
+      record { written = a; later = later_same (ran s).kept; worth = λ u g. a.stand.message_names u g k }
   core_placed t (taken_message r carried) s a = keeps t s (code.taken_message r carried) _ a
       (ap (λ rs. message_in carried (slice_index_or rs r None)) a.stand.rows)
   core_placed t nothing s a = record { written = a; later = later_same (ran s).kept; worth = λ u g. refl }
 
-  placed_same : (t : Trail) (m : TraceMessage) (s : Sheet) → Written t s → Places t s (placed m s) (message_of i t.kept t.states m)
+  placed_same : (t : Trail) (m : TraceMessage) (s : Sheet) → Written t s →
+      Places t s (placed m s) (message_of i t.kept t.states m)
   placed_same t (core c) s a = core_placed t c s a
   placed_same t (held p c e r carried) s a =
       let start = (ran s).kept in let l = sheet_line s in
       let x = straight s.names e l in let f = spotted i t.states start t.kept s.names e l a.stand in
-      let y = straight s.names r x.line in let g = spotted i t.states start t.kept s.names r x.line (after i t.states start t.kept s.names l x _ a.stand f) in
+      let y = straight s.names r x.line in let g =
+      spotted i t.states start t.kept s.names r x.line (after i t.states start t.kept s.names l x _ a.stand f) in
       let last = read_all i t.states start y.line.readings in
       let q = quiet_then i t.states start start (read_all i t.states start x.line.readings) last f.quiet g.quiet in
       keeps_after t s y.line (code.held p c x.at y.at carried) _ a q g.many g.read
-      (ap₂ (λ j k. message_in carried (row_at (state_of t.states p) c j k)) (f.worth last (quiet_later i t.states start _ last g.quiet))
+      (ap₂ (λ j k. message_in carried (row_at (state_of t.states p) c j k))
+      (f.worth last (quiet_later i t.states start _ last g.quiet))
       (g.worth last (later_same last)))
   placed_same t (cut m e k) s a =
-      let b = placed m s in let pb = placed_same t m s a in let start = (ran b.sheet).kept in let l = sheet_line b.sheet in let n = b.sheet.names in
+      let b = placed m s in let pb = placed_same t m s a in let start = (ran b.sheet).kept in let l =
+      sheet_line b.sheet in let n = b.sheet.names in
       let x = straight n e l in let f = spotted i t.states start t.kept n e l pb.written.stand in
-      let y = straight n k x.line in let g = spotted i t.states start t.kept n k x.line (after i t.states start t.kept n l x _ pb.written.stand f) in
+      let y = straight n k x.line in let g =
+      spotted i t.states start t.kept n k x.line (after i t.states start t.kept n l x _ pb.written.stand f) in
       let last = read_all i t.states start y.line.readings in
       let q = quiet_then i t.states start start (read_all i t.states start x.line.readings) last f.quiet g.quiet in
       let em = pb.worth last (quiet_later i t.states start start last q) in
       let ex = f.worth last (quiet_later i t.states start _ last g.quiet) in let ey = g.worth last (later_same last) in
-      let p = keeps_after t b.sheet y.line (code.cut b.at x.at y.at) _ pb.written q g.many g.read (λ z. message_parts.cut (em z) (ex z) (ey z)) in
-      record { written = p.written; later = later_then (ran s).kept (ran b.sheet).kept _ pb.later p.later; worth = p.worth }
+      let p = keeps_after t b.sheet y.line (code.cut b.at x.at y.at) _ pb.written q g.many g.read
+      (λ z. message_parts.cut (em z) (ex z) (ey z)) in
+      record {
+        written = p.written;
+        later = later_then (ran s).kept (ran b.sheet).kept _ pb.later p.later;
+        worth =
+            p.worth;
+      }
   placed_same t (tail m e) s a =
-      let b = placed m s in let pb = placed_same t m s a in let start = (ran b.sheet).kept in let l = sheet_line b.sheet in let n = b.sheet.names in
+      let b = placed m s in let pb = placed_same t m s a in let start = (ran b.sheet).kept in let l =
+      sheet_line b.sheet in let n = b.sheet.names in
       let x = straight n e l in let f = spotted i t.states start t.kept n e l pb.written.stand in
       let last = read_all i t.states start x.line.readings in
       let em = pb.worth last (quiet_later i t.states start start last f.quiet) in
       let ex = f.worth last (later_same last) in
-      let p = keeps_after t b.sheet x.line (code.tail b.at x.at) _ pb.written f.quiet f.many f.read (ap₂ message_parts.tail em ex) in
-      record { written = p.written; later = later_then (ran s).kept (ran b.sheet).kept _ pb.later p.later; worth = p.worth }
+      let p = keeps_after t b.sheet x.line (code.tail b.at x.at) _ pb.written f.quiet f.many f.read
+      (ap₂ message_parts.tail em ex) in
+      record {
+        written = p.written;
+        later = later_then (ran s).kept (ran b.sheet).kept _ pb.later p.later;
+        worth =
+            p.worth;
+      }
   placed_same t (join m w) s a =
       let b = placed m s in let pb = placed_same t m s a in
       let d = placed w b.sheet in let pd = placed_same t w b.sheet pb.written in
       let p = keeps t d.sheet (code.join b.at d.at) _ pd.written
-      (ap₂ message_parts.join (pb.worth (ran d.sheet).kept pd.later) (pd.worth (ran d.sheet).kept (later_same (ran d.sheet).kept))) in
+      (ap₂ message_parts.join
+      (pb.worth (ran d.sheet).kept pd.later) (pd.worth (ran d.sheet).kept (later_same (ran d.sheet).kept))) in
       record {
         written = p.written;
         worth = p.worth;
-        later = later_then (ran s).kept (ran b.sheet).kept _ pb.later (later_then (ran b.sheet).kept (ran d.sheet).kept _ pd.later p.later);
+        later = later_then (ran s).kept (ran b.sheet).kept _ pb.later
+            (later_then (ran b.sheet).kept (ran d.sheet).kept _ pd.later p.later);
       }
 
   -- what is known after a change of states
   abbrev forgotten : Registers → Registers
   forgotten r = record { first = made_count r; readings = [] }
 
-  forgets : (t : Trail) (s : Sheet) (there : List State) → Written t s → Stand i there t.kept s.names (ran s).kept (forgotten s.registers)
+  forgets : (t : Trail) (s : Sheet) (there : List State) → Written t s →
+      Stand i there t.kept s.names (ran s).kept (forgotten s.registers)
   forgets t s there a = record {
     rows = a.stand.rows;
     many = a.stand.many ∙ (let n = made_count s.registers in let e : n ≡ n + 0 = omega arith in e);
@@ -720,25 +841,36 @@ module _ (i : Input) (begin : Trail) where
     later : Later (ran s).kept (ran x.sheet).kept
     sent : option_map (sent_at i (ran x.sheet).kept) x.sent ≡ w
 
-  sending_same : (t : Trail) (m : Option Chained) (s : Sheet) → Written t s → Sends t s (sending m s) (option_map (content_at i t.kept) m)
+  sending_same : (t : Trail) (m : Option Chained) (s : Sheet) → Written t s →
+      Sends t s (sending m s) (option_map (content_at i t.kept) m)
   sending_same t None s a = record { written = a; later = later_same (ran s).kept; sent = refl }
   sending_same t (Some m) s a =
       let b = placed_core m.core s in let pb = core_placed t m.core s a in let k = (ran b.sheet).kept in
       let el = links_same i t.states k t.kept s.names m.chain (ran s).kept s.registers a.stand k pb.later in
       let ew = pb.worth k (later_same k) in
-      record { written = pb.written; later = pb.later; sent = λ z. Some (record { headers = el z ++ (ew z).headers; body = (ew z).body }) }
+      record {
+        written = pb.written;
+        later = pb.later;
+        sent = λ z.
+            Some (record { headers = el z ++ (ew z).headers; body = (ew z).body });
+      }
 
   -- a step that changes states
   effect : (t : Trail) (s : Sheet) (step : Step) (there : List State) (outs : List (Dir × Event)) → Written t s →
-      steps i (ran s) step ≡ record (ran s) { states = there; outs = outs } → Written (record t { states = there; outs = outs }) (changes s step)
-  effect t s step there outs a is = subst (Agrees (record t { states = there; outs = outs }) s.names (forgotten s.registers) s.messages)
-      (sym (fold-append (steps i) begin s.steps (step ∷ []) ∙ is)) (record { stand = forgets t s there a; many = a.many; states = refl; outs = refl })
+      steps i (ran s) step ≡ record (ran s) { states = there; outs = outs } →
+      Written (record t { states = there; outs = outs }) (changes s step)
+  effect t s step there outs a is =
+      subst (Agrees (record t { states = there; outs = outs }) s.names (forgotten s.registers) s.messages)
+      (sym (fold-append (steps i) begin s.steps (step ∷ []) ∙ is))
+      (record { stand = forgets t s there a; many = a.many; states = refl; outs = refl })
 
   -- and one that puts out
   puts : (t : Trail) (s : Sheet) (step : Step) (outs : List (Dir × Event)) → Written t s →
-      steps i (ran s) step ≡ record (ran s) { states = t.states; outs = outs } → Written (record t { outs = outs }) (adds s step)
+      steps i (ran s) step ≡ record (ran s) { states = t.states; outs = outs } →
+      Written (record t { outs = outs }) (adds s step)
   puts t s step outs a is = subst (Agrees (record t { outs = outs }) s.names s.registers s.messages)
-      (sym (fold-append (steps i) begin s.steps (step ∷ []) ∙ is)) (record { stand = a.stand; many = a.many; states = refl; outs = refl })
+      (sym (fold-append (steps i) begin s.steps (step ∷ []) ∙ is))
+      (record { stand = a.stand; many = a.many; states = refl; outs = refl })
 
   -- operands that are made of numbers, behind a sheet
   record Operands (t : Trail) (s : Sheet) (x : Spots) (ws : List ℕ) : Type 0 where
@@ -765,18 +897,22 @@ module _ (i : Input) (begin : Trail) where
 
   -- a change: its index, values and numbers are made before its message
   pub given_change : (t : Trail) (s : Sheet) (es : List TraceNumber) (m : Option Chained) → Written t s →
-      Given t (sending m (makes s (all_straight s.names es (sheet_line s)).line)) (all_straight s.names es (sheet_line s)).at
+      Given t (sending m (makes s (all_straight s.names es (sheet_line s)).line))
+      (all_straight s.names es (sheet_line s)).at
       (map (number_of i t.kept t.states) es) (option_map (content_at i t.kept) m)
   given_change t s es m a =
-      let z = makes s (all_straight s.names es (sheet_line s)).line in let f = operands_made t s es a in let d = sending_same t m z f.written in
+      let z = makes s (all_straight s.names es (sheet_line s)).line in let f = operands_made t s es a in let d =
+      sending_same t m z f.written in
       record { written = d.written; numbers = f.worth (ran (sending m z).sheet).kept d.later; message = d.sent }
 
   -- an output: its numbers are atoms
   pub given_output : (t : Trail) (s : Sheet) (ns : List Atom) (m : Option Chained) → Written t s →
-      Given t (sending m s) (map (operand_for s.names) ns) (map (atom_at i t.kept) ns) (option_map (content_at i t.kept) m)
+      Given t (sending m s) (map (operand_for s.names) ns) (map (atom_at i t.kept) ns)
+      (option_map (content_at i t.kept) m)
   given_output t s ns m a = let d = sending_same t m s a in record {
     written = d.written;
-    numbers = atoms_same i t.states (ran (sending m s).sheet).kept t.kept s.names ns (ran s).kept s.registers a.stand (ran (sending m s).sheet).kept d.later;
+    numbers = atoms_same i t.states (ran (sending m s).sheet).kept t.kept s.names ns (ran s).kept s.registers a.stand
+        (ran (sending m s).sheet).kept d.later;
     message = d.sent;
   }
 
@@ -792,7 +928,8 @@ module _ (i : Input) (begin : Trail) where
       same_numbers = one_longer s.names.numbers t.kept.numbers x.at w b.stand.same_numbers;
       value_names = b.stand.value_names;
       message_names = b.stand.message_names;
-      number_names = λ u g. more_names (operand_at i u) s.names.numbers t.kept.numbers x.at zero_operand w 0 b.stand.same_numbers refl
+      number_names = λ u g. more_names (operand_at i u) s.names.numbers t.kept.numbers x.at zero_operand w 0
+          b.stand.same_numbers refl
           (b.stand.number_names u g) (ap (λ ns. slice_index ns 0) (f.worth u g));
     };
     many = b.many;
@@ -821,7 +958,8 @@ module _ (i : Input) (begin : Trail) where
       same_messages = one_longer x.sheet.names.messages t.kept.messages x.at w b.stand.same_messages;
       value_names = b.stand.value_names;
       number_names = b.stand.number_names;
-      message_names = λ u g. more_names (source_at i u) x.sheet.names.messages t.kept.messages x.at code.nothing w (plain []) b.stand.same_messages refl
+      message_names = λ u g. more_names (source_at i u) x.sheet.names.messages t.kept.messages x.at code.nothing w
+          (plain []) b.stand.same_messages refl
           (b.stand.message_names u g) (p.worth u g);
     };
     many = b.many;
@@ -845,89 +983,102 @@ module _ (i : Input) (begin : Trail) where
       let f = given_change t s (e ∷ v ∷ []) None a in let b = f.written in let is = f.numbers in
       effect t z (code.set p c x.at y.at) _ _ b
       (λ j. record (ran z) {
-        states = slice_set (b.states j) p (with_number (state_of (b.states j) p) c (slice_index (is j) 0) (slice_index (is j) 1));
+        states = slice_set (b.states j) p
+            (with_number (state_of (b.states j) p) c (slice_index (is j) 0) (slice_index (is j) 1));
         outs = b.outs j;
       })
   writes_same t s (set_square p c r k v) a =
-      let x = straight s.names r (sheet_line s) in let y = straight s.names k x.line in let q = straight s.names v y.line in let z = makes s q.line in
+      let x = straight s.names r (sheet_line s) in let y = straight s.names k x.line in let q =
+      straight s.names v y.line in let z = makes s q.line in
       let f = given_change t s (r ∷ k ∷ v ∷ []) None a in let b = f.written in let is = f.numbers in
       effect t z (code.set_square p c x.at y.at q.at) _ _ b
       (λ j. record (ran z) {
         states = slice_set (b.states j) p
-            (with_number (state_of (b.states j) p) c (flat_index i.count (slice_index (is j) 0) (slice_index (is j) 1)) (slice_index (is j) 2));
+            (with_number (state_of (b.states j) p) c (flat_index i.count (slice_index (is j) 0) (slice_index (is j) 1))
+            (slice_index (is j) 2));
         outs = b.outs j;
       })
   writes_same t s (push p c e numbers m) a =
-      let x = straight s.names e (sheet_line s) in let y = all_straight s.names numbers x.line in let z = sending m (makes s y.line) in
+      let x = straight s.names e (sheet_line s) in let y = all_straight s.names numbers x.line in let z =
+      sending m (makes s y.line) in
       let f = given_change t s (e ∷ numbers) m a in let b = f.written in let is = f.numbers in let em = f.message in
       effect t z.sheet (code.push p c x.at y.at z.sent) _ _ b
       (λ j. record (ran z.sheet) {
         states = slice_set (b.states j) p
-            (with_row (state_of (b.states j) p) c (slice_index (is j) 0) (record { numbers = drop 1 (is j); message = em j }));
+            (with_row (state_of (b.states j) p) c (slice_index (is j) 0)
+            (record { numbers = drop 1 (is j); message = em j }));
         outs = b.outs j;
       })
-  writes_same t s (take p c e) a = subst (Agrees (does i t (take p c e)) n' (forgotten z.registers) s.messages) (sym came) (record {
-    stand = record {
-      rows = ap₂ (λ xs y. xs ++ y ∷ []) b.stand.rows row_is;
-      many = b.stand.many ∙ (let n = made_count z.registers in let e : n ≡ n + 0 = omega arith in e);
-      read = λ j r at. absurd (cc at);
-      taken = ap suc b.stand.taken ∙ (let one = length-append t.kept.rows (row ∷ []) in
-          let r : suc (length t.kept.rows) ≡ length (t.kept.rows ++ row ∷ []) = omega (arith, one) in r);
-      same_values = b.stand.same_values;
-      same_numbers = b.stand.same_numbers;
-      same_messages = b.stand.same_messages;
-      value_names = λ u g. b.stand.value_names u (later_then k k' u grown g);
-      number_names = λ u g. b.stand.number_names u (later_then k k' u grown g);
-      message_names = λ u g. b.stand.message_names u (later_then k k' u grown g);
-    };
-    many = b.many;
-    states = λ j. slice_set (b.states j) p (without_front (state_of (b.states j) p) c (ex j));
-    outs = b.outs;
-  }) where
-    x : Spot
-    x = straight s.names e (sheet_line s)
+  writes_same t s (take p c e) a = subst (Agrees (does i t (take p c e)) n' (forgotten z.registers) s.messages)
+      (sym came) (record {
+        stand = record {
+          rows = ap₂ (λ xs y. xs ++ y ∷ []) b.stand.rows row_is;
+          many = b.stand.many ∙ (let n = made_count z.registers in let e : n ≡ n + 0 = omega arith in e);
+          read = λ j r at. absurd (cc at);
+          taken = ap suc b.stand.taken ∙ (let one = length-append t.kept.rows (row ∷ []) in
+              let r : suc (length t.kept.rows) ≡ length (t.kept.rows ++ row ∷ []) = omega (arith, one) in r);
+          same_values = b.stand.same_values;
+          same_numbers = b.stand.same_numbers;
+          same_messages = b.stand.same_messages;
+          value_names = λ u g. b.stand.value_names u (later_then k k' u grown g);
+          number_names = λ u g. b.stand.number_names u (later_then k k' u grown g);
+          message_names = λ u g. b.stand.message_names u (later_then k k' u grown g);
+        };
+        many = b.many;
+        states = λ j. slice_set (b.states j) p (without_front (state_of (b.states j) p) c (ex j));
+        outs = b.outs;
+      }) where
+        x : Spot
+        x = straight s.names e (sheet_line s)
 
-    n' : Names
-    n' = record s.names { rows = suc s.names.rows }
+        n' : Names
+        n' = record s.names { rows = suc s.names.rows }
 
-    z : Sheet
-    z = makes s x.line
+        z : Sheet
+        z = makes s x.line
 
-    f : Given t (record { sheet = z; sent = None }) (x.at ∷ []) (number_of i t.kept t.states e ∷ []) None
-    f = given_change t s (e ∷ []) None a
+        f : Given t (record { sheet = z; sent = None }) (x.at ∷ []) (number_of i t.kept t.states e ∷ []) None
+        f = given_change t s (e ∷ []) None a
 
-    b : Written t z
-    b = f.written
+        b : Written t z
+        b = f.written
 
-    k : Kept
-    k = (ran z).kept
+        k : Kept
+        k = (ran z).kept
 
-    row : Option Row
-    row = row_at (state_of t.states p) c (number_of i t.kept t.states e) 0
+        row : Option Row
+        row = row_at (state_of t.states p) c (number_of i t.kept t.states e) 0
 
-    taken_row : Option Row
-    taken_row = row_at (state_of (ran z).states p) c (operand_at i k x.at) 0
+        taken_row : Option Row
+        taken_row = row_at (state_of (ran z).states p) c (operand_at i k x.at) 0
 
-    k' : Kept
-    k' = record k { rows = k.rows ++ taken_row ∷ [] }
+        k' : Kept
+        k' = record k { rows = k.rows ++ taken_row ∷ [] }
 
-    grown : Later k k'
-    grown = record { numbers = grown_same k.numbers; messages = grown_same k.messages; rows = grown_one k.rows taken_row }
+        grown : Later k k'
+        grown = record {
+          numbers = grown_same k.numbers;
+          messages = grown_same k.messages;
+          rows =
+              grown_one k.rows taken_row;
+        }
 
-    ex : operand_at i k x.at ≡ number_of i t.kept t.states e
-    ex = ap (λ ns. slice_index ns 0) f.numbers
+        ex : operand_at i k x.at ≡ number_of i t.kept t.states e
+        ex = ap (λ ns. slice_index ns 0) f.numbers
 
-    row_is : taken_row ≡ row
-    row_is = λ j. row_at (state_of (b.states j) p) c (ex j) 0
+        row_is : taken_row ≡ row
+        row_is = λ j. row_at (state_of (b.states j) p) c (ex j) 0
 
-    came : ran (changes z (code.take p c x.at)) ≡ steps i (ran z) (code.take p c x.at)
-    came = fold-append (steps i) begin z.steps (code.take p c x.at ∷ [])
+        came : ran (changes z (code.take p c x.at)) ≡ steps i (ran z) (code.take p c x.at)
+        came = fold-append (steps i) begin z.steps (code.take p c x.at ∷ [])
   writes_same t s (output dir kind numbers m) a =
-      let z = sending m s in let f = given_output t s numbers m a in let b = f.written in let is = f.numbers in let em = f.message in
+      let z = sending m s in let f = given_output t s numbers m a in let b = f.written in let is = f.numbers in let em =
+      f.message in
       puts t z.sheet (code.output dir kind (map (operand_for s.names) numbers) z.sent) _ b
       (λ j. record (ran z.sheet) { states = b.states j; outs = b.outs j ++ (dir, event_of kind (is j) (em j)) ∷ [] })
 
-  writes_all : (os : List Operation) (t : Trail) (s : Sheet) → Written t s → Written (fold (does i) t os) (fold writes s os)
+  writes_all : (os : List Operation) (t : Trail) (s : Sheet) → Written t s →
+      Written (fold (does i) t os) (fold writes s os)
   writes_all [] t s a = a
   writes_all (o ∷ os) t s a = writes_all os (does i t o) (writes s o) (writes_same t s o a)
 
@@ -953,10 +1104,12 @@ begins_written g i ss = let s = (guarded i ss g).stand in record {
 }
 
 pub code_is_same : CodeIsSame
-code_is_same g i ss = chosen_end tried.passes (holds i g ss) (fold (steps i) (begun ss tried) (code_of g).steps) (perform i g.operations ss)
+code_is_same g i ss = chosen_end tried.passes (holds i g ss) (fold (steps i) (begun ss tried) (code_of g).steps)
+    (perform i g.operations ss)
     (guarded i ss g).passing (ap₂ (λ states outs. record { states = states; outs = outs }) done.states done.outs) where
       tried : Tested
       tried = tested i (code_of g).tests ss
 
-      done : Written i (begun ss tried) (perform i g.operations ss) (fold writes (first_sheet (guarding g)) g.operations)
+      done : Written i (begun ss tried) (perform i g.operations ss)
+          (fold writes (first_sheet (guarding g)) g.operations)
       done = writes_all i (begun ss tried) g.operations (before ss) (first_sheet (guarding g)) (begins_written g i ss)

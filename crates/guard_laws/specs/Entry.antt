@@ -1,4 +1,5 @@
--- That the code of an entry passes its tests exactly where the run of its entry goes as predicted, and then does what that does.
+-- That the code of an entry passes its tests exactly where the run of its entry goes as predicted, and then does what
+-- that does.
 use Rattle.std.specs.Prelude.{◌≡◌, ℕ, List, Option, Ok}
 use Rattle.layer_mean.specs.declared.run.Case.{Case}
 use Rattle.layer_mean.specs.Queue.{run}
@@ -18,22 +19,29 @@ use Rattle.guard_mean.specs.Simplify.{simplified}
 use Rattle.guard_mean.specs.Machine.{run_code}
 use Rattle.guard_mean.specs.Straight.{code_of}
 
--- In layers that name only what is there, on the states and inputs of an entry, its guarded handler does what following its trace does.
+-- In layers that name only what is there, on the states and inputs of an entry, its guarded handler does what following
+-- its trace does.
 abbrev pub EntriesAreGuarded : Type 0
-EntriesAreGuarded = (case : Case) (stack : List LayerTree) (k : Known) (fields : List (Option ℕ)) (operations : List Operation)
-    (i : Input) (states : List State) → NamedStack stack → trace_of case stack k fields ≡ Ok operations → Enters stack k fields i states →
+EntriesAreGuarded = (case : Case) (stack : List LayerTree) (k : Known) (fields : List (Option ℕ))
+    (operations : List Operation)
+    (i : Input) (states : List State) → NamedStack stack → trace_of case stack k fields ≡ Ok operations →
+    Enters stack k fields i states →
     performed i (hoist operations) states ≡ ended (follow i operations states)
 
 -- So does its code.
 abbrev pub CodesFollowTraces : Type 0
-CodesFollowTraces = (case : Case) (stack : List LayerTree) (k : Known) (fields : List (Option ℕ)) (operations : List Operation)
-    (i : Input) (states : List State) → NamedStack stack → trace_of case stack k fields ≡ Ok operations → Enters stack k fields i states →
+CodesFollowTraces = (case : Case) (stack : List LayerTree) (k : Known) (fields : List (Option ℕ))
+    (operations : List Operation)
+    (i : Input) (states : List State) → NamedStack stack → trace_of case stack k fields ≡ Ok operations →
+    Enters stack k fields i states →
     run_code i (code_of (simplified (hoist operations))) states ≡ ended (follow i operations states)
 
--- And it ends with the states and outputs of the run, where no decision of the run left the prediction in the case; else it doesn't
--- pass.
+-- And it ends with the states and outputs of the run, where no decision of the run left the prediction in the case;
+-- else it doesn't pass.
 abbrev pub CodesAreRight : Type 0
-CodesAreRight = (case : Case) (stack : List LayerTree) (k : Known) (fields : List (Option ℕ)) (operations : List Operation)
-    (i : Input) (states : List State) → NamedStack stack → trace_of case stack k fields ≡ Ok operations → Enters stack k fields i states →
+CodesAreRight = (case : Case) (stack : List LayerTree) (k : Known) (fields : List (Option ℕ))
+    (operations : List Operation)
+    (i : Input) (states : List State) → NamedStack stack → trace_of case stack k fields ≡ Ok operations →
+    Enters stack k fields i states →
     run_code i (code_of (simplified (hoist operations))) states
     ≡ ended (answer_for case (run weight_limit stack states (entry_task stack k fields i)).world)

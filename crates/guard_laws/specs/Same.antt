@@ -1,4 +1,5 @@
--- That a guard holds exactly where all checks of its trace are passed, and that the operations then do what following does.
+-- That a guard holds exactly where all checks of its trace are passed, and that the operations then do what following
+-- does.
 use Rattle.std.specs.Prelude.{◌≡◌, List}
 use Rattle.layer_mean.specs.State.{State}
 use Rattle.trace_mean.specs.Trace.{Operation}

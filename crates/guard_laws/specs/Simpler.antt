@@ -11,7 +11,8 @@ use Rattle.guard_mean.specs.Reduced.{is_reduced}
 -- On all states and inputs it holds where it held, and its operations do what they did.
 abbrev pub SimplifiedIsSame : Type 0
 SimplifiedIsSame = (g : Guarded) (i : Input) (states : List State) →
-    (holds i (simplified g) states ≡ holds i g states) × (perform i (simplified g).operations states ≡ perform i g.operations states)
+    (holds i (simplified g) states ≡ holds i g states) ×
+    (perform i (simplified g).operations states ≡ perform i g.operations states)
 
 abbrev pub SimplifiedIsReduced : Type 0
 SimplifiedIsReduced = (g : Guarded) → is_reduced (simplified g) ≡ true

@@ -1,8 +1,11 @@
 -- Where a trace is followed as it should be: what is read and written is there, as far as guards rest on it.
-use Rattle.std.specs.Prelude.{◌≡◌, ℕ, suc, ◌==◌, ◌*◌, ◌^◌, ◌<◌, ◌≤◌, Bool, true, false, ◌&&◌, ◌||◌, List, [], ◌∷◌, length}
+use Rattle.std.specs.Prelude.{◌≡◌, ℕ, suc, ◌==◌, ◌*◌, ◌^◌, ◌<◌, ◌≤◌, Bool, true, false, ◌&&◌, ◌||◌, List, [], ◌∷◌}
+use Rattle.std.specs.Prelude.{length}
 use Rattle.msg_core.specs.Parts.{longest_body}
 use Rattle.layer_mean.specs.State.{State, cell_at, numbers_in, queues_in, rows_at}
-use Rattle.trace_mean.specs.Trace.{TraceNumber, element, square, rows, item, size, binary, apply, pick, TraceMessage, held, cut, tail, join, Operation, bind, note, check, set, set_square, push, take, output}
+use Rattle.trace_mean.specs.Trace.{TraceNumber, element, square, rows, item, size, binary, apply, pick, TraceMessage}
+use Rattle.trace_mean.specs.Trace.{held, cut, tail, join, Operation, bind, note, check, set, set_square, push, take}
+use Rattle.trace_mean.specs.Trace.{output}
 use Rattle.trace_mean.specs.Worth.{Input, state_of, number_of, message_of}
 use Rattle.trace_mean.specs.Follow.{Trail, Followed, on, stopped_at, operates}
 use Rattle.guard_mean.specs.Hoist.{is_zero}
@@ -30,7 +33,8 @@ abbrev pub IsShort : Input → Trail → TraceMessage → Type 0
 IsShort i t m = length (message_of i t.kept t.states m).body ≤ longest_body
 
 abbrev mutual
-  -- An expression reads square cells by two indices and others by one, and takes parts of messages that aren't too long.
+  -- An expression reads square cells by two indices and others by one, and takes parts of messages that aren't too
+  -- long.
   pub Reads : Squares → Input → Trail → TraceNumber → Type 0
   Reads sq i t (element p c e) = (sq p c ≡ false) × Reads sq i t e
   Reads sq i t (square p c r k) = (sq p c ≡ true) × Reads sq i t r × Reads sq i t k
@@ -59,14 +63,17 @@ SoundAt sq i t (bind e) = Reads sq i t e
 SoundAt sq i t (note m) = ReadsMessage sq i t m
 SoundAt sq i t (check e) = Reads sq i t e
 SoundAt sq i t (set p c e v) =
-    (sq p c ≡ false) × (0 < i.count) × (fits_extent i.count (extent t.states p c) e ≡ true) × Reads sq i t e × Reads sq i t v
+    (sq p c ≡ false) × (0 < i.count) × (fits_extent i.count (extent t.states p c) e ≡ true) × Reads sq i t e ×
+    Reads sq i t v
 SoundAt sq i t (set_square p c r k v) =
     (sq p c ≡ true) × (extent t.states p c ≡ i.count * i.count) × Reads sq i t r × Reads sq i t k × Reads sq i t v
 SoundAt sq i t (push p c e numbers m) =
-    (number_of i t.kept t.states e < queue_count t.states p c) × (suc (row_count t.states p c (number_of i t.kept t.states e)) < 2 ^ 32) ×
+    (number_of i t.kept t.states e < queue_count t.states p c) ×
+    (suc (row_count t.states p c (number_of i t.kept t.states e)) < 2 ^ 32) ×
     ((j : ℕ) → row_count t.states p c j < 2 ^ 32) × Reads sq i t e × ReadsAll sq i t numbers
 SoundAt sq i t (take p c e) =
-    (number_of i t.kept t.states e < queue_count t.states p c) × (0 < row_count t.states p c (number_of i t.kept t.states e)) ×
+    (number_of i t.kept t.states e < queue_count t.states p c) ×
+    (0 < row_count t.states p c (number_of i t.kept t.states e)) ×
     ((j : ℕ) → row_count t.states p c j < 2 ^ 32) × Reads sq i t e
 SoundAt sq i t (output dir kind numbers m) = Unit {0}
 

@@ -1,5 +1,5 @@
-//! That guards hold exactly where all checks of their traces are passed, and that the code of an entry does what its run does: the
-//! contracts of functions that do nothing.
+//! That guards hold exactly where all checks of their traces are passed, and that the code of an entry does what its
+//! run does: the contracts of functions that do nothing.
 #![tactic(auto)]
 
 ghost use Rattle.guard_laws.specs.Closed.{HoistedIsClosed, SimplifiedIsClosed};
@@ -11,7 +11,8 @@ ghost use Rattle.guard_laws.specs.Safe.{CodeIsSafe};
 ghost use Rattle.guard_laws.specs.Same.{HoistedIsSame};
 ghost use Rattle.guard_laws.specs.Simpler.{SimplifiedIsReduced, SimplifiedIsSame};
 
-/// A hoisted guard holds exactly where following its trace reaches the end, and then the operations without checks end alike.
+/// A hoisted guard holds exactly where following its trace reaches the end, and then the operations without checks end
+/// alike.
 pub fn hoisted_is_same()
     ensures { HoistedIsSame }
 {}
@@ -51,8 +52,8 @@ pub fn codes_follow_traces()
     ensures { CodesFollowTraces }
 {}
 
-/// The code of an entry passes exactly where the run of the entry goes as predicted in its case, and then ends with the run's states and
-/// outputs.
+/// The code of an entry passes exactly where the run of the entry goes as predicted in its case, and then ends with the
+/// run's states and outputs.
 pub fn codes_are_right()
     ensures { CodesAreRight }
 {}
@@ -72,7 +73,8 @@ pub fn code_adds_nothing()
     ensures { CodeAddsNothing }
 {}
 
-/// A hoisted handler uses each entry value only after it is made, and nothing that is bound, noted or taken in its guard.
+/// A hoisted handler uses each entry value only after it is made, and nothing that is bound, noted or taken in its
+/// guard.
 pub fn hoisted_is_closed()
     ensures { HoistedIsClosed }
 {}

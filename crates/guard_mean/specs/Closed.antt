@@ -1,7 +1,9 @@
 -- Entry values that are used only after they are made.
 use Rattle.std.specs.Prelude.{ℕ, suc, nat_lt, Bool, true, false, ◌&&◌, List, [], ◌∷◌, length}
 use Rattle.std.specs.List.{list_all}
-use Rattle.trace_mean.specs.Trace.{Atom, bound, taken_number, value, Core, noted, taken_message, TraceNumber, atom, element, square, rows, item, size, binary, apply, pick, TraceMessage, core, held, cut, tail, join, Guarded}
+use Rattle.trace_mean.specs.Trace.{Atom, bound, taken_number, value, Core, noted, taken_message, TraceNumber, atom}
+use Rattle.trace_mean.specs.Trace.{element, square, rows, item, size, binary, apply, pick, TraceMessage, core, held}
+use Rattle.trace_mean.specs.Trace.{cut, tail, join, Guarded}
 
 -- Only entry values below n are read, and nothing that is bound, noted or taken.
 abbrev pub closed_atom : ℕ → Atom → Bool

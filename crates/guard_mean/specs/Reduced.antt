@@ -1,7 +1,9 @@
 -- What a guarded handler is that can't be made simpler.
 use Rattle.std.specs.Prelude.{◌==◌, Bool, true, false, not, ◌&&◌, ◌||◌, List, [], ◌∷◌, ◌++◌}
 use Rattle.std.specs.List.{list_all}
-use Rattle.trace_mean.specs.Trace.{number, TraceNumber, atom, element, square, rows, item, size, binary, apply, pick, TraceMessage, held, cut, tail, join, Operation, bind, note, check, set, set_square, push, take, output, Guarded}
+use Rattle.trace_mean.specs.Trace.{number, TraceNumber, atom, element, square, rows, item, size, binary, apply, pick}
+use Rattle.trace_mean.specs.Trace.{TraceMessage, held, cut, tail, join, Operation, bind, note, check, set, set_square}
+use Rattle.trace_mean.specs.Trace.{push, take, output, Guarded}
 use Rattle.guard_mean.specs.Alike.{same_number, is_among}
 use Rattle.guard_mean.specs.Simplify.{is_comparison, is_equal, is_number}
 
@@ -13,7 +15,8 @@ abbrev mutual
   plain (rows p c e) = plain e
   plain (item p c e r k) = plain e && plain r
   plain (size m) = plain_message m
-  plain (binary o a b) = not (is_number a && is_number b) && (not (is_equal o && same_number a b) && (plain a && plain b))
+  plain (binary o a b) = not (is_number a && is_number b) &&
+      (not (is_equal o && same_number a b) && (plain a && plain b))
   plain (apply f a) = not (is_number a) && plain a
   plain (pick c a b) = not (is_number c && (is_number a && is_number b)) && (plain c && (plain a && plain b))
   plain _ = true
@@ -73,4 +76,5 @@ plain_operation (take p c e) = plain e
 plain_operation (output dir kind numbers m) = true
 
 abbrev pub is_reduced : Guarded → Bool
-is_reduced g = all_new [] g.values && ((is_never g.conjuncts || all_clear [] g.conjuncts) && list_all plain_operation g.operations)
+is_reduced g = all_new [] g.values &&
+    ((is_never g.conjuncts || all_clear [] g.conjuncts) && list_all plain_operation g.operations)

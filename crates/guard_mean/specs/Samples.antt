@@ -11,7 +11,8 @@ use Rattle.stack_mean.specs.NoShape.{drawn_from}
 use Rattle.stack_mean.specs.SampleLayers.{block, sends, on, with_fields, counter}
 use Rattle.stack_mean.specs.Shape.{Known, app_cast, packet_entry}
 use Rattle.stack_mean.specs.TwoCases.{flip}
-use Rattle.trace_mean.specs.Trace.{peer, field, bound, value, body, TraceNumber, atom, count, element, rows, item, size, binary, pick, held, Operation, bind, check, set, push, take, output, Guarded}
+use Rattle.trace_mean.specs.Trace.{peer, field, bound, value, body, TraceNumber, atom, count, element, rows, item, size}
+use Rattle.trace_mean.specs.Trace.{binary, pick, held, Operation, bind, check, set, push, take, output, Guarded}
 use Rattle.trace_mean.specs.Fuse.{trace_of}
 use Rattle.trace_mean.specs.Samples.{lit, cell, link, with_chain}
 use Rattle.guard_mean.specs.Prune.{hoist}
@@ -25,11 +26,13 @@ guard_of operations = simplified (hoist operations)
 
 -- The guarded handler of an entry in the first case.
 abbrev pub IsGuardOf : LayerTree → Known → List (Option ℕ) → Guarded → Type 0
-IsGuardOf layer k fields g = drawn_from (λ operations. Ok (guard_of operations)) (trace_of First (layer ∷ []) k fields) ≡ Ok g
+IsGuardOf layer k fields g = drawn_from (λ operations. Ok (guard_of operations)) (trace_of First (layer ∷ []) k fields)
+    ≡ Ok g
 
 -- The code that is run for it.
 abbrev pub IsCodeOf : LayerTree → Known → List (Option ℕ) → Code → Type 0
-IsCodeOf layer k fields c = drawn_from (λ operations. Ok (code_of (guard_of operations))) (trace_of First (layer ∷ []) k fields) ≡ Ok c
+IsCodeOf layer k fields c = drawn_from (λ operations. Ok (code_of (guard_of operations)))
+    (trace_of First (layer ∷ []) k fields) ≡ Ok c
 
 -- A packet of the counter is common where its number is the one that is due. No entry value is needed.
 abbrev pub due : TraceNumber
@@ -39,7 +42,8 @@ abbrev pub CounterGuard : Type 0
 CounterGuard = IsGuardOf counter (packet_entry Cast (1 ∷ [])) (None ∷ []) (record {
   values = [];
   conjuncts = due ∷ [];
-  operations = set 0 1 (atom peer) (binary Add (atom (field 0)) (lit 1)) ∷ bind (atom peer) ∷ output Up Cast (bound 0 ∷ []) (with_chain [] body) ∷ [];
+  operations = set 0 1 (atom peer) (binary Add (atom (field 0)) (lit 1)) ∷ bind (atom peer) ∷
+      output Up Cast (bound 0 ∷ []) (with_chain [] body) ∷ [];
 })
 
 -- Its code compares as it tests, and what is there already is bound without a step.
@@ -63,7 +67,8 @@ FlipGuard = IsGuardOf flip app_cast [] (record {
 abbrev pub FlipCode : Type 0
 FlipCode = IsCodeOf flip app_cast [] (record {
   tests = code.prepare (code.element 0 0 (code.number 0)) ∷ code.prepare (code.binary Add (code.made 0) (code.number 1))
-      ∷ code.prepare (code.binary BitAnd (code.made 1) (code.number 1)) ∷ require (code.binary Equal (code.made 2) (code.number 1)) ∷ [];
+      ∷ code.prepare (code.binary BitAnd (code.made 1) (code.number 1)) ∷
+      require (code.binary Equal (code.made 2) (code.number 1)) ∷ [];
   steps = code.set 0 0 (code.number 0) (code.made 1) ∷ make (code.element 0 0 (code.number 0))
       ∷ code.output Down Cast (code.peer ∷ []) (Some (record {
         chain = record { place = 0; tag = 1; fields = code.made 3 ∷ [] } ∷ [];
@@ -73,11 +78,13 @@ FlipCode = IsCodeOf flip app_cast [] (record {
 
 -- By an index, it is what was written only where the indexes are the same, and below n.
 abbrev pub AliasedGuard : Type 0
-AliasedGuard = guard_of (set 0 1 (cell 0 0) (lit 5) ∷ check (binary Equal (element 0 1 (atom peer)) (lit 7)) ∷ []) ≡ record {
-  values = pick (binary And (binary Equal (atom peer) (cell 0 0)) (binary Less (atom peer) count)) (lit 5) (element 0 1 (atom peer)) ∷ [];
-  conjuncts = binary Equal (atom (value 0)) (lit 7) ∷ [];
-  operations = set 0 1 (cell 0 0) (lit 5) ∷ [];
-}
+AliasedGuard = guard_of (set 0 1 (cell 0 0) (lit 5) ∷ check (binary Equal (element 0 1 (atom peer)) (lit 7)) ∷ []) ≡
+    record {
+      values = pick (binary And (binary Equal (atom peer) (cell 0 0)) (binary Less (atom peer) count)) (lit 5)
+          (element 0 1 (atom peer)) ∷ [];
+      conjuncts = binary Equal (atom (value 0)) (lit 7) ∷ [];
+      operations = set 0 1 (cell 0 0) (lit 5) ∷ [];
+    }
 
 -- A row that is pushed on a queue that is empty at entry, and then counted and looked at.
 abbrev pub more_rows : TraceNumber
@@ -88,10 +95,13 @@ pushing = push 0 1 (lit 0) (cell 0 0 ∷ []) (with_chain [] body)
 
 abbrev pub QueueGuard : Type 0
 QueueGuard = guard_of (check (binary Equal (rows 0 1 (lit 0)) (lit 0)) ∷ pushing
-    ∷ check (binary Equal (rows 0 1 (lit 0)) (lit 1)) ∷ check (binary Equal (item 0 1 (lit 0) (lit 0) 0) (lit 7)) ∷ []) ≡ record {
+    ∷ check (binary Equal (rows 0 1 (lit 0)) (lit 1)) ∷ check (binary Equal (item 0 1 (lit 0) (lit 0) 0) (lit 7)) ∷ [])
+    ≡ record {
       values = more_rows
-          ∷ pick (binary Less (lit 0) more_rows) (pick (binary Equal (lit 0) (rows 0 1 (lit 0))) (cell 0 0) (item 0 1 (lit 0) (lit 0) 0)) (lit 0) ∷ [];
-      conjuncts = binary Equal (rows 0 1 (lit 0)) (lit 0) ∷ binary Equal (atom (value 0)) (lit 1) ∷ binary Equal (atom (value 1)) (lit 7) ∷ [];
+          ∷ pick (binary Less (lit 0) more_rows)
+          (pick (binary Equal (lit 0) (rows 0 1 (lit 0))) (cell 0 0) (item 0 1 (lit 0) (lit 0) 0)) (lit 0) ∷ [];
+      conjuncts = binary Equal (rows 0 1 (lit 0)) (lit 0) ∷ binary Equal (atom (value 0)) (lit 1) ∷
+          binary Equal (atom (value 1)) (lit 7) ∷ [];
       operations = pushing ∷ [];
     }
 
@@ -100,26 +110,31 @@ abbrev pub few_bytes : TraceNumber → TraceNumber
 few_bytes row = size (held 0 1 (lit 0) row part)
 
 abbrev pub HeldGuard : Type 0
-HeldGuard = guard_of (check (binary Less (few_bytes (lit 0)) (lit 100)) ∷ take 0 1 (lit 0) ∷ check (binary Less (few_bytes (lit 0)) (lit 9)) ∷ []) ≡ record {
-  values = pick (binary Less (lit 0) (binary Subtract (rows 0 1 (lit 0)) (lit 1))) (few_bytes (lit 1)) (lit 0) ∷ [];
-  conjuncts = binary Less (few_bytes (lit 0)) (lit 100) ∷ binary Less (atom (value 0)) (lit 9) ∷ [];
-  operations = take 0 1 (lit 0) ∷ [];
-}
+HeldGuard = guard_of (check (binary Less (few_bytes (lit 0)) (lit 100)) ∷ take 0 1 (lit 0) ∷
+    check (binary Less (few_bytes (lit 0)) (lit 9)) ∷ []) ≡ record {
+      values = pick (binary Less (lit 0) (binary Subtract (rows 0 1 (lit 0)) (lit 1))) (few_bytes (lit 1)) (lit 0) ∷ [];
+      conjuncts = binary Less (few_bytes (lit 0)) (lit 100) ∷ binary Less (atom (value 0)) (lit 9) ∷ [];
+      operations = take 0 1 (lit 0) ∷ [];
+    }
 
--- A layer whose casts carry a number that is written as a sum, and come back where it is that number, and where what is expected holds.
+-- A layer whose casts carry a number that is written as a sum, and come back where it is that number, and where what is
+-- expected holds.
 abbrev pub literal : ExpressionTree → LayerTree
 literal expected = record {
   name = codes "lit";
   cells = [];
   headers = with_fields (codes "h") 1 ∷ [];
   handlers =
-      on Down Cast 0 always (sends Down Cast (local 0) (message 0) 1 (tree.binary Add (tree.number 2) (tree.number 3) ∷ []) ∷ []) ∷
+      on Down Cast 0 always
+      (sends Down Cast (local 0) (message 0) 1 (tree.binary Add (tree.number 2) (tree.number 3) ∷ []) ∷ []) ∷
       on Up Cast 1 (common expected)
-      (branch likely.First (tree.binary Equal (local 1) (tree.number 5)) (block (sends Up Cast (local 0) (message 0) 0 [] ∷ [])) none ∷ []) ∷ [];
+      (branch likely.First (tree.binary Equal (local 1) (tree.number 5))
+      (block (sends Up Cast (local 0) (message 0) 0 [] ∷ [])) none ∷ []) ∷ [];
 }
 
 abbrev pub is_five : LayerTree
-is_five = literal (tree.binary And (tree.binary Equal (local 1) (tree.number 5)) (tree.binary Less (tree.number 1) (tree.number 2)))
+is_five = literal (tree.binary And (tree.binary Equal (local 1) (tree.number 5))
+    (tree.binary Less (tree.number 1) (tree.number 2)))
 
 abbrev pub is_never : LayerTree
 is_never = literal (tree.binary Equal (tree.number 1) (tree.number 2))
@@ -133,7 +148,10 @@ LiteralGuards =
     IsGuardOf is_five app_cast [] (record {
       values = [];
       conjuncts = [];
-      operations = bind (atom peer) ∷ bind (lit 5) ∷ output Down Cast (bound 0 ∷ []) (with_chain (link 0 1 (bound 1 ∷ []) ∷ []) body) ∷ [];
+      operations = bind (atom peer) ∷ bind (lit 5) ∷
+          output Down Cast (bound 0 ∷ []) (with_chain (link 0 1 (bound 1 ∷ []) ∷ []) body) ∷ [];
     }) ×
-    IsGuardOf is_five (packet_entry Cast (1 ∷ [])) (Some 5 ∷ []) (record { values = []; conjuncts = []; operations = passed_on }) ×
-    IsGuardOf is_never (packet_entry Cast (1 ∷ [])) (Some 5 ∷ []) (record { values = []; conjuncts = lit 0 ∷ []; operations = passed_on })
+    IsGuardOf is_five (packet_entry Cast (1 ∷ [])) (Some 5 ∷ [])
+    (record { values = []; conjuncts = []; operations = passed_on }) ×
+    IsGuardOf is_never (packet_entry Cast (1 ∷ [])) (Some 5 ∷ [])
+    (record { values = []; conjuncts = lit 0 ∷ []; operations = passed_on })

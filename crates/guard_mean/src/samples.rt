@@ -1,7 +1,8 @@
 //! Guards of small traces, made by evaluation: the functions here are empty.
 #![tactic(auto, unfolding(trace_mean::specs::Fuse::made_trace, stack_mean::specs::Shape::has_second_case))]
 
-ghost use Rattle.guard_mean.specs.Samples.{AliasedGuard, CounterCode, CounterGuard, FlipCode, FlipGuard, HeldGuard, LiteralGuards, QueueGuard};
+ghost use Rattle.guard_mean.specs.Samples.{AliasedGuard, CounterCode, CounterGuard, FlipCode, FlipGuard, HeldGuard};
+ghost use Rattle.guard_mean.specs.Samples.{LiteralGuards, QueueGuard};
 
 /// The guard of the counter's packet: one comparison, and no entry value.
 pub fn counter_guard()

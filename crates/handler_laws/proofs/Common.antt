@@ -1,5 +1,6 @@
 -- In which cases a step is common, by its entry's shape and by what its run decided.
-use Rattle.std.proofs.Common.{◌≡◌, ◌∙◌, ℕ, ◌+◌, Bool, true, false, ◌&&◌, List, [], ◌∷◌, Option, Some, None, refl, sym, ap}
+use Rattle.std.proofs.Common.{◌≡◌, ◌∙◌, ℕ, ◌+◌, Bool, true, false, ◌&&◌, List, [], ◌∷◌, Option, Some, None, refl, sym}
+use Rattle.std.proofs.Common.{ap}
 use Rattle.std.specs.Prelude.{not, cond, is_none, nat_le, if◌then◌else◌, Result, Ok, Err}
 use Rattle.std.specs.List.{list_all, position_from}
 use Rattle.std.specs.Option.{option_map_or}
@@ -31,11 +32,13 @@ something_lacks (Ok s) reason is = go (nat_le s.length longest_shape) is where
   go false is = refl
 
 -- all went as predicted where no decision is the first that didn't
-none_from : (case : Case) (ds : List Decision) (n : ℕ) → list_all (went_as case) ds ≡ is_none (position_from (λ d. not (went_as case d)) n ds)
+none_from : (case : Case) (ds : List Decision) (n : ℕ) → list_all (went_as case) ds ≡
+    is_none (position_from (λ d. not (went_as case d)) n ds)
 none_from case [] n = refl
 none_from case (d ∷ ds) n = one (went_as case d) (none_from case ds (n + 1)) where
   one : (b : Bool) → list_all (went_as case) ds ≡ is_none (position_from (λ d. not (went_as case d)) (n + 1) ds) →
-      (b && list_all (went_as case) ds) ≡ is_none (cond (not b) (Some n) (position_from (λ d. not (went_as case d)) (n + 1) ds))
+      (b && list_all (went_as case) ds) ≡
+      is_none (cond (not b) (Some n) (position_from (λ d. not (went_as case d)) (n + 1) ds))
   one true rest = rest
   one false rest = refl
 
@@ -50,7 +53,8 @@ pub record Came (case : Case) (w : Work) (e : End) : Type 0 where
 
 pub came : (case : Case) (w : Work) (e : End) → ended (answer_for case w) ≡ Some e → Came case w e
 came case w e is = go (first_missed case w.decided) refl is where
-  go : (o : Option ℕ) → first_missed case w.decided ≡ o → ended (option_map_or stopped o (reached w.states w.outs)) ≡ Some e → Came case w e
+  go : (o : Option ℕ) → first_missed case w.decided ≡ o → ended (option_map_or stopped o (reached w.states w.outs)) ≡
+      Some e → Came case w e
   go None none is =
       let same : record { states = w.states; outs = w.outs } ≡ e = cc in record {
         predicted = none_missed case w.decided ∙ ap is_none none;
@@ -61,7 +65,8 @@ came case w e is = go (first_missed case w.decided) refl is where
 
 pub left : (case : Case) (w : Work) → ended (answer_for case w) ≡ None → is_predicted case w ≡ false
 left case w is = go (first_missed case w.decided) refl is where
-  go : (o : Option ℕ) → first_missed case w.decided ≡ o → ended (option_map_or stopped o (reached w.states w.outs)) ≡ None →
+  go : (o : Option ℕ) → first_missed case w.decided ≡ o → ended (option_map_or stopped o (reached w.states w.outs)) ≡
+      None →
       is_predicted case w ≡ false
   go None none is = absurd (cc is)
   go (Some n) missed is = none_missed case w.decided ∙ ap is_none missed

@@ -1,5 +1,6 @@
 -- The code of a step's entry does what the step does.
-use Rattle.std.proofs.Common.{◌≡◌, ◌∙◌, ℕ, zero, suc, ◌≤◌, Bool, true, false, ◌&&◌, List, [], ◌∷◌, map, length, fold, Option, Some, None, refl, sym, ap, subst, arith}
+use Rattle.std.proofs.Common.{◌≡◌, ◌∙◌, ℕ, zero, suc, ◌≤◌, Bool, true, false, ◌&&◌, List, [], ◌∷◌, map, length, fold}
+use Rattle.std.proofs.Common.{Option, Some, None, refl, sym, ap, subst, arith}
 use Rattle.std.specs.Prelude.{if◌then◌else◌, slice_get, option_map, Ok, Err}
 use Rattle.std.specs.List.{AllZip}
 use Rattle.std.specs.Option.{option_map_or, option_and_then, option_flatten}
@@ -19,7 +20,8 @@ use Rattle.stack_mean.specs.Shape.{Known, shape, drawn_shape, has_second_case}
 use Rattle.stack_mean.specs.NoShape as no_shape
 use Rattle.run_mean.specs.Common.{entry_of, is_short, is_common_in}
 use Rattle.run_mean.specs.Common as common
-use Rattle.run_mean.specs.Member.{Entered, app_cast, app_send, app_leave, clock_tick, from_peer, first_task, output_of, Step, step_from}
+use Rattle.run_mean.specs.Member.{Entered, app_cast, app_send, app_leave, clock_tick, from_peer, first_task, output_of}
+use Rattle.run_mean.specs.Member.{Step, step_from}
 use Rattle.weight_laws.specs.Nodes.{task_node}
 use Rattle.chain_laws.specs.Runs.{IsChainedTask}
 use Rattle.member_laws.specs.Steps.{IsStep}
@@ -66,14 +68,17 @@ module _ (case : Case) (stack : List LayerTree) (plans : List Plan) (s : Step) w
       ∙ ap (λ c. c && is_predicted case s.work) short
 
   no_entry : entry_of plans s.entered ≡ None → is_common_in stack plans s case ≡ false
-  no_entry none = ap (λ o. option_map_or (λ known. is_short (shape stack known case)) o false && is_predicted case s.work) none
+  no_entry none = ap (λ o. option_map_or (λ known. is_short (shape stack known case)) o false &&
+      is_predicted case s.work) none
 
 -- a second case that isn't made has no shape
-same_shape : (stack : List LayerTree) (k : Known) → has_second_case stack k ≡ false → is_short (shape stack k Second) ≡ false
+same_shape : (stack : List LayerTree) (k : Known) → has_second_case stack k ≡ false → is_short (shape stack k Second) ≡
+    false
 same_shape stack k none = ap (λ b. is_short (if b then drawn_shape stack k Second else Err no_shape.same)) none
 
 module _ (stack : List LayerTree) (plans : List Plan) (here : Here) (id : ℕ) (states : List State) (what : Entered)
-    (accepts : accepted stack ≡ Ok stack) (step : IsStep stack here states what) (are : AreOf (step_input plans here what) stack states) where
+    (accepts : accepted stack ≡ Ok stack) (step : IsStep stack here states what)
+    (are : AreOf (step_input plans here what) stack states) where
   abbrev i : Input
   i = step_input plans here what
 
@@ -93,7 +98,8 @@ module _ (stack : List LayerTree) (plans : List Plan) (here : Here) (id : ℕ) (
     begins = entries_begin stack plans here what k enters step.input
 
     chained : IsChainedTask stack (entry_task stack k fields i)
-    chained = subst (IsChainedTask stack) (sym begins) (first_tasks_are_chained stack here.rank what (omega (arith, step.at.rank)) step.input)
+    chained = subst (IsChainedTask stack) (sym begins)
+        (first_tasks_are_chained stack here.rank what (omega (arith, step.at.rank)) step.input)
 
     entered : Enters stack k fields i states
     entered = record { typed = step.typed; of = are; states_are = step.states_are; task = chained }
@@ -102,7 +108,8 @@ module _ (stack : List LayerTree) (plans : List Plan) (here : Here) (id : ℕ) (
     short = by_shape case stack plans s k true enters (nothing_lacks (shape stack k case) is.within)
 
     same : run_code i (code_of g) states ≡ ended (answer_for case s.work)
-    same = code_is_same g i states ∙ is.guard_is.same i states entered ∙ ap ended (is.trace_is.right i states entered).answer
+    same = code_is_same g i states ∙ is.guard_is.same i states entered ∙
+        ap ended (is.trace_is.right i states entered).answer
         ∙ ap (λ t. ended (answer_for case (run weight_limit stack states t).world)) begins
 
     abbrev tried : Tested
@@ -116,7 +123,8 @@ module _ (stack : List LayerTree) (plans : List Plan) (here : Here) (id : ℕ) (
 
     safe : tried.passes ≡ true → SafeCode stack i (code_of g) states
     safe passed = code_is_safe stack g i states is.guard_is.unchecked (is.guard_is.safe i states entered
-        (held tried.passes (holds i g states) last (end_of (perform i g.operations states)) passed (code_is_same g i states)))
+        (held tried.passes (holds i g states) last (end_of (perform i g.operations states)) passed
+        (code_is_same g i states)))
 
     few : tried.passes ≡ true → code_outputs (code_of g) ≤ largest_weight stack
     few passed =
@@ -135,7 +143,8 @@ module _ (stack : List LayerTree) (plans : List Plan) (here : Here) (id : ℕ) (
         let many = code_adds_nothing g in
         let ends = steps_end stack here id states what step accepts in
         let node : most_joins stack (entry_node stack k) ≡ _ =
-        ap (most_joins stack) (sym (entry_is_node stack k fields i)) ∙ ap (λ t. most_joins stack (task_node t)) begins in
+        ap (most_joins stack) (sym (entry_is_node stack k fields i)) ∙
+        ap (λ t. most_joins stack (task_node t)) begins in
         omega (arith, many.joins, is.guard_is.joins, is.trace_is.joins, node, ends.joins)
 
     fused_handled : HandlesStep case stack plans here id states what (code_of g)
@@ -149,7 +158,8 @@ module _ (stack : List LayerTree) (plans : List Plan) (here : Here) (id : ℕ) (
     }
 
   -- of what is made of its entry
-  made_handled : (case : Case) (e : Entry) (made : Made) → entry_of plans what ≡ Some e.known → entry_fields plans what ≡ e.fields →
+  made_handled : (case : Case) (e : Entry) (made : Made) → entry_of plans what ≡ Some e.known →
+      entry_fields plans what ≡ e.fields →
       IsMade case stack e made → Handled case (code_if made)
   made_handled case e (fused trace g) enters varied is =
       fused_handled case e.known trace g enters
@@ -157,16 +167,20 @@ module _ (stack : List LayerTree) (plans : List Plan) (here : Here) (id : ℕ) (
   made_handled case e (absent reason) enters varied is =
       by_shape case stack plans s e.known false enters (something_lacks (shape stack e.known case) reason is)
 
-  second_handled : (e : Entry) (made : Option Made) → entry_of plans what ≡ Some e.known → entry_fields plans what ≡ e.fields →
+  second_handled : (e : Entry) (made : Option Made) → entry_of plans what ≡ Some e.known →
+      entry_fields plans what ≡ e.fields →
       IsSecond stack e made → Handled Second (second_code made)
-  second_handled e None enters varied is = by_shape Second stack plans s e.known false enters (same_shape stack e.known is)
+  second_handled e None enters varied is =
+      by_shape Second stack plans s e.known false enters (same_shape stack e.known is)
   second_handled e (Some made) enters varied is = made_handled Second e made enters varied is.1
 
   -- of the entry at a place
   abbrev IsEntry : Option Entry → Type 0
-  IsEntry o = (entry_of plans what ≡ option_map (λ (e : Entry). e.known) o) × (entry_fields plans what ≡ option_map_or (λ (e : Entry). e.fields) o [])
+  IsEntry o = (entry_of plans what ≡ option_map (λ (e : Entry). e.known) o) ×
+      (entry_fields plans what ≡ option_map_or (λ (e : Entry). e.fields) o [])
 
-  first_at : (es : List Entry) (made : List Made) (place : ℕ) → AllZip (IsMade First stack) es made → IsEntry (slice_get es place) →
+  first_at : (es : List Entry) (made : List Made) (place : ℕ) → AllZip (IsMade First stack) es made →
+      IsEntry (slice_get es place) →
       Handled First (option_flatten (slice_get (map code_if made) place))
   first_at [] [] place are is = no_entry First stack plans s is.0
   first_at [] (m ∷ made) place are is = absurd are
@@ -174,7 +188,8 @@ module _ (stack : List LayerTree) (plans : List Plan) (here : Here) (id : ℕ) (
   first_at (e ∷ es) (m ∷ made) zero are is = made_handled First e m is.0 is.1 are.0
   first_at (e ∷ es) (m ∷ made) (suc place) are is = first_at es made place are.1 is
 
-  second_at : (es : List Entry) (made : List (Option Made)) (place : ℕ) → AllZip (IsSecond stack) es made → IsEntry (slice_get es place) →
+  second_at : (es : List Entry) (made : List (Option Made)) (place : ℕ) → AllZip (IsSecond stack) es made →
+      IsEntry (slice_get es place) →
       Handled Second (option_flatten (slice_get (map second_code made) place))
   second_at [] [] place are is = no_entry Second stack plans s is.0
   second_at [] (m ∷ made) place are is = absurd are
@@ -182,7 +197,8 @@ module _ (stack : List LayerTree) (plans : List Plan) (here : Here) (id : ℕ) (
   second_at (e ∷ es) (m ∷ made) zero are is = second_handled e m is.0 is.1 are.0
   second_at (e ∷ es) (m ∷ made) (suc place) are is = second_at es made place are.1 is
 
-  pub at_place : (case : Case) (b : Bypasses) (place : ℕ) → AreOfStack stack b → IsEntry (slice_get (entries_of stack) place) →
+  pub at_place : (case : Case) (b : Bypasses) (place : ℕ) → AreOfStack stack b →
+      IsEntry (slice_get (entries_of stack) place) →
       Handled case (option_flatten (slice_get (codes_in (codes_of b) case) place))
   at_place First b place of is = first_at (entries_of stack) b.made place of.made is
   at_place Second b place of is = second_at (entries_of stack) b.second place of.second is
@@ -194,29 +210,37 @@ steps_are_handled case stack plans b here id states (app_send to body) typed acc
     at_place stack plans here id states (app_send to body) accepts step are case b 1 of (refl, refl)
 steps_are_handled case stack plans b here id states app_leave typed accepts planned_are of step are = refl
 steps_are_handled case stack plans b here id states (clock_tick moment) typed accepts planned_are of step are = refl
-steps_are_handled case stack plans b here id states (from_peer p) typed accepts planned_are of step are = go (least_fit plans p) refl where
-  listed : (n : ℕ) → slice_get (entries_of stack) (suc (suc n)) ≡ option_map plan_entry (slice_get plans n)
-  listed n = slice_get-map plan_entry (plans_of stack) n ∙ ap (λ (ps : List Plan). option_map plan_entry (slice_get ps n)) (sym planned_are)
+steps_are_handled case stack plans b here id states (from_peer p) typed accepts planned_are of step are =
+    go (least_fit plans p) refl where
+      listed : (n : ℕ) → slice_get (entries_of stack) (suc (suc n)) ≡ option_map plan_entry (slice_get plans n)
+      listed n = slice_get-map plan_entry (plans_of stack) n ∙
+          ap (λ (ps : List Plan). option_map plan_entry (slice_get ps n)) (sym planned_are)
 
-  known : (o : Option Plan) → option_map common.plan_entry o ≡ option_map (λ (e : Entry). e.known) (option_map plan_entry o)
-  known None = refl
-  known (Some plan) = refl
+      known : (o : Option Plan) → option_map common.plan_entry o ≡
+          option_map (λ (e : Entry). e.known) (option_map plan_entry o)
+      known None = refl
+      known (Some plan) = refl
 
-  open_fields : (o : Option Plan) → option_map_or (λ (plan : Plan). plan.fields) o [] ≡ option_map_or (λ (e : Entry). e.fields) (option_map plan_entry o) []
-  open_fields None = refl
-  open_fields (Some plan) = refl
+      open_fields : (o : Option Plan) → option_map_or (λ (plan : Plan). plan.fields) o [] ≡
+          option_map_or (λ (e : Entry). e.fields) (option_map plan_entry o) []
+      open_fields None = refl
+      open_fields (Some plan) = refl
 
-  go : (o : Option ℕ) → least_fit plans p ≡ o →
-      IsHandled case stack plans here id states (from_peer p) (code_at (codes_of b) (planned (least_fit plans p)) case)
-  go None fit =
-      subst (λ o. IsHandled case stack plans here id states (from_peer p) (code_at (codes_of b) (planned o) case)) (sym fit)
-      (no_entry case stack plans (step_from stack here id states (from_peer p))
-      (ap (option_and_then (λ n. option_map common.plan_entry (slice_get plans n))) fit))
-  go (Some n) fit =
-      subst (λ o. IsHandled case stack plans here id states (from_peer p) (code_at (codes_of b) (planned o) case)) (sym fit)
-      (at_place stack plans here id states (from_peer p) accepts step are case b (suc (suc n)) of (
-        ap (option_and_then (λ n. option_map common.plan_entry (slice_get plans n))) fit ∙ known (slice_get plans n)
-            ∙ ap (option_map (λ (e : Entry). e.known)) (sym (listed n)),
-        ap (λ o. option_map_or (λ (plan : Plan). plan.fields) (option_and_then (λ n. slice_get plans n) o) []) fit ∙ open_fields (slice_get plans n)
-            ∙ ap (λ o. option_map_or (λ (e : Entry). e.fields) o []) (sym (listed n)),
-      ))
+      go : (o : Option ℕ) → least_fit plans p ≡ o →
+          IsHandled case stack plans here id states (from_peer p)
+          (code_at (codes_of b) (planned (least_fit plans p)) case)
+      go None fit =
+          subst (λ o. IsHandled case stack plans here id states (from_peer p) (code_at (codes_of b) (planned o) case))
+          (sym fit)
+          (no_entry case stack plans (step_from stack here id states (from_peer p))
+          (ap (option_and_then (λ n. option_map common.plan_entry (slice_get plans n))) fit))
+      go (Some n) fit =
+          subst (λ o. IsHandled case stack plans here id states (from_peer p) (code_at (codes_of b) (planned o) case))
+          (sym fit)
+          (at_place stack plans here id states (from_peer p) accepts step are case b (suc (suc n)) of (
+            ap (option_and_then (λ n. option_map common.plan_entry (slice_get plans n))) fit ∙ known (slice_get plans n)
+                ∙ ap (option_map (λ (e : Entry). e.known)) (sym (listed n)),
+            ap (λ o. option_map_or (λ (plan : Plan). plan.fields) (option_and_then (λ n. slice_get plans n) o) []) fit ∙
+                open_fields (slice_get plans n)
+                ∙ ap (λ o. option_map_or (λ (e : Entry). e.fields) o []) (sym (listed n)),
+          ))

@@ -18,7 +18,8 @@ record IsFor (rank : ℕ) (view : View) (i : Input) : Type 0 where
   count : i.count ≡ member_count view
   ltime : i.ltime ≡ view.ltime
 
-for_member : (here : Here) (fields : List (Option ℕ)) (what : Entered) → IsFor here.rank here.view (input_of here fields what)
+for_member : (here : Here) (fields : List (Option ℕ)) (what : Entered) →
+    IsFor here.rank here.view (input_of here fields what)
 for_member here fields (app_cast body) = record { me = refl; count = refl; ltime = refl }
 for_member here fields (app_send to body) = record { me = refl; count = refl; ltime = refl }
 for_member here fields app_leave = record { me = refl; count = refl; ltime = refl }
@@ -26,7 +27,8 @@ for_member here fields (clock_tick moment) = record { me = refl; count = refl; l
 for_member here fields (from_peer p) = record { me = refl; count = refl; ltime = refl }
 
 module _ (rank : ℕ) (view : View) (i : Input) (is : IsFor rank view i) where
-  to_input : (stack : List LayerTree) (states : List State) → length states ≡ length stack → AreOfMember rank view states → AreOf i stack states
+  to_input : (stack : List LayerTree) (states : List State) → length states ≡ length stack →
+      AreOfMember rank view states → AreOf i stack states
   to_input [] [] long h = tt
   to_input [] (s ∷ states) long h = absurd (omega (arith, long))
   to_input (layer ∷ stack) [] long h = absurd (omega (arith, long))
@@ -39,12 +41,15 @@ module _ (rank : ℕ) (view : View) (i : Input) (is : IsFor rank view i) where
   from_input [] [] h = tt
   from_input [] (s ∷ states) h = absurd h
   from_input (layer ∷ stack) [] h = absurd h
-  from_input (layer ∷ stack) (s ∷ states) h =
-      (record { me = h.0.me ∙ is.me; count = h.0.count ∙ is.count; ltime = h.0.ltime ∙ is.ltime }, from_input stack states h.1)
+  from_input (layer ∷ stack) (s ∷ states) h = (
+    record { me = h.0.me ∙ is.me; count = h.0.count ∙ is.count; ltime = h.0.ltime ∙ is.ltime },
+    from_input stack states h.1,
+  )
 
 pub fresh_are_of_member : FreshAreOfMember
 fresh_are_of_member [] rank view = tt
-fresh_are_of_member (layer ∷ stack) rank view = (record { me = refl; count = refl; ltime = refl }, fresh_are_of_member stack rank view)
+fresh_are_of_member (layer ∷ stack) rank view =
+    (record { me = refl; count = refl; ltime = refl }, fresh_are_of_member stack rank view)
 
 pub states_are_of : StatesAreOf
 states_are_of stack here fields what states chained h =
@@ -54,4 +59,5 @@ pub steps_keep_members : StepsKeepMembers
 steps_keep_members stack here id states what chained h =
     let i : Input = input_of here [] what in
     from_input here.rank here.view i (for_member here [] what) stack _
-    (runs_keep_members i stack states most_turns (first_task stack here.rank what) (states_are_of stack here [] what states chained h))
+    (runs_keep_members i stack states most_turns (first_task stack here.rank what)
+    (states_are_of stack here [] what states chained h))

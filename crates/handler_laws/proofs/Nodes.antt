@@ -39,7 +39,8 @@ event_node at dir kind ns m = go (carries kind) where
   go false = refl
 
 first_tag : (i : Input) (stack : List LayerTree) (fields : List (Option ℕ)) (tags : List ℕ) →
-    front_tag (content_at i nothing_kept (record { chain = entry_chain 0 stack tags (field_atoms 0 fields); core = body })).headers ≡ first_of tags
+    front_tag (content_at i nothing_kept
+    (record { chain = entry_chain 0 stack tags (field_atoms 0 fields); core = body })).headers ≡ first_of tags
 first_tag i stack fields [] = refl
 first_tag i [] fields (tag ∷ tags) = refl
 first_tag i (layer ∷ above) fields (tag ∷ tags) = refl
@@ -51,18 +52,22 @@ entry_is_node stack k fields i =
     event_node at k.dir k.kind (i.peer ∷ []) _
     ∙ ap (λ tag. record { at = at; dir = k.dir; kind = k.kind; tag = tag }) (first_tag i stack fields k.tags)
 
-enters : (stack : List LayerTree) (dir : Dir) (kind : Kind) → carries kind ≡ true → Enters stack (entry_place stack dir) dir kind
+enters : (stack : List LayerTree) (dir : Dir) (kind : Kind) → carries kind ≡ true →
+    Enters stack (entry_place stack dir) dir kind
 enters stack Up Cast h = refl
 enters stack Up Send h = refl
 enters stack Down Cast h = refl
 enters stack Down Send h = refl
 enters stack _ _ h = absurd (cc h)
 
-pub entry_is_light : (stack : List LayerTree) (k : Known) (fields : List (Option ℕ)) (i : Input) → IsChainedTask stack (entry_task stack k fields i) →
+pub entry_is_light : (stack : List LayerTree) (k : Known) (fields : List (Option ℕ)) (i : Input) →
+    IsChainedTask stack (entry_task stack k fields i) →
     weight stack (entry_node stack k) ≤ largest_weight stack
 entry_is_light stack k fields i task =
     let node : Node = entry_node stack k in
     let is = chained_is_entry stack k fields i task in
-    let known = subst (IsNode stack) (entry_is_node stack k fields i) (chained_is_known stack (entry_task stack k fields i) task) in
-    let listed : In node (entries stack) = entering stack node.at node.dir node.kind node.tag (enters stack k.dir k.kind is.carried) known.tag in
+    let known = subst (IsNode stack) (entry_is_node stack k fields i)
+    (chained_is_known stack (entry_task stack k fields i) task) in
+    let listed : In node (entries stack) =
+    entering stack node.at node.dir node.kind node.tag (enters stack k.dir k.kind is.carried) known.tag in
     at_most_largest (weight stack node) (_) (in_map (weight stack) node (entries stack) listed)

@@ -34,25 +34,32 @@ pub record EndsAs (case : Case) (stack : List LayerTree) (plans : List Plan) (s 
   pub states : e.states ≡ s.work.states
   pub outs : e.outs ≡ s.work.outs
 
--- The code of a case, for a step: it passes exactly where the step is common in that case, and then ends with the step's states and outputs;
--- where its tests are passed it is safe and has no more outputs than there is room for, and it never joins more than a step may.
-pub record HandlesStep (case : Case) (stack : List LayerTree) (plans : List Plan) (here : Here) (id : ℕ) (states : List State) (what : Entered)
+-- The code of a case, for a step: it passes exactly where the step is common in that case, and then ends with the
+-- step's states and outputs; where its tests are passed it is safe and has no more outputs than there is room for, and
+-- it never joins more than a step may.
+pub record HandlesStep (case : Case) (stack : List LayerTree) (plans : List Plan) (here : Here) (id : ℕ)
+    (states : List State) (what : Entered)
     (c : Code) : Type 0 where
   pub passes : (e : End) → run_code (step_input plans here what) c states ≡ Some e →
       EndsAs case stack plans (step_from stack here id states what) e
-  pub misses : run_code (step_input plans here what) c states ≡ None → is_common_in stack plans (step_from stack here id states what) case ≡ false
-  pub safe : (tested (step_input plans here what) c.tests states).passes ≡ true → SafeCode stack (step_input plans here what) c states
+  pub misses : run_code (step_input plans here what) c states ≡ None →
+      is_common_in stack plans (step_from stack here id states what) case ≡ false
+  pub safe : (tested (step_input plans here what) c.tests states).passes ≡ true →
+      SafeCode stack (step_input plans here what) c states
   pub joins : code_joins c ≤ joins_limit
-  pub outputs : (tested (step_input plans here what) c.tests states).passes ≡ true → code_outputs c ≤ largest_weight stack
+  pub outputs : (tested (step_input plans here what) c.tests states).passes ≡ true →
+      code_outputs c ≤ largest_weight stack
 
 -- Where there is no code the step isn't common in the case.
 abbrev pub IsHandled : Case → List LayerTree → List Plan → Here → ℕ → List State → Entered → Option Code → Type 0
-IsHandled case stack plans here id states what None = is_common_in stack plans (step_from stack here id states what) case ≡ false
+IsHandled case stack plans here id states what None = is_common_in
+    stack plans (step_from stack here id states what) case ≡ false
 IsHandled case stack plans here id states what (Some c) = HandlesStep case stack plans here id states what c
 
 -- So are all steps of a member of an accepted stack of typed layers, by the code of whatever bypasses are the stack's.
 abbrev pub StepsAreHandled : Type 0
-StepsAreHandled = (case : Case) (stack : List LayerTree) (plans : List Plan) (b : mean.Bypasses) (here : Here) (id : ℕ) (states : List State)
+StepsAreHandled = (case : Case) (stack : List LayerTree) (plans : List Plan) (b : mean.Bypasses) (here : Here) (id : ℕ)
+    (states : List State)
     (what : Entered) → TypedStack stack → accepted stack ≡ Ok stack → plans ≡ plans_of stack → AreOfStack stack b →
     IsStep stack here states what → AreOf (step_input plans here what) stack states →
     IsHandled case stack plans here id states what (code_at (codes_of b) (entry_for plans what) case)

@@ -1,4 +1,5 @@
--- That the states of a member are those of its rank in its view, as far as its layers' states say so; and that they stay so.
+-- That the states of a member are those of its rank in its view, as far as its layers' states say so; and that they
+-- stay so.
 use Rattle.std.specs.Prelude.{◌≡◌, ℕ, List, Option, map}
 use Rattle.std.specs.List.{AllByRecursion}
 use Rattle.msg_core.specs.View.{member_count}
@@ -28,10 +29,13 @@ FreshAreOfMember = (stack : List LayerTree) (rank : ℕ) (view : View) →
 
 -- They stay so through a step.
 abbrev pub StepsKeepMembers : Type 0
-StepsKeepMembers = (stack : List LayerTree) (here : Here) (id : ℕ) (states : List State) (what : Entered) → AreChainedStates stack states →
-    AreOfMember here.rank here.view states → AreOfMember here.rank here.view (step_from stack here id states what).work.states
+StepsKeepMembers = (stack : List LayerTree) (here : Here) (id : ℕ) (states : List State) (what : Entered) →
+    AreChainedStates stack states →
+    AreOfMember here.rank here.view states →
+    AreOfMember here.rank here.view (step_from stack here id states what).work.states
 
 -- And they are those that an input is for, whatever enters.
 abbrev pub StatesAreOf : Type 0
 StatesAreOf = (stack : List LayerTree) (here : Here) (fields : List (Option ℕ)) (what : Entered) (states : List State) →
-    AreChainedStates stack states → AreOfMember here.rank here.view states → AreOf (input_of here fields what) stack states
+    AreChainedStates stack states → AreOfMember here.rank here.view states →
+    AreOf (input_of here fields what) stack states

@@ -4,7 +4,8 @@
 ghost use Rattle.handler_laws.specs.Handled.{StepsAreHandled};
 ghost use Rattle.handler_laws.specs.Members.{FreshAreOfMember, StatesAreOf, StepsKeepMembers};
 
-/// The code of a step's entry in a case passes exactly where the step is common in it, and then does what the step does.
+/// The code of a step's entry in a case passes exactly where the step is common in it, and then does what the step
+/// does.
 pub fn steps_are_handled()
     ensures { StepsAreHandled }
 {}

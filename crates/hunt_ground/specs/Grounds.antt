@@ -15,9 +15,10 @@ use Rattle.group_feed.specs.Standing.{Peopled, Stands}
 use Rattle.stack_shapes.specs.Starts.{starts_of}
 use Rattle.stack_shapes.specs.Shapes.{ShortShapes, short_shapes}
 
--- What is kept of a stack is its own: a maker of its layers, its plans, the shapes of its entries, the numbers of their first plans, and the code of
--- its bypasses. Each group that began had at most 32 members with 24 layers.
-pub record IsGround (stack : List LayerTree) (maker : Making) (plans : List Plan) (entries : ShortShapes) (starts : List ℕ) (codes : CodesTree)
+-- What is kept of a stack is its own: a maker of its layers, its plans, the shapes of its entries, the numbers of their
+-- first plans, and the code of its bypasses. Each group that began had at most 32 members with 24 layers.
+pub record IsGround (stack : List LayerTree) (maker : Making) (plans : List Plan) (entries : ShortShapes)
+    (starts : List ℕ) (codes : CodesTree)
     (begun : ℕ) : Type 0 where
   pub sound : IsSound stack
   pub places : length stack ≤ 24

@@ -29,8 +29,8 @@ const STAMP: u32 = 1;
 /// The most groups that begin over one stack.
 const MOST_GROUPS: u64 = 1 << 40;
 
-/// A stack with its plans, the shapes of its entries and the code of its bypasses, a maker of its layers, and how many groups began. Contracts see
-/// the stack.
+/// A stack with its plans, the shapes of its entries and the code of its bypasses, a maker of its layers, and how many
+/// groups began. Contracts see the stack.
 #[derive(Drop)]
 pub struct Ground {
     maker: Maker,
@@ -60,7 +60,8 @@ impl Model for Ground {
 
     ghost view = { λ g. stack_tree (rc_value g.stack) };
 
-    ghost invariant = { λ g. IsGround (stack_tree (rc_value g.stack)) (making g.maker) (plans_tree (rc_value g.plans)) (rc_value g.entries)
+    ghost invariant = { λ g. IsGround (stack_tree (rc_value g.stack)) (making g.maker) (plans_tree (rc_value g.plans))
+        (rc_value g.entries)
         (starts_tree g.starts) (rc_value g.code) g.begun };
 }
 

@@ -2,7 +2,8 @@
 use Rattle.std.specs.Prelude.{◌≡◌, ◌⊎◌, ℕ, ◌<◌, ◌≤◌, List, [], ◌∷◌, ◌++◌, codes, Option, Some, None, IfSome}
 use Rattle.std.specs.Fmt.{decimal}
 use Rattle.clap.specs.Walk.{Text}
-use Rattle.end_mean.specs.Status.{FileFault, Ended, done, breached, file_refused, second_refused, too_many_rows, read_failed, write_failed, no_memory}
+use Rattle.end_mean.specs.Status.{FileFault, Ended, done, breached, file_refused, second_refused, too_many_rows}
+use Rattle.end_mean.specs.Status.{read_failed, write_failed, no_memory}
 use Rattle.layer_mean.specs.Tree.{LayerTree}
 use Rattle.outside.specs.Count.{Rose}
 use Rattle.outside.specs.Lines.{Begins, Fails, Gains}
@@ -19,7 +20,8 @@ use Rattle.hunt_mean.specs.Words.{Request, request_of}
 abbrev pub holds_line : ℕ → List ℕ
 holds_line runs = codes "holds " ++ decimal runs ++ codes "\n"
 
--- The bytes of a file mean a stack, and it is told in how many runs no breach was found: all that were asked for, where the time doesn't count.
+-- The bytes of a file mean a stack, and it is told in how many runs no breach was found: all that were asked for, where
+-- the time doesn't count.
 pub record IsHeld (r : Request) (file text : List ℕ) : Type 0 where
   pub stack : List LayerTree
   pub means : Means file stack

@@ -37,8 +37,8 @@ abbrev pub told_breach : Law → List ℕ → (first second : ℕ) → List ℕ
 told_breach law report first second =
     codes "# breaks " ++ law_word law ++ codes "\n" ++ told_line report first ++ told_line report second
 
--- The bytes of a file mean a stack, and a text spells a script with no more members and events than were asked for, over whose report the audit
--- has a breach of the law; the text begins with comments that tell of it.
+-- The bytes of a file mean a stack, and a text spells a script with no more members and events than were asked for,
+-- over whose report the audit has a breach of the law; the text begins with comments that tell of it.
 pub record IsFind (request : Request) (file text : List ℕ) : Type 0 where
   pub stack : List LayerTree
   pub means : Means file stack

@@ -18,9 +18,11 @@ closed false done = write_failed
 closed false breached = write_failed
 closed _ end = end
 
--- A run that put so much on the output and ended so; what was handed on to the output's stream; and what was said then, of the end that
--- comes of both, and handed on to the standard error's. Where that is the run's own end, all that `run` does is done.
-pub record RunsThrough (words : List Text) (told : Option Shelved) (reads reads_after : ℕ) (out err : Stream) (status : ℕ) : Type 0 where
+-- A run that put so much on the output and ended so; what was handed on to the output's stream; and what was said then,
+-- of the end that comes of both, and handed on to the standard error's. Where that is the run's own end, all that `run`
+-- does is done.
+pub record RunsThrough (words : List Text) (told : Option Shelved) (reads reads_after : ℕ) (out err : Stream)
+    (status : ℕ) : Type 0 where
   pub put : Tells
   pub end : Ended
   pub came : Comes (request_of words) (surrounding told reads reads_after out.before put) end
@@ -28,12 +30,14 @@ pub record RunsThrough (words : List Text) (told : Option Shelved) (reads reads_
   pub handed_on : HandsOn put out.after out.holds whole
   pub closing : Tells
   pub said : Said (closed whole end) (errors err.before closing status)
-  pub runs : closed whole end ≡ end → Runs words (surrounding told reads reads_after out.before put) (errors err.before closing status)
+  pub runs : closed whole end ≡ end →
+      Runs words (surrounding told reads reads_after out.before put) (errors err.before closing status)
   pub heard : Bool
   pub told_on : HandsOn closing err.after err.holds heard
 
 -- A hunt ended so, and the output's stream gained what it wrote.
-pub record DeliversAll (r : Request) (told : Option Shelved) (reads reads_after : ℕ) (out : Stream) (end : Ended) : Type 0 where
+pub record DeliversAll (r : Request) (told : Option Shelved) (reads reads_after : ℕ) (out : Stream) (end : Ended) : Type
+    0 where
   pub good : Good r told reads reads_after end
   pub gained : Appends out.before.contents out.holds good.text
 

@@ -12,14 +12,16 @@ use Rattle.job_mean.specs.Job.{a_number, a_number_or_zero, law_of, most_generate
 -- `FILE --law L --members N --events E --runs R --seed S`, may have `--seconds T`
 abbrev pub rules : List Rule
 rules =
-    required (codes "file") ∷ option (codes "law") ∷ option (codes "members") ∷ option (codes "events") ∷ option (codes "runs") ∷
+    required (codes "file") ∷ option (codes "law") ∷ option (codes "members") ∷ option (codes "events") ∷
+    option (codes "runs") ∷
     option (codes "seed") ∷ option (codes "seconds") ∷ []
 
 abbrev pub command : App
 command = fold with_rule (on_top plain_top (new_app (codes "stackhunt"))) rules
 
--- the name of a stack file; a law that its stack is to break; how many members a group has, and events a run; how many runs there are, and from
--- which number on; and behind how many seconds no run begins, which is 0 where the time doesn't count
+-- the name of a stack file; a law that its stack is to break; how many members a group has, and events a run; how many
+-- runs there are, and from which number on; and behind how many seconds no run begins, which is 0 where the time
+-- doesn't count
 pub record Request : Type 0 where
   pub file : Text
   pub law : Law
@@ -47,7 +49,16 @@ request_in rows = do
   runs ← a_number 1 highest (first_of (codes "runs") rows)
   seed ← a_number 0 highest (first_of (codes "seed") rows)
   seconds ← a_number_or_zero most_seconds (first_of (codes "seconds") rows)
-  Some (record { file = file; law = law; members = members; events = events; runs = runs; seed = seed; seconds = seconds })
+  Some (record {
+    file = file;
+    law = law;
+    members = members;
+    events = events;
+    runs = runs;
+    seed = seed;
+    seconds =
+        seconds;
+  })
 
 -- what the words behind the program's name ask for, if `clap` takes them
 abbrev pub request_of : List Text → Option Request

@@ -21,7 +21,8 @@ is_find r file draft text b again k told same = record {
   second = again.second;
   breach = subst (λ report. audit_of r.law report ≡ Ok (Breach again.first again.second)) k.reports.is k.breach;
   rest = draft;
-  told = subst (λ report. text ≡ told_breach r.law report again.first again.second ++ draft) (same.report ∙ k.reports.is)
+  told = subst (λ report. text ≡ told_breach r.law report again.first again.second ++ draft)
+      (same.report ∙ k.reports.is)
       (subst (λ first. text ≡ told_breach r.law b.report.items first again.second ++ draft) same.first
       (subst (λ second. text ≡ told_breach r.law b.report.items b.first second ++ draft) same.second told));
 }

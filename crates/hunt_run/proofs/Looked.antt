@@ -8,7 +8,8 @@ use Rattle.hunt_mean.specs.Words.{Request}
 use Rattle.hunt_run.specs.Looks.{Goes, Looks, Stops}
 use Rattle.hunt_run.specs.declared.hunt.Output.{Output}
 
-pub looked : (r : Request) (file : List ℕ) (stack : List LayerTree) (answer : Result Output Ending) → Means file stack → Goes r file answer →
+pub looked : (r : Request) (file : List ℕ) (stack : List LayerTree) (answer : Result Output Ending) → Means file stack →
+    Goes r file answer →
     Looks r file answer
 looked r file stack (Ok o) means goes = goes stack means
 looked r file stack (Err ending) means goes = subst (Stops r file) (sym goes) tt

@@ -17,8 +17,10 @@ is_report : (stack : List LayerTree) (script : Script) →
 unfolding output_in report_lines
 is_report stack script = refl
 
-pub reports : (file : List ℕ) (stack : List LayerTree) (script : Script) (old new : Tells) (contents copy : List ℕ) → Means file stack →
-    Gains old new (output_in stack (plans_of stack) script bypass false false) → old.contents ≡ Some [] → new.contents ≡ Some contents →
+pub reports : (file : List ℕ) (stack : List LayerTree) (script : Script) (old new : Tells) (contents copy : List ℕ) →
+    Means file stack →
+    Gains old new (output_in stack (plans_of stack) script bypass false false) → old.contents ≡ Some [] →
+    new.contents ≡ Some contents →
     copy ≡ contents → Reports file script copy
 reports file stack script old new contents copy means gains empty told same = record {
   stack = stack;

@@ -1,7 +1,9 @@
 -- What a hunt over the bytes of a stack file answers, and its writing.
-use Rattle.std.specs.Prelude.{◌≡◌, ℕ, ◌<◌, Bool, true, false, List, [], ◌∷◌, Option, Some, None, Result, Ok, Err, if◌then◌else◌}
+use Rattle.std.specs.Prelude.{◌≡◌, ℕ, ◌<◌, Bool, true, false, List, [], ◌∷◌, Option, Some, None, Result, Ok, Err}
+use Rattle.std.specs.Prelude.{if◌then◌else◌}
 use Rattle.std.specs.List.{concat}
-use Rattle.end_mean.specs.Status.{Ended, done, breached, file_refused, second_refused, too_many_rows, read_failed, write_failed, no_memory}
+use Rattle.end_mean.specs.Status.{Ended, done, breached, file_refused, second_refused, too_many_rows, read_failed}
+use Rattle.end_mean.specs.Status.{write_failed, no_memory}
 use Rattle.layer_mean.specs.Tree.{LayerTree}
 use Rattle.outside.specs.Lines.{Begins, Fails, Gains}
 use Rattle.outside.specs.Shelf.{Shelved}
@@ -68,7 +70,8 @@ pub record IsStopped (r : Request) (told : Option Shelved) (reads reads_after : 
 -- How the program ends that writes nothing.
 abbrev pub StopsAt : Request → Option Shelved → (reads reads_after : ℕ) → Ended → Type 0
 StopsAt r told reads reads_after (file_refused fault) = IsStopped r told reads reads_after (file_refused fault)
-StopsAt r told reads reads_after (second_refused too_many_rows) = IsStopped r told reads reads_after (second_refused too_many_rows)
+StopsAt r told reads reads_after (second_refused too_many_rows) =
+    IsStopped r told reads reads_after (second_refused too_many_rows)
 StopsAt r told reads reads_after read_failed = IsMissed r.file told reads reads_after
 StopsAt r told reads reads_after no_memory = Unit {0}
 StopsAt r told reads reads_after _ = ⊥

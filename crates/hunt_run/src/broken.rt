@@ -32,7 +32,8 @@ struct Lines {
     second: u32,
 }
 
-/// The report of a text's script over the stack of a file, if it breaks the law, and the script has no more members and events than are asked for.
+/// The report of a text's script over the stack of a file, if it breaks the law, and the script has no more members and
+/// events than are asked for.
 pub(crate) fn broken_by(
     alloc: Global,
     request: Request<'_>,

@@ -23,13 +23,15 @@ use outside::{Clock, Got, Shelf, ShelfError, Sink, SinkError, put_line};
 use std::alloc::Global;
 use std::io::Write;
 
-/// Does the hunt that the words ask for, the program's own name left out, and answers the program's status. What it writes goes to `out`, in one put;
-/// where it ends with another status than 0, one line on `err` says why. What `watch` tells of its progress goes elsewhere.
+/// Does the hunt that the words ask for, the program's own name left out, and answers the program's status. What it
+/// writes goes to `out`, in one put; where it ends with another status than 0, one line on `err` says why. What `watch`
+/// tells of its progress goes elsewhere.
 ///
-/// With status 8 `out` gained a script whose report breaks the law, by the definitions, behind comments with the two lines that do; with 0 the
-/// number of runs in which no such script was found, and of breaches that were missed nothing is claimed. 1, 2 and 3 come exactly where the stack file
-/// is refused, the words ask for no hunt, and the members would keep too many rows; 4 and 5 only where the shelf or `out` counted a fault in this call;
-/// and 7 where memory ran out.
+/// With status 8 `out` gained a script whose report breaks the law, by the definitions, behind comments with the two
+/// lines that do; with 0 the number of runs in which no such script was found, and of breaches that were missed nothing
+/// is claimed. 1, 2 and 3 come exactly where the stack file is refused, the words ask for no hunt, and the members
+/// would keep too many rows; 4 and 5 only where the shelf or `out` counted a fault in this call; and 7 where memory ran
+/// out.
 pub fn run<S: Shelf, O: Sink, E: Sink, C: Clock + Drop, N: Write + Drop>(
     alloc: Global,
     words: &[String],
@@ -53,7 +55,8 @@ pub(crate) fn perform<S: Shelf, O: Sink, C: Clock + Drop, N: Write + Drop>(
     out: &mut O,
     watch: &mut Watch<C, N>,
 ) -> Ending
-    ensures { Comes (request_of (map string_bytes words.now)) (around S.Shelf O.Sink shelf.old shelf.new out.old out.new) (shown result) }
+    ensures { Comes (request_of (map string_bytes words.now))
+        (around S.Shelf O.Sink shelf.old shelf.new out.old out.new) (shown result) }
 {
     match asked_for(alloc, words) {
         Ok(Some(request)) => hunt(alloc, request, shelf, out, watch),
@@ -69,7 +72,8 @@ fn hunt<S: Shelf, O: Sink, C: Clock + Drop, N: Write + Drop>(
     out: &mut O,
     watch: &mut Watch<C, N>,
 ) -> Ending
-    ensures { Hunts (request_shown request.entry) (around S.Shelf O.Sink shelf.old shelf.new out.old out.new) (shown result) }
+    ensures { Hunts (request_shown request.entry) (around S.Shelf O.Sink shelf.old shelf.new out.old out.new)
+        (shown result) }
 {
     match fetch(alloc, request, shelf, watch) {
         Ok(output) => write(&output, out),
@@ -107,7 +111,8 @@ fn fetch_text<S: Shelf>(alloc: Global, file: &str, shelf: &mut S) -> Result<Vec<
 
 /// Writes an output, and answers how the program ended.
 fn write<O: Sink>(output: &Output, out: &mut O) -> Ending
-    ensures { Writes output.now.text output.now.is_breach (tells_of O.Sink out.old) (tells_of O.Sink out.new) (shown result) }
+    ensures { Writes output.now.text output.now.is_breach (tells_of O.Sink out.old) (tells_of O.Sink out.new)
+        (shown result) }
 {
     match put_line(output.text.slice(), out) {
         Ok(()) if output.is_breach => Ending::Breached,

@@ -20,8 +20,9 @@ use std::io::Write;
 
 /// Does the hunt that the words ask for, hands on what was put to both streams, and answers the program's status.
 ///
-/// The status is 0, or 8, only where all was put and the output's stream got all of it. Where the stream did not, that is said as a fault of
-/// writing; how a run ended else stays. What was said is handed on to the stream of `err`, or that sink counted a fault.
+/// The status is 0, or 8, only where all was put and the output's stream got all of it. Where the stream did not, that
+/// is said as a fault of writing; how a run ended else stays. What was said is handed on to the stream of `err`, or
+/// that sink counted a fault.
 pub fn run_through<S: Shelf, O: Write + Drop, E: Write + Drop, C: Clock + Drop, N: Write + Drop>(
     alloc: Global,
     words: &[String],
@@ -30,20 +31,31 @@ pub fn run_through<S: Shelf, O: Write + Drop, E: Write + Drop, C: Clock + Drop, 
     err: &mut StdSink<E>,
     watch: &mut Watch<C, N>,
 ) -> u8
-    ensures through { RunsThrough (map string_bytes words.now) (S.told shelf.old) (S.faults shelf.old) (S.faults shelf.new)
-        (stream (tells (⟦<StdSink<O> as Sink>⟧.contents out.old) (⟦<StdSink<O> as Sink>⟧.failures out.old) (⟦<StdSink<O> as Sink>⟧.faults out.old))
-        (tells (⟦<StdSink<O> as Sink>⟧.contents out.new) (⟦<StdSink<O> as Sink>⟧.failures out.new) (⟦<StdSink<O> as Sink>⟧.faults out.new))
+    ensures through { RunsThrough (map string_bytes words.now) (S.told shelf.old) (S.faults shelf.old)
+        (S.faults shelf.new)
+        (stream (tells (⟦<StdSink<O> as Sink>⟧.contents out.old) (⟦<StdSink<O> as Sink>⟧.failures out.old)
+        (⟦<StdSink<O> as Sink>⟧.faults out.old))
+        (tells (⟦<StdSink<O> as Sink>⟧.contents out.new) (⟦<StdSink<O> as Sink>⟧.failures out.new)
+        (⟦<StdSink<O> as Sink>⟧.faults out.new))
         (O.contents (stream_of out.new)))
-        (stream (tells (⟦<StdSink<E> as Sink>⟧.contents err.old) (⟦<StdSink<E> as Sink>⟧.failures err.old) (⟦<StdSink<E> as Sink>⟧.faults err.old))
-        (tells (⟦<StdSink<E> as Sink>⟧.contents err.new) (⟦<StdSink<E> as Sink>⟧.failures err.new) (⟦<StdSink<E> as Sink>⟧.faults err.new))
+        (stream (tells (⟦<StdSink<E> as Sink>⟧.contents err.old) (⟦<StdSink<E> as Sink>⟧.failures err.old)
+        (⟦<StdSink<E> as Sink>⟧.faults err.old))
+        (tells (⟦<StdSink<E> as Sink>⟧.contents err.new) (⟦<StdSink<E> as Sink>⟧.failures err.new)
+        (⟦<StdSink<E> as Sink>⟧.faults err.new))
         (E.contents (stream_of err.new))) result }
-    ensures held { result ≡ 0 → Delivers (request_of (map string_bytes words.now)) (S.told shelf.old) (S.faults shelf.old) (S.faults shelf.new)
-        (stream (tells (⟦<StdSink<O> as Sink>⟧.contents out.old) (⟦<StdSink<O> as Sink>⟧.failures out.old) (⟦<StdSink<O> as Sink>⟧.faults out.old))
-        (tells (⟦<StdSink<O> as Sink>⟧.contents out.new) (⟦<StdSink<O> as Sink>⟧.failures out.new) (⟦<StdSink<O> as Sink>⟧.faults out.new))
+    ensures held { result ≡ 0 →
+        Delivers (request_of (map string_bytes words.now)) (S.told shelf.old) (S.faults shelf.old) (S.faults shelf.new)
+        (stream (tells (⟦<StdSink<O> as Sink>⟧.contents out.old) (⟦<StdSink<O> as Sink>⟧.failures out.old)
+        (⟦<StdSink<O> as Sink>⟧.faults out.old))
+        (tells (⟦<StdSink<O> as Sink>⟧.contents out.new) (⟦<StdSink<O> as Sink>⟧.failures out.new)
+        (⟦<StdSink<O> as Sink>⟧.faults out.new))
         (O.contents (stream_of out.new))) done }
-    ensures found { result ≡ 8 → Delivers (request_of (map string_bytes words.now)) (S.told shelf.old) (S.faults shelf.old) (S.faults shelf.new)
-        (stream (tells (⟦<StdSink<O> as Sink>⟧.contents out.old) (⟦<StdSink<O> as Sink>⟧.failures out.old) (⟦<StdSink<O> as Sink>⟧.faults out.old))
-        (tells (⟦<StdSink<O> as Sink>⟧.contents out.new) (⟦<StdSink<O> as Sink>⟧.failures out.new) (⟦<StdSink<O> as Sink>⟧.faults out.new))
+    ensures found { result ≡ 8 →
+        Delivers (request_of (map string_bytes words.now)) (S.told shelf.old) (S.faults shelf.old) (S.faults shelf.new)
+        (stream (tells (⟦<StdSink<O> as Sink>⟧.contents out.old) (⟦<StdSink<O> as Sink>⟧.failures out.old)
+        (⟦<StdSink<O> as Sink>⟧.faults out.old))
+        (tells (⟦<StdSink<O> as Sink>⟧.contents out.new) (⟦<StdSink<O> as Sink>⟧.failures out.new)
+        (⟦<StdSink<O> as Sink>⟧.faults out.new))
         (O.contents (stream_of out.new))) breached }
 {
     let ending = perform(alloc, words, shelf, out, watch);

@@ -8,8 +8,8 @@ use program_streams::command_words;
 use std::io::{self, IsTerminal, Write};
 use std::rt::{Clock as SystemClock, Env, Files};
 
-/// Does the hunt that the command line asks for, and answers the program's status. Its progress is told on `notes`, if that is a terminal. Where memory
-/// runs out before the standard error is made, nothing is said.
+/// Does the hunt that the command line asks for, and answers the program's status. Its progress is told on `notes`, if
+/// that is a terminal. Where memory runs out before the standard error is made, nothing is said.
 pub fn program<
     R: AllocGlobal + Env + Files + SystemClock,
     O: Write + Drop,

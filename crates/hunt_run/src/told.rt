@@ -15,7 +15,8 @@ use std::alloc::Global;
 
 /// A script behind comments that tell which law its report breaks, and by which two lines.
 pub(crate) fn tell(alloc: Global, law: Law, broken: &Broken, script: &[u8]) -> Result<Line, Memory>
-    ensures { IfOk result (λ text. text ≡ spec.told_breach law broken.now.report.items broken.now.first broken.now.second ++ script.now) }
+    ensures { IfOk result
+        (λ text. text ≡ spec.told_breach law broken.now.report.items broken.now.first broken.now.second ++ script.now) }
 {
     let mut text = Line::new(alloc);
     text.text(b"# breaks ")?;

@@ -11,8 +11,8 @@ use std::io::Write;
 /// How many milliseconds there are at least between two lines of progress.
 const PAUSE: u32 = 500;
 
-/// A clock, with the moments at which a hunt began, of the last look at it, and of the last line of progress; and where such lines go, if somebody
-/// reads them.
+/// A clock, with the moments at which a hunt began, of the last look at it, and of the last line of progress; and where
+/// such lines go, if somebody reads them.
 #[derive(Drop)]
 pub struct Watch<C: Clock + Drop, N: Write + Drop> {
     clock: C,

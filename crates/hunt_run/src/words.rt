@@ -26,8 +26,8 @@ const MOST_EVENTS: u32 = 99_999;
 /// The most seconds of a hunt.
 const MOST_SECONDS: u32 = 1_000_000;
 
-/// A stack file, the law that its stack is to break, how many members a group has, and events a run; how many runs there are, and from which number
-/// on; and behind how many seconds none begins, 0 for never.
+/// A stack file, the law that its stack is to break, how many members a group has, and events a run; how many runs
+/// there are, and from which number on; and behind how many seconds none begins, 0 for never.
 #[derive(Clone, Copy)]
 pub(crate) struct Request<'w> {
     pub file: &'w str,

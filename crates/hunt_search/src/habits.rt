@@ -2,7 +2,8 @@
 
 use crate::random::Random;
 
-/// How often what happens, in a hundred times; and by how many milliseconds the clock goes on at most from tick to tick.
+/// How often what happens, in a hundred times; and by how many milliseconds the clock goes on at most from tick to
+/// tick.
 #[derive(Clone, Copy)]
 pub(crate) struct Habits {
     /// That a member casts, sends, ticks, or leaves; else a packet is given.
@@ -62,7 +63,8 @@ fn some(random: &mut Random, often: u32, most: u32) -> u32 {
     }
 }
 
-/// By how much a clock goes on: little, about as much as layers wait before they ask again, or so much that members are suspected.
+/// By how much a clock goes on: little, about as much as layers wait before they ask again, or so much that members are
+/// suspected.
 fn stride(random: &mut Random) -> u32 {
     match random.below(4) {
         0 => 20,

@@ -5,7 +5,8 @@ use crate::notes::{Content, Deed, Name, Note};
 use audit_mean::Law;
 use std::alloc::Global;
 
-/// A stay of a member in a view: the first has no name, and the last no next view. What it delivered stands in a list, from one place to another.
+/// A stay of a member in a view: the first has no name, and the last no next view. What it delivered stands in a list,
+/// from one place to another.
 #[derive(Clone, Copy)]
 struct Stay {
     member: u8,
@@ -22,7 +23,8 @@ struct Stays {
     contents: Vec<Content>,
 }
 
-/// Whether the notes of a group of so many members break a law: if they do, so does the report, but for two bodies of one number.
+/// Whether the notes of a group of so many members break a law: if they do, so does the report, but for two bodies of
+/// one number.
 pub(crate) fn is_broken(
     alloc: Global,
     law: Law,

@@ -19,8 +19,9 @@ pub(crate) struct Due {
     pub ltime: u32,
 }
 
-/// The packets that are on their way, in the order in which they were sent; those of views in which the members aren't yet to whom they go; the logical
-/// time of each member's view; how many members there are; those on the one side where the network is parted; and those that neither hear nor are heard.
+/// The packets that are on their way, in the order in which they were sent; those of views in which the members aren't
+/// yet to whom they go; the logical time of each member's view; how many members there are; those on the one side where
+/// the network is parted; and those that neither hear nor are heard.
 #[derive(Drop)]
 pub(crate) struct Network {
     dues: Vec<Due>,
@@ -152,7 +153,8 @@ impl Network {
         Ok(())
     }
 
-    /// A member is in the view of this logical time: what was sent to it in those before is lost, and what waited for this one is on its way.
+    /// A member is in the view of this logical time: what was sent to it in those before is lost, and what waited for
+    /// this one is on its way.
     pub(crate) fn enter(&mut self, member: u8, ltime: u32) -> Result<(), SearchError> {
         if let Some(now) = self.ltimes.get_mut(usize::from(member)) {
             *now = ltime;

@@ -14,7 +14,8 @@ pub(crate) struct Text {
 }
 
 impl Text {
-    /// The script of a group of so many members in which nothing happens, behind a comment that tells the run from which it comes.
+    /// The script of a group of so many members in which nothing happens, behind a comment that tells the run from
+    /// which it comes.
     pub(crate) fn of(
         alloc: Global,
         run: u64,

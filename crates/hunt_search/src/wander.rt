@@ -19,8 +19,8 @@ const LOST_IN_ROW: u32 = 8;
 /// By how many milliseconds the clock goes on at most in a run that becomes quiet: so few that nobody is suspected.
 const QUIET_STRIDE: u32 = 60;
 
-/// A run as it goes on: what was drawn last, how the run behaves, what is on its way, the moment of all clocks, how many bodies there were, whose clock
-/// ticks next where it is quiet, and who is out.
+/// A run as it goes on: what was drawn last, how the run behaves, what is on its way, the moment of all clocks, how
+/// many bodies there were, whose clock ticks next where it is quiet, and who is out.
 #[derive(Drop)]
 pub(crate) struct Wander {
     random: Random,
@@ -215,7 +215,8 @@ impl Wander {
         }
     }
 
-    /// What a step came to: the packets that it sent to these are on their way, and who is in another view now hears that one alone.
+    /// What a step came to: the packets that it sent to these are on their way, and who is in another view now hears
+    /// that one alone.
     pub(crate) fn follow(
         &mut self,
         group: &Group,

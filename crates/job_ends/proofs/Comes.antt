@@ -1,5 +1,6 @@
 -- What a job comes to, from what was read and written.
-use Rattle.std.proofs.Common.{arith, ◌≡◌, refl, sym, subst, ◌∙◌, ap, ℕ, zero, suc, ◌<◌, List, [], ◌∷◌, length, append-nil, Option, Some, None, inr}
+use Rattle.std.proofs.Common.{arith, ◌≡◌, refl, sym, subst, ◌∙◌, ap, ℕ, zero, suc, ◌<◌, List, [], ◌∷◌, length}
+use Rattle.std.proofs.Common.{append-nil, Option, Some, None, inr}
 use Rattle.std.specs.Prelude.{IfSome, IsSomeAnd}
 use Rattle.std.specs.List.{concat}
 use Rattle.std.specs.Option.{option_map}
@@ -45,28 +46,35 @@ length_zeros zero = refl
 length_zeros (suc n) = ap suc (length_zeros n)
 
 -- A file of more than so many bytes: the one that was found, where the shelf tells, and else any.
-pub longer : (told : Option Shelved) (name : Text) (most : ℕ) → IfSome told (λ shelf. IsSomeAnd (found_in shelf name) (λ file. most < length file)) →
+pub longer : (told : Option Shelved) (name : Text) (most : ℕ) →
+    IfSome told (λ shelf. IsSomeAnd (found_in shelf name) (λ file. most < length file)) →
     (file : List ℕ) × IfSome told (λ shelf. found_in shelf name ≡ Some file) × (most < length file)
 longer None name most h = let n = length_zeros (suc most) in (zeros (suc most), tt, omega (arith, n))
 longer (Some shelf) name most h = found (found_in shelf name) h where
-  found : (o : Option (List ℕ)) → IsSomeAnd o (λ file. most < length file) → (file : List ℕ) × (o ≡ Some file) × (most < length file)
+  found : (o : Option (List ℕ)) → IsSomeAnd o (λ file. most < length file) → (file : List ℕ) × (o ≡ Some file) ×
+      (most < length file)
   found None h = absurd h
   found (Some file) h = (file, refl, h)
 
 -- What is printed of bypasses that are made is what is printed of its stack's.
-printed : (print : Lines) (file : List ℕ) (lines : List (List ℕ)) (o : Synthesized print file lines) → lines ≡ print o.stack (plans_of o.stack) (bypasses_of simplest o.stack)
+printed : (print : Lines) (file : List ℕ) (lines : List (List ℕ)) (o : Synthesized print file lines) →
+    lines ≡ print o.stack (plans_of o.stack) (bypasses_of simplest o.stack)
 printed print file lines o = o.written ∙ ap (print o.stack (plans_of o.stack)) o.simplest
 
 -- It is one.
-printed_once : (print : Lines) (file : List ℕ) (one other : List (List ℕ)) → Synthesized print file one → Synthesized print file other → one ≡ other
+printed_once : (print : Lines) (file : List ℕ) (one other : List (List ℕ)) → Synthesized print file one →
+    Synthesized print file other → one ≡ other
 printed_once print file one other x y = printed print file one x
-    ∙ ap (λ s. print s (plans_of s) (bypasses_of simplest s)) (one_meaning file x.stack y.stack x.means y.means) ∙ sym (printed print file other y)
+    ∙ ap (λ s. print s (plans_of s) (bypasses_of simplest s)) (one_meaning file x.stack y.stack x.means y.means) ∙
+    sym (printed print file other y)
 
 -- An output as the program's definitions have it.
-pub writes_of : (job : Job) (r : Run) (file second third : List ℕ) (lines : List (List ℕ)) → IsOutput job file second third lines → r.sent ≡ [] →
+pub writes_of : (job : Job) (r : Run) (file second third : List ℕ) (lines : List (List ℕ)) →
+    IsOutput job file second third lines → r.sent ≡ [] →
     third_for job r.third ≡ Some third →
     WritesOf printed_text job r file second (concat lines)
-writes_of (check name) r file second third lines o none is = (record { stack = o.stack; means = o.means; written = ap concat o.written }, none)
+writes_of (check name) r file second third lines o none is =
+    (record { stack = o.stack; means = o.means; written = ap concat o.written }, none)
 writes_of (synth name) r file second third lines o none is =
     (record { stack = o.stack; means = o.means; written = ap concat (printed printed_lines file lines o) }, none)
 writes_of (pack name) r file second third lines o none is =
@@ -91,7 +99,12 @@ writes_of (replay_with name script given wire count) r file second third lines o
     room = o.room;
     written = ap concat o.written;
   },
-  record { stack = o.stack; means = o.means; accepted = subst (λ found. IsSomeAnd found (Accepts o.stack)) (sym is) o.accepted },
+  record {
+    stack = o.stack;
+    means = o.means;
+    accepted = subst (λ found. IsSomeAnd found (Accepts o.stack)) (sym is)
+        o.accepted;
+  },
   none,
 )
 writes_of (explain name script) r file second third lines o none is = (
@@ -108,11 +121,19 @@ writes_of (explain name script) r file second third lines o none is = (
 writes_of (load name seed events members raw mode) r file second third lines o none is =
     (record { stack = o.stack; means = o.means; room = o.room; written = ap concat o.written }, none)
 writes_of (node name plan turns me patience mode) r file second third lines o none is = absurd o
-writes_of (audit name law) r file second third lines o none is =
-    (record { finding = o.finding; found = o.found; written = ap concat o.written ∙ append-nil (finding_line o.finding) }, none)
+writes_of (audit name law) r file second third lines o none is = (
+  record {
+    finding = o.finding;
+    found = o.found;
+    written = ap concat o.written ∙
+        append-nil (finding_line o.finding);
+  },
+  none,
+)
 
 -- Files have one output.
-pub output_once : (job : Job) (file second third : List ℕ) (one other : List (List ℕ)) → IsOutput job file second third one →
+pub output_once : (job : Job) (file second third : List ℕ) (one other : List (List ℕ)) →
+    IsOutput job file second third one →
     IsOutput job file second third other →
     one ≡ other
 output_once (check name) file second third one other x y =
@@ -145,10 +166,12 @@ output_once (audit name law) file second third one other x y =
     x.written ∙ ap (λ f. finding_line f ∷ []) same ∙ sym y.written
 
 -- What a read finds is one.
-pub found_once : (job : Job) (shelf : Shelved) (one other : Option (List ℕ)) → Finds job (Some shelf) one → Finds job (Some shelf) other → one ≡ other
+pub found_once : (job : Job) (shelf : Shelved) (one other : Option (List ℕ)) → Finds job (Some shelf) one →
+    Finds job (Some shelf) other → one ≡ other
 found_once job shelf one other x y = sym x ∙ y
 
-pub beside_once : (job : Job) (shelf : Shelved) (one other : Option (List ℕ)) → Beside job (Some shelf) one → Beside job (Some shelf) other →
+pub beside_once : (job : Job) (shelf : Shelved) (one other : Option (List ℕ)) → Beside job (Some shelf) one →
+    Beside job (Some shelf) other →
     one ≡ other
 beside_once (check name) shelf one other x y = x ∙ sym y
 beside_once (synth name) shelf one other x y = x ∙ sym y
@@ -186,7 +209,8 @@ second_missed (node name plan turns me patience mode) told is = refl
 second_missed (audit name law) told is = absurd (cc is)
 
 -- What is found under a name, where the shelf tells.
-found_at : (told : Option Shelved) (name : Text) → (found : Option (List ℕ)) × IfSome told (λ shelf. found_in shelf name ≡ found)
+found_at : (told : Option Shelved) (name : Text) →
+    (found : Option (List ℕ)) × IfSome told (λ shelf. found_in shelf name ≡ found)
 found_at None name = (None, tt)
 found_at (Some shelf) name = (found_in shelf name, refl)
 
@@ -194,7 +218,8 @@ found_at (Some shelf) name = (found_in shelf name, refl)
 pub next_file : (job : Job) (told : Option Shelved) → (found : Option (List ℕ)) × Finds job told found
 next_file job told = found_at told (file_name job)
 
-pub next_second : (job : Job) (told : Option Shelved) → (second : Option (List ℕ)) × Beside job told (second_for job second)
+pub next_second : (job : Job) (told : Option Shelved) → (second : Option (List ℕ)) ×
+    Beside job told (second_for job second)
 next_second (check name) told = (None, refl)
 next_second (synth name) told = (None, refl)
 next_second (pack name) told = (None, refl)
@@ -206,7 +231,8 @@ next_second (node name plan turns me patience mode) told = found_at (option_map 
 next_second (audit name law) told = (None, refl)
 
 -- So it is of its third file.
-pub behind_once : (job : Job) (shelf : Shelved) (one other : Option (List ℕ)) → Behind job (Some shelf) one → Behind job (Some shelf) other →
+pub behind_once : (job : Job) (shelf : Shelved) (one other : Option (List ℕ)) → Behind job (Some shelf) one →
+    Behind job (Some shelf) other →
     one ≡ other
 behind_once (replay_with name script given wire count) shelf one other x y = sym x ∙ y
 behind_once (check name) shelf one other x y = x ∙ sym y
@@ -242,7 +268,8 @@ third_missed (node name plan turns me patience mode) told is = absurd (cc is)
 third_missed (audit name law) told is = absurd (cc is)
 
 pub next_third : (job : Job) (told : Option Shelved) → (third : Option (List ℕ)) × Behind job told (third_for job third)
-next_third (replay_with name script given wire count) told = found_at (option_map after_read (option_map after_read told)) given
+next_third (replay_with name script given wire count) told =
+    found_at (option_map after_read (option_map after_read told)) given
 next_third (check name) told = (None, refl)
 next_third (synth name) told = (None, refl)
 next_third (pack name) told = (None, refl)
@@ -253,7 +280,8 @@ next_third (node name plan turns me patience mode) told = (None, refl)
 next_third (audit name law) told = (None, refl)
 
 -- A job with a file of traces has it as its third.
-pub third_is : (job : Job) (third : Option (List ℕ)) (text : List ℕ) → ReadsTraces job → third_for job third ≡ Some text → third ≡ Some text
+pub third_is : (job : Job) (third : Option (List ℕ)) (text : List ℕ) → ReadsTraces job →
+    third_for job third ≡ Some text → third ≡ Some text
 third_is (replay_with name script given wire count) third text reads is = is
 third_is (check name) third text reads is = absurd reads
 third_is (synth name) third text reads is = absurd reads

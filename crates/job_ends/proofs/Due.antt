@@ -8,13 +8,15 @@ use Rattle.audit_mean.specs.Finding.{AuditFault, audit_of}
 use Rattle.audit_mean.specs.declared.law.Finding.{Finding}
 use Rattle.audit_mean.specs.declared.law.Finding.TheVariants.{Holds, Breach}
 use Rattle.job_mean.specs.Job.{Job, check, synth, pack, replay, replay_with, explain, load, node, audit, job_of_words}
-use Rattle.end_mean.specs.Status.{Ended, done, breached, file_refused, report_refused, words_refused, second_refused, traces_refused, read_failed, write_failed, link_failed, no_memory, status_number}
+use Rattle.end_mean.specs.Status.{Ended, done, breached, file_refused, report_refused, words_refused, second_refused}
+use Rattle.end_mean.specs.Status.{traces_refused, read_failed, write_failed, link_failed, no_memory, status_number}
 use Rattle.job_ends.specs.Printed.{printed_text}
 use Rattle.program_mean.specs.Headline.{IsNoReport, end_found, whole_end, second_for, third_for}
 use Rattle.outside.specs.Lines.{Gains}
 use Rattle.outside.specs.Said.{Errors, SaysLine, whole, failed, no_memory as wanted}
 use Rattle.program_laws.specs.OneEnd.{IsAlone}
-use Rattle.program_laws.proofs.Ends.{words_are_due, files_are_due, reports_are_due, seconds_are_due, misses_are_due, second_misses_are_due, good_are_due, traces_are_due, third_misses_are_due}
+use Rattle.program_laws.proofs.Ends.{words_are_due, files_are_due, reports_are_due, seconds_are_due, misses_are_due}
+use Rattle.program_laws.proofs.Ends.{second_misses_are_due, good_are_due, traces_are_due, third_misses_are_due}
 use Rattle.job_ends.specs.Comes.{Around, Finds, Beside, Behind, IsOutput, Good, BadReport, Unfound, Whole, Comes}
 use Rattle.job_ends.specs.Due.{Due, NoPutFailed, CallsFor, Exact}
 use Rattle.job_ends.specs.Seen.{run_of, Seen}
@@ -85,7 +87,8 @@ whole_number (audit name law) file = go (audit_of law file) where
   go (Ok (Breach first second)) = inr refl
   go (Err fault) = inl refl
 
-module _ (words : List Text) (job : Job) (a : Around) (e : Errors) (is : job_of_words words ≡ Some job) (alone : IsAlone job)
+module _ (words : List Text) (job : Job) (a : Around) (e : Errors) (is : job_of_words words ≡ Some job)
+    (alone : IsAlone job)
     (s : Seen words (Some job) a e) where
   module _ (shelf : Shelved) (told : a.told ≡ Some shelf) where
     -- the files of the run are what the next reads find
@@ -95,27 +98,39 @@ module _ (words : List Text) (job : Job) (a : Around) (e : Errors) (is : job_of_
         sym met ∙ finds
 
     second_is : (found : Option (List ℕ)) → Beside job (Some shelf) found → second_for job s.second ≡ found
-    second_is found finds = beside_once job shelf (second_for job s.second) found (subst (λ t. Beside job t (second_for job s.second)) told s.beside) finds
+    second_is found finds = beside_once job shelf (second_for job s.second) found
+        (subst (λ t. Beside job t (second_for job s.second)) told s.beside) finds
 
     third_found : (found : Option (List ℕ)) → Behind job (Some shelf) found → third_for job s.third ≡ found
-    third_found found finds = behind_once job shelf (third_for job s.third) found (subst (λ t. Behind job t (third_for job s.third)) told s.behind) finds
+    third_found found finds = behind_once job shelf (third_for job s.third) found
+        (subst (λ t. Behind job t (third_for job s.third)) told s.behind) finds
 
     good_due : (good : Good job (Some shelf)) → NoPutFailed a → Due (status_number (whole_end job good.file)) e.status
-    good_due good puts = good_are_due printed_text (run_of words a e s.file s.second s.third s.written s.said) job good.file good.second (concat good.lines)
+    good_due good puts = good_are_due printed_text (run_of words a e s.file s.second s.third s.written s.said) job
+        good.file good.second (concat good.lines)
         s.ran puts alone is (file_is (Some good.file) good.found) (second_is (Some good.second) good.beside)
-        (writes_of job _ good.file good.second good.third good.lines good.output refl (third_found (Some good.third) good.behind))
+        (writes_of job _ good.file good.second good.third good.lines good.output refl
+        (third_found (Some good.third) good.behind))
 
     unfound_due : Unfound job (Some shelf) → Due 4 e.status
-    unfound_due (inl none) = misses_are_due printed_text (run_of words a e s.file s.second s.third s.written s.said) job s.ran is (file_is None none)
-    unfound_due (inr (inl n)) = second_misses_are_due printed_text (run_of words a e s.file s.second s.third s.written s.said) job n.file n.stack s.ran is
+    unfound_due (inl none) = misses_are_due printed_text (run_of words a e s.file s.second s.third s.written s.said) job
+        s.ran is (file_is None none)
+    unfound_due (inr (inl n)) =
+        second_misses_are_due printed_text (run_of words a e s.file s.second s.third s.written s.said) job n.file
+        n.stack s.ran is
         (file_is (Some n.file) n.found) n.means (second_is None n.none)
-    unfound_due (inr (inr n)) = third_misses_are_due printed_text (run_of words a e s.file s.second s.third s.written s.said) job n.file n.second n.stack
-        s.ran is (file_is (Some n.file) n.found) (second_is (Some n.second) n.beside) n.means n.fine (third_found None n.none)
+    unfound_due (inr (inr n)) =
+        third_misses_are_due printed_text (run_of words a e s.file s.second s.third s.written s.said) job n.file
+        n.second n.stack
+        s.ran is (file_is (Some n.file) n.found) (second_is (Some n.second) n.beside) n.means n.fine
+        (third_found None n.none)
 
     report_due : (fault : AuditFault) (b : BadReport job (Some shelf) fault) → Due 1 e.status
     report_due fault b = go job is b.refused where
       go : (other : Job) → job_of_words words ≡ Some other → IsNoReport other b.file fault → Due 1 e.status
-      go (audit name law) named refused = reports_are_due printed_text (run_of words a e s.file s.second s.third s.written s.said) name law b.file fault s.ran
+      go (audit name law) named refused =
+          reports_are_due printed_text (run_of words a e s.file s.second s.third s.written s.said) name law b.file fault
+          s.ran
           named (file_is (Some b.file) b.found) refused
       go (check name) named refused = absurd refused
       go (synth name) named refused = absurd refused
@@ -129,13 +144,19 @@ module _ (words : List Text) (job : Job) (a : Around) (e : Errors) (is : job_of_
     due : (end : Ended) → CallsFor job a shelf end → Due (status_number end) e.status
     due done c = subst (λ end. Due (status_number end) e.status) c.0.1 (good_due c.0.0 c.1)
     due breached c = subst (λ end. Due (status_number end) e.status) c.0.1 (good_due c.0.0 c.1)
-    due (file_refused fault) b = files_are_due printed_text (run_of words a e s.file s.second s.third s.written s.said) job b.file fault s.ran is b.reads
+    due (file_refused fault) b = files_are_due printed_text (run_of words a e s.file s.second s.third s.written s.said)
+        job b.file fault s.ran is b.reads
         (file_is (Some b.file) b.found) b.refused
     due (report_refused fault) b = report_due fault b
-    due (second_refused fault) b = seconds_are_due printed_text (run_of words a e s.file s.second s.third s.written s.said) job b.file b.second b.stack fault
+    due (second_refused fault) b =
+        seconds_are_due printed_text (run_of words a e s.file s.second s.third s.written s.said) job b.file b.second
+        b.stack fault
         s.ran is (file_is (Some b.file) b.found) (second_is (Some b.second) b.beside) b.means b.refused
-    due (traces_refused fault) b = traces_are_due printed_text (run_of words a e s.file s.second s.third s.written s.said) job b.file b.second b.third
-        b.stack fault s.ran is b.reads (file_is (Some b.file) b.found) (second_is (Some b.second) b.beside) b.means b.fine
+    due (traces_refused fault) b =
+        traces_are_due printed_text (run_of words a e s.file s.second s.third s.written s.said) job b.file b.second
+        b.third
+        b.stack fault s.ran is b.reads (file_is (Some b.file) b.found) (second_is (Some b.second) b.beside) b.means
+        b.fine
         (third_is job s.third b.third b.reads (third_found (Some b.third) b.behind)) b.refused
     due read_failed u = unfound_due u
     due _ c = absurd c
@@ -144,15 +165,19 @@ module _ (words : List Text) (job : Job) (a : Around) (e : Errors) (is : job_of_
     lines_once : (one other : Good job (Some shelf)) → one.lines ≡ other.lines
     lines_once one other =
         let files : Some one.file ≡ Some other.file = sym one.found ∙ other.found in
-        let seconds : Some one.second ≡ Some other.second = beside_once job shelf (Some one.second) (Some other.second) one.beside other.beside in
-        let thirds : Some one.third ≡ Some other.third = behind_once job shelf (Some one.third) (Some other.third) one.behind other.behind in
+        let seconds : Some one.second ≡ Some other.second = beside_once job shelf (Some one.second) (Some other.second)
+        one.beside other.beside in
+        let thirds : Some one.third ≡ Some other.third = behind_once job shelf (Some one.third) (Some other.third)
+        one.behind other.behind in
         let file : other.file ≡ one.file = cc (files) in
         let second : other.second ≡ one.second = cc (seconds) in
         let third : other.third ≡ one.third = cc (thirds) in
         output_once job one.file one.second one.third one.lines other.lines one.output
-        (subst {A = List ℕ × List ℕ × List ℕ} (λ x. IsOutput job x.0 x.1 x.2 other.lines) (λ k. (file k, second k, third k)) other.output)
+        (subst {A = List ℕ × List ℕ × List ℕ} (λ x. IsOutput job x.0 x.1 x.2 other.lines)
+        (λ k. (file k, second k, third k)) other.output)
 
-    gained : (end : Ended) (w : Whole job a end) (good : Good job (Some shelf)) → Gains a.output a.output_after good.lines
+    gained : (end : Ended) (w : Whole job a end) (good : Good job (Some shelf)) →
+        Gains a.output a.output_after good.lines
     gained end w good = subst (Gains a.output a.output_after)
         (subst (λ t. (g : Good job t) → g.lines ≡ good.lines) (sym told) (λ g. lines_once g good) w.good) w.written
 
@@ -173,5 +198,7 @@ module _ (words : List Text) (job : Job) (a : Around) (e : Errors) (is : job_of_
   }
 
 -- words that are no job are refused
-pub words_due : (words : List Text) (a : Around) (e : Errors) → Seen words None a e → job_of_words words ≡ None → Due 2 e.status
-words_due words a e s is = words_are_due printed_text (run_of words a e s.file s.second s.third s.written s.said) s.ran is
+pub words_due : (words : List Text) (a : Around) (e : Errors) → Seen words None a e → job_of_words words ≡ None →
+    Due 2 e.status
+words_due words a e s is = words_are_due printed_text (run_of words a e s.file s.second s.third s.written s.said) s.ran
+    is

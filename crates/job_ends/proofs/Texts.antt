@@ -6,7 +6,9 @@ use Rattle.end_mean.specs.Status.{status_number, error_line}
 use Rattle.outside.specs.Said.{Errors, SaysLine}
 use Rattle.job_ends.specs.Shown.{Said, file_end}
 use Rattle.file_judge.specs.declared.error.FileError.{FileError}
-use Rattle.file_judge.specs.declared.error.FileError.TheVariants.{TooLarge, BadToken, Unexpected, Unknown, Twice, OverLimit, Kind, Arity, Direction, Header, Initial, Cycle, TooMany, TooManyJoins, Memory}
+use Rattle.file_judge.specs.declared.error.FileError.TheVariants.{TooLarge, BadToken, Unexpected, Unknown, Twice}
+use Rattle.file_judge.specs.declared.error.FileError.TheVariants.{OverLimit, Kind, Arity, Direction, Header, Initial}
+use Rattle.file_judge.specs.declared.error.FileError.TheVariants.{Cycle, TooMany, TooManyJoins, Memory}
 
 -- texts joined from the left, and from the right
 pub four_joined : (a x b y : List ℕ) → a ++ (x ++ (b ++ y)) ≡ a ++ x ++ b ++ y
@@ -19,22 +21,28 @@ six_joined a x b y c z = four_joined a x b (y ++ (c ++ z)) ∙ four_joined (a ++
 pub differ_line : (name number act : List ℕ) →
     codes "bypass: entry " ++ (name ++ (codes " case " ++ (number ++ (codes " op " ++ (act ++ codes "\n"))))) ≡
     codes "bypass: " ++ (codes "entry " ++ name ++ codes " case " ++ number ++ codes " op " ++ act) ++ codes "\n"
-differ_line name number act = ap (λ t. codes "bypass: entry " ++ t) (six_joined name (codes " case ") number (codes " op ") act (codes "\n"))
+differ_line name number act =
+    ap (λ t. codes "bypass: entry " ++ t) (six_joined name (codes " case ") number (codes " op ") act (codes "\n"))
 
 -- that of a plan's
 plan_named : (n : ℕ) → (n ≡ 0 → ⊥) × (n ≡ 1 → ⊥) → codes "plan " ++ decimal (n - 2) ≡ entry_name n
 plan_named zero other = absurd (other.0 refl)
 plan_named (suc zero) other = absurd (other.1 refl)
-plan_named (suc (suc k)) other = let behind : suc (suc k) - 2 ≡ k = omega arith in ap (λ n. codes "plan " ++ decimal n) behind
+plan_named (suc (suc k)) other = let behind : suc (suc k) - 2 ≡ k = omega arith in
+    ap (λ n. codes "plan " ++ decimal n) behind
 
 pub plan_line : (n : ℕ) (number act : List ℕ) → (n ≡ 0 → ⊥) × (n ≡ 1 → ⊥) →
-    codes "bypass: entry plan " ++ (decimal (n - 2) ++ (codes " case " ++ (number ++ (codes " op " ++ (act ++ codes "\n"))))) ≡
-    codes "bypass: " ++ (codes "entry " ++ entry_name n ++ codes " case " ++ number ++ codes " op " ++ act) ++ codes "\n"
+    codes "bypass: entry plan " ++
+    (decimal (n - 2) ++ (codes " case " ++ (number ++ (codes " op " ++ (act ++ codes "\n"))))) ≡
+    codes "bypass: " ++ (codes "entry " ++ entry_name n ++ codes " case " ++ number ++ codes " op " ++ act) ++
+    codes "\n"
 plan_line n number act other = differ_line (codes "plan " ++ decimal (n - 2)) number act
-    ∙ ap (λ name. codes "bypass: " ++ (codes "entry " ++ name ++ codes " case " ++ number ++ codes " op " ++ act) ++ codes "\n") (plan_named n other)
+    ∙ ap (λ name. codes "bypass: " ++ (codes "entry " ++ name ++ codes " case " ++ number ++ codes " op " ++ act) ++
+    codes "\n") (plan_named n other)
 
 -- what is said of a file that is refused
-pub says_file : (error : FileError) (e : Errors) → SaysLine (error_line (file_end error)) (status_number (file_end error)) e → Said (file_end error) e
+pub says_file : (error : FileError) (e : Errors) →
+    SaysLine (error_line (file_end error)) (status_number (file_end error)) e → Said (file_end error) e
 says_file TooLarge e h = h
 says_file (BadToken at) e h = h
 says_file (Unexpected at) e h = h

@@ -17,7 +17,8 @@ use Rattle.script_mean.specs.declared.script.Script.{Script}
 use Rattle.stack_mean.specs.Plans.{plans_of}
 use Rattle.run_mean.specs.Mode.{Mode, bypass}
 use Rattle.job_mean.specs.Job.{Job, check, synth, pack, replay, replay_with, explain, load, node, audit}
-use Rattle.end_mean.specs.Status.{FileFault, SecondFault, Ended, done, breached, file_refused, report_refused, words_refused, second_refused, traces_refused, read_failed, write_failed, no_memory}
+use Rattle.end_mean.specs.Status.{FileFault, SecondFault, Ended, done, breached, file_refused, report_refused}
+use Rattle.end_mean.specs.Status.{words_refused, second_refused, traces_refused, read_failed, write_failed, no_memory}
 use Rattle.run_mean.specs.Report.{output_in}
 use Rattle.run_mean.specs.Tally.{tally, accepted_lines}
 use Rattle.miss_mean.specs.Text.{explained_lines}
@@ -87,10 +88,13 @@ Finds job told found = IfSome told (λ shelf. found_in shelf (file_name job) ≡
 
 -- What the read of its second file finds behind that; a job that has none reads as if it were empty.
 abbrev pub Beside : Job → Option Shelved → Option (List ℕ) → Type 0
-Beside (replay file script mode wire count) told found = IfSome (option_map after_read told) (λ shelf. found_in shelf script ≡ found)
-Beside (replay_with file script given wire count) told found = IfSome (option_map after_read told) (λ shelf. found_in shelf script ≡ found)
+Beside (replay file script mode wire count) told found =
+    IfSome (option_map after_read told) (λ shelf. found_in shelf script ≡ found)
+Beside (replay_with file script given wire count) told found =
+    IfSome (option_map after_read told) (λ shelf. found_in shelf script ≡ found)
 Beside (explain file script) told found = IfSome (option_map after_read told) (λ shelf. found_in shelf script ≡ found)
-Beside (node file plan turns me patience mode) told found = IfSome (option_map after_read told) (λ shelf. found_in shelf plan ≡ found)
+Beside (node file plan turns me patience mode) told found =
+    IfSome (option_map after_read told) (λ shelf. found_in shelf plan ≡ found)
 Beside _ told found = found ≡ Some []
 
 -- What the read of its third file finds behind both; a job that has none reads as if it were empty.
@@ -149,11 +153,12 @@ pub record Explained (file text : List ℕ) (lines : List (List ℕ)) : Type 0 w
   pub written : lines ≡ explained_lines means.file stack (plans_of stack) script
 
 -- That of a load.
-pub record Loaded (file : List ℕ) (seed events members : ℕ) (raw : Bool) (mode : Mode) (lines : List (List ℕ)) : Type 0 where
-  pub stack : List LayerTree
-  pub means : Means file stack
-  pub room : HasRoom stack members
-  pub written : lines ≡ tally stack (plans_of stack) mode (generate seed events members raw)
+pub record Loaded (file : List ℕ) (seed events members : ℕ) (raw : Bool) (mode : Mode) (lines : List (List ℕ)) : Type 0
+  where
+    pub stack : List LayerTree
+    pub means : Means file stack
+    pub room : HasRoom stack members
+    pub written : lines ≡ tally stack (plans_of stack) mode (generate seed events members raw)
 
 abbrev pub IsOutput : Job → (file second third : List ℕ) → (lines : List (List ℕ)) → Type 0
 IsOutput (check name) file second third lines = Checked file lines
@@ -161,9 +166,11 @@ IsOutput (synth name) file second third lines = Synthesized printed_lines file l
 IsOutput (pack name) file second third lines = Synthesized packed file lines
 IsOutput (audit name law) file second third lines = Audited file law lines
 IsOutput (replay name script mode wire count) file second third lines = Replayed file second mode wire count lines
-IsOutput (replay_with name script given wire count) file second third lines = ReplayedWith file second third wire count lines
+IsOutput (replay_with name script given wire count) file second third lines =
+    ReplayedWith file second third wire count lines
 IsOutput (explain name script) file second third lines = Explained file second lines
-IsOutput (load name seed events members raw mode) file second third lines = Loaded file seed events members raw mode lines
+IsOutput (load name seed events members raw mode) file second third lines =
+    Loaded file seed events members raw mode lines
 IsOutput _ file second third lines = ⊥
 
 -- The files that a job's reads find have an output.

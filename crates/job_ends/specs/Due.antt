@@ -3,7 +3,8 @@ use Rattle.std.specs.Prelude.{◌≡◌, ◌⊎◌, ℕ, Some}
 use Rattle.outside.specs.Count.{Rose}
 use Rattle.outside.specs.Shelf.{Shelved}
 use Rattle.job_mean.specs.Job.{Job}
-use Rattle.end_mean.specs.Status.{Ended, done, breached, file_refused, report_refused, second_refused, traces_refused, read_failed, status_number}
+use Rattle.end_mean.specs.Status.{Ended, done, breached, file_refused, report_refused, second_refused, traces_refused}
+use Rattle.end_mean.specs.Status.{read_failed, status_number}
 use Rattle.program_mean.specs.Headline.{whole_end}
 use Rattle.outside.specs.Lines.{Gains}
 use Rattle.job_ends.specs.Comes.{Around, Good, BadFile, BadReport, BadSecond, BadTraces, Unfound}
@@ -27,10 +28,12 @@ CallsFor job a shelf (traces_refused fault) = BadTraces job (Some shelf) fault
 CallsFor job a shelf read_failed = Unfound job (Some shelf)
 CallsFor job a shelf _ = ⊥
 
--- Where the shelf tells, each end comes where what it finds calls for it: 1 where the file is found and refused, 3 where it is good and the
--- second file is found and refused or the members have too many rows, 9 where both are good and a file of traces is found and refused, 4 where
--- one isn't found; and where they are found and good and no put failed, 0, or 8 where an audit finds a breach, and the output gained all lines.
+-- Where the shelf tells, each end comes where what it finds calls for it: 1 where the file is found and refused, 3
+-- where it is good and the second file is found and refused or the members have too many rows, 9 where both are good
+-- and a file of traces is found and refused, 4 where one isn't found; and where they are found and good and no put
+-- failed, 0, or 8 where an audit finds a breach, and the output gained all lines.
 pub record Exact (job : Job) (a : Around) (status : ℕ) : Type 0 where
-  pub due : (shelf : Shelved) (end : Ended) → a.told ≡ Some shelf → CallsFor job a shelf end → Due (status_number end) status
+  pub due : (shelf : Shelved) (end : Ended) → a.told ≡ Some shelf → CallsFor job a shelf end →
+      Due (status_number end) status
   pub complete : (shelf : Shelved) (good : Good job (Some shelf)) → a.told ≡ Some shelf → NoPutFailed a →
       Gains a.output a.output_after good.lines ⊎ (status ≡ 7)

@@ -30,8 +30,9 @@ run_of words a e file second third written said = record {
   status = e.status;
 }
 
--- What the reads of a job's files find, where the shelf tells, what the sinks gained, and that this is a run of the program: it ended in one
--- way, for the cause of its status. Of a stack `synth` prints the text of its simplest bypasses.
+-- What the reads of a job's files find, where the shelf tells, what the sinks gained, and that this is a run of the
+-- program: it ended in one way, for the cause of its status. Of a stack `synth` prints the text of its simplest
+-- bypasses.
 pub record Seen (words : List Text) (job : Option Job) (a : Around) (e : Errors) : Type 0 where
   pub file : Option (List ℕ)
   pub second : Option (List ℕ)

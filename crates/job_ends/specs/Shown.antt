@@ -2,14 +2,21 @@
 use Rattle.audit_mean.specs.Finding as report
 use Rattle.script_mean.specs.Script.{too_long, bad_line, no_member}
 use Rattle.end_mean.specs.Status as status
-use Rattle.end_mean.specs.Status.{Ended, done, breached, file_refused, report_refused, words_refused, second_refused, traces_refused, read_failed, write_failed, link_failed, no_memory, misspelled, too_many_rows, status_number, error_line}
+use Rattle.end_mean.specs.Status.{Ended, done, breached, file_refused, report_refused, words_refused, second_refused}
+use Rattle.end_mean.specs.Status.{traces_refused, read_failed, write_failed, link_failed, no_memory, misspelled}
+use Rattle.end_mean.specs.Status.{too_many_rows, status_number, error_line}
 use Rattle.pack_mean.specs.Accepted as traces
 use Rattle.outside.specs.Said.{Errors, SaysLine, Silent}
 use Rattle.file_judge.specs.declared.error.FileError.{FileError}
-use Rattle.file_judge.specs.declared.error.FileError.TheVariants.{TooLarge, BadToken, Unexpected, Unknown, Twice, OverLimit, Kind, Arity, Direction, Header, Initial, Cycle, TooMany, TooManyJoins}
+use Rattle.file_judge.specs.declared.error.FileError.TheVariants.{TooLarge, BadToken, Unexpected, Unknown, Twice}
+use Rattle.file_judge.specs.declared.error.FileError.TheVariants.{OverLimit, Kind, Arity, Direction, Header, Initial}
+use Rattle.file_judge.specs.declared.error.FileError.TheVariants.{Cycle, TooMany, TooManyJoins}
 use Rattle.file_judge.specs.declared.error.FileError.TheVariants as file
 use Rattle.job_ends.specs.declared.ending.Ending.{Ending}
-use Rattle.job_ends.specs.declared.ending.Ending.TheVariants.{Done, Breached, Words, File, ReportTooLarge, ReportLine, SecondTooLong, SecondLine, SecondMember, TooManyRows, TracesTooLarge, TracesLine, TracesDiffer, Read, Write, Link, Memory}
+use Rattle.job_ends.specs.declared.ending.Ending.TheVariants.{Done, Breached, Words, File, ReportTooLarge, ReportLine}
+use Rattle.job_ends.specs.declared.ending.Ending.TheVariants.{SecondTooLong, SecondLine, SecondMember, TooManyRows}
+use Rattle.job_ends.specs.declared.ending.Ending.TheVariants.{TracesTooLarge, TracesLine, TracesDiffer, Read, Write}
+use Rattle.job_ends.specs.declared.ending.Ending.TheVariants.{Link, Memory}
 
 -- the end of a job whose stack file is refused
 abbrev pub file_end : FileError → Ended

@@ -30,8 +30,8 @@ pub enum Ending {
     TracesTooLarge,
     /// This line of the file of traces is the first out of form.
     TracesLine(u32),
-    /// The trace of this entry, counted from 0 (cast, send, the plans), in this case is the first that does something else than the stack's own, and this is the
-    /// first act at which it does.
+    /// The trace of this entry, counted from 0 (cast, send, the plans), in this case is the first that does something
+    /// else than the stack's own, and this is the first act at which it does.
     TracesDiffer(u32, Case, u32),
     /// A file couldn't be read.
     Read,

@@ -49,7 +49,8 @@ pub(crate) fn traces_differ(
     case: Case,
     act: u32,
 ) -> Result<String, AllocError>
-    ensures { IfOk result (λ text. string_bytes text ≡ status.error_line (status.traces_refused (differs entry case act))) }
+    ensures { IfOk result
+        (λ text. string_bytes text ≡ status.error_line (status.traces_refused (differs entry case act))) }
 {
     let case = case_number(case);
     match entry {
@@ -101,7 +102,8 @@ fn placed(alloc: Global, cause: &str, at: At) -> Result<String, AllocError>
 
 /// A cycle with its place and its kind.
 fn cycle(alloc: Global, place: u8, kind: Kind) -> Result<String, AllocError>
-    ensures { IfOk result (λ line. string_bytes line ≡ codes "file: cycle " ++ decimal place ++ codes " " ++ spelling.kind_word kind ++ codes "\n") }
+    ensures { IfOk result (λ line. string_bytes line ≡ codes "file: cycle " ++ decimal place ++ codes " " ++
+        spelling.kind_word kind ++ codes "\n") }
 {
     format!(in alloc; "file: cycle {place} {}\n", kind_word(kind))
 }

@@ -25,7 +25,8 @@ abbrev pub rules : List Rule
 rules =
     required (codes "job") ∷ required (codes "file") ∷ positional (codes "second") ∷
     option (codes "run") ∷ option (codes "seed") ∷ option (codes "events") ∷ option (codes "members") ∷
-    option (codes "turns") ∷ option (codes "me") ∷ option (codes "patience") ∷ option (codes "law") ∷ option (codes "with") ∷
+    option (codes "turns") ∷ option (codes "me") ∷ option (codes "patience") ∷ option (codes "law") ∷
+    option (codes "with") ∷
     flag (codes "wire") ∷ flag (codes "count") ∷ flag (codes "raw") ∷ []
 
 -- no help, and the words are those behind the program's name

@@ -1,5 +1,6 @@
 -- The job that the words of the command line name.
-use Rattle.std.specs.Prelude.{ℕ, ◌==◌, ◌&&◌, nat_lt, Bool, true, List, [], ◌∷◌, map, filter, Option, Some, None, is_some, codes, if◌then◌else◌}
+use Rattle.std.specs.Prelude.{ℕ, ◌==◌, ◌&&◌, nat_lt, Bool, true, List, [], ◌∷◌, map, filter, Option, Some, None}
+use Rattle.std.specs.Prelude.{is_some, codes, if◌then◌else◌}
 use Rattle.std.specs.List.{list_all, list_any, slice_split}
 use Rattle.std.specs.Str.{bytes_eq}
 use Rattle.clap.specs.Walk.{Text}
@@ -10,9 +11,10 @@ use Rattle.job_mean.specs.Given.{Given, given_of}
 use Rattle.msg_core.specs.View.{most_members, last_member}
 use Rattle.run_mean.specs.Mode.{Mode, layered, bypass}
 
--- what the program is to do: judge a file; print its bypasses; write the traces of these as a file; replay a script, with the packets' bytes or
--- the number of visits if wanted, by the bypasses of the stack or by those whose traces a file holds; tell why the steps of a script weren't common; replay a script that is made from a seed, with datagrams in it
--- if wanted; run members over a network of which so many receives may fail; judge a law of the group on a report
+-- what the program is to do: judge a file; print its bypasses; write the traces of these as a file; replay a script,
+-- with the packets' bytes or the number of visits if wanted, by the bypasses of the stack or by those whose traces a
+-- file holds; tell why the steps of a script weren't common; replay a script that is made from a seed, with datagrams
+-- in it if wanted; run members over a network of which so many receives may fail; judge a law of the group on a report
 pub data Job : Type 0 where
   check : (file : Text) → Job
   synth : (file : Text) → Job
@@ -30,12 +32,14 @@ extras given =
     (codes "second", is_some given.second) ∷ (codes "run", is_some given.run) ∷ (codes "seed", is_some given.seed) ∷
     (codes "events", is_some given.events) ∷ (codes "members", is_some given.members) ∷
     (codes "turns", is_some given.turns) ∷ (codes "me", is_some given.me) ∷ (codes "patience", is_some given.patience) ∷
-    (codes "law", is_some given.law) ∷ (codes "with", is_some given.traces) ∷ (codes "wire", given.wire) ∷ (codes "count", given.count) ∷ (codes "raw", given.raw) ∷ []
+    (codes "law", is_some given.law) ∷ (codes "with", is_some given.traces) ∷ (codes "wire", given.wire) ∷
+    (codes "count", given.count) ∷ (codes "raw", given.raw) ∷ []
 
 -- a job refuses each word that it doesn't list
 abbrev pub with_only : List Text → Given → Option (Unit {0})
 with_only listed given =
-    if list_all (λ name. list_any (bytes_eq name) listed) (map (λ extra. extra.0) (filter (λ extra. extra.1) (extras given)))
+    if list_all (λ name. list_any (bytes_eq name) listed)
+    (map (λ extra. extra.0) (filter (λ extra. extra.1) (extras given)))
     then Some tt else None
 
 -- the mode of `--run`; without it, the bypasses

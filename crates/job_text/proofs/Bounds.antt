@@ -11,7 +11,8 @@ Bounded low high o = IfSome o (λ number. (low ≤ number) × (number ≤ high))
 
 checked : (low high value : ℕ) → Bounded low high (within low high value)
 checked low high value = go (nat_le low value) (nat_le value high) refl refl where
-  go : (a b : Bool) → nat_le low value ≡ a → nat_le value high ≡ b → Bounded low high (if a && b then Some value else None)
+  go : (a b : Bool) → nat_le low value ≡ a → nat_le value high ≡ b →
+      Bounded low high (if a && b then Some value else None)
   go false b p q = tt
   go true false p q = tt
   go true true p q = (leb-true low value p, leb-true value high q)

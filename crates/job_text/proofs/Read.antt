@@ -1,5 +1,6 @@
 -- What `clap` found, where it took the words and where it refused them.
-use Rattle.std.proofs.Common.{◌≡◌, refl, sym, ap, subst, ◌∙◌, true, List, [], ◌∷◌, length, None, Option, inl, inr, arith, ne_eqb}
+use Rattle.std.proofs.Common.{◌≡◌, refl, sym, ap, subst, ◌∙◌, true, List, [], ◌∷◌, length, None, Option, inl, inr}
+use Rattle.std.proofs.Common.{arith, ne_eqb}
 use Rattle.std.specs.Prelude.{if◌then◌else◌, ◌≢◌, IfOk, Result, Ok, Err, option_map}
 use Rattle.clap.specs.Faults.{fault_of, is_simple_and_free}
 use Rattle.clap.specs.Kinds.{HasKind, Kinds}
@@ -19,7 +20,8 @@ is_plain = refl
 
 -- words that were taken give what was found
 pub taken : {S : Type 0} (app : App) (words : List Text) (rows : List Row) → app ≡ command →
-    (is_simple_and_free app ≡ true → fault_of app words ≡ []) → (is_simple app ≡ true → (rows ≡ matches_of app words) × S) →
+    (is_simple_and_free app ≡ true → fault_of app words ≡ []) →
+    (is_simple app ≡ true → (rows ≡ matches_of app words) × S) →
     given_in rows ≡ given_of words
 taken app words rows is faultless found =
     let none : fault_of command words ≡ [] =
@@ -29,18 +31,24 @@ taken app words rows is faultless found =
 
 -- words that were refused, but for want of memory, give nothing
 refused : (app : App) (words : List Text) (error : Error) → app ≡ command →
-    (is_simple_and_free app ≡ true → HasKind (fault_of app words) error) → kind_of error ≢ kind.OutOfMemory → ◌≡◌ {A = Option Given} None (given_of words)
+    (is_simple_and_free app ≡ true → HasKind (fault_of app words) error) → kind_of error ≢ kind.OutOfMemory →
+    ◌≡◌ {A = Option Given} None (given_of words)
 refused app words error is faults memory = go (fault_of command words) at_command where
   at_command : HasKind (fault_of command words) error
   at_command = subst (λ a. HasKind (fault_of a words) error) is (faults (ap is_simple_and_free is ∙ is_exact))
 
-  go : (kinds : Kinds) → HasKind kinds error → ◌≡◌ {A = Option Given} None (if is_empty kinds then given_in (matches_of command words) else None)
+  go : (kinds : Kinds) → HasKind kinds error →
+      ◌≡◌ {A = Option Given} None (if is_empty kinds then given_in (matches_of command words) else None)
   go kinds (inl out) = absurd (memory out)
   go [] (inr among) = absurd among
-  go (one ∷ more) (inr among) = ap (λ b. if b then given_in (matches_of command words) else None) (sym (ne_eqb (length (one ∷ more)) 0 (λ e. omega (arith, e))))
+  go (one ∷ more) (inr among) = ap (λ b. if b then given_in (matches_of command words) else None)
+      (sym (ne_eqb (length (one ∷ more)) 0 (λ e. omega (arith, e))))
 
-pub none_given : {X E : Type 0} (shown : X → Given) (app : App) (words : List Text) (error : Error) (r : Result (Option X) E) → app ≡ command →
+pub none_given : {X E : Type 0} (shown : X → Given) (app : App) (words : List Text) (error : Error)
+    (r : Result (Option X) E) → app ≡ command →
     (is_simple_and_free app ≡ true → HasKind (fault_of app words) error) →
-    IfOk r (λ given. (given ≡ None) × (kind_of error ≢ kind.OutOfMemory)) → IfOk r (λ given. option_map shown given ≡ given_of words)
-none_given shown app words error (Ok given) is faults out = ap (option_map shown) out.0 ∙ refused app words error is faults out.1
+    IfOk r (λ given. (given ≡ None) × (kind_of error ≢ kind.OutOfMemory)) →
+    IfOk r (λ given. option_map shown given ≡ given_of words)
+none_given shown app words error (Ok given) is faults out = ap (option_map shown) out.0 ∙
+    refused app words error is faults out.1
 none_given shown app words error (Err e) is faults out = tt

@@ -1,5 +1,6 @@
 -- What words give, and the members that they name.
-use Rattle.std.proofs.Common.{◌≡◌, ℕ, Bool, true, false, not, List, [], ◌∷◌, ◌++◌, Option, Some, None, refl, ap, ap₂, sym, ◌∙◌}
+use Rattle.std.proofs.Common.{◌≡◌, ℕ, Bool, true, false, not, List, [], ◌∷◌, ◌++◌, Option, Some, None, refl, ap, ap₂}
+use Rattle.std.proofs.Common.{sym, ◌∙◌}
 use Rattle.std.specs.Prelude.{◌&&◌, ◌||◌, map, filter, is_some, option_map, if◌then◌else◌}
 use Rattle.std.specs.List.{list_all, list_any}
 use Rattle.clap.specs.Walk.{Text}
@@ -52,7 +53,8 @@ unequal t u other = go (bytes_eq t u) refl where
 
 -- A flag's text as a truth: true where it is `true`, and false where it is another or there is none.
 pub flag_is : (E : Type 0) (o : Option Text) (read : Option Bool) → (o ≡ None → read ≡ None) →
-    ((t : Text) → o ≡ Some t → ReadsOne (ParsesBool {E = E}) t read) → unwrap_or read false ≡ option_map_or (λ t. bytes_eq t (codes "true")) o false
+    ((t : Text) → o ≡ Some t → ReadsOne (ParsesBool {E = E}) t read) →
+    unwrap_or read false ≡ option_map_or (λ t. bytes_eq t (codes "true")) o false
 flag_is E None read none value = ap (λ r. unwrap_or r false) (none refl)
 flag_is E (Some t) (Some true) none value = ap (λ s. bytes_eq s (codes "true")) (sym (value t refl))
 flag_is E (Some t) (Some false) none value = ap (λ s. bytes_eq s (codes "true")) (sym (value t refl))
@@ -68,15 +70,20 @@ pub only_listed : (g : Given) (xs : List (Bor Text × Bool)) (listed : List (Bor
     map (λ x. (x.0.now, x.1)) xs ≡ extras (shown_given g) →
     list_all (λ x. not x.1 || list_any (λ name. bytes_eq x.0.now name.now) listed) xs
     ≡ is_some (with_only (map (λ name. name.now) listed) (shown_given g))
-only_listed g xs listed are = by_names xs ∙ ap names are ∙ given_all (λ name. list_any (bytes_eq name) (map (λ l. l.now) listed)) (extras (shown_given g)) ∙ some_if (tested (extras (shown_given g)))
+only_listed g xs listed are = by_names xs ∙ ap names are ∙
+    given_all (λ name. list_any (bytes_eq name) (map (λ l. l.now) listed)) (extras (shown_given g)) ∙
+    some_if (tested (extras (shown_given g)))
   where
     tested : List (Text × Bool) → Bool
-    tested ys = list_all (λ name. list_any (bytes_eq name) (map (λ name. name.now) listed)) (map (λ y. y.0) (filter (λ y. y.1) ys))
+    tested ys = list_all (λ name. list_any (bytes_eq name) (map (λ name. name.now) listed))
+        (map (λ y. y.0) (filter (λ y. y.1) ys))
 
     names : List (Text × Bool) → Bool
     names ys = list_all (λ y. not y.1 || list_any (bytes_eq y.0) (map (λ name. name.now) listed)) ys
 
-    by_names : (xs : List (Bor Text × Bool)) → list_all (λ x. not x.1 || list_any (λ name. bytes_eq x.0.now name.now) listed) xs ≡ names (map (λ x. (x.0.now, x.1)) xs)
+    by_names : (xs : List (Bor Text × Bool)) →
+        list_all (λ x. not x.1 || list_any (λ name. bytes_eq x.0.now name.now) listed) xs ≡
+        names (map (λ x. (x.0.now, x.1)) xs)
     by_names [] = refl
     by_names (x ∷ xs) = ap₂ (λ b rest. (not x.1 || b) && rest) (any_named x.0.now listed) (by_names xs)
 

@@ -8,7 +8,8 @@ use Rattle.job_mean.specs.Job as job
 use Rattle.job_mean.specs.Job.{a_number, a_number_or_zero, mode_of, most_node_turns, most_patience}
 use Rattle.job_text.specs.declared.given.Given.{Given}
 use Rattle.job_text.specs.declared.named.Job.{Job}
-use Rattle.job_text.specs.declared.named.Job.TheVariants.{Check, Synth, Pack, Replay, ReplayWith, Explain, Load, Node, Audit}
+use Rattle.job_text.specs.declared.named.Job.TheVariants.{Check, Synth, Pack, Replay, ReplayWith, Explain, Load, Node}
+use Rattle.job_text.specs.declared.named.Job.TheVariants.{Audit}
 use denote.Ref.{Bor}
 
 abbrev pub shown_job : Job → job.Job

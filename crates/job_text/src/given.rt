@@ -91,7 +91,8 @@ impl<'w> Given<'w> {
 
 /// Whether each word that was given is listed.
 fn are_listed(extras: &[Extra], listed: &[&str]) -> bool
-    ensures { result ≡ list_all (λ extra. not extra.1 || list_any (λ name. bytes_eq extra.0.now name.now) listed.now) extras.now }
+    ensures { result ≡ list_all (λ extra. not extra.1 || list_any (λ name. bytes_eq extra.0.now name.now) listed.now)
+        extras.now }
 {
     extras
         .iter()

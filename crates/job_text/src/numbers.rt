@@ -53,7 +53,8 @@ pub(crate) fn some_members(
 
 /// The members that words with commas between them name.
 fn members_in(alloc: Global, text: &[u8]) -> Result<Option<Vec<u32>>, AllocError>
-    ensures { IfOk result (λ members. option_map (λ m. m.items) members ≡ spec.members_in (slice_split (λ byte. byte == 44) text.now)) }
+    ensures { IfOk result (λ members. option_map (λ m. m.items) members ≡ spec.members_in
+        (slice_split (λ byte. byte == 44) text.now)) }
 {
     let mut members = Vec::new(alloc);
     let mut rest = Some(text);

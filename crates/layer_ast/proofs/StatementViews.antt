@@ -15,8 +15,10 @@ use Rattle.layer_ast.specs.declared.syntax.Size.{Size}
 use Rattle.layer_ast.specs.declared.syntax.Statement.TheFolds.{fold-Block, fold-roll-Statement, fold_out-Block}
 use Rattle.layer_ast.specs.declared.syntax.Statement.TheOpen as layer
 use Rattle.layer_ast.specs.declared.syntax.Statement.TheVariants as rust
-use Rattle.layer_ast.specs.Tree.{StatementTree, StatementTrees, bind, set, set_square, push, take, when, choose, each, emit}
-use Rattle.layer_ast.specs.View.{expression_tree, queue_tree, names_tree, arguments_tree, pushed_tree, size_tree, statement_of, block_of, statement_tree, block_tree}
+use Rattle.layer_ast.specs.Tree.{StatementTree, StatementTrees, bind, set, set_square, push, take, when, choose, each}
+use Rattle.layer_ast.specs.Tree.{emit}
+use Rattle.layer_ast.specs.View.{expression_tree, queue_tree, names_tree, arguments_tree, pushed_tree, size_tree}
+use Rattle.layer_ast.specs.View.{statement_of, block_of, statement_tree, block_tree}
 
 -- a block is the statements that it has
 block_is : (block : Block) → fold-Block StatementTree StatementTrees statement_of block_of block ≡ block_tree block
@@ -29,7 +31,8 @@ bind_tree at name value =
     ∙ fold-roll-Statement StatementTree StatementTrees statement_of block_of (layer.Let at name value)
 
 pub set_tree : (at : At) (name : Name) (index : Option Expression) (value : Expression) →
-    statement_tree (rust.Set at name index value) ≡ set at name (option_map expression_tree index) (expression_tree value)
+    statement_tree (rust.Set at name index value) ≡
+    set at name (option_map expression_tree index) (expression_tree value)
 set_tree at name index value =
     ap statement_tree (sym (rust.rolls-Set at name index value))
     ∙ fold-roll-Statement StatementTree StatementTrees statement_of block_of (layer.Set at name index value)
@@ -62,7 +65,8 @@ pub take_tree : (at : At) (queue : Queue) (names : Names) (block otherwise : Blo
     ≡ take at (queue_tree queue) (names_tree names) (block_tree block) (block_tree otherwise)
 take_tree at queue names block otherwise =
     ap statement_tree (sym (rust.rolls-Take at queue names block otherwise))
-    ∙ (fold-roll-Statement StatementTree StatementTrees statement_of block_of (layer.Take at queue names block otherwise)
+    ∙ (fold-roll-Statement StatementTree StatementTrees statement_of block_of
+    (layer.Take at queue names block otherwise)
     ∙ ap₂ (take at (queue_tree queue) (names_tree names)) (block_is block) (block_is otherwise))
 
 pub when_tree : (at : At) (likely : Likely) (condition : Expression) (block : Block) →

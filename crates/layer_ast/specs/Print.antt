@@ -6,9 +6,13 @@ use Rattle.layer_ast.specs.declared.syntax.Likely.{Likely}
 use Rattle.layer_ast.specs.declared.syntax.Likely.TheVariants as likely_word
 use Rattle.layer_ast.specs.declared.syntax.Shape.{Shape}
 use Rattle.layer_ast.specs.declared.syntax.Shape.TheVariants.{One, Array, Square}
-use Rattle.layer_ast.specs.Printed.{Printed, plain, placed, numeral, plain_numeral, name, kind, direction_sign, ending_sign, sort_sign, function_sign, operator_sign}
+use Rattle.layer_ast.specs.Printed.{Printed, plain, placed, numeral, plain_numeral, name, kind, direction_sign}
+use Rattle.layer_ast.specs.Printed.{ending_sign, sort_sign, function_sign, operator_sign}
 use Rattle.layer_ast.specs.Tree as tree
-use Rattle.layer_ast.specs.Tree.{ExpressionTree, QueueTree, MessageTree, BuiltTree, ArgumentTree, NamesTree, ArgumentsTree, PoppedTree, PushedTree, SizeTree, StatementTree, StatementTrees, Expected, HandlerTree, ItemTree, ItemsTree, DeclarationTree, LayerTree, GivenTree, PlaceTree, FileTree}
+use Rattle.layer_ast.specs.Tree.{ExpressionTree, QueueTree, MessageTree, BuiltTree, ArgumentTree, NamesTree}
+use Rattle.layer_ast.specs.Tree.{ArgumentsTree, PoppedTree, PushedTree, SizeTree, StatementTree, StatementTrees}
+use Rattle.layer_ast.specs.Tree.{Expected, HandlerTree, ItemTree, ItemsTree, DeclarationTree, LayerTree, GivenTree}
+use Rattle.layer_ast.specs.Tree.{PlaceTree, FileTree}
 
 abbrev mutual
   -- the tokens of an expression
@@ -55,7 +59,8 @@ abbrev mutual
       ∷ queue q (plain sign.Comma ∷ expression row (plain sign.RightParen ∷ k))
   built (tree.cut at m from length) k =
       placed sign.Cut at ∷ plain sign.LeftParen
-      ∷ message m (plain sign.Comma ∷ expression from (plain sign.Comma ∷ expression length (plain sign.RightParen ∷ k)))
+      ∷ message m (plain sign.Comma ∷
+      expression from (plain sign.Comma ∷ expression length (plain sign.RightParen ∷ k)))
   built (tree.tail at m from) k =
       placed sign.Tail at ∷ plain sign.LeftParen
       ∷ message m (plain sign.Comma ∷ expression from (plain sign.RightParen ∷ k))
@@ -150,7 +155,8 @@ abbrev mutual
       ∷ statements otherwise (plain sign.RightBrace ∷ k))))
   statement (tree.each at n below most body) k =
       placed sign.Each at ∷ name n ∷ plain sign.Below
-      ∷ expression below (plain sign.Max ∷ size most ∷ plain sign.LeftBrace ∷ statements body (plain sign.RightBrace ∷ k))
+      ∷ expression below (plain sign.Max ∷ size most ∷ plain sign.LeftBrace ∷
+      statements body (plain sign.RightBrace ∷ k))
   statement (tree.emit at direction what es p) k =
       placed (direction_sign direction) at ∷ kind what ∷ plain sign.LeftParen
       ∷ arguments es (plain sign.RightParen ∷ pushed p (plain sign.Semicolon ∷ k))

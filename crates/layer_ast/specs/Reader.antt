@@ -1,7 +1,8 @@
--- A reader for texts that are worked out. It guesses the file that a text spells, and that the text spells it is proved of each text: no
--- law speaks of the reader, and it says anything of a text that is no file. Each part of it takes a number of turns, the tokens, and
--- what is to be made of what it reads and of the tokens behind that.
-use Rattle.std.specs.Prelude.{ℕ, zero, suc, ◌+◌, Bool, true, false, not, List, [], ◌∷◌, ◌++◌, map, filter, take, drop, get_or, Option, Some, None}
+-- A reader for texts that are worked out. It guesses the file that a text spells, and that the text spells it is proved
+-- of each text: no law speaks of the reader, and it says anything of a text that is no file. Each part of it takes a
+-- number of turns, the tokens, and what is to be made of what it reads and of the tokens behind that.
+use Rattle.std.specs.Prelude.{ℕ, zero, suc, ◌+◌, Bool, true, false, not, List, [], ◌∷◌, ◌++◌, map, filter, take, drop}
+use Rattle.std.specs.Prelude.{get_or, Option, Some, None}
 use Rattle.std.specs.List.{take_while, prefix_len}
 use Rattle.layer_ast.specs.declared.names.At.{At}
 use Rattle.layer_ast.specs.declared.names.Name.{Name}
@@ -29,7 +30,13 @@ use Rattle.layer_ast.specs.Cut.{piece, cut}
 use Rattle.layer_ast.specs.Samples.{at}
 use Rattle.layer_ast.specs.Spelling.{reserved, kinds, word_token, symbols, symbol_at}
 use Rattle.layer_ast.specs.Tree as expected
-use Rattle.layer_ast.specs.Tree.{ExpressionTree, number, me, members, ltime, named, element, square, rows, item, size, binary, apply, pick, QueueTree, queue, queue_at, MessageTree, bare, built, nothing, held, tail, join, ArgumentTree, value, content, NamesTree, ArgumentsTree, PoppedTree, PushedTree, SizeTree, fixed, sized, StatementTree, bind, set, set_square, push, when, choose, each, emit, StatementTrees, none, more, Expected, HandlerTree, ItemTree, ItemsTree, DeclarationTree, param, int, rows_cell, rows_array, header, LayerTree, GivenTree, PlaceTree, FileTree}
+use Rattle.layer_ast.specs.Tree.{ExpressionTree, number, me, members, ltime, named, element, square, rows, item, size}
+use Rattle.layer_ast.specs.Tree.{binary, apply, pick, QueueTree, queue, queue_at, MessageTree, bare, built, nothing}
+use Rattle.layer_ast.specs.Tree.{held, tail, join, ArgumentTree, value, content, NamesTree, ArgumentsTree, PoppedTree}
+use Rattle.layer_ast.specs.Tree.{PushedTree, SizeTree, fixed, sized, StatementTree, bind, set, set_square, push, when}
+use Rattle.layer_ast.specs.Tree.{choose, each, emit, StatementTrees, none, more, Expected, HandlerTree, ItemTree}
+use Rattle.layer_ast.specs.Tree.{ItemsTree, DeclarationTree, param, int, rows_cell, rows_array, header, LayerTree}
+use Rattle.layer_ast.specs.Tree.{GivenTree, PlaceTree, FileTree}
 
 -- the token at an index, and its word, number, kind, name and size, where it is one
 abbrev nth : ℕ → List Lexed → Lexed
@@ -148,16 +155,19 @@ abbrev mutual
   expression_at : ℕ → Token → At → List Lexed → Then ExpressionTree → FileTree
   expression_at (suc f) (token.Number v) p ls k = k (number p v) ls
   expression_at (suc f) (token.Name w) p ls k =
-      index f (nth 0 ls).token ls (λ i more. index f (nth 0 more).token more (λ j rest. k (cell_of record { at = p; word = w } i j) rest))
+      index f (nth 0 ls).token ls
+      (λ i more. index f (nth 0 more).token more (λ j rest. k (cell_of record { at = p; word = w } i j) rest))
   expression_at (suc f) (token.Sign sign.Me) p ls k = k (me p) ls
   expression_at (suc f) (token.Sign sign.N) p ls k = k (members p) ls
   expression_at (suc f) (token.Sign sign.Ltime) p ls k = k (ltime p) ls
   expression_at (suc f) (token.Sign sign.Len) p ls k = a_queue f (drop 1 ls) (λ q rest. k (rows p q) (drop 1 rest))
   expression_at (suc f) (token.Sign sign.AtRow) p ls k =
-      a_queue f (drop 1 ls) (λ q more. expression f (drop 1 more) (λ row rest. k (item p q row (name 2 rest)) (drop 3 rest)))
+      a_queue f (drop 1 ls)
+      (λ q more. expression f (drop 1 more) (λ row rest. k (item p q row (name 2 rest)) (drop 3 rest)))
   expression_at (suc f) (token.Sign sign.Size) p ls k = message f (drop 1 ls) (λ m rest. k (size p m) (drop 1 rest))
   expression_at (suc f) (token.Sign sign.LeftParen) p ls k =
-      expression f ls (λ a more. expression f (drop 1 more) (λ b rest. k (binary p a (operator_of (nth 0 more).token) b) (drop 1 rest)))
+      expression f ls (λ a more.
+      expression f (drop 1 more) (λ b rest. k (binary p a (operator_of (nth 0 more).token) b) (drop 1 rest)))
   expression_at (suc f) (token.Sign sign.Not) p ls k = applied f Not p ls k
   expression_at (suc f) (token.Sign sign.Bit) p ls k = applied f Bit p ls k
   expression_at (suc f) (token.Sign sign.Count) p ls k = applied f Count p ls k
@@ -210,7 +220,8 @@ abbrev mutual
   several_at : ℕ → Token → List Lexed → Then (List ArgumentTree) → FileTree
   several_at (suc f) (token.Sign sign.RightParen) ls k = k [] (drop 1 ls)
   several_at (suc f) (token.Sign sign.Comma) ls k = several f (drop 1 ls) k
-  several_at (suc f) _ ls k = message f ls (argument f ls (λ a more. several f more (λ more_of rest. k (a ∷ more_of) rest)))
+  several_at (suc f) _ ls k =
+      message f ls (argument f ls (λ a more. several f more (λ more_of rest. k (a ∷ more_of) rest)))
   several_at zero _ ls k = k [] ls
 
 -- what an emission puts on
@@ -265,7 +276,8 @@ abbrev mutual
 
 -- a handler's header and when it is predicted
 abbrev popped : ℕ → Token → List Lexed → Then (Option PoppedTree) → FileTree
-popped f (token.Sign sign.With) ls k = k (Some record { name = name 1 ls; fields = some_names (listed (drop 3 ls)) }) (past ls)
+popped f (token.Sign sign.With) ls k = k (Some record { name = name 1 ls; fields = some_names (listed (drop 3 ls)) })
+    (past ls)
 popped f _ ls k = k None ls
 
 abbrev predicted : ℕ → Token → List Lexed → Then Expected → FileTree
@@ -347,7 +359,8 @@ abbrev mutual
       let behind = drop (3 + shape_tokens shape) ls in
       initial f (nth 0 behind).token behind (λ e rest. declared f (int p (name 2 ls) shape e) (drop 1 rest) k)
   declaration (suc f) (token.Sign sign.Header) _ p ls k =
-      declared f (header p (name 1 ls) (some_names (listed (drop 3 ls))) (ending_of (nth 0 (past ls)).token)) (drop 2 (past ls)) k
+      declared f (header p (name 1 ls) (some_names (listed (drop 3 ls))) (ending_of (nth 0 (past ls)).token))
+      (drop 2 (past ls)) k
   declaration _ _ _ p ls k = k [] ls
 
   declared : ℕ → DeclarationTree → List Lexed → Then (List DeclarationTree) → FileTree
@@ -375,7 +388,8 @@ abbrev mutual
 
   place : ℕ → Token → List Lexed → List PlaceTree
   place (suc f) (token.Name _) ls =
-      record { name = name 0 ls; given = given_of (nth 1 ls).token (drop 1 ls) } ∷ places f (behind_place (nth 1 ls).token (drop 1 ls))
+      record { name = name 0 ls; given = given_of (nth 1 ls).token (drop 1 ls) } ∷
+      places f (behind_place (nth 1 ls).token (drop 1 ls))
   place _ _ ls = []
 
 abbrev mutual
@@ -398,4 +412,10 @@ file_of text = layers 1000 (cut text).tokens []
 
 -- the layer that a text of one is guessed to spell
 abbrev pub layer_of : List ℕ → LayerTree
-layer_of text = get_or (file_of text).layers 0 record { at = at 0 0; name = name 0 []; declarations = []; handlers = [] }
+layer_of text = get_or (file_of text).layers 0 record {
+  at = at 0 0;
+  name = name 0 [];
+  declarations = [];
+  handlers =
+      [];
+}

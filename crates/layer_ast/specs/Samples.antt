@@ -18,7 +18,10 @@ use Rattle.layer_ast.specs.Cut.{cut}
 use Rattle.layer_ast.specs.Print.{file}
 use Rattle.layer_ast.specs.Printed.{marks}
 use Rattle.layer_ast.specs.Spells.{Spells}
-use Rattle.layer_ast.specs.Tree.{ExpressionTree, NamesTree, ArgumentsTree, StatementTree, number, me, members, named, item, rows, size, binary, apply, queue, bare, held, value, content, fixed, sized, bind, set_square, push, take, when, choose, each, emit, none, always, common, HandlerTree, param, int, rows_cell, header, FileTree}
+use Rattle.layer_ast.specs.Tree.{ExpressionTree, NamesTree, ArgumentsTree, StatementTree, number, me, members, named}
+use Rattle.layer_ast.specs.Tree.{item, rows, size, binary, apply, queue, bare, held, value, content, fixed, sized, bind}
+use Rattle.layer_ast.specs.Tree.{set_square, push, take, when, choose, each, emit, none, always, common, HandlerTree}
+use Rattle.layer_ast.specs.Tree.{param, int, rows_cell, header, FileTree}
 use Rattle.layer_ast.specs.View.{trees}
 
 -- a token at a line and a column
@@ -109,10 +112,12 @@ sample_push =
 -- its rare condition, with a loop inside
 abbrev pub sample_loop : StatementTree
 sample_loop =
-    when (at 8 5) Else (binary (at 8 13) (rows (at 8 14) (queue (name_at (codes "q") 8 18))) Greater (number (at 8 23) 2))
+    when (at 8 5) Else (binary (at 8 13) (rows (at 8 14) (queue (name_at (codes "q") 8 18))) Greater
+    (number (at 8 23) 2))
     (trees (each (at 8 28) (name_at (codes "i") 8 33) (members (at 8 41)) (fixed (at 8 47) 4)
     (trees (set_square (at 8 51) (name_at (codes "sum") 8 55) (named (name_at (codes "i") 8 59)) (me (at 8 62))
-    (item (at 8 68) (queue (name_at (codes "q") 8 71)) (named (name_at (codes "i") 8 74)) (name_at (codes "m") 8 77)) ∷ []))
+    (item (at 8 68) (queue (name_at (codes "q") 8 71)) (named (name_at (codes "i") 8 74)) (name_at (codes "m") 8 77)) ∷
+    []))
     ∷ []))
 
 -- its emission on the way down, with a header
@@ -147,7 +152,8 @@ sample_choice =
       first = value (named (name_at (codes "o") 11 62));
       rest = value (named (name_at (codes "m") 11 65)) ∷ [];
     } None ∷ []))
-    (trees (bind (at 11 78) (name_at (codes "x") 11 82) (apply (at 11 86) Not (named (name_at (codes "v") 11 90))) ∷ []))
+    (trees (bind (at 11 78) (name_at (codes "x") 11 82) (apply (at 11 86) Not (named (name_at (codes "v") 11 90))) ∷
+    []))
 
 -- its handler of casts on their way up
 abbrev pub sample_up : HandlerTree
@@ -184,7 +190,11 @@ sample_file =
           }
           ∷ [];
       places =
-          record { name = name_at (codes "a") 13 9; given = record { name = name_at (codes "keep") 13 11; value = 8 } ∷ [] }
+          record {
+            name = name_at (codes "a") 13 9;
+            given = record { name = name_at (codes "keep") 13 11; value = 8 } ∷
+                [];
+          }
           ∷ record { name = name_at (codes "a") 13 22; given = [] }
           ∷ [];
       library = [];

@@ -99,7 +99,8 @@ beside table spelling = option_map (λ entry. entry.1) (find (λ entry. bytes_eq
 
 -- the token of a word: that of a reserved one, or else a name
 unfoldable pub word_token : List ℕ → Token
-word_token word = option_map_or token.Sign (beside reserved word) (option_map_or token.Kind (beside kinds word) (token.Name word))
+word_token word = option_map_or token.Sign (beside reserved word)
+    (option_map_or token.Kind (beside kinds word) (token.Name word))
 
 -- the symbols, those of two bytes in front of those that they begin with
 unfoldable pub symbols : List (List ℕ × Sign)

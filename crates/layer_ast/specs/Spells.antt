@@ -21,8 +21,8 @@ longest_file = 1048576
 abbrev pub HasPlace : FileTree → Type 0
 HasPlace f = f.places ≢ []
 
--- a text spells a file: it has no bad token, its tokens are the file's and stand where the file says, and its brackets are
--- nowhere deeper than 100
+-- a text spells a file: it has no bad token, its tokens are the file's and stand where the file says, and its brackets
+-- are nowhere deeper than 100
 pub record Spells (text : List ℕ) (f : FileTree) : Type 0 where
   pub good : (cut text).bad_at ≡ None
   pub fits : Fits (file f) (cut text).tokens

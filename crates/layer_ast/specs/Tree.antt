@@ -1,5 +1,5 @@
--- The trees of the grammar, without the boxes and vectors in which a program keeps them. Names and places in the text hold
--- neither, and stand as they are.
+-- The trees of the grammar, without the boxes and vectors in which a program keeps them. Names and places in the text
+-- hold neither, and stand as they are.
 use Rattle.std.specs.Prelude.{ℕ, List, Option}
 use Rattle.layer_ast.specs.declared.names.At.{At}
 use Rattle.layer_ast.specs.declared.names.Name.{Name}
@@ -13,8 +13,9 @@ use Rattle.layer_ast.specs.declared.syntax.Shape.{Shape}
 use Rattle.layer_ast.specs.declared.syntax.Sort.{Sort}
 
 mutual
-  -- a number: a numeral, `me`, `n`, `ltime`, a name, an element of an array or of a square array, the number of rows of a
-  -- queue, an item of a row, the size of a message, an operator between two, a function of one, or a choice between two
+  -- a number: a numeral, `me`, `n`, `ltime`, a name, an element of an array or of a square array, the number of rows of
+  -- a queue, an item of a row, the size of a message, an operator between two, a function of one, or a choice between
+  -- two
   pub data ExpressionTree : Type 0 where
     number : (at : At) (value : ℕ) → ExpressionTree
     me : (at : At) → ExpressionTree
@@ -40,8 +41,8 @@ mutual
     bare : (name : Name) → MessageTree
     built : (built : BuiltTree) → MessageTree
 
-  -- a message that is no bare name: no bytes, the message of a row, a range of a part, what stands behind a part's first bytes,
-  -- or a part in front of a message
+  -- a message that is no bare name: no bytes, the message of a row, a range of a part, what stands behind a part's
+  -- first bytes, or a part in front of a message
   pub data BuiltTree : Type 0 where
     nothing : (at : At) → BuiltTree
     held : (at : At) (queue : QueueTree) (row : ExpressionTree) → BuiltTree
@@ -80,8 +81,9 @@ pub data SizeTree : Type 0 where
   sized : (name : Name) → SizeTree
 
 mutual
-  -- a statement: a name for a number, an assignment to a cell, to an element of an array or of a square array, a push and a take
-  -- of a row with what is done where there is no room or no row, a condition without or with another way, a loop, or an emission
+  -- a statement: a name for a number, an assignment to a cell, to an element of an array or of a square array, a push
+  -- and a take of a row with what is done where there is no room or no row, a condition without or with another way, a
+  -- loop, or an emission
   pub data StatementTree : Type 0 where
     bind : (at : At) (name : Name) (value : ExpressionTree) → StatementTree
     set : (at : At) (name : Name) (index : Option ExpressionTree) (value : ExpressionTree) → StatementTree
@@ -125,7 +127,8 @@ pub record ItemsTree : Type 0 where
   pub first : ItemTree
   pub rest : List ItemTree
 
--- a declaration: a param, a cell of numbers, a queue or an array of queues with its capacity and the items of its rows, or a header
+-- a declaration: a param, a cell of numbers, a queue or an array of queues with its capacity and the items of its rows,
+-- or a header
 pub data DeclarationTree : Type 0 where
   param : (at : At) (name : Name) (value : ℕ) → DeclarationTree
   int : (at : At) (name : Name) (shape : Shape) (initial : Option ExpressionTree) → DeclarationTree
@@ -150,7 +153,8 @@ pub record PlaceTree : Type 0 where
   pub name : Name
   pub given : List GivenTree
 
--- a file: its layers and the places of its stack, lowest first, and the layers that the library brings, which aren't spelled
+-- a file: its layers and the places of its stack, lowest first, and the layers that the library brings, which aren't
+-- spelled
 pub record FileTree : Type 0 where
   pub layers : List LayerTree
   pub places : List PlaceTree

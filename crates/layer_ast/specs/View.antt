@@ -11,7 +11,9 @@ use Rattle.layer_ast.specs.declared.syntax.Declaration.{Declaration}
 use Rattle.layer_ast.specs.declared.syntax.Declaration.TheVariants as rust_declaration
 use Rattle.layer_ast.specs.declared.syntax.Expected as rust_expected
 use Rattle.layer_ast.specs.declared.syntax.Expected.TheVariants.{Always, Common, Rare}
-use Rattle.layer_ast.specs.declared.syntax.Expression.{Expression, Number, Me, Members, Ltime, Named', Square', Rows', Item', Size', Binary', Apply', Pick', Held-Expression-Named-1, None', Some', back-Expression-Named-1}
+use Rattle.layer_ast.specs.declared.syntax.Expression.{Expression, Number, Me, Members, Ltime, Named', Square', Rows'}
+use Rattle.layer_ast.specs.declared.syntax.Expression.{Item', Size', Binary', Apply', Pick', Held-Expression-Named-1}
+use Rattle.layer_ast.specs.declared.syntax.Expression.{None', Some', back-Expression-Named-1}
 use Rattle.layer_ast.specs.declared.syntax.File.{File}
 use Rattle.layer_ast.specs.declared.syntax.Given.{Given}
 use Rattle.layer_ast.specs.declared.syntax.Handler.{Handler}
@@ -27,9 +29,16 @@ use Rattle.layer_ast.specs.declared.syntax.Queue.{Queue}
 use Rattle.layer_ast.specs.declared.syntax.Size.{Size}
 use Rattle.layer_ast.specs.declared.syntax.Size.TheVariants as rust_size
 use Rattle.layer_ast.specs.declared.syntax.Statement.{Statement, Statement-F}
-use Rattle.layer_ast.specs.declared.syntax.Statement.TheOpen.{Block-F, Let, Set, SetSquare, Push, Take, When, Choose, Each, Emit}
+use Rattle.layer_ast.specs.declared.syntax.Statement.TheOpen.{Block-F, Let, Set, SetSquare, Push, Take, When, Choose}
+use Rattle.layer_ast.specs.declared.syntax.Statement.TheOpen.{Each, Emit}
 use Rattle.layer_ast.specs.declared.syntax.Statement.TheFolds.{fold-Statement}
-use Rattle.layer_ast.specs.Tree.{ExpressionTree, number, me, members, ltime, named, element, square, rows, item, size, binary, apply, pick, QueueTree, queue, queue_at, MessageTree, bare, built, BuiltTree, nothing, held, cut, tail, join, ArgumentTree, value, content, NamesTree, ArgumentsTree, PoppedTree, PushedTree, SizeTree, fixed, sized, StatementTree, bind, set, set_square, push, take, when, choose, each, emit, StatementTrees, none, more, Expected, always, common, rare, HandlerTree, ItemTree, ItemsTree, DeclarationTree, param, int, rows_cell, rows_array, header, LayerTree, GivenTree, PlaceTree, FileTree}
+use Rattle.layer_ast.specs.Tree.{ExpressionTree, number, me, members, ltime, named, element, square, rows, item, size}
+use Rattle.layer_ast.specs.Tree.{binary, apply, pick, QueueTree, queue, queue_at, MessageTree, bare, built, BuiltTree}
+use Rattle.layer_ast.specs.Tree.{nothing, held, cut, tail, join, ArgumentTree, value, content, NamesTree, ArgumentsTree}
+use Rattle.layer_ast.specs.Tree.{PoppedTree, PushedTree, SizeTree, fixed, sized, StatementTree, bind, set, set_square}
+use Rattle.layer_ast.specs.Tree.{push, take, when, choose, each, emit, StatementTrees, none, more, Expected, always}
+use Rattle.layer_ast.specs.Tree.{common, rare, HandlerTree, ItemTree, ItemsTree, DeclarationTree, param, int, rows_cell}
+use Rattle.layer_ast.specs.Tree.{rows_array, header, LayerTree, GivenTree, PlaceTree, FileTree}
 
 abbrev mutual
   -- the tree of an expression
@@ -84,7 +93,8 @@ names_tree names = record { first = names.first; rest = names.rest.items }
 
 -- the tree of arguments
 abbrev pub arguments_tree : Arguments → ArgumentsTree
-arguments_tree arguments = record { first = argument_tree arguments.first; rest = map argument_tree arguments.rest.items }
+arguments_tree arguments =
+    record { first = argument_tree arguments.first; rest = map argument_tree arguments.rest.items }
 
 -- the tree of the header that a handler takes off
 abbrev pub popped_tree : Popped → PoppedTree

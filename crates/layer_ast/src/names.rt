@@ -30,7 +30,8 @@ impl Model for Word {
 
     ghost view = { λ w. take w.len w.bytes };
 
-    ghost invariant = { λ w. (1 ≤ w.len) × (w.len ≤ longest_word) × (length w.bytes ≡ longest_word) × (drop w.len w.bytes ≡ replicate (longest_word - w.len) 0) };
+    ghost invariant = { λ w. (1 ≤ w.len) × (w.len ≤ longest_word) × (length w.bytes ≡ longest_word) ×
+        (drop w.len w.bytes ≡ replicate (longest_word - w.len) 0) };
 
     ghost inverse = { λ bytes. record { bytes = padded bytes; len = length bytes } };
 

@@ -1,7 +1,8 @@
 //! Small texts, worked out by evaluation: the definitions compute. Nothing runs here.
 ghost use Rattle.std.specs.Prelude.{◌≡◌};
 ghost use Rattle.layer_ast.specs.Reader.{file_of};
-ghost use Rattle.layer_ast.specs.Samples.{CutsText, CutsLetter, CutsNumbers, SpellsPlace, SpellsLayer, KeepsPlaces, sample_text, sample_file};
+ghost use Rattle.layer_ast.specs.Samples.{CutsText, CutsLetter, CutsNumbers, SpellsPlace, SpellsLayer, KeepsPlaces};
+ghost use Rattle.layer_ast.specs.Samples.{sample_text, sample_file};
 
 /// A text with a comment, a name that begins like a reserved word, long symbols and a bad byte.
 pub fn cuts_text()

@@ -15,8 +15,8 @@ use Rattle.layer_mean.specs.Visit.{no_scope, with_room}
 use Rattle.layer_mean.specs.Envelope.{event_in}
 use Rattle.layer_mean.specs.declared.envelope.Envelope.{Envelope}
 
--- The layer's state; the scope of the handler's block; the message of the event, until it is bound or sent on; the messages that
--- are in hand, the one that was laid there last in front; and what was sent.
+-- The layer's state; the scope of the handler's block; the message of the event, until it is bound or sent on; the
+-- messages that are in hand, the one that was laid there last in front; and what was sent.
 pub record Laid : Type 0 where
   pub state : State
   pub scope : Scope
@@ -95,8 +95,8 @@ first_header (Some m) = first_of m.headers
 abbrev pub header_popped : Laid → Laid
 header_popped p = record p { arrived = option_map popped p.arrived }
 
--- A block is entered: its scope has the event's numbers, the fields of the popped header and the message that arrived, and behind
--- them so many numbers and messages that the block declares.
+-- A block is entered: its scope has the event's numbers, the fields of the popped header and the message that arrived,
+-- and behind them so many numbers and messages that the block declares.
 abbrev pub enters : Envelope → List ℕ → ℕ → ℕ → Laid → Laid
 enters e fields numbers messages p = record p {
   scope = record {

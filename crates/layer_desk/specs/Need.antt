@@ -1,16 +1,19 @@
 -- The room that a desk has, and what expressions, statements and visits need of it at most.
-use Rattle.std.specs.Prelude.{ℕ, ◌+◌, ◌*◌, Bool, not, ◌&&◌, nat_lt, nat_le, if◌then◌else◌, List, length, slice_index, max, Option, Some, None}
+use Rattle.std.specs.Prelude.{ℕ, ◌+◌, ◌*◌, Bool, not, ◌&&◌, nat_lt, nat_le, if◌then◌else◌, List, length, slice_index}
+use Rattle.std.specs.Prelude.{max, Option, Some, None}
 use Rattle.std.specs.List.{list_all}
 use Rattle.msg_core.specs.declared.message.Header.{Header}
 use Rattle.std.specs.Option.{option_map_or}
 use Rattle.msg_core.specs.Chain.{Content}
-use Rattle.layer_mean.specs.Tree.{Carried, part, whole, MessageTree, held, cut, tail, join, ContentTree, EmissionTree, RowTree, TakenTree, StatementTree, push, take, branch, each, emit, StatementTrees, none, more, HandlerTree}
+use Rattle.layer_mean.specs.Tree.{Carried, part, whole, MessageTree, held, cut, tail, join, ContentTree, EmissionTree}
+use Rattle.layer_mean.specs.Tree.{RowTree, TakenTree, StatementTree, push, take, branch, each, emit, StatementTrees}
+use Rattle.layer_mean.specs.Tree.{none, more, HandlerTree}
 use Rattle.layer_mean.specs.Visit.{Met}
 use Rattle.stack_mean.specs.Emissions.{joins_in_message, joins_in_content, joins_in_row, joins, joins_of, handler_joins}
 use Rattle.msg_core.specs.Headers.{most_places}
 
--- What a desk is made for: how many rows a queue of each cell keeps, how many numbers and messages a block may declare, how many
--- messages may be in hand, and how many events may be sent.
+-- What a desk is made for: how many rows a queue of each cell keeps, how many numbers and messages a block may declare,
+-- how many messages may be in hand, and how many events may be sent.
 pub record Layout : Type 0 where
   pub rows : List ℕ
   pub numbers : ℕ
@@ -24,7 +27,8 @@ pub record Room : Type 0 where
   pub places : ℕ
   pub hand : ℕ
 
--- What is needed of these three; how many headers a message brings; and how many parts of a tree are none for the layout.
+-- What is needed of these three; how many headers a message brings; and how many parts of a tree are none for the
+-- layout.
 pub record Need : Type 0 where
   pub slots : ℕ
   pub places : ℕ
@@ -77,7 +81,8 @@ lifts (tail m from) = lifts m
 lifts (join p m) = lifts p + lifts m
 lifts _ = 1
 
--- What stands in for another may be a misfit where its headers are of use: a cut has none, and a join those of what stands behind.
+-- What stands in for another may be a misfit where its headers are of use: a cut has none, and a join those of what
+-- stands behind.
 abbrev pub message_misfits : MessageTree → ℕ
 message_misfits (held c i row carried) = too_wide carried
 message_misfits (tail m from) = message_misfits m
@@ -129,7 +134,8 @@ emission_need e = record {
 }
 
 abbrev mutual
-  -- How many events a statement sends at most: those of all its blocks, and of a loop's block as often as its maximum says.
+  -- How many events a statement sends at most: those of all its blocks, and of a loop's block as often as its maximum
+  -- says.
   pub sends_at_most : StatementTree → ℕ
   sends_at_most (push c i capacity row otherwise) = block_sends otherwise
   sends_at_most (take c i taken block otherwise) = block_sends block + block_sends otherwise
@@ -143,7 +149,8 @@ abbrev mutual
   block_sends (more x rest) = sends_at_most x + block_sends rest
 
 abbrev mutual
-  -- The places of the hand that a statement takes: the hand is as before behind each message, so these are the most of any.
+  -- The places of the hand that a statement takes: the hand is as before behind each message, so these are the most of
+  -- any.
   pub in_hand : StatementTree → ℕ
   in_hand (push c i capacity row otherwise) = max (row_lifts row) (block_in_hand otherwise)
   in_hand (take c i taken block otherwise) = max (block_in_hand block) (block_in_hand otherwise)
@@ -177,7 +184,14 @@ statement_need layout x =
 
 abbrev pub block_need : Layout → StatementTrees → Need
 block_need layout b =
-    record { slots = joins_of b; places = block_sends b; hand = block_in_hand b; headers = 0; misfits = block_misfits layout b }
+    record {
+      slots = joins_of b;
+      places = block_sends b;
+      hand = block_in_hand b;
+      headers = 0;
+      misfits =
+          block_misfits layout b;
+    }
 
 -- The headers of a message, if there is one.
 abbrev pub headers_of : Option Content → ℕ
@@ -185,7 +199,8 @@ headers_of m = option_map_or (λ (c : Content). length c.headers) m 0
 
 -- The names that a block declares are more than a layout has places for, or aren't.
 abbrev pub scope_misfits : Layout → ℕ → ℕ → ℕ
-scope_misfits layout numbers messages = one_if (nat_lt layout.numbers numbers) + one_if (nat_lt layout.messages messages)
+scope_misfits layout numbers messages =
+    one_if (nat_lt layout.numbers numbers) + one_if (nat_lt layout.messages messages)
 
 abbrev pub entry_need : Layout → ℕ → ℕ → Option Content → Need
 entry_need layout numbers messages m =

@@ -6,8 +6,8 @@ use Rattle.layer_desk.specs.Need.{Layout, Room, Need, most_above}
 use Rattle.layer_desk.specs.declared.no_room.NoRoom.{NoRoom}
 use Rattle.layer_desk.specs.declared.no_room.NoRoom.TheVariants as lack
 
--- The pool as a visit found it, the references that the desk had then, what the desk is made for, how many events the list keeps
--- to which it adds those that it sends, and what its cells are.
+-- The pool as a visit found it, the references that the desk had then, what the desk is made for, how many events the
+-- list keeps to which it adds those that it sends, and what its cells are.
 pub record Begun : Type 0 where
   pub pool : List Held
   pub refs : List ℕ

@@ -1,6 +1,7 @@
 //! The operations of a desk.
 
-ghost use Rattle.std.specs.Prelude.{◌≡◌, ℕ, ◌+◌, List, [], true, length, slice_index, slice_index_or, OnOk, IfOk, Option, Some, None};
+ghost use Rattle.std.specs.Prelude.{◌≡◌, ℕ, ◌+◌, List, [], true, length, slice_index, slice_index_or, OnOk, IfOk};
+ghost use Rattle.std.specs.Prelude.{Option, Some, None};
 ghost use Rattle.slot_pool.specs.Held.{Held};
 ghost use Rattle.slot_pool.specs.References.{Moved};
 ghost use Rattle.msg_core.specs.Chain.{plain};
@@ -10,10 +11,13 @@ ghost use Rattle.layer_mean.specs.State.{number_at, flat_index, rows_at, row_at,
 ghost use Rattle.layer_mean.specs.Value.{number_in, message_in};
 ghost use Rattle.layer_mean.specs.Effect.{sent_as};
 ghost use Rattle.typed_layer.specs.View.{carried_tree, taken_tree};
-ghost use Rattle.layer_desk.specs.Laid.{Laid, bound, assigned, assigned_square, lifted, changed, joined, queued, queued_first, is_found, taken_row, sends, sends_first, first_header, header_popped, enters, passes_on, left};
+ghost use Rattle.layer_desk.specs.Laid.{Laid, bound, assigned, assigned_square, lifted, changed, joined, queued};
+ghost use Rattle.layer_desk.specs.Laid.{queued_first, is_found, taken_row, sends, sends_first, first_header};
+ghost use Rattle.layer_desk.specs.Laid.{header_popped, enters, passes_on, left};
 ghost use Rattle.layer_mean.specs.Envelope.{event_in};
 ghost use Rattle.layer_mean.specs.Headers.{said_tag, said_fields};
-ghost use Rattle.layer_desk.specs.Need.{Layout, Room, nothing_needed, one_slot, one_place, one_in_hand, held_need, room_need, taken_need, entry_need, passing_need};
+ghost use Rattle.layer_desk.specs.Need.{Layout, Room, nothing_needed, one_slot, one_place, one_in_hand, held_need};
+ghost use Rattle.layer_desk.specs.Need.{room_need, taken_need, entry_need, passing_need};
 ghost use Rattle.layer_desk.specs.Spent.{Begun, SpentAtMost, Spent, Lifted, Suffices};
 
 use crate::no_room::NoRoom;
@@ -39,8 +43,8 @@ impl Start for Brand {
     } };
 }
 
-/// What a layer works at while it takes an event. Bodies of messages stand in the pool beside it, and no operation takes memory.
-/// What isn't there is read as 0 or as no bytes, and isn't written.
+/// What a layer works at while it takes an event. Bodies of messages stand in the pool beside it, and no operation
+/// takes memory. What isn't there is read as 0 or as no bytes, and isn't written.
 pub trait Desk {
     /// The references that the desk has: those of its rows, its scope, what arrived, what is in hand and what was sent.
     ghost refs: { Self → List ℕ };
@@ -54,7 +58,8 @@ pub trait Desk {
     /// What its cells are, which no operation changes: the shape of each, and the capacity where it has queues.
     ghost forms: { Self → List (Shape × Option ℕ) };
 
-    /// Since this beginning the references of the desk, and no others, have moved in the pool; and the desk is in order.
+    /// Since this beginning the references of the desk, and no others, have moved in the pool; and the desk is in
+    /// order.
     ghost ready: { Begun → List Held → Self → Type 0 };
 
     /// What lies on it, with the bodies that the pool holds.
@@ -91,7 +96,8 @@ pub trait Desk {
     /// A number of a square cell.
     fn square<K: Start>(&self, pool: &Pool, cell: u8, row: u32, column: u32) -> u32
         requires { ready K.begun pool.now self.now }
-        ensures { result ≡ number_at (shown pool.now self.now).state cell (flat_index (shown pool.now self.now).state.count row column) };
+        ensures { result ≡ number_at (shown pool.now self.now).state cell
+            (flat_index (shown pool.now self.now).state.count row column) };
 
     /// How many rows a queue has.
     fn rows<K: Start>(&self, pool: &Pool, cell: u8, index: u32) -> u32
@@ -123,7 +129,8 @@ pub trait Desk {
         carried: Carried,
     ) -> u32
         requires { ready K.begun pool.now self.now }
-        ensures { result ≡ length (message_in (carried_tree carried) (row_at (shown pool.now self.now).state cell index row)).body };
+        ensures { result ≡ length
+            (message_in (carried_tree carried) (row_at (shown pool.now self.now).state cell index row)).body };
 
     /// Sets a number of the scope.
     fn bind<K: Start>(&mut self, pool: &Pool, slot: u8, value: u32)
@@ -173,8 +180,10 @@ pub trait Desk {
         requires { ready K.begun pool.old self.old }
         ensures ready { ready K.begun pool.new self.new }
         ensures shown { OnOk result (shown pool.new self.new ≡
-            lifted (message_in (carried_tree carried) (row_at (shown pool.old self.old).state cell index row)) (shown pool.old self.old)) }
-        ensures spent { Lifted (free pool.old self.old) (free pool.new self.new) (held_need (carried_tree carried)) result };
+            lifted (message_in (carried_tree carried) (row_at (shown pool.old self.old).state cell index row))
+            (shown pool.old self.old)) }
+        ensures spent { Lifted (free pool.old self.old) (free pool.new self.new) (held_need (carried_tree carried))
+            result };
 
     /// Leaves so many bytes from a place on of the message in front of the hand, and none of its headers.
     fn cut<K: Start>(&mut self, pool: &Pool, from: u32, count: u32)
@@ -211,7 +220,8 @@ pub trait Desk {
         ensures ready { ready K.begun pool.now self.new }
         ensures shown { OnOk result (shown pool.now self.new ≡
             queued cell index (record { numbers = numbers; message = None }) (shown pool.now self.old)) }
-        ensures spent { Spent (free pool.now self.old) (free pool.now self.new) (room_need K.begun.layout cell capacity) result };
+        ensures spent { Spent (free pool.now self.old) (free pool.now self.new) (room_need K.begun.layout cell capacity)
+            result };
 
     /// Puts a row with the message in front of the hand at the back of a queue whose capacity is this.
     fn push_first<K: Start>(
@@ -225,10 +235,13 @@ pub trait Desk {
         requires ready { ready K.begun pool.now self.old }
         requires room { has_room (shown pool.now self.old).state cell index capacity ≡ true }
         ensures ready { ready K.begun pool.now self.new }
-        ensures shown { OnOk result (shown pool.now self.new ≡ queued_first cell index numbers (shown pool.now self.old)) }
-        ensures spent { Spent (free pool.now self.old) (free pool.now self.new) (room_need K.begun.layout cell capacity) result };
+        ensures shown { OnOk result
+            (shown pool.now self.new ≡ queued_first cell index numbers (shown pool.now self.old)) }
+        ensures spent { Spent (free pool.now self.old) (free pool.now self.new) (room_need K.begun.layout cell capacity)
+            result };
 
-    /// Takes the front row of a queue into the scope, and says whether there was one. Messages that stood there go back.
+    /// Takes the front row of a queue into the scope, and says whether there was one. Messages that stood there go
+    /// back.
     fn take<K: Start>(
         &mut self,
         pool: &mut Pool,
@@ -239,8 +252,10 @@ pub trait Desk {
         requires { ready K.begun pool.old self.old }
         ensures ready { ready K.begun pool.new self.new }
         ensures found { IfOk result (λ found. found ≡ is_found (row_at (shown pool.old self.old).state cell index 0)) }
-        ensures shown { OnOk result (shown pool.new self.new ≡ taken_row cell index (taken_tree taken.now) (shown pool.old self.old)) }
-        ensures spent { Spent (free pool.old self.old) (free pool.new self.new) (taken_need (taken_tree taken.now)) result };
+        ensures shown { OnOk result
+            (shown pool.new self.new ≡ taken_row cell index (taken_tree taken.now) (shown pool.old self.old)) }
+        ensures spent { Spent (free pool.old self.old) (free pool.new self.new) (taken_need (taken_tree taken.now))
+            result };
 
     /// Sends an event without a message.
     fn send<K: Start>(
@@ -251,7 +266,8 @@ pub trait Desk {
     ) -> Result<(), NoRoom>
         requires { ready K.begun pool.now self.old }
         ensures ready { ready K.begun pool.now self.new }
-        ensures shown { OnOk result (shown pool.now self.new ≡ sends direction (event_in envelope None) (shown pool.now self.old)) }
+        ensures shown { OnOk result
+            (shown pool.now self.new ≡ sends direction (event_in envelope None) (shown pool.now self.old)) }
         ensures spent { Spent (free pool.now self.old) (free pool.now self.new) one_place result };
 
     /// Sends an event with the message in front of the hand, going down behind a header.
@@ -264,10 +280,12 @@ pub trait Desk {
     ) -> Result<(), NoRoom>
         requires { ready K.begun pool.now self.old }
         ensures ready { ready K.begun pool.now self.new }
-        ensures shown { OnOk result (shown pool.now self.new ≡ sends_first direction envelope header (shown pool.now self.old)) }
+        ensures shown { OnOk result
+            (shown pool.now self.new ≡ sends_first direction envelope header (shown pool.now self.old)) }
         ensures spent { Spent (free pool.now self.old) (free pool.now self.new) one_place result };
 
-    /// Sends an event with a message of the scope, which the scope keeps, going down behind a header. It doesn't go through the hand.
+    /// Sends an event with a message of the scope, which the scope keeps, going down behind a header. It doesn't go
+    /// through the hand.
     fn send_local<K: Start>(
         &mut self,
         pool: &mut Pool,
@@ -279,12 +297,13 @@ pub trait Desk {
         requires { ready K.begun pool.old self.old }
         ensures ready { ready K.begun pool.new self.new }
         ensures shown { OnOk result (shown pool.new self.new ≡ sends direction
-            (event_in envelope (Some (sent_as direction header (slice_index_or (shown pool.old self.old).scope.messages slot (plain [])))))
+            (event_in envelope (Some
+            (sent_as direction header (slice_index_or (shown pool.old self.old).scope.messages slot (plain [])))))
             (shown pool.old self.old)) }
         ensures spent { Spent (free pool.old self.old) (free pool.new self.new) one_place result };
 
-    /// The same, and what the visit leaves behind is let go, as `leave` does it. The message goes on from where it lies, since the scope doesn't
-    /// keep it.
+    /// The same, and what the visit leaves behind is let go, as `leave` does it. The message goes on from where it
+    /// lies, since the scope doesn't keep it.
     fn send_local_and_leave<K: Start>(
         &mut self,
         pool: &mut Pool,
@@ -296,7 +315,8 @@ pub trait Desk {
         requires { ready K.begun pool.old self.old }
         ensures ready { ready K.begun pool.new self.new }
         ensures shown { OnOk result (shown pool.new self.new ≡ left (sends direction
-            (event_in envelope (Some (sent_as direction header (slice_index_or (shown pool.old self.old).scope.messages slot (plain [])))))
+            (event_in envelope (Some
+            (sent_as direction header (slice_index_or (shown pool.old self.old).scope.messages slot (plain [])))))
             (shown pool.old self.old))) }
         ensures spent { Spent (free pool.old self.old) (free pool.new self.new) one_place result };
 
@@ -310,8 +330,9 @@ pub trait Desk {
         ensures shown { shown pool.now self.new ≡ header_popped (shown pool.now self.old) }
         ensures free { free pool.now self.new ≡ free pool.now self.old };
 
-    /// Makes the scope in which a block is entered: the event's numbers, the fields of the popped header and the message that arrived, and
-    /// behind these so many numbers and messages more, for which there is room. A scope that was there is let go.
+    /// Makes the scope in which a block is entered: the event's numbers, the fields of the popped header and the
+    /// message that arrived, and behind these so many numbers and messages more, for which there is room. A scope that
+    /// was there is let go.
     fn enter<K: Start>(
         &mut self,
         pool: &mut Pool,
@@ -321,7 +342,8 @@ pub trait Desk {
         messages: u8,
     )
         requires ready { ready K.begun pool.old self.old }
-        requires room { Suffices (free pool.old self.old) (entry_need K.begun.layout numbers messages (shown pool.old self.old).arrived) }
+        requires room { Suffices (free pool.old self.old)
+            (entry_need K.begun.layout numbers messages (shown pool.old self.old).arrived) }
         ensures ready { ready K.begun pool.new self.new }
         ensures shown { shown pool.new self.new ≡ enters envelope fields.now numbers messages (shown pool.old self.old) }
         ensures spent { SpentAtMost (free pool.old self.old) (free pool.new self.new)
@@ -337,8 +359,10 @@ pub trait Desk {
     ) -> Result<(), NoRoom>
         requires { ready K.begun pool.now self.old }
         ensures ready { ready K.begun pool.now self.new }
-        ensures shown { OnOk result (shown pool.now self.new ≡ passes_on direction envelope header (shown pool.now self.old)) }
-        ensures spent { Spent (free pool.now self.old) (free pool.now self.new) (passing_need (shown pool.now self.old).arrived) result };
+        ensures shown { OnOk result
+            (shown pool.now self.new ≡ passes_on direction envelope header (shown pool.now self.old)) }
+        ensures spent { Spent (free pool.now self.old) (free pool.now self.new)
+            (passing_need (shown pool.now self.old).arrived) result };
 
     /// Lets the scope go, and what arrived.
     fn leave<K: Start>(&mut self, pool: &mut Pool)

@@ -8,6 +8,8 @@ ghost use Rattle.layer_desk.specs.Need.{sends_at_most, block_sends};
 
 /// The places that statements need are as many as their emissions, each as often as it is done at most.
 pub fn places_are_of_emissions()
-    ensures statement { (times : ℕ) (x : StatementTree) → sum_by (λ e. e.times) (emissions times x) ≡ times * sends_at_most x }
-    ensures block { (times : ℕ) (b : StatementTrees) → sum_by (λ e. e.times) (emissions_in times b) ≡ times * block_sends b }
+    ensures statement { (times : ℕ) (x : StatementTree) → sum_by (λ e. e.times) (emissions times x) ≡
+        times * sends_at_most x }
+    ensures block { (times : ℕ) (b : StatementTrees) → sum_by (λ e. e.times) (emissions_in times b) ≡
+        times * block_sends b }
 {}

@@ -1,5 +1,5 @@
-//! The desk that a layer works at while it takes an event: its cells, the scope of its block, the messages in hand and what it
-//! sends. All bodies of messages stand in a pool beside the desk.
+//! The desk that a layer works at while it takes an event: its cells, the scope of its block, the messages in hand and
+//! what it sends. All bodies of messages stand in a pool beside the desk.
 #![tactic(auto)]
 
 mod desk;

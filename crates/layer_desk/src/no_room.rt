@@ -2,7 +2,8 @@
 
 use thiserror::Error;
 
-/// Why an operation of a desk isn't done. A layer that is accepted, at a desk that was made for it, meets none of these.
+/// Why an operation of a desk isn't done. A layer that is accepted, at a desk that was made for it, meets none of
+/// these.
 #[derive(Clone, Copy, PartialEq, Eq, Debug, Error)]
 pub enum NoRoom {
     /// No slot of the pool is unused.

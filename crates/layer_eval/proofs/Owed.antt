@@ -17,10 +17,12 @@ use Rattle.layer_eval.specs.Worth.{numbers_of, message_of}
 use Rattle.layer_eval.specs.Owed.{owed_event}
 
 -- the event of an emission of a message of the scope
-pub put_off_event : (place : ℕ) (e : Emission) (c : Content) (k : ℕ) (p : Laid) (envelope : Envelope) (h : Header) → e.content ≡ Some c →
+pub put_off_event : (place : ℕ) (e : Emission) (c : Content) (k : ℕ) (p : Laid) (envelope : Envelope) (h : Header) →
+    e.content ≡ Some c →
     c.message ≡ rust_message.Local k → h ≡ header_of place (content_tree c) p.state p.scope →
     ((m : Option Bytes) → event_in envelope m ≡ event_of e.kind (numbers_of (map expression_tree e.numbers) p) m) →
-    owed_event (record { direction = e.direction; envelope = envelope; header = h; slot = k }) p ≡ (e.direction, emitted place (emission_tree e) p.state p.scope)
+    owed_event (record { direction = e.direction; envelope = envelope; header = h; slot = k }) p ≡
+    (e.direction, emitted place (emission_tree e) p.state p.scope)
 put_off_event place e c k p envelope h has is header_is envelope_is =
     let pushed = λ (h : Header) (m : Bytes). Some (sent_as e.direction h m) in
     ap (λ event. (e.direction, event))
@@ -28,4 +30,6 @@ put_off_event place e c k p envelope h has is header_is envelope_is =
     ∙ ap (event_of e.kind (numbers_of (map expression_tree e.numbers) p))
     (ap (λ h. pushed h (slice_index_or p.scope.messages k (plain []))) header_is
     ∙ ap (λ m. pushed (header_of place (content_tree c) p.state p.scope) (message_of (message_tree m) p)) (sym is)
-    ∙ ap (λ (x : Option Content). option_map (λ (c : ContentTree). sent_as e.direction (header_of place c p.state p.scope) (message_of c.message p)) (option_map content_tree x)) (sym has)))
+    ∙ ap (λ (x : Option Content).
+    option_map (λ (c : ContentTree). sent_as e.direction (header_of place c p.state p.scope)
+    (message_of c.message p)) (option_map content_tree x)) (sym has)))

@@ -1,5 +1,6 @@
 -- The sizes of parts of messages.
-use Rattle.std.proofs.Common.{take, Option, Some, None, sym, ◌≡◌, ℕ, ◌+◌, ◌-◌, min, Bool, true, false, nat_le, if◌then◌else◌, ◌++◌, length, drop, refl, ap, ◌∙◌}
+use Rattle.std.proofs.Common.{take, Option, Some, None, sym, ◌≡◌, ℕ, ◌+◌, ◌-◌, min, Bool, true, false, nat_le}
+use Rattle.std.proofs.Common.{if◌then◌else◌, ◌++◌, length, drop, refl, ap, ◌∙◌}
 use Rattle.std.proofs.lemmas.List.{length-take, length-drop, length-append}
 use Rattle.std.specs.Option.{option_map_or}
 use Rattle.msg_core.specs.Chain.{Content, plain}
@@ -17,7 +18,8 @@ cut_bytes m from n = length-take n (drop from m.body) ∙ ap (min n) (length-dro
 pub tail_bytes : (m : Content) (from : ℕ) → length (tail m from).body ≡ length m.body - from
 tail_bytes m from = length-drop from m.body
 
-joined_if : (fits : Bool) (p m : Content) → length (if fits then record { headers = m.headers; body = p.body ++ m.body } else m).body ≡
+joined_if : (fits : Bool) (p m : Content) →
+    length (if fits then record { headers = m.headers; body = p.body ++ m.body } else m).body ≡
     (if fits then length p.body + length m.body else length m.body)
 joined_if true p m = length-append p.body m.body
 joined_if false p m = refl
@@ -26,7 +28,8 @@ pub join_bytes : (p m : Content) → length (join p m).body ≡ joined_size (len
 join_bytes p m = joined_if (nat_le (length p.body + length m.body) longest_body) p m
 
 -- what stands in for a message has no bytes, with headers or without
-missing_bytes : (carried : Carried) (m : Option Content) → (option_map_or (λ x. x) m (missing part)).body ≡ (option_map_or (λ x. x) m (missing carried)).body
+missing_bytes : (carried : Carried) (m : Option Content) → (option_map_or (λ x. x) m (missing part)).body ≡
+    (option_map_or (λ x. x) m (missing carried)).body
 missing_bytes part m = refl
 missing_bytes (whole blank) None = refl
 missing_bytes (whole blank) (Some m) = refl
@@ -36,7 +39,9 @@ row_bytes part row = refl
 row_bytes (whole blank) None = refl
 row_bytes (whole blank) (Some row) = missing_bytes (whole blank) row.message
 
-joined_bytes : (fits : Bool) (p m : Content) → (if fits then record { headers = m.headers; body = p.body ++ m.body } else m).body ≡ (if fits then p.body ++ m.body else m.body)
+joined_bytes : (fits : Bool) (p m : Content) →
+    (if fits then record { headers = m.headers; body = p.body ++ m.body } else m).body ≡
+    (if fits then p.body ++ m.body else m.body)
 joined_bytes true p m = refl
 joined_bytes false p m = refl
 
@@ -56,9 +61,12 @@ bare_bytes (tree.tail m from) s l = ap (drop (val from s l)) (bare_bytes m s l)
 bare_bytes (tree.join p m) s l = join_behind (mval p s l) (mval (bare m) s l) (mval m s l) (bare_bytes m s l)
 
 -- so what is cut of it, and what it is joined in front of, is the same
-pub cut_bare : (m : MessageTree) (s : State) (l : Scope) (from n : ℕ) → cut (mval (bare m) s l) from n ≡ cut (mval m s l) from n
+pub cut_bare : (m : MessageTree) (s : State) (l : Scope) (from n : ℕ) → cut (mval (bare m) s l) from n ≡
+    cut (mval m s l) from n
 cut_bare m s l from n = ap (λ b. plain (take n (drop from b))) (bare_bytes m s l)
 
-pub join_bare : (p : MessageTree) (s : State) (l : Scope) (m : Content) → join (mval (bare p) s l) m ≡ join (mval p s l) m
+pub join_bare : (p : MessageTree) (s : State) (l : Scope) (m : Content) → join (mval (bare p) s l) m ≡ join
+    (mval p s l) m
 join_bare p s l m =
-    ap (λ b. if nat_le (length b + length m.body) longest_body then record { headers = m.headers; body = b ++ m.body } else m) (bare_bytes p s l)
+    ap (λ b. if nat_le (length b + length m.body) longest_body then record { headers = m.headers; body = b ++ m.body }
+    else m) (bare_bytes p s l)

@@ -16,7 +16,8 @@ block_is : (block : Block) → fold-Block StatementTree StatementTrees statement
 block_is block = fold_out-Block StatementTree StatementTrees statement_of block_of block
 
 pub branch_tree : (x : Likely) (condition : Expression) (block otherwise : Block) →
-    statement_tree (rust.Branch x condition block otherwise) ≡ branch x (expression_tree condition) (block_tree block) (block_tree otherwise)
+    statement_tree (rust.Branch x condition block otherwise) ≡ branch x (expression_tree condition) (block_tree block)
+    (block_tree otherwise)
 branch_tree x condition block otherwise =
     ap statement_tree (sym (rust.rolls-Branch x condition block otherwise))
     ∙ (fold-roll-Statement StatementTree StatementTrees statement_of block_of (layer.Branch x condition block otherwise)
@@ -34,5 +35,6 @@ pub take_tree : (cell : ℕ) (index : Expression) (taken : Taken) (block otherwi
     ≡ tree.take cell (expression_tree index) (taken_tree taken) (block_tree block) (block_tree otherwise)
 take_tree cell index taken block otherwise =
     ap statement_tree (sym (rust.rolls-Take cell index taken block otherwise))
-    ∙ (fold-roll-Statement StatementTree StatementTrees statement_of block_of (layer.Take cell index taken block otherwise)
+    ∙ (fold-roll-Statement StatementTree StatementTrees statement_of block_of
+    (layer.Take cell index taken block otherwise)
     ∙ ap₂ (tree.take cell (expression_tree index) (taken_tree taken)) (block_is block) (block_is otherwise))

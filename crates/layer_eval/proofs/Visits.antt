@@ -12,7 +12,8 @@ use Rattle.layer_mean.specs.State.{State}
 use Rattle.layer_mean.specs.Value.{Scope}
 use Rattle.layer_mean.specs.Effect.{in_order, acts}
 use Rattle.layer_eval.specs.Did.{as_predicted}
-use Rattle.layer_mean.specs.Visit.{no_scope, Met, met, Visited, with_room, expecting, handler_for, handled, unhandled, step}
+use Rattle.layer_mean.specs.Visit.{no_scope, Met, met, Visited, with_room, expecting, handler_for, handled, unhandled}
+use Rattle.layer_mean.specs.Visit.{step}
 use Rattle.layer_mean.specs.declared.envelope.Envelope.{Envelope}
 use Rattle.layer_desk.specs.Laid.{Laid}
 use Rattle.layer_mean.specs.Envelope.{event_in}
@@ -20,7 +21,8 @@ use Rattle.layer_eval.specs.declared.predicted.Predicted.{Predicted}
 use Rattle.layer_eval.specs.Visit.{Visits, visited, meets, handler_visited, passed}
 
 -- an event's arguments are no matter of its message
-arguments_same : (k : Kind) (e : Envelope) (x y : Option Content) → arguments_for k (event_in e x) ≡ arguments_for k (event_in e y)
+arguments_same : (k : Kind) (e : Envelope) (x y : Option Content) → arguments_for k (event_in e x) ≡
+    arguments_for k (event_in e y)
 arguments_same kind.Cast e x y = refl
 arguments_same kind.Send e x y = refl
 arguments_same kind.Timer e x y = refl
@@ -35,8 +37,10 @@ arguments_same kind.View e x y = refl
 arguments_same kind.Leave e x y = refl
 
 -- nor is what is done without a handler
-unhandled_same : (place : ℕ) (s : State) (dir : Dir) (e : Envelope) (x : Option Content) (m : Met) (o : Option Content) →
-    unhandled place s dir (event_in e x) m o ≡ unhandled place s dir (event_in e None) (record { tag = m.tag; fields = []; message = o }) o
+unhandled_same : (place : ℕ) (s : State) (dir : Dir) (e : Envelope) (x : Option Content) (m : Met)
+    (o : Option Content) →
+    unhandled place s dir (event_in e x) m o ≡
+    unhandled place s dir (event_in e None) (record { tag = m.tag; fields = []; message = o }) o
 unhandled_same place s Up e x m None = refl
 unhandled_same place s Down e x m None = refl
 unhandled_same place s Up e x m (Some content) = refl
@@ -45,7 +49,11 @@ unhandled_same place s Down e x m (Some content) = refl
 -- what a handler does in a scope with these arguments
 abbrev handled_with : ℕ → HandlerTree → State → List ℕ → Met → List ℕ → Visited
 handled_with place h s fields m args =
-    let l : Scope = record { numbers = with_room h.numbers 0 (args ++ fields); messages = with_room h.messages (plain []) (option_to_list m.message) } in
+    let l : Scope = record {
+      numbers = with_room h.numbers 0 (args ++ fields);
+      messages =
+          with_room h.messages (plain []) (option_to_list m.message);
+    } in
     let o = expecting h.expected s l (in_order (acts place h.block) s l) in
     record { state = o.state; sent = o.sent; decided = o.decided }
 
@@ -54,17 +62,29 @@ stepped : (place : ℕ) (layer : LayerTree) (dir : Dir) (e : Envelope) (p : Laid
     visited place layer dir e p ≡ handled place h p.state dir (event_in e p.arrived) (met dir p.arrived)
 unfolding step
 stepped place layer dir e p tag h found is =
-    ap (λ g. handled place g p.state dir (event_in e p.arrived) (met dir p.arrived)) (ap (handler_for layer dir e.kind) (sym is) ∙ found)
+    ap (λ g. handled place g p.state dir (event_in e p.arrived) (met dir p.arrived))
+    (ap (handler_for layer dir e.kind) (sym is) ∙ found)
 
 -- another visit that is as this one
-pub visits_as : (v w : Visited) (old mid new : Laid) (q : Predicted) → w ≡ v → mid.hand ≡ old.hand → mid.sent ≡ old.sent → Visits v mid new q → Visits w old new q
+pub visits_as : (v w : Visited) (old mid new : Laid) (q : Predicted) → w ≡ v → mid.hand ≡ old.hand →
+    mid.sent ≡ old.sent → Visits v mid new q → Visits w old new q
 visits_as v w old mid new q same hand sent visits = record {
-  shown = visits.shown ∙ (λ i. record { state = (sym same i).state; scope = no_scope; arrived = None; hand = hand i; sent = sent i ++ (sym same i).sent });
+  shown = visits.shown ∙
+      (λ i. record {
+        state = (sym same i).state;
+        scope = no_scope;
+        arrived = None;
+        hand = hand i;
+        sent = sent i ++
+            (sym same i).sent;
+      });
   predicted = visits.predicted ∙ ap (λ (z : Visited). as_predicted z.decided) (sym same);
 }
 
-pub some_step : (place : ℕ) (layer : LayerTree) (dir : Dir) (e : Envelope) (old mid new : Laid) (tag : ℕ) (fields : List ℕ) (h : HandlerTree) (q : Predicted) →
-    handler_for layer dir e.kind tag ≡ Some h → tag ≡ (met dir old.arrived).tag → fields ≡ (met dir old.arrived).fields → mid ≡ meets dir old →
+pub some_step : (place : ℕ) (layer : LayerTree) (dir : Dir) (e : Envelope) (old mid new : Laid) (tag : ℕ)
+    (fields : List ℕ) (h : HandlerTree) (q : Predicted) →
+    handler_for layer dir e.kind tag ≡ Some h → tag ≡ (met dir old.arrived).tag →
+    fields ≡ (met dir old.arrived).fields → mid ≡ meets dir old →
     Visits (handler_visited place h e fields mid) mid new q → Visits (visited place layer dir e old) old new q
 some_step place layer dir e old mid new tag fields h q found is fields_are met_is visits =
     let m = met dir old.arrived in
@@ -75,7 +95,8 @@ some_step place layer dir e old mid new tag fields h q found is fields_are met_i
     ∙ ap (handler_visited place h e fields) (sym met_is) in
     visits_as _ _ old mid new q same (ap (λ (z : Laid). z.hand) met_is) (ap (λ (z : Laid). z.sent) met_is) visits
 
-pub none_step : (place : ℕ) (layer : LayerTree) (dir : Dir) (e : Envelope) (old mid new : Laid) (tag : ℕ) (q : Predicted) →
+pub none_step : (place : ℕ) (layer : LayerTree) (dir : Dir) (e : Envelope) (old mid new : Laid) (tag : ℕ)
+    (q : Predicted) →
     handler_for layer dir e.kind tag ≡ None → tag ≡ (met dir old.arrived).tag → mid ≡ meets dir old →
     Visits (passed place dir e tag mid) mid new q → Visits (visited place layer dir e old) old new q
 none_step place layer dir e old mid new tag q found is met_is visits =

@@ -1,5 +1,6 @@
 -- Emissions that are yet to go.
-use Rattle.std.specs.Prelude.{◌≡◌, ℕ, ◌+◌, Bool, true, false, List, [], ◌∷◌, ◌++◌, slice_index_or, Option, Some, None, Result, Ok, Err}
+use Rattle.std.specs.Prelude.{◌≡◌, ℕ, ◌+◌, Bool, true, false, List, [], ◌∷◌, ◌++◌, slice_index_or, Option, Some, None}
+use Rattle.std.specs.Prelude.{Result, Ok, Err}
 use Rattle.std.specs.Option.{option_map_or}
 use Rattle.msg_core.specs.Chain.{plain}
 use Rattle.layer_ast.specs.declared.tokens.Dir.{Dir}
@@ -30,7 +31,10 @@ may_wait e = option_map_or (λ c. is_of_scope c.message) e.content false
 
 -- The event of an emission that is yet to go.
 abbrev pub owed_event : Pending → Laid → Dir × Event
-owed_event e p = (e.direction, event_in e.envelope (Some (sent_as e.direction e.header (slice_index_or p.scope.messages e.slot (plain [])))))
+owed_event e p = (
+  e.direction,
+  event_in e.envelope (Some (sent_as e.direction e.header (slice_index_or p.scope.messages e.slot (plain [])))),
+)
 
 -- What lies at a desk once it has gone, if there is one.
 abbrev pub with_owed : Option Pending → Laid → List (Dir × Event)
@@ -48,9 +52,11 @@ owed_places (Some e) = 1
 abbrev pub owing : Option Pending → Need → Need
 owing owed n = record n { places = owed_places owed + n.places }
 
--- Where it is done at most this was spent, and what was owed before; what is owed now isn't spent yet. Else there was less than this.
+-- Where it is done at most this was spent, and what was owed before; what is owed now isn't spent yet. Else there was
+-- less than this.
 abbrev pub SpentOwing : {A : Type 0} → Option Pending → Option Pending → Room → Room → Need → Result A NoRoom → Type 0
-SpentOwing before now old new n (Ok a) = SpentAtMost (record old { places = owed_places now + old.places }) new (owing before n)
+SpentOwing before now old new n (Ok a) = SpentAtMost (record old { places = owed_places now + old.places }) new
+    (owing before n)
 SpentOwing before now old new n (Err e) = Lacks old (owing before n) e
 
 -- An emission of this event is owed.

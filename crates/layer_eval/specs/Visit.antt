@@ -15,7 +15,8 @@ use Rattle.layer_eval.specs.declared.predicted.Predicted.{Predicted}
 use Rattle.layer_eval.specs.Did.{as_predicted}
 use Rattle.layer_eval.specs.Worth.{number_of}
 
--- A visit came about: its state lies at the desk and its events were sent behind the others, and beside these it leaves nothing.
+-- A visit came about: its state lies at the desk and its events were sent behind the others, and beside these it leaves
+-- nothing.
 pub record Visits (v : Visited) (old new : Laid) (p : Predicted) : Type 0 where
   pub shown : new ≡ record {
     state = v.state;

@@ -38,4 +38,5 @@ bare_need m = record (message_need m) { misfits = 0 }
 
 -- The message of an emission, if it has one, with the header that is pushed on it going down.
 abbrev pub message_sent : ℕ → EmissionTree → Laid → Option Content
-message_sent place e p = option_map (λ c. sent_as e.direction (header_of place c p.state p.scope) (message_of c.message p)) e.content
+message_sent place e p =
+    option_map (λ c. sent_as e.direction (header_of place c p.state p.scope) (message_of c.message p)) e.content

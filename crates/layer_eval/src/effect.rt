@@ -5,7 +5,8 @@ ghost use Rattle.msg_core.specs.Chain.{Content as Bytes};
 ghost use Rattle.layer_mean.specs.Event.{event_of};
 ghost use Rattle.layer_mean.specs.State.{has_room, rows_at};
 ghost use Rattle.layer_mean.specs.Effect.{row_of, header_of, emitted};
-ghost use Rattle.typed_layer.specs.View.{expression_tree, row_tree, content_tree, emission_tree, trees, statement_tree, block_tree};
+ghost use Rattle.typed_layer.specs.View.{expression_tree, row_tree, content_tree, emission_tree, trees, statement_tree};
+ghost use Rattle.typed_layer.specs.View.{block_tree};
 ghost use Rattle.layer_desk.specs.Laid.{bound, assigned, assigned_square, queued, sends, left};
 ghost use Rattle.layer_mean.specs.Envelope.{event_in};
 ghost use Rattle.layer_desk.specs.Need.{push_need, emission_need, statement_need, block_need};
@@ -43,7 +44,8 @@ fn run_block<K: Start, D: Desk>(
     run_all::<K, D>(place, block.statements.as_slice(), desk, pool, predicted)
 }
 
-/// Runs statements in order. Often there are none: these cost no call. Otherwise there is mostly one: this costs no loop.
+/// Runs statements in order. Often there are none: these cost no call. Otherwise there is mostly one: this costs no
+/// loop.
 #[cycle(effect)]
 #[inline(always)]
 fn run_all<K: Start, D: Desk>(
@@ -55,7 +57,8 @@ fn run_all<K: Start, D: Desk>(
 ) -> Result<(), NoRoom>
     requires { D.ready K.begun pool.old desk.old }
     ensures ready { D.ready K.begun pool.new desk.new }
-    ensures did { OnOk result (Did (block_does place (trees (map statement_tree statements.now)) (D.shown pool.old desk.old))
+    ensures did { OnOk result
+        (Did (block_does place (trees (map statement_tree statements.now)) (D.shown pool.old desk.old))
         (D.shown pool.old desk.old) (D.shown pool.new desk.new) predicted.old predicted.new) }
     ensures spent { Spent (D.free pool.old desk.old) (D.free pool.new desk.new)
         (block_need K.begun.layout (trees (map statement_tree statements.now))) result }
@@ -69,7 +72,8 @@ fn run_all<K: Start, D: Desk>(
     run_statements::<K, D>(place, statements, desk, pool, predicted)
 }
 
-/// Runs the only statement of a block in a statement. Turns of a loop mostly look for a row in vain: these cost no call.
+/// Runs the only statement of a block in a statement. Turns of a loop mostly look for a row in vain: these cost no
+/// call.
 #[cycle(effect)]
 #[inline(always)]
 fn run_single<K: Start, D: Desk>(
@@ -93,7 +97,8 @@ fn run_single<K: Start, D: Desk>(
     run_alone::<K, D>(place, statement, desk, pool, predicted)
 }
 
-/// Whether a statement takes a row of a queue that has none, and does nothing then. Where that takes more than a look at the queue, it isn't said.
+/// Whether a statement takes a row of a queue that has none, and does nothing then. Where that takes more than a look
+/// at the queue, it isn't said.
 #[inline(always)]
 fn finds_nothing<K: Start, D: Desk>(statement: &Statement, desk: &D, pool: &Pool) -> bool
     requires { D.ready K.begun pool.now desk.now }
@@ -122,7 +127,9 @@ fn finds_nothing<K: Start, D: Desk>(statement: &Statement, desk: &D, pool: &Pool
 #[inline(always)]
 fn has_no_row<K: Start, D: Desk>(cell: u8, index: &Expression, desk: &D, pool: &Pool) -> bool
     requires { D.ready K.begun pool.now desk.now }
-    ensures { result ≡ true → rows_at (D.shown pool.now desk.now).state cell (number_of (expression_tree index.now) (D.shown pool.now desk.now)) ≡ [] }
+    ensures { result ≡ true →
+        rows_at (D.shown pool.now desk.now).state cell
+        (number_of (expression_tree index.now) (D.shown pool.now desk.now)) ≡ [] }
 {
     if !matches!(index, Expression::Local(_)) {
         return false;
@@ -161,7 +168,8 @@ fn run_statements<K: Start, D: Desk>(
 ) -> Result<(), NoRoom>
     requires { D.ready K.begun pool.old desk.old }
     ensures ready { D.ready K.begun pool.new desk.new }
-    ensures did { OnOk result (Did (block_does place (trees (map statement_tree statements.now)) (D.shown pool.old desk.old))
+    ensures did { OnOk result
+        (Did (block_does place (trees (map statement_tree statements.now)) (D.shown pool.old desk.old))
         (D.shown pool.old desk.old) (D.shown pool.new desk.new) predicted.old predicted.new) }
     ensures spent { Spent (D.free pool.old desk.old) (D.free pool.new desk.new)
         (block_need K.begun.layout (trees (map statement_tree statements.now))) result }
@@ -403,7 +411,8 @@ fn push<K: Start, D: Desk>(
     requires room { has_room (D.shown pool.old desk.old).state cell index capacity ≡ true }
     ensures ready { D.ready K.begun pool.new desk.new }
     ensures shown { OnOk result (D.shown pool.new desk.new ≡ queued cell index
-        (row_of (row_tree row.now) (D.shown pool.old desk.old).state (D.shown pool.old desk.old).scope) (D.shown pool.old desk.old)) }
+        (row_of (row_tree row.now) (D.shown pool.old desk.old).state (D.shown pool.old desk.old).scope)
+        (D.shown pool.old desk.old)) }
     ensures spent { Spent (D.free pool.old desk.old) (D.free pool.new desk.new)
         (push_need K.begun.layout cell capacity (row_tree row.now)) result }
 {
@@ -430,7 +439,8 @@ fn emit<K: Start, D: Desk>(
     ensures shown { OnOk result (D.shown pool.new desk.new ≡ sends emission.now.direction
         (emitted place (emission_tree emission.now) (D.shown pool.old desk.old).state (D.shown pool.old desk.old).scope)
         (D.shown pool.old desk.old)) }
-    ensures spent { Spent (D.free pool.old desk.old) (D.free pool.new desk.new) (emission_need (emission_tree emission.now)) result }
+    ensures spent { Spent (D.free pool.old desk.old) (D.free pool.new desk.new)
+        (emission_need (emission_tree emission.now)) result }
 {
     let envelope = envelope::<K, D>(emission, desk, pool);
     send::<K, D>(place, emission, envelope, desk, pool)
@@ -448,7 +458,8 @@ pub fn emit_last<K: Start, D: Desk>(
     ensures shown { OnOk result (D.shown pool.new desk.new ≡ left (sends emission.now.direction
         (emitted place (emission_tree emission.now) (D.shown pool.old desk.old).state (D.shown pool.old desk.old).scope)
         (D.shown pool.old desk.old))) }
-    ensures spent { Spent (D.free pool.old desk.old) (D.free pool.new desk.new) (emission_need (emission_tree emission.now)) result }
+    ensures spent { Spent (D.free pool.old desk.old) (D.free pool.new desk.new)
+        (emission_need (emission_tree emission.now)) result }
 {
     let envelope = envelope::<K, D>(emission, desk, pool);
     send_last::<K, D>(place, emission, envelope, desk, pool)
@@ -466,8 +477,10 @@ fn send_last<K: Start, D: Desk>(
     requires { D.ready K.begun pool.old desk.old }
     ensures ready { D.ready K.begun pool.new desk.new }
     ensures shown { OnOk result (D.shown pool.new desk.new ≡ left (sends emission.now.direction
-        (event_in envelope (message_sent place (emission_tree emission.now) (D.shown pool.old desk.old))) (D.shown pool.old desk.old))) }
-    ensures spent { Spent (D.free pool.old desk.old) (D.free pool.new desk.new) (emission_need (emission_tree emission.now)) result }
+        (event_in envelope (message_sent place (emission_tree emission.now) (D.shown pool.old desk.old)))
+        (D.shown pool.old desk.old))) }
+    ensures spent { Spent (D.free pool.old desk.old) (D.free pool.new desk.new)
+        (emission_need (emission_tree emission.now)) result }
 {
     if let Some(content) = &emission.content {
         if let MessageExpression::Local(slot) = &content.message {
@@ -499,8 +512,10 @@ fn send<K: Start, D: Desk>(
     requires { D.ready K.begun pool.old desk.old }
     ensures ready { D.ready K.begun pool.new desk.new }
     ensures shown { OnOk result (D.shown pool.new desk.new ≡ sends emission.now.direction
-        (event_in envelope (message_sent place (emission_tree emission.now) (D.shown pool.old desk.old))) (D.shown pool.old desk.old)) }
-    ensures spent { Spent (D.free pool.old desk.old) (D.free pool.new desk.new) (emission_need (emission_tree emission.now)) result }
+        (event_in envelope (message_sent place (emission_tree emission.now) (D.shown pool.old desk.old)))
+        (D.shown pool.old desk.old)) }
+    ensures spent { Spent (D.free pool.old desk.old) (D.free pool.new desk.new)
+        (emission_need (emission_tree emission.now)) result }
 {
     match &emission.content {
         None => desk.send::<K>(pool, emission.direction, envelope),
@@ -526,7 +541,8 @@ pub fn write_header<K: Start, D: Desk>(
     header: &mut Header,
 )
     requires { D.ready K.begun pool.now desk.now }
-    ensures { header.new ≡ header_of place (content_tree content.now) (D.shown pool.now desk.now).state (D.shown pool.now desk.now).scope }
+    ensures { header.new ≡ header_of place (content_tree content.now) (D.shown pool.now desk.now).state
+        (D.shown pool.now desk.now).scope }
 {
     header.layer = place;
     header.tag = content.tag;
@@ -548,7 +564,8 @@ pub fn no_header() -> Header {
 pub fn envelope<K: Start, D: Desk>(emission: &Emission, desk: &D, pool: &Pool) -> Envelope
     requires { D.ready K.begun pool.now desk.now }
     ensures { (message : Option Bytes) → event_in result message ≡
-        event_of emission.now.kind (numbers_of (map expression_tree emission.now.numbers) (D.shown pool.now desk.now)) message }
+        event_of emission.now.kind (numbers_of (map expression_tree emission.now.numbers) (D.shown pool.now desk.now))
+        message }
 {
     let first = nth_number::<K, D>(&emission.numbers, 0, desk, pool);
     match emission.kind {

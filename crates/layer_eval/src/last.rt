@@ -15,8 +15,8 @@ use layer_desk::{Desk, NoRoom, Start};
 use slot_pool::Pool;
 use typed_layer::{Block, Statement};
 
-/// Runs a handler's block of the layer at a place, or a block with which one ends, keeps account of whether all has gone as predicted, and
-/// lets go what the visit leaves, with an emission that is yet to go.
+/// Runs a handler's block of the layer at a place, or a block with which one ends, keeps account of whether all has
+/// gone as predicted, and lets go what the visit leaves, with an emission that is yet to go.
 #[cycle(last)]
 #[inline(always)]
 pub fn run_last_block<K: Start, D: Desk>(
@@ -44,8 +44,8 @@ pub fn run_last_block<K: Start, D: Desk>(
     }
 }
 
-/// Runs the last statement of a block with which a visit ends. A decision is noted before the block that it chooses, so that nothing is left
-/// to be done behind that.
+/// Runs the last statement of a block with which a visit ends. A decision is noted before the block that it chooses, so
+/// that nothing is left to be done behind that.
 #[cycle(last)]
 #[inline(never)]
 fn run_last<K: Start, D: Desk>(
@@ -134,8 +134,10 @@ fn run_front<K: Start, D: Desk>(
 ) -> Result<(), NoRoom>
     requires { D.ready K.begun pool.old desk.old }
     ensures ready { D.ready K.begun pool.new desk.new }
-    ensures did { OnOk result (Did (block_does place (trees (map statement_tree statements.now)) (D.shown pool.old desk.old))
-        (settled pending.old (D.shown pool.old desk.old)) (settled pending.new (D.shown pool.new desk.new)) predicted.old predicted.new) }
+    ensures did { OnOk result
+        (Did (block_does place (trees (map statement_tree statements.now)) (D.shown pool.old desk.old))
+        (settled pending.old (D.shown pool.old desk.old)) (settled pending.new (D.shown pool.new desk.new))
+        predicted.old predicted.new) }
     ensures spent { SpentOwing pending.old pending.new (D.free pool.old desk.old) (D.free pool.new desk.new)
         (block_need K.begun.layout (trees (map statement_tree statements.now))) result }
 {
@@ -145,7 +147,8 @@ fn run_front<K: Start, D: Desk>(
     Ok(())
 }
 
-/// Runs a statement. An emission that was put off waits until one comes that doesn't set a number alone; that may be put off in its turn.
+/// Runs a statement. An emission that was put off waits until one comes that doesn't set a number alone; that may be
+/// put off in its turn.
 #[inline(always)]
 fn run_owing<K: Start, D: Desk>(
     place: u8,
@@ -158,7 +161,8 @@ fn run_owing<K: Start, D: Desk>(
     requires { D.ready K.begun pool.old desk.old }
     ensures ready { D.ready K.begun pool.new desk.new }
     ensures did { OnOk result (Did (statement_does place (statement_tree statement.now) (D.shown pool.old desk.old))
-        (settled pending.old (D.shown pool.old desk.old)) (settled pending.new (D.shown pool.new desk.new)) predicted.old predicted.new) }
+        (settled pending.old (D.shown pool.old desk.old)) (settled pending.new (D.shown pool.new desk.new))
+        predicted.old predicted.new) }
     ensures spent { SpentOwing pending.old pending.new (D.free pool.old desk.old) (D.free pool.new desk.new)
         (statement_need K.begun.layout (statement_tree statement.now)) result }
 {

@@ -23,7 +23,8 @@ pub fn make<K: Start, D: Desk>(
     ensures ready { D.ready K.begun pool.new desk.new }
     ensures shown { OnOk result (D.shown pool.new desk.new ≡
         lifted (message_of (message_tree message.now) (D.shown pool.old desk.old)) (D.shown pool.old desk.old)) }
-    ensures spent { Lifted (D.free pool.old desk.old) (D.free pool.new desk.new) (message_need (message_tree message.now)) result }
+    ensures spent { Lifted (D.free pool.old desk.old) (D.free pool.new desk.new)
+        (message_need (message_tree message.now)) result }
 {
     match message {
         MessageExpression::Local(slot) => desk.lift::<K>(pool, *slot),
@@ -77,7 +78,8 @@ fn make_bare<K: Start, D: Desk>(
     ensures ready { D.ready K.begun pool.new desk.new }
     ensures shown { OnOk result (D.shown pool.new desk.new ≡
         lifted (message_of (bare (message_tree message.now)) (D.shown pool.old desk.old)) (D.shown pool.old desk.old)) }
-    ensures spent { Lifted (D.free pool.old desk.old) (D.free pool.new desk.new) (bare_need (message_tree message.now)) result }
+    ensures spent { Lifted (D.free pool.old desk.old) (D.free pool.new desk.new) (bare_need (message_tree message.now))
+        result }
 {
     match message {
         MessageExpression::Local(slot) => desk.lift::<K>(pool, *slot),

@@ -1,5 +1,5 @@
-//! Emissions that are yet to go. A message of the scope is sent for least where the visit ends with that; so its emission is put off over
-//! statements that don't touch messages.
+//! Emissions that are yet to go. A message of the scope is sent for least where the visit ends with that; so its
+//! emission is put off over statements that don't touch messages.
 
 ghost use Rattle.std.specs.Prelude.{◌≡◌, Some, OnOk};
 ghost use Rattle.layer_desk.specs.Need.{one_place};
@@ -69,7 +69,8 @@ impl Owed {
         }
     }
 
-    /// Evaluates an emission that is put off, as those of messages of the scope are and no others, where nothing was owed; says whether it is.
+    /// Evaluates an emission that is put off, as those of messages of the scope are and no others, where nothing was
+    /// owed; says whether it is.
     pub fn put_off<K: Start, D: Desk>(
         &mut self,
         place: u8,
@@ -82,7 +83,8 @@ impl Owed {
         ensures waits { result ≡ may_wait (emission_tree emission.now) }
         ensures put_off { IsPutOff result self.new (
           emission.now.direction,
-          emitted place (emission_tree emission.now) (D.shown pool.now desk.now).state (D.shown pool.now desk.now).scope,
+          emitted place (emission_tree emission.now) (D.shown pool.now desk.now).state
+              (D.shown pool.now desk.now).scope,
         ) (D.shown pool.now desk.now) }
     {
         let Some(content) = &emission.content else {
@@ -106,7 +108,8 @@ impl Owed {
         ensures ready { D.ready K.begun pool.new desk.new }
         ensures none { OnOk result (self.new ≡ None) }
         ensures shown { OnOk result (D.shown pool.new desk.new ≡ settled self.old (D.shown pool.old desk.old)) }
-        ensures spent { Spent (D.free pool.old desk.old) (D.free pool.new desk.new) (owing self.old nothing_needed) result }
+        ensures spent { Spent (D.free pool.old desk.old) (D.free pool.new desk.new) (owing self.old nothing_needed)
+            result }
     {
         if self.is_owed {
             send_owed::<K, D>(&self.emission, desk, pool)?;
@@ -121,7 +124,8 @@ impl Owed {
         requires { D.ready K.begun pool.old desk.old }
         ensures ready { D.ready K.begun pool.new desk.new }
         ensures shown { OnOk result (D.shown pool.new desk.new ≡ left (settled self.now (D.shown pool.old desk.old))) }
-        ensures spent { Spent (D.free pool.old desk.old) (D.free pool.new desk.new) (owing self.now nothing_needed) result }
+        ensures spent { Spent (D.free pool.old desk.old) (D.free pool.new desk.new) (owing self.now nothing_needed)
+            result }
     {
         if !self.is_owed {
             desk.leave::<K>(pool);

@@ -5,8 +5,8 @@ ghost use Rattle.layer_eval.specs.Did.{both, as_predicted, decision};
 
 use layer_ast::Likely;
 
-/// Whether all decisions went as predicted, in the first of two common cases and in the second. A layer that names one case is
-/// predicted alike in both.
+/// Whether all decisions went as predicted, in the first of two common cases and in the second. A layer that names one
+/// case is predicted alike in both.
 #[derive(Clone, Copy, Debug, PartialEq, Eq)]
 pub struct Predicted {
     pub first: bool,

@@ -7,7 +7,8 @@ ghost use Rattle.layer_desk.specs.Need.{handler_need, passing_need};
 ghost use Rattle.slot_pool.specs.References.{Moved};
 ghost use Rattle.layer_desk.specs.Spent.{SpentAtMost, Spent, Suffices};
 ghost use Rattle.layer_eval.specs.Did.{as_predicted};
-ghost use Rattle.layer_eval.specs.Visit.{Visits, visited, needed, meets, IsPopped, expected_decisions, handler_visited, passed};
+ghost use Rattle.layer_eval.specs.Visit.{Visits, visited, needed, meets, IsPopped, expected_decisions, handler_visited};
+ghost use Rattle.layer_eval.specs.Visit.{passed};
 
 use crate::last::run_last_block;
 use crate::pending::Owed;
@@ -21,8 +22,9 @@ use slot_pool::Pool;
 use std::marker::Brand;
 use typed_layer::{Expected, Handler, TypedLayer};
 
-/// The layer at a place takes an event, whose message has arrived at its desk: the handler for its direction, kind and popped header
-/// runs its block; without one the event passes, or is dropped. Says whether that went as predicted. No memory is taken.
+/// The layer at a place takes an event, whose message has arrived at its desk: the handler for its direction, kind and
+/// popped header runs its block; without one the event passes, or is dropped. Says whether that went as predicted. No
+/// memory is taken.
 pub fn take_event<D: Desk>(
     place: u8,
     layer: &TypedLayer,
@@ -31,7 +33,15 @@ pub fn take_event<D: Desk>(
     desk: &mut D,
     pool: &mut Pool,
 ) -> Predicted
-    requires ready { D.ready (record { pool = pool.old; refs = D.refs desk.old; layout = D.layout desk.old; list = D.list desk.old; forms = D.forms desk.old }) pool.old desk.old }
+    requires ready { D.ready
+        (record {
+          pool = pool.old;
+          refs = D.refs desk.old;
+          layout = D.layout desk.old;
+          list = D.list desk.old;
+          forms =
+              D.forms desk.old;
+        }) pool.old desk.old }
     requires room { Suffices (D.free pool.old desk.old)
         (needed (D.layout desk.old) (layer_tree layer.now) direction envelope (D.shown pool.old desk.old)) }
 
@@ -43,11 +53,20 @@ pub fn take_event<D: Desk>(
 
     // Each event that was sent has taken one place.
     ensures places { (D.free pool.new desk.new).places
-        + length (visited place (layer_tree layer.now) direction envelope (D.shown pool.old desk.old)).sent ≡ (D.free pool.old desk.old).places }
+        + length (visited place (layer_tree layer.now) direction envelope (D.shown pool.old desk.old)).sent ≡
+        (D.free pool.old desk.old).places }
     ensures moved { Moved pool.old pool.new (D.refs desk.old) (D.refs desk.new) }
     ensures layout { D.layout desk.new ≡ D.layout desk.old }
     ensures list { D.list desk.new ≡ D.list desk.old }
-    ensures ready { D.ready (record { pool = pool.old; refs = D.refs desk.old; layout = D.layout desk.old; list = D.list desk.old; forms = D.forms desk.old }) pool.new desk.new }
+    ensures ready { D.ready
+        (record {
+          pool = pool.old;
+          refs = D.refs desk.old;
+          layout = D.layout desk.old;
+          list = D.list desk.old;
+          forms =
+              D.forms desk.old;
+        }) pool.new desk.new }
 {
     match take_from::<Brand, D>(place, layer, direction, envelope, desk, pool) {
         Ok(says) => says,
@@ -68,7 +87,8 @@ fn take_from<K: Start, D: Desk>(
     requires room { Suffices (D.free pool.old desk.old)
         (needed K.begun.layout (layer_tree layer.now) direction envelope (D.shown pool.old desk.old)) }
     ensures ready { D.ready K.begun pool.new desk.new }
-    ensures visited { IfOk result (Visits (visited place (layer_tree layer.now) direction envelope (D.shown pool.old desk.old))
+    ensures visited { IfOk result
+        (Visits (visited place (layer_tree layer.now) direction envelope (D.shown pool.old desk.old))
         (D.shown pool.old desk.old) (D.shown pool.new desk.new)) }
     ensures spent { Spent (D.free pool.old desk.old) (D.free pool.new desk.new)
         (needed K.begun.layout (layer_tree layer.now) direction envelope (D.shown pool.old desk.old)) result }
@@ -112,7 +132,8 @@ fn run_handler<K: Start, D: Desk>(
     requires room { Suffices (D.free pool.old desk.old)
         (handler_need K.begun.layout (handler_tree handler.now) (D.shown pool.old desk.old).arrived) }
     ensures ready { D.ready K.begun pool.new desk.new }
-    ensures visited { IfOk result (Visits (handler_visited place (handler_tree handler.now) envelope fields.now (D.shown pool.old desk.old))
+    ensures visited { IfOk result
+        (Visits (handler_visited place (handler_tree handler.now) envelope fields.now (D.shown pool.old desk.old))
         (D.shown pool.old desk.old) (D.shown pool.new desk.new)) }
     ensures spent { Spent (D.free pool.old desk.old) (D.free pool.new desk.new)
         (handler_need K.begun.layout (handler_tree handler.now) (D.shown pool.old desk.old).arrived) result }
@@ -142,8 +163,8 @@ fn expect<K: Start, D: Desk>(expected: &Expected, desk: &D, pool: &Pool) -> Pred
     }
 }
 
-/// Without a handler an event passes on: going down behind the layer's header `none`, going up where that was popped. Behind another
-/// header it is dropped, which is never predicted.
+/// Without a handler an event passes on: going down behind the layer's header `none`, going up where that was popped.
+/// Behind another header it is dropped, which is never predicted.
 fn pass<K: Start, D: Desk>(
     place: u8,
     direction: Dir,
@@ -157,7 +178,8 @@ fn pass<K: Start, D: Desk>(
     ensures ready { D.ready K.begun pool.new desk.new }
     ensures visited { IfOk result (Visits (passed place direction envelope tag (D.shown pool.old desk.old))
         (D.shown pool.old desk.old) (D.shown pool.new desk.new)) }
-    ensures spent { Spent (D.free pool.old desk.old) (D.free pool.new desk.new) (passing_need (D.shown pool.old desk.old).arrived) result }
+    ensures spent { Spent (D.free pool.old desk.old) (D.free pool.new desk.new)
+        (passing_need (D.shown pool.old desk.old).arrived) result }
 {
     if direction == Dir::Up && tag != 0 {
         desk.leave::<K>(pool);

@@ -14,7 +14,12 @@ use Rattle.layer_ast.specs.contracts.syntax.Function as function
 use Rattle.layer_ast.specs.contracts.syntax.Likely as likely
 use Rattle.layer_ast.specs.contracts.syntax.Operator as operator
 use Rattle.layer_ast.specs.contracts.syntax.Shape as shape
-use Rattle.layer_mean.specs.Tree.{Carried, part, whole, ExpressionTree, number, me, count, ltime, local, element, square, rows, item, size, binary, apply, pick, MessageTree, message, nothing, held, cut, tail, join, ContentTree, EmissionTree, RowTree, TakenTree, StatementTree, bind, assign, assign_square, push, take, branch, each, emit, StatementTrees, none, more, Expected, always, common, rare, HandlerTree, ItemsTree, Form, numbers, queue, queues, CellTree, HeaderTree, LayerTree}
+use Rattle.layer_mean.specs.Tree.{Carried, part, whole, ExpressionTree, number, me, count, ltime, local, element}
+use Rattle.layer_mean.specs.Tree.{square, rows, item, size, binary, apply, pick, MessageTree, message, nothing, held}
+use Rattle.layer_mean.specs.Tree.{cut, tail, join, ContentTree, EmissionTree, RowTree, TakenTree, StatementTree, bind}
+use Rattle.layer_mean.specs.Tree.{assign, assign_square, push, take, branch, each, emit, StatementTrees, none, more}
+use Rattle.layer_mean.specs.Tree.{Expected, always, common, rare, HandlerTree, ItemsTree, Form, numbers, queue, queues}
+use Rattle.layer_mean.specs.Tree.{CellTree, HeaderTree, LayerTree}
 
 -- A tree of numbers with a number at its root, and the parts of one.
 abbrev node : ℕ → Gv → Gv
@@ -69,16 +74,19 @@ abbrev mutual
   expression_at (element c i) = node 5 (gcons (gnum c) (expression_at i))
   expression_at (square c row column) = node 6 (gcons (gnum c) (gcons (expression_at row) (expression_at column)))
   expression_at (rows c i) = node 7 (gcons (gnum c) (expression_at i))
-  expression_at (item c i row k) = node 8 (gcons (gcons (gnum c) (gnum k)) (gcons (expression_at i) (expression_at row)))
+  expression_at (item c i row k) =
+      node 8 (gcons (gcons (gnum c) (gnum k)) (gcons (expression_at i) (expression_at row)))
   expression_at (size m) = node 9 (message_at m)
-  expression_at (binary o a b) = node 10 (gcons (operator.the_row.coded.code o) (gcons (expression_at a) (expression_at b)))
+  expression_at (binary o a b) =
+      node 10 (gcons (operator.the_row.coded.code o) (gcons (expression_at a) (expression_at b)))
   expression_at (apply f e) = node 11 (gcons (function.the_row.coded.code f) (expression_at e))
   expression_at (pick c a b) = node 12 (gcons (expression_at c) (gcons (expression_at a) (expression_at b)))
 
   pub message_at : MessageTree → Gv
   message_at (message k) = node 0 (gnum k)
   message_at nothing = node 1 gnil
-  message_at (held c i row carried) = node 2 (gcons (gcons (gnum c) (carried_code.code carried)) (gcons (expression_at i) (expression_at row)))
+  message_at (held c i row carried) =
+      node 2 (gcons (gcons (gnum c) (carried_code.code carried)) (gcons (expression_at i) (expression_at row)))
   message_at (cut m from length) = node 3 (gcons (message_at m) (gcons (expression_at from) (expression_at length)))
   message_at (tail m from) = node 4 (gcons (message_at m) (expression_at from))
   message_at (join a b) = node 5 (gcons (message_at a) (message_at b))
@@ -93,7 +101,8 @@ mutual
   expression_one (element c i) (element d j) p = λ k.
       element (value (first (rest (p k)))) (expression_one i j (ap (λ g. rest (rest g)) p) k)
   expression_one (square c a b) (square d u v) p = λ k.
-      square (value (first (rest (p k)))) (expression_one a u (ap (λ g. first (rest (rest g))) p) k) (expression_one b v (ap (λ g. rest (rest
+      square (value (first (rest (p k)))) (expression_one a u (ap (λ g. first (rest (rest g))) p) k)
+      (expression_one b v (ap (λ g. rest (rest
       (rest g))) p) k)
   expression_one (rows c i) (rows d j) p = λ k.
       rows (value (first (rest (p k)))) (expression_one i j (ap (λ g. rest (rest g)) p) k)
@@ -103,12 +112,15 @@ mutual
   expression_one (size m) (size n) p = λ k. size (message_one m n (ap rest p) k)
   expression_one (binary o a b) (binary q u v) p = λ k.
       binary (operator.the_row.coded.inj o q (ap (λ g. first (rest g)) p) k)
-      (expression_one a u (ap (λ g. first (rest (rest g))) p) k) (expression_one b v (ap (λ g. rest (rest (rest g))) p) k)
+      (expression_one a u (ap (λ g. first (rest (rest g))) p) k)
+      (expression_one b v (ap (λ g. rest (rest (rest g))) p) k)
   expression_one (apply f e) (apply g d) p = λ k.
-      apply (function.the_row.coded.inj f g (ap (λ g. first (rest g)) p) k) (expression_one e d (ap (λ g. rest (rest g)) p) k)
+      apply (function.the_row.coded.inj f g (ap (λ g. first (rest g)) p) k)
+      (expression_one e d (ap (λ g. rest (rest g)) p) k)
   expression_one (pick c a b) (pick d u v) p = λ k.
       pick (expression_one c d (ap (λ g. first (rest g)) p) k)
-      (expression_one a u (ap (λ g. first (rest (rest g))) p) k) (expression_one b v (ap (λ g. rest (rest (rest g))) p) k)
+      (expression_one a u (ap (λ g. first (rest (rest g))) p) k)
+      (expression_one b v (ap (λ g. rest (rest (rest g))) p) k)
   expression_one x y p = let apart = ap root p in absurd (omega arith)
 
   pub message_one : (x y : MessageTree) → message_at x ≡ message_at y → x ≡ y
@@ -116,10 +128,12 @@ mutual
   message_one nothing nothing p = refl
   message_one (held c a b m) (held d u v n) p = λ k.
       held (value (first (first (rest (p k))))) (expression_one a u (ap (λ g. first (rest (rest g))) p) k)
-      (expression_one b v (ap (λ g. rest (rest (rest g))) p) k) (carried_code.inj m n (ap (λ g. rest (first (rest g))) p) k)
+      (expression_one b v (ap (λ g. rest (rest (rest g))) p) k)
+      (carried_code.inj m n (ap (λ g. rest (first (rest g))) p) k)
   message_one (cut m a b) (cut n u v) p = λ k.
       cut (message_one m n (ap (λ g. first (rest g)) p) k)
-      (expression_one a u (ap (λ g. first (rest (rest g))) p) k) (expression_one b v (ap (λ g. rest (rest (rest g))) p) k)
+      (expression_one a u (ap (λ g. first (rest (rest g))) p) k)
+      (expression_one b v (ap (λ g. rest (rest (rest g))) p) k)
   message_one (tail m a) (tail n u) p = λ k.
       tail (message_one m n (ap (λ g. first (rest g)) p) k) (expression_one a u (ap (λ g. rest (rest g)) p) k)
   message_one (join a b) (join u v) p = λ k.
@@ -134,21 +148,25 @@ message_code = record { code = message_at; inj = message_one }
 
 -- What is sent, pushed and taken.
 abbrev content_code : Coded ContentTree
-content_code = code_by (MessageTree × (ℕ × List ExpressionTree)) (coded× message_code (coded× coded_ℕ (coded_list expression_code)))
+content_code = code_by (MessageTree × (ℕ × List ExpressionTree))
+    (coded× message_code (coded× coded_ℕ (coded_list expression_code)))
     (λ c. (c.message, (c.tag, c.fields))) (λ p. record { message = p.0; tag = p.1.0; fields = p.1.1 }) (λ _. refl)
 
 abbrev emission_code : Coded EmissionTree
 emission_code = code_by (Dir × (Kind × (List ExpressionTree × Option ContentTree)))
-    (coded× dir.the_row.coded (coded× kind.the_row.coded (coded× (coded_list expression_code) (coded_option content_code))))
+    (coded× dir.the_row.coded
+    (coded× kind.the_row.coded (coded× (coded_list expression_code) (coded_option content_code))))
     (λ e. (e.direction, (e.kind, (e.numbers, e.content))))
     (λ p. record { direction = p.0; kind = p.1.0; numbers = p.1.1.0; content = p.1.1.1 }) (λ _. refl)
 
 abbrev row_code : Coded RowTree
-row_code = code_by (List ExpressionTree × Option MessageTree) (coded× (coded_list expression_code) (coded_option message_code))
+row_code = code_by (List ExpressionTree × Option MessageTree)
+    (coded× (coded_list expression_code) (coded_option message_code))
     (λ r. (r.numbers, r.message)) (λ p. record { numbers = p.0; message = p.1 }) (λ _. refl)
 
 abbrev taken_code : Coded TakenTree
-taken_code = code_by (List ℕ × Option (ℕ × Carried)) (coded× (coded_list coded_ℕ) (coded_option (coded× coded_ℕ carried_code)))
+taken_code = code_by (List ℕ × Option (ℕ × Carried))
+    (coded× (coded_list coded_ℕ) (coded_option (coded× coded_ℕ carried_code)))
     (λ t. (t.numbers, t.message)) (λ p. record { numbers = p.0; message = p.1 }) (λ _. refl)
 
 -- Statements and blocks.
@@ -159,12 +177,16 @@ abbrev mutual
   statement_at (assign_square c row column e) =
       node 2 (gcons (gnum c) (gcons (expression_at row) (gcons (expression_at column) (expression_at e))))
   statement_at (push c i capacity row otherwise) =
-      node 3 (gcons (gcons (gnum c) (gnum capacity)) (gcons (expression_at i) (gcons (row_code.code row) (block_at otherwise))))
+      node 3 (gcons (gcons (gnum c) (gnum capacity))
+      (gcons (expression_at i) (gcons (row_code.code row) (block_at otherwise))))
   statement_at (take c i taken block otherwise) =
-      node 4 (gcons (gcons (gnum c) (expression_at i)) (gcons (taken_code.code taken) (gcons (block_at block) (block_at otherwise))))
+      node 4 (gcons (gcons (gnum c) (expression_at i))
+      (gcons (taken_code.code taken) (gcons (block_at block) (block_at otherwise))))
   statement_at (branch way condition block otherwise) =
-      node 5 (gcons (likely.the_row.coded.code way) (gcons (expression_at condition) (gcons (block_at block) (block_at otherwise))))
-  statement_at (each k below most block) = node 6 (gcons (gcons (gnum k) (gnum most)) (gcons (expression_at below) (block_at block)))
+      node 5 (gcons (likely.the_row.coded.code way)
+      (gcons (expression_at condition) (gcons (block_at block) (block_at otherwise))))
+  statement_at (each k below most block) =
+      node 6 (gcons (gcons (gnum k) (gnum most)) (gcons (expression_at below) (block_at block)))
   statement_at (emit e) = node 7 (emission_code.code e)
 
   pub block_at : StatementTrees → Gv
@@ -185,19 +207,26 @@ mutual
       (expression_one b v (ap (λ g. rest (rest (rest g))) p) k)
   statement_one (assign_square c a b e) (assign_square d u v w) p = λ k.
       assign_square (value (first (rest (p k)))) (expression_one a u (ap (λ g. first (rest (rest g))) p) k)
-      (expression_one b v (ap (λ g. first (rest (rest (rest g)))) p) k) (expression_one e w (ap (λ g. rest (rest (rest (rest g)))) p) k)
+      (expression_one b v (ap (λ g. first (rest (rest (rest g)))) p) k)
+      (expression_one e w (ap (λ g. rest (rest (rest (rest g)))) p) k)
   statement_one (push c a m r e) (push d u n s w) p = λ k.
-      push (value (first (first (rest (p k))))) (expression_one a u (ap (λ g. first (rest (rest g))) p) k) (value (rest (first (rest (p k)))))
-      (row_code.inj r s (ap (λ g. first (rest (rest (rest g)))) p) k) (block_one e w (ap (λ g. rest (rest (rest (rest g)))) p) k)
+      push (value (first (first (rest (p k))))) (expression_one a u (ap (λ g. first (rest (rest g))) p) k)
+      (value (rest (first (rest (p k)))))
+      (row_code.inj r s (ap (λ g. first (rest (rest (rest g)))) p) k)
+      (block_one e w (ap (λ g. rest (rest (rest (rest g)))) p) k)
   statement_one (take c a t b e) (take d u s v w) p = λ k.
       take (value (first (first (rest (p k))))) (expression_one a u (ap (λ g. rest (first (rest g))) p) k)
       (taken_code.inj t s (ap (λ g. first (rest (rest g))) p) k)
-      (block_one b v (ap (λ g. first (rest (rest (rest g)))) p) k) (block_one e w (ap (λ g. rest (rest (rest (rest g)))) p) k)
+      (block_one b v (ap (λ g. first (rest (rest (rest g)))) p) k)
+      (block_one e w (ap (λ g. rest (rest (rest (rest g)))) p) k)
   statement_one (branch l a b e) (branch m u v w) p = λ k.
-      branch (likely.the_row.coded.inj l m (ap (λ g. first (rest g)) p) k) (expression_one a u (ap (λ g. first (rest (rest g))) p) k)
-      (block_one b v (ap (λ g. first (rest (rest (rest g)))) p) k) (block_one e w (ap (λ g. rest (rest (rest (rest g)))) p) k)
+      branch (likely.the_row.coded.inj l m (ap (λ g. first (rest g)) p) k)
+      (expression_one a u (ap (λ g. first (rest (rest g))) p) k)
+      (block_one b v (ap (λ g. first (rest (rest (rest g)))) p) k)
+      (block_one e w (ap (λ g. rest (rest (rest (rest g)))) p) k)
   statement_one (each c a m b) (each d u n v) p = λ k.
-      each (value (first (first (rest (p k))))) (expression_one a u (ap (λ g. first (rest (rest g))) p) k) (value (rest (first (rest (p k)))))
+      each (value (first (first (rest (p k))))) (expression_one a u (ap (λ g. first (rest (rest g))) p) k)
+      (value (rest (first (rest (p k)))))
       (block_one b v (ap (λ g. rest (rest (rest g))) p) k)
   statement_one (emit a) (emit u) p = λ k. emit (emission_code.inj a u (ap rest p) k)
   statement_one x y p = let apart = ap root p in absurd (omega arith)
@@ -228,12 +257,14 @@ expected_back (common e) = refl
 expected_back rare = refl
 
 abbrev expected_code : Coded Expected
-expected_code = code_by (Unit {0} ⊎ (ExpressionTree ⊎ Unit {0})) (coded⊎ coded_unit (coded⊎ expression_code coded_unit)) expected_parts
+expected_code = code_by (Unit {0} ⊎ (ExpressionTree ⊎ Unit {0})) (coded⊎ coded_unit (coded⊎ expression_code coded_unit))
+    expected_parts
     expected_of expected_back
 
 abbrev handler_code : Coded HandlerTree
 handler_code = code_by (Dir × (Kind × (ℕ × (Expected × (ℕ × (ℕ × StatementTrees))))))
-    (coded× dir.the_row.coded (coded× kind.the_row.coded (coded× coded_ℕ (coded× expected_code (coded× coded_ℕ (coded× coded_ℕ block_code))))))
+    (coded× dir.the_row.coded
+    (coded× kind.the_row.coded (coded× coded_ℕ (coded× expected_code (coded× coded_ℕ (coded× coded_ℕ block_code))))))
     (λ h. (h.direction, (h.kind, (h.tag, (h.expected, (h.numbers, (h.messages, h.block)))))))
     (λ p. record {
       direction = p.0;
@@ -272,11 +303,13 @@ form_back (queues capacity items) = refl
 
 abbrev form_code : Coded Form
 form_code = code_by FormParts
-    (coded⊎ (coded× shape.the_row.coded expression_code) (coded⊎ (coded× coded_ℕ items_code) (coded× coded_ℕ items_code)))
+    (coded⊎ (coded× shape.the_row.coded expression_code)
+    (coded⊎ (coded× coded_ℕ items_code) (coded× coded_ℕ items_code)))
     form_parts form_of form_back
 
 abbrev cell_code : Coded CellTree
-cell_code = code_by (List ℕ × Form) (coded× (coded_list coded_ℕ) form_code) (λ c. (c.name, c.form)) (λ p. record { name = p.0; form = p.1 })
+cell_code = code_by (List ℕ × Form) (coded× (coded_list coded_ℕ) form_code) (λ c. (c.name, c.form))
+    (λ p. record { name = p.0; form = p.1 })
     (λ _. refl)
 
 -- Layers.
@@ -286,7 +319,8 @@ declared_code = code_by (List ℕ × (ℕ × Bool)) (coded× (coded_list coded_�
 
 abbrev pub layer_code : Coded LayerTree
 layer_code = code_by (List ℕ × (List CellTree × (List HeaderTree × List HandlerTree)))
-    (coded× (coded_list coded_ℕ) (coded× (coded_list cell_code) (coded× (coded_list declared_code) (coded_list handler_code))))
+    (coded× (coded_list coded_ℕ)
+    (coded× (coded_list cell_code) (coded× (coded_list declared_code) (coded_list handler_code))))
     (λ l. (l.name, (l.cells, (l.headers, l.handlers))))
     (λ p. record { name = p.0; cells = p.1.0; headers = p.1.1.0; handlers = p.1.1.1 }) (λ _. refl)
 

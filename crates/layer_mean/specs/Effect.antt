@@ -1,5 +1,6 @@
 -- What statements do.
-use Rattle.std.specs.Prelude.{ℕ, zero, suc, Bool, true, false, not, if◌then◌else◌, List, [], ◌∷◌, ◌++◌, map, min, slice_set, Option, Some, None, option_map}
+use Rattle.std.specs.Prelude.{ℕ, zero, suc, Bool, true, false, not, if◌then◌else◌, List, [], ◌∷◌, ◌++◌, map, min}
+use Rattle.std.specs.Prelude.{slice_set, Option, Some, None, option_map}
 use Rattle.std.specs.List.{fold, list_all, position}
 use Rattle.std.specs.Option.{option_map_or}
 use Rattle.msg_core.specs.Chain.{Content, pushed}
@@ -13,12 +14,13 @@ use Rattle.layer_mean.specs.declared.run.Case.TheVariants.{First, Second}
 use Rattle.layer_mean.specs.declared.run.Event.{Event}
 use Rattle.layer_mean.specs.declared.run.Row.{Row}
 use Rattle.layer_mean.specs.Event.{event_of}
-use Rattle.layer_mean.specs.Tree.{ContentTree, EmissionTree, RowTree, TakenTree, StatementTree, bind, assign, assign_square, push, take, branch, each, emit, StatementTrees, none, more}
+use Rattle.layer_mean.specs.Tree.{ContentTree, EmissionTree, RowTree, TakenTree, StatementTree, bind, assign}
+use Rattle.layer_mean.specs.Tree.{assign_square, push, take, branch, each, emit, StatementTrees, none, more}
 use Rattle.layer_mean.specs.State.{State, flat_index, row_at, has_room, with_number, with_row, without_front}
 use Rattle.layer_mean.specs.Value.{Scope, is_true, val, mval, message_in}
 
--- How a decision of a visit went: as predicted, or not; or, at a condition with two predicted ways, as it is predicted in this case.
--- What can't be predicted, such as a loop, is a decision that didn't go as predicted.
+-- How a decision of a visit went: as predicted, or not; or, at a condition with two predicted ways, as it is predicted
+-- in this case. What can't be predicted, such as a loop, is a decision that didn't go as predicted.
 pub data Decision : Type 0 where
   usual : Decision
   unusual : Decision
@@ -40,8 +42,8 @@ all_as case decided = list_all (went_as case) decided
 abbrev pub first_missed : Case → List Decision → Option ℕ
 first_missed case decided = position (λ d. not (went_as case d)) decided
 
--- What a stretch of statements comes to: the state and the scope behind it, the events that it sent, in order, and its decisions
--- in order.
+-- What a stretch of statements comes to: the state and the scope behind it, the events that it sent, in order, and its
+-- decisions in order.
 pub record Outcome : Type 0 where
   pub state : State
   pub scope : Scope
@@ -138,7 +140,8 @@ abbrev mutual
       (λ row. in_order (acts place block) (without_front s c (val i s l)) (with_taken taken row l))
       (in_order (acts place otherwise) s l)
   does place (branch likely condition block otherwise) s l =
-      chosen (is_true (val condition s l)) likely (in_order (acts place block) s l) (in_order (acts place otherwise) s l)
+      chosen (is_true (val condition s l)) likely (in_order (acts place block) s l)
+      (in_order (acts place otherwise) s l)
   does place (each k below most block) s l =
       decides unusual (turns (min (val below s l) most) k (in_order (acts place block)) s l)
   does place (emit e) s l = record (done s l) { sent = (e.direction, emitted place e s l) ∷ [] }

@@ -11,8 +11,8 @@ carries Cast = true
 carries Send = true
 carries _ = false
 
--- The number arguments of an event, in the order in which they are written: the peer of a cast or a send, two numbers of a
--- Stable or an Ack, and one number of each other kind.
+-- The number arguments of an event, in the order in which they are written: the peer of a cast or a send, two numbers
+-- of a Stable or an Ack, and one number of each other kind.
 abbrev pub arguments_for : Kind → Event → List ℕ
 arguments_for Cast e = e.peer ∷ []
 arguments_for Send e = e.peer ∷ []

@@ -4,8 +4,8 @@ use Rattle.std.specs.List.{enumerate_from}
 use Rattle.layer_ast.specs.declared.tokens.Dir.{Dir}
 use Rattle.layer_mean.specs.Queue.{Task, Turn, Player, Line, starting}
 
--- The maker of an event: a visit, counted from 0 in the order of visits, and an emission of it, counted from 0 in the order in
--- which that visit sent.
+-- The maker of an event: a visit, counted from 0 in the order of visits, and an emission of it, counted from 0 in the
+-- order in which that visit sent.
 pub record Source : Type 0 where
   pub visit : ℕ
   pub emission : ℕ
@@ -30,7 +30,8 @@ pub record Log (W E : Type 0) : Type 0 where
 -- What a visit sent, each emission marked with it.
 abbrev pub marked_sent : {E : Type 0} → ℕ → List (Dir × E) → List (Dir × Marked E)
 marked_sent visit sent =
-    map (λ x. (x.1.0, record { event = x.1.1; made_by = Some (record { visit = visit; emission = x.0 }) })) (enumerate_from 0 sent)
+    map (λ x. (x.1.0, record { event = x.1.1; made_by = Some (record { visit = visit; emission = x.0 }) }))
+    (enumerate_from 0 sent)
 
 abbrev pub marked_turn : {W E : Type 0} → Log W E → Logged E → Turn W E → Turn (Log W E) (Marked E)
 marked_turn log entry turn = record {

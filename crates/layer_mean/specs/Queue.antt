@@ -1,6 +1,8 @@
--- The queue of tasks that moves a run on: first in, first out (after Ensemble's event queues; that a run has one list is this
--- project's own). It is defined once, for any kind of event and world, and played by whatever knows a visit and an output.
-use Rattle.std.specs.Prelude.{ℕ, suc, zero, ◌+◌, ◌-◌, List, [], ◌∷◌, ◌++◌, map, length, Bool, true, false, nat_le, ◌&&◌, if◌then◌else◌, slice_index_or, slice_set}
+-- The queue of tasks that moves a run on: first in, first out (after Ensemble's event queues; that a run has one list
+-- is this project's own). It is defined once, for any kind of event and world, and played by whatever knows a visit and
+-- an output.
+use Rattle.std.specs.Prelude.{ℕ, suc, zero, ◌+◌, ◌-◌, List, [], ◌∷◌, ◌++◌, map, length, Bool, true, false, nat_le, ◌&&◌}
+use Rattle.std.specs.Prelude.{if◌then◌else◌, slice_index_or, slice_set}
 use Rattle.layer_ast.specs.declared.tokens.Dir.{Dir}
 use Rattle.layer_ast.specs.declared.tokens.Dir.TheVariants.{Up, Down}
 use Rattle.layer_mean.specs.declared.run.Case.{Case}
@@ -10,8 +12,8 @@ use Rattle.layer_mean.specs.State.{State}
 use Rattle.layer_mean.specs.Effect.{Decision, all_as}
 use Rattle.layer_mean.specs.Visit.{Visited, step, no_state}
 
--- An event on its way. The lower edge of a stack is 0, its places are 1 and up, lowest first, and the upper edge is one more
--- than their number.
+-- An event on its way. The lower edge of a stack is 0, its places are 1 and up, lowest first, and the upper edge is one
+-- more than their number.
 pub record Task (E : Type 0) : Type 0 where
   pub at : ℕ
   pub dir : Dir
@@ -47,7 +49,8 @@ is_place places at = nat_le 1 at && nat_le at places
 abbrev pub taken_turn : {W E : Type 0} → ℕ → List (Task E) → Turn W E → Line W E
 taken_turn at rest turn = record { world = turn.world; tasks = rest ++ tasks_of at turn.sent }
 
--- One task taken: an output at an edge; otherwise its layer is visited, and what that sends goes to the end of the list.
+-- One task taken: an output at an edge; otherwise its layer is visited, and what that sends goes to the end of the
+-- list.
 abbrev pub advance : {W E : Type 0} → ℕ → Player W E → Task E → List (Task E) → W → Line W E
 advance places play t rest w = if is_place places t.at
     then taken_turn t.at rest (play.visit t.at t.dir t.event w)
@@ -71,8 +74,8 @@ abbrev pub run_for : {W E : Type 0} → ℕ → Player W E → ℕ → Line W E 
 run_for places play zero r = r
 run_for places play (suc n) r = if is_done r.tasks then r else run_for places play n (next places play r)
 
--- The layers of one member at work: their states, what came out at the edges, in order, the decisions of all visits, and how many
--- visits there were.
+-- The layers of one member at work: their states, what came out at the edges, in order, the decisions of all visits,
+-- and how many visits there were.
 pub record Work : Type 0 where
   pub states : List State
   pub outs : List (Dir × Event)
@@ -111,7 +114,8 @@ unstarted states = record { states = states; outs = []; decided = []; visits = 0
 abbrev pub starting : {W E : Type 0} → W → Task E → Line W E
 starting w first = record { world = w; tasks = first ∷ [] }
 
--- A run: from one task until none is left, in at most so many turns. (The weight of its entry is enough, by acceptance.)
+-- A run: from one task until none is left, in at most so many turns. (The weight of its entry is enough, by
+-- acceptance.)
 unfoldable pub run : ℕ → List LayerTree → List State → Task Event → Line Work Event
 run most stack states first = run_for (length stack) (layers stack) most (starting (unstarted states) first)
 

@@ -1,15 +1,18 @@
 -- The state of one layer of one member.
-use Rattle.std.specs.Prelude.{ℕ, ◌+◌, ◌*◌, Bool, ◌&&◌, nat_lt, if◌then◌else◌, List, [], ◌∷◌, ◌++◌, length, drop, slice_get, slice_index, slice_index_or, slice_set, Option}
+use Rattle.std.specs.Prelude.{ℕ, ◌+◌, ◌*◌, Bool, ◌&&◌, nat_lt, if◌then◌else◌, List, [], ◌∷◌, ◌++◌, length, drop}
+use Rattle.std.specs.Prelude.{slice_get, slice_index, slice_index_or, slice_set, Option}
 use Rattle.layer_ast.specs.declared.syntax.Shape.{Shape}
 use Rattle.layer_ast.specs.declared.syntax.Shape.TheVariants.{One, Array, Square}
 use Rattle.layer_mean.specs.declared.run.Row.{Row}
 
--- What a cell holds: its numbers by their flat index, or the rows of its queue or of each queue of its array, the front first.
+-- What a cell holds: its numbers by their flat index, or the rows of its queue or of each queue of its array, the front
+-- first.
 pub data Contents : Type 0 where
   numbers : List ℕ → Contents
   queues : List (List Row) → Contents
 
--- A state keeps the own rank, the number of members and the view's ltime, which a visit only reads, and what each cell holds.
+-- A state keeps the own rank, the number of members and the view's ltime, which a visit only reads, and what each cell
+-- holds.
 pub record State : Type 0 where
   pub me : ℕ
   pub count : ℕ
@@ -38,8 +41,8 @@ cell_at s c = slice_index_or s.cells c no_cell
 abbrev pub number_at : State → ℕ → ℕ → ℕ
 number_at s c i = slice_index (numbers_in (cell_at s c)) i
 
--- The flat index of a row and a column of a square cell: the row times n plus the column where both are below n, and outside
--- else.
+-- The flat index of a row and a column of a square cell: the row times n plus the column where both are below n, and
+-- outside else.
 abbrev pub flat_index : ℕ → ℕ → ℕ → ℕ
 flat_index n row column = if nat_lt row n && nat_lt column n then row * n + column else n * n
 

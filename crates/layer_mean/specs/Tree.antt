@@ -1,5 +1,5 @@
--- A layer at its place of a stack, as a plain tree: each name is a number, each param the value that its place gives it, and
--- nothing points or owns. What layers mean is defined on these trees.
+-- A layer at its place of a stack, as a plain tree: each name is a number, each param the value that its place gives
+-- it, and nothing points or owns. What layers mean is defined on these trees.
 use Rattle.std.specs.Prelude.{ℕ, List, [], Option, Bool}
 use Rattle.msg_core.specs.declared.message.Header.{Header}
 use Rattle.layer_ast.specs.declared.tokens.Dir.{Dir}
@@ -9,16 +9,17 @@ use Rattle.layer_ast.specs.declared.syntax.Likely.{Likely}
 use Rattle.layer_ast.specs.declared.syntax.Operator.{Operator}
 use Rattle.layer_ast.specs.declared.syntax.Shape.{Shape}
 
--- What the rows of a queue carry beside their numbers: a part, or a message of the layers above; of the latter the headers that
--- stand in for a row that isn't there, which are `none` of each place above.
+-- What the rows of a queue carry beside their numbers: a part, or a message of the layers above; of the latter the
+-- headers that stand in for a row that isn't there, which are `none` of each place above.
 pub data Carried : Type 0 where
   part : Carried
   whole : (blank : List Header) → Carried
 
 mutual
-  -- A number: a literal, the own rank, the number of members, the view's ltime, a number of the scope, a number of a cell by its
-  -- index (0 for a cell of one number), a number of a square cell, the number of rows of a queue by its index (0 for a queue
-  -- that is alone), a number of a row, the size of a message, an operator between two, a function of one, or a choice of two.
+  -- A number: a literal, the own rank, the number of members, the view's ltime, a number of the scope, a number of a
+  -- cell by its index (0 for a cell of one number), a number of a square cell, the number of rows of a queue by its
+  -- index (0 for a queue that is alone), a number of a row, the size of a message, an operator between two, a function
+  -- of one, or a choice of two.
   pub data ExpressionTree : Type 0 where
     number : ℕ → ExpressionTree
     me : ExpressionTree
@@ -34,8 +35,8 @@ mutual
     apply : Function → ExpressionTree → ExpressionTree
     pick : (condition first second : ExpressionTree) → ExpressionTree
 
-  -- A message: one of the scope, no bytes, the message of a row, so many bytes of a message from a place on, its bytes from a place
-  -- on, or a part in front of a message.
+  -- A message: one of the scope, no bytes, the message of a row, so many bytes of a message from a place on, its bytes
+  -- from a place on, or a part in front of a message.
   pub data MessageTree : Type 0 where
     message : ℕ → MessageTree
     nothing : MessageTree
@@ -68,14 +69,15 @@ pub record TakenTree : Type 0 where
   pub message : Option (ℕ × Carried)
 
 mutual
-  -- A statement: a number of the scope is set, a number of a cell or of a square cell is, a row is pushed on a queue of a capacity
-  -- or another block run, a row is taken and a block run or else another, one of two blocks is run by a condition, a block is run
-  -- again and again, or an event is sent.
+  -- A statement: a number of the scope is set, a number of a cell or of a square cell is, a row is pushed on a queue of
+  -- a capacity or another block run, a row is taken and a block run or else another, one of two blocks is run by a
+  -- condition, a block is run again and again, or an event is sent.
   pub data StatementTree : Type 0 where
     bind : (slot : ℕ) (value : ExpressionTree) → StatementTree
     assign : (cell : ℕ) (index value : ExpressionTree) → StatementTree
     assign_square : (cell : ℕ) (row column value : ExpressionTree) → StatementTree
-    push : (cell : ℕ) (index : ExpressionTree) (capacity : ℕ) (row : RowTree) (otherwise : StatementTrees) → StatementTree
+    push : (cell : ℕ) (index : ExpressionTree) (capacity : ℕ) (row : RowTree) (otherwise : StatementTrees) →
+        StatementTree
     take : (cell : ℕ) (index : ExpressionTree) (taken : TakenTree) (block otherwise : StatementTrees) → StatementTree
     branch : Likely → (condition : ExpressionTree) (block otherwise : StatementTrees) → StatementTree
     each : (slot : ℕ) (below : ExpressionTree) (most : ℕ) (block : StatementTrees) → StatementTree
@@ -92,8 +94,8 @@ pub data Expected : Type 0 where
   common : ExpressionTree → Expected
   rare : Expected
 
--- What a layer does on one direction, kind and popped tag. Beside the event's numbers, the fields of the popped header and the
--- event's message its scope has so many more numbers and messages, for names that the block declares.
+-- What a layer does on one direction, kind and popped tag. Beside the event's numbers, the fields of the popped header
+-- and the event's message its scope has so many more numbers and messages, for names that the block declares.
 pub record HandlerTree : Type 0 where
   pub direction : Dir
   pub kind : Kind

@@ -1,5 +1,7 @@
--- What expressions are worth. Both functions are total: reading outside gives 0, or the message that stands in for a missing one.
-use Rattle.std.specs.Prelude.{ℕ, ◌+◌, ◌-◌, ◌*◌, ◌%◌, ◌^◌, ◌==◌, Bool, not, ◌&&◌, ◌||◌, nat_lt, nat_le, if◌then◌else◌, List, [], length, slice_index, slice_index_or, Option, Some, None}
+-- What expressions are worth. Both functions are total: reading outside gives 0, or the message that stands in for a
+-- missing one.
+use Rattle.std.specs.Prelude.{ℕ, ◌+◌, ◌-◌, ◌*◌, ◌%◌, ◌^◌, ◌==◌, Bool, not, ◌&&◌, ◌||◌, nat_lt, nat_le, if◌then◌else◌}
+use Rattle.std.specs.Prelude.{List, [], length, slice_index, slice_index_or, Option, Some, None}
 use Rattle.std.specs.Option.{option_map_or}
 use Rattle.std.specs.Int.Bits.{bit_and, bit_or, bit_xor}
 use Rattle.std.specs.Int.Count.{ones_in, count_trailing_zeros}
@@ -8,9 +10,13 @@ use Rattle.msg_core.specs.Parts as parts
 use Rattle.layer_ast.specs.declared.syntax.Function.{Function}
 use Rattle.layer_ast.specs.declared.syntax.Function.TheVariants.{Not, Bit, Count, Lowest}
 use Rattle.layer_ast.specs.declared.syntax.Operator.{Operator}
-use Rattle.layer_ast.specs.declared.syntax.Operator.TheVariants.{Add, Subtract, Multiply, Equal, NotEqual, Less, LessOrEqual, Greater, GreaterOrEqual, And, Or, BitAnd, BitOr, BitXor}
+use Rattle.layer_ast.specs.declared.syntax.Operator.TheVariants.{Add, Subtract, Multiply, Equal, NotEqual, Less}
+use Rattle.layer_ast.specs.declared.syntax.Operator.TheVariants.{LessOrEqual, Greater, GreaterOrEqual, And, Or, BitAnd}
+use Rattle.layer_ast.specs.declared.syntax.Operator.TheVariants.{BitOr, BitXor}
 use Rattle.layer_mean.specs.declared.run.Row.{Row}
-use Rattle.layer_mean.specs.Tree.{Carried, part, whole, ExpressionTree, number, me, count, ltime, local, element, square, rows, item, size, binary, apply, pick, MessageTree, message, nothing, held, cut, tail, join}
+use Rattle.layer_mean.specs.Tree.{Carried, part, whole, ExpressionTree, number, me, count, ltime, local, element}
+use Rattle.layer_mean.specs.Tree.{square, rows, item, size, binary, apply, pick, MessageTree, message, nothing, held}
+use Rattle.layer_mean.specs.Tree.{cut, tail, join}
 use Rattle.layer_mean.specs.State.{State, number_at, flat_index, rows_at, row_at}
 
 -- What a handler's block sees beside the state: numbers and messages, by their slots.
@@ -46,15 +52,16 @@ applied BitAnd x y = bit_and x y
 applied BitOr x y = bit_or x y
 applied BitXor x y = bit_xor x y
 
--- A function of one number: `not`, the number with this bit alone (0 from bit 32 on), how many bits are set, and the place of the
--- lowest set bit (32 where none is).
+-- A function of one number: `not`, the number with this bit alone (0 from bit 32 on), how many bits are set, and the
+-- place of the lowest set bit (32 where none is).
 abbrev pub function_of : Function → ℕ → ℕ
 function_of Not x = of_bool (not (is_true x))
 function_of Bit x = if nat_lt x 32 then 2 ^ x else 0
 function_of Count x = ones_in 32 x
 function_of Lowest x = count_trailing_zeros 32 x
 
--- The message that stands in for that of a missing row: no bytes, and for a message the header `none` of each place above.
+-- The message that stands in for that of a missing row: no bytes, and for a message the header `none` of each place
+-- above.
 abbrev pub missing : Carried → Content
 missing part = plain []
 missing (whole blank) = record { headers = blank; body = [] }

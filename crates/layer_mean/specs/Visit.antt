@@ -1,5 +1,7 @@
--- One visit: one event at one layer (Hayden: a layer takes an event from a neighbour, and pops the header that its peer pushed).
-use Rattle.std.specs.Prelude.{ℕ, zero, suc, Bool, ◌&&◌, ◌==◌, if◌then◌else◌, List, [], ◌∷◌, ◌++◌, map, replicate, Option, Some, None, option_to_list}
+-- One visit: one event at one layer (Hayden: a layer takes an event from a neighbour, and pops the header that its peer
+-- pushed).
+use Rattle.std.specs.Prelude.{ℕ, zero, suc, Bool, ◌&&◌, ◌==◌, if◌then◌else◌, List, [], ◌∷◌, ◌++◌, map, replicate}
+use Rattle.std.specs.Prelude.{Option, Some, None, option_to_list}
 use Rattle.std.specs.List.{find}
 use denote.Enum.Bare.{sameb}
 use Rattle.msg_core.specs.Chain.{Content, plain, pushed, popped, first_of}
@@ -24,8 +26,8 @@ no_scope = record { numbers = []; messages = [] }
 abbrev pub bare_state : ℕ → ℕ → ℕ → State
 bare_state me n ltime = record { me = me; count = n; ltime = ltime; cells = [] }
 
--- What a cell holds at first: its numbers are all its initial value, which is computed from the own rank, n and ltime; its
--- queues are empty.
+-- What a cell holds at first: its numbers are all its initial value, which is computed from the own rank, n and ltime;
+-- its queues are empty.
 abbrev pub fresh_cell : State → Form → Contents
 fresh_cell s (numbers shape initial) = state.numbers (replicate (size_of s.count shape) (val initial s no_scope))
 fresh_cell s (queue capacity items) = state.queues ([] ∷ [])
@@ -33,14 +35,15 @@ fresh_cell s (queues capacity items) = state.queues (replicate s.count [])
 
 -- The state of a layer that has seen no event, at the member of rank `me` of n.
 abbrev pub fresh : LayerTree → ℕ → ℕ → ℕ → State
-fresh layer me n ltime = record (bare_state me n ltime) { cells = map (λ c. fresh_cell (bare_state me n ltime) c.form) layer.cells }
+fresh layer me n ltime =
+    record (bare_state me n ltime) { cells = map (λ c. fresh_cell (bare_state me n ltime) c.form) layer.cells }
 
 -- The state of no layer.
 abbrev pub no_state : State
 no_state = bare_state 0 0 0
 
--- An event as its layer meets it: the tag and the fields of the header that is popped going up, and the message behind that, if it
--- has one. Going down nothing is popped.
+-- An event as its layer meets it: the tag and the fields of the header that is popped going up, and the message behind
+-- that, if it has one. Going down nothing is popped.
 pub record Met : Type 0 where
   pub tag : ℕ
   pub fields : List ℕ
@@ -68,8 +71,8 @@ abbrev pub with_room : {A : Type 0} → ℕ → A → List A → List A
 with_room zero filler xs = xs
 with_room (suc k) filler xs = with_room k filler (xs ++ filler ∷ [])
 
--- The scope in which a handler is entered: the event's numbers in front of the fields, and its message; the names that the block
--- declares come behind these.
+-- The scope in which a handler is entered: the event's numbers in front of the fields, and its message; the names that
+-- the block declares come behind these.
 abbrev pub entered : HandlerTree → Event → Met → Scope
 entered h event m = record {
   numbers = with_room h.numbers 0 (arguments event ++ m.fields);
@@ -90,7 +93,8 @@ pub record Visited : Type 0 where
 abbrev pub sent_on : State → Dir → Event → Option Content → Visited
 sent_on s dir event m = record { state = s; sent = (dir, record event { message = m }) ∷ []; decided = [] }
 
--- A visit of a layer that has no handler for an event: without a message the event passes on; going down a message passes behind
+-- A visit of a layer that has no handler for an event: without a message the event passes on; going down a message
+-- passes behind
 -- `none`; going up it passes where `none` was popped, and is dropped behind another header, which is never predicted.
 abbrev pub unhandled : ℕ → State → Dir → Event → Met → Option Content → Visited
 unhandled place s dir event m None = sent_on s dir event None
@@ -98,8 +102,8 @@ unhandled place s Down event m (Some content) = sent_on s Down event (Some (push
 unhandled place s Up event m (Some content) =
     if m.tag == 0 then sent_on s Up event (Some content) else record { state = s; sent = []; decided = unusual ∷ [] }
 
--- The decision that a handler's expectation is, if it is one: a common case is predicted to hold at entry, and a rare handler
--- is never predicted.
+-- The decision that a handler's expectation is, if it is one: a common case is predicted to hold at entry, and a rare
+-- handler is never predicted.
 abbrev pub expecting : Expected → State → Scope → Outcome → Outcome
 expecting always s l o = o
 expecting (common e) s l o = if is_true (val e s l) then decides usual o else decides unusual o

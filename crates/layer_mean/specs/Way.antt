@@ -1,16 +1,18 @@
--- The predicted way of a handler in a case: the steps that its visit takes where all goes as predicted in it (the common case of the
--- SOSP 1999 paper, which a layer's text marks; that there may be two is this project's own).
+-- The predicted way of a handler in a case: the steps that its visit takes where all goes as predicted in it (the
+-- common case of the SOSP 1999 paper, which a layer's text marks; that there may be two is this project's own).
 use Rattle.std.specs.Prelude.{ℕ, ◌+◌, Bool, true, false, List, [], ◌∷◌, ◌++◌, length, Option, Some, None}
 use Rattle.std.specs.List.{sum_by}
 use Rattle.std.specs.Option.{option_map_or}
 use Rattle.layer_ast.specs.declared.syntax.Likely.TheVariants as likely
 use Rattle.layer_mean.specs.declared.run.Case.{Case}
 use Rattle.layer_mean.specs.declared.run.Case.TheVariants.{First, Second}
-use Rattle.layer_mean.specs.Tree.{ExpressionTree, EmissionTree, RowTree, TakenTree, StatementTree, bind, assign, assign_square, push, take, branch, each, emit, StatementTrees, none, more, Expected, always, common, rare, HandlerTree}
+use Rattle.layer_mean.specs.Tree.{ExpressionTree, EmissionTree, RowTree, TakenTree, StatementTree, bind, assign}
+use Rattle.layer_mean.specs.Tree.{assign_square, push, take, branch, each, emit, StatementTrees, none, more, Expected}
+use Rattle.layer_mean.specs.Tree.{always, common, rare, HandlerTree}
 
--- A predicted step: a test that an expression is true, or 0; a condition with two predicted ways, which is to go that of a case; a
--- number of the scope, of a cell or of a square cell that is set; a push for which there is room; a take of a row that is there; an
--- emission; or a loop, which can't be predicted.
+-- A predicted step: a test that an expression is true, or 0; a condition with two predicted ways, which is to go that
+-- of a case; a number of the scope, of a cell or of a square cell that is set; a push for which there is room; a take
+-- of a row that is there; an emission; or a loop, which can't be predicted.
 pub data Step : Type 0 where
   test : (wanted : Bool) → ExpressionTree → Step
   fork : Case → ExpressionTree → Step
@@ -23,8 +25,9 @@ pub data Step : Type 0 where
   loop : Step
 
 abbrev mutual
-  -- The steps of a statement: a condition is predicted to choose its first block, a rare one the other, and one with two predicted
-  -- ways the first in the first case and the other in the second; a push to have room; a take to find a row.
+  -- The steps of a statement: a condition is predicted to choose its first block, a rare one the other, and one with
+  -- two predicted ways the first in the first case and the other in the second; a push to have room; a take to find a
+  -- row.
   pub way : Case → StatementTree → List Step
   way case (bind k e) = set_slot k e ∷ []
   way case (assign c i e) = set_number c i e ∷ []
@@ -52,8 +55,8 @@ expected_way rare steps = None
 abbrev pub handler_way : Case → HandlerTree → Option (List Step)
 handler_way case h = expected_way h.expected (ways case h.block)
 
--- How many predicted statements and arguments a step counts for: one, but two for a push or a take, and for an emission one for
--- each number that it evaluates.
+-- How many predicted statements and arguments a step counts for: one, but two for a push or a take, and for an emission
+-- one for each number that it evaluates.
 abbrev pub weight_of : Step → ℕ
 weight_of (put c i capacity row) = 2
 weight_of (get c i taken) = 2

@@ -3,15 +3,16 @@
 use layer_ast::Kind;
 use msg_core::{Fields, Message};
 
-/// Which of a layer's common cases is predicted: a condition with two predicted ways goes into its first block in the first
-/// case and past it in the second; everything else is predicted alike in both.
+/// Which of a layer's common cases is predicted: a condition with two predicted ways goes into its first block in the
+/// first case and past it in the second; everything else is predicted alike in both.
 #[derive(Clone, Copy, PartialEq, Eq, Debug)]
 pub enum Case {
     First,
     Second,
 }
 
-/// What travels between adjacent layers. Numbers that its kind doesn't have are 0, and a Cast and a Send alone carry a message.
+/// What travels between adjacent layers. Numbers that its kind doesn't have are 0, and a Cast and a Send alone carry a
+/// message.
 #[derive(Drop)]
 pub struct Event {
     pub kind: Kind,

@@ -1,4 +1,5 @@
--- A layer that writes before it branches: what it reads in its condition is what it has just written, if both are one place.
+-- A layer that writes before it branches: what it reads in its condition is what it has just written, if both are one
+-- place.
 use Rattle.std.specs.Prelude.{◌≡◌, ℕ, List, [], ◌∷◌, codes}
 use Rattle.msg_core.specs.Chain.{plain}
 use Rattle.layer_ast.specs.declared.tokens.Dir.TheVariants.{Down}
@@ -35,8 +36,8 @@ visit s = step 0 alias s Down (cast 0 (plain []))
 abbrev pub at_count : ℕ → List ℕ → State
 at_count k e = record { me = 0; count = 2; ltime = 0; cells = state.numbers (k ∷ []) ∷ state.numbers e ∷ [] }
 
--- The visit behind which the state has this count and these elements, a cast with the header of this tag is sent, and the condition
--- went so.
+-- The visit behind which the state has this count and these elements, a cast with the header of this tag is sent, and
+-- the condition went so.
 abbrev pub left : ℕ → List ℕ → ℕ → Decision → Visited
 left k e tag decision = record {
   state = at_count k e;
@@ -44,7 +45,8 @@ left k e tag decision = record {
   decided = decision ∷ [];
 }
 
--- The first cast writes the other element and takes the other way; the second writes the element that is read; the third finds it.
+-- The first cast writes the other element and takes the other way; the second writes the element that is read; the
+-- third finds it.
 abbrev pub ThreeCasts : Type 0
 ThreeCasts =
     (visit (fresh alias 0 2 0) ≡ left 2 (0 ∷ 5 ∷ []) 2 unusual)

@@ -1,5 +1,5 @@
--- A layer with a condition that has two predicted ways: casts are counted, and those of odd numbers get another header than those of
--- even ones.
+-- A layer with a condition that has two predicted ways: casts are counted, and those of odd numbers get another header
+-- than those of even ones.
 use Rattle.std.specs.Prelude.{◌≡◌, ℕ, ◌+◌, Bool, true, false, List, [], ◌∷◌, codes, Option, Some, None}
 use Rattle.msg_core.specs.Chain.{plain, pushed}
 use Rattle.layer_ast.specs.declared.tokens.Dir.TheVariants.{Down}
@@ -7,7 +7,8 @@ use Rattle.layer_ast.specs.declared.tokens.Kind.TheVariants.{Cast}
 use Rattle.layer_ast.specs.declared.syntax.Likely.TheVariants.{Two}
 use Rattle.layer_ast.specs.declared.syntax.Operator.TheVariants.{Add, BitAnd, Equal}
 use Rattle.layer_mean.specs.declared.run.Case.TheVariants.{First, Second}
-use Rattle.layer_mean.specs.Tree.{number, me, local, element, binary, assign, branch, emit, Expected, always, common, LayerTree}
+use Rattle.layer_mean.specs.Tree.{number, me, local, element, binary, assign, branch, emit, Expected, always, common}
+use Rattle.layer_mean.specs.Tree.{LayerTree}
 use Rattle.layer_mean.specs.State.{State}
 use Rattle.layer_mean.specs.State as state
 use Rattle.layer_mean.specs.Effect.{Decision, usual, unusual, forked, all_as, first_missed}
@@ -39,11 +40,13 @@ own_flip = flip_where (common (binary Equal (local 0) me))
 abbrev pub counted : ℕ → State
 counted k = record { me = 1; count = 2; ltime = 0; cells = state.numbers (k ∷ []) ∷ [] }
 
--- A visit of the cast of a member behind so many others, and what it is to come to: the header's tag, and the decisions.
+-- A visit of the cast of a member behind so many others, and what it is to come to: the header's tag, and the
+-- decisions.
 abbrev pub Flips : LayerTree → (peer before tag : ℕ) → List Decision → Type 0
 Flips layer peer before tag decided = step 0 layer (counted before) Down (cast peer (plain (codes "x"))) ≡ record {
   state = counted (before + 1);
-  sent = (Down, cast peer (pushed (record { layer = 0; tag = tag; fields = (before + 1) ∷ [] }) (plain (codes "x")))) ∷ [];
+  sent = (Down, cast peer (pushed (record { layer = 0; tag = tag; fields = (before + 1) ∷ [] }) (plain (codes "x")))) ∷
+      [];
   decided = decided;
 }
 

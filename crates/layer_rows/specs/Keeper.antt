@@ -41,7 +41,8 @@ holding s = record {
 abbrev pub sent : ℕ → List ℕ → List ℕ → Dir × Event
 sent tag fields body = (Down, cast 0 (pushed (record { layer = 0; tag = tag; fields = fields }) (plain body)))
 
--- The first cast fills the queue, and its sum wraps; the second finds it full, which isn't predicted, and first sends that.
+-- The first cast fills the queue, and its sum wraps; the second finds it full, which isn't predicted, and first sends
+-- that.
 abbrev pub TwoCasts : Type 0
 TwoCasts =
     (step 0 keeper (fresh keeper 0 1 0) Down (cast 0 (plain (codes "a"))) ≡ record {

@@ -15,22 +15,25 @@ use Rattle.layer_rows.specs.Words.{cast_up, block, handler, cell_of_one, ending,
 abbrev pub idle : LayerTree
 idle = record { name = codes "idle"; cells = []; headers = ending (codes "h") 1 ∷ []; handlers = [] }
 
--- An event without a message passes unchanged; going down a message passes behind `none`; going up it passes where `none` was
--- popped, and is dropped behind another header, which isn't predicted.
+-- An event without a message passes unchanged; going down a message passes behind `none`; going up it passes where
+-- `none` was popped, and is dropped behind another header, which isn't predicted.
 abbrev pub Unhandled : Type 0
 Unhandled =
-    (step 4 idle no_state Up (signal Ack 2 3) ≡ record { state = no_state; sent = (Up, signal Ack 2 3) ∷ []; decided = [] })
+    (step 4 idle no_state Up (signal Ack 2 3) ≡
+    record { state = no_state; sent = (Up, signal Ack 2 3) ∷ []; decided = [] })
     × (step 4 idle no_state Down (cast 1 (plain (codes "a"))) ≡ record {
       state = no_state;
       sent = (Down, cast 1 (pushed (record { layer = 4; tag = 0; fields = [] }) (plain (codes "a")))) ∷ [];
       decided = [];
     })
-    × (step 4 idle no_state Up (cast 1 (pushed (record { layer = 4; tag = 0; fields = [] }) (plain (codes "a")))) ≡ record {
+    × (step 4 idle no_state Up (cast 1 (pushed (record { layer = 4; tag = 0; fields = [] }) (plain (codes "a")))) ≡
+    record {
       state = no_state;
       sent = (Up, cast 1 (plain (codes "a"))) ∷ [];
       decided = [];
     })
-    × (step 4 idle no_state Up (cast 1 (pushed (record { layer = 4; tag = 1; fields = 9 ∷ [] }) (plain (codes "a")))) ≡ record {
+    × (step 4 idle no_state Up (cast 1 (pushed (record { layer = 4; tag = 1; fields = 9 ∷ [] }) (plain (codes "a")))) ≡
+    record {
       state = no_state;
       sent = [];
       decided = unusual ∷ [];
@@ -60,4 +63,5 @@ Loops =
       sent = (Up, cast 0 (plain [])) ∷ (Up, cast 1 (plain [])) ∷ (Up, cast 2 (plain [])) ∷ [];
       decided = unusual ∷ [];
     })
-    × (step 0 (looping 0) (counted 0) Up (cast 7 (plain [])) ≡ record { state = counted 0; sent = []; decided = unusual ∷ [] })
+    × (step 0 (looping 0) (counted 0) Up (cast 7 (plain [])) ≡
+    record { state = counted 0; sent = []; decided = unusual ∷ [] })

@@ -79,14 +79,15 @@ delivery = (Up, cast 0 (plain (codes "a")))
 abbrev pub packet : List Header → Dir × Event
 packet headers = (Down, cast 0 (record { headers = headers; body = codes "a" }))
 
--- The outputs of a cast at the member of rank 0 of 2, how many visits it took, and that it went as predicted in both cases.
+-- The outputs of a cast at the member of rank 0 of 2, how many visits it took, and that it went as predicted in both
+-- cases.
 abbrev pub Casts : List LayerTree → ℕ → List (Dir × Event) → ℕ → Type 0
 Casts stack places outs visits =
     let w = (run 65536 stack (map (λ layer. fresh layer 0 2 0) stack) (cast_at places)).world in
     (w.outs ≡ outs) × (w.visits ≡ visits) × ((case : Case) → is_predicted case w ≡ true)
 
--- With three places the packet leaves first, since it is as far from its edge as the delivery and was sent before it; with four it
--- comes later.
+-- With three places the packet leaves first, since it is as far from its edge as the delivery and was sent before it;
+-- with four it comes later.
 abbrev pub SplitCasts : Type 0
 SplitCasts =
     Casts (bottom ∷ loopback ∷ total ∷ []) 3

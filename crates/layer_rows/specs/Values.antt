@@ -76,8 +76,8 @@ OutsideArrays =
     × (with_number filled 0 2 9 ≡ filled)
     × (with_number filled 2 0 9 ≡ filled)
 
--- A queue outside its array is empty and full at once; a row that isn't there has no numbers, and its message is no bytes for a part,
--- and for a message of the layers above the headers that stand in for it.
+-- A queue outside its array is empty and full at once; a row that isn't there has no numbers, and its message is no
+-- bytes for a part, and for a message of the layers above the headers that stand in for it.
 abbrev pub OutsideQueues : Type 0
 OutsideQueues =
     (val (rows 2 (number 0)) filled no_scope ≡ 1)
@@ -90,4 +90,5 @@ OutsideQueues =
     × (val (item 2 (number 0) (number 1) 0) filled no_scope ≡ 0)
     × (mval (held 2 (number 0) (number 0) part) filled no_scope ≡ plain (codes "hi"))
     × (mval (held 2 (number 1) (number 0) part) filled no_scope ≡ plain [])
-    × (mval (held 2 (number 1) (number 0) (whole (record { layer = 1; tag = 0; fields = [] } ∷ []))) filled no_scope ≡ headed [])
+    × (mval (held 2 (number 1) (number 0) (whole (record { layer = 1; tag = 0; fields = [] } ∷ []))) filled no_scope ≡
+    headed [])

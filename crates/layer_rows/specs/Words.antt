@@ -7,7 +7,8 @@ use Rattle.layer_ast.specs.declared.tokens.Kind.{Kind}
 use Rattle.layer_ast.specs.declared.tokens.Kind.TheVariants.{Cast}
 use Rattle.layer_ast.specs.declared.syntax.Shape.TheVariants.{One}
 use Rattle.layer_mean.specs.declared.run.Event.{Event}
-use Rattle.layer_mean.specs.Tree.{ExpressionTree, number, MessageTree, message, EmissionTree, StatementTree, StatementTrees, none, more, Expected, HandlerTree, CellTree, numbers, HeaderTree}
+use Rattle.layer_mean.specs.Tree.{ExpressionTree, number, MessageTree, message, EmissionTree, StatementTree}
+use Rattle.layer_mean.specs.Tree.{StatementTrees, none, more, Expected, HandlerTree, CellTree, numbers, HeaderTree}
 
 -- A cast of a message, going down behind this header.
 abbrev pub cast_of : ExpressionTree → MessageTree → ℕ → List ExpressionTree → EmissionTree

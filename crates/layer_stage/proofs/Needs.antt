@@ -15,7 +15,8 @@ places_same : (layout : Layout) (o : Option HandlerTree) (m : Met) → (visit_ne
 places_same layout None m = refl
 places_same layout (Some h) m = refl
 
-headers_same : (layout : Layout) (o : Option HandlerTree) (m : Met) → (visit_need layout o m).headers ≡ headers_of m.message
+headers_same : (layout : Layout) (o : Option HandlerTree) (m : Met) → (visit_need layout o m).headers ≡
+    headers_of m.message
 headers_same layout None m = refl
 headers_same layout (Some h) m = refl
 

@@ -8,8 +8,8 @@ use Rattle.layer_mean.specs.Visit.{met, handler_for}
 use Rattle.stack_mean.specs.Emissions.{handler_joins}
 use Rattle.layer_desk.specs.Need.{block_sends, headers_of}
 
--- As many unused slots as the handler has joins, and as many places as it sends events at most; without a handler no slot, and a place
--- for the event that passes on.
+-- As many unused slots as the handler has joins, and as many places as it sends events at most; without a handler no
+-- slot, and a place for the event that passes on.
 abbrev pub slots_for : Option HandlerTree → ℕ
 slots_for None = 0
 slots_for (Some h) = handler_joins h

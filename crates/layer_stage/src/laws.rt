@@ -18,7 +18,8 @@ pub fn needs_are_those_at_a_desk()
     ensures slots { (layout : Layout) (layer : LayerTree) (dir : Dir) (event : Event) →
         (visit_need layout (handler_of layer dir event) (met dir event.message)).slots ≡ slots_needed layer dir event }
     ensures places { (layout : Layout) (layer : LayerTree) (dir : Dir) (event : Event) →
-        (visit_need layout (handler_of layer dir event) (met dir event.message)).places ≡ places_needed layer dir event }
+        (visit_need layout (handler_of layer dir event) (met dir event.message)).places ≡
+        places_needed layer dir event }
     ensures headers { (layout : Layout) (layer : LayerTree) (dir : Dir) (event : Event) →
         (visit_need layout (handler_of layer dir event) (met dir event.message)).headers ≡ headers_met dir event }
 {}
@@ -27,5 +28,6 @@ pub fn needs_are_those_at_a_desk()
 pub fn events_that_pass_are_sent_on()
     ensures { (place : ℕ) (layer : LayerTree) (s : State) (p : List Held) (dir : Dir) (event : PoolEvent) →
         is_passed layer dir (event_seen p event) ≡ true →
-        step place layer s dir (event_seen p event) ≡ record { state = s; sent = (dir, event_seen p (passed_by place dir event)) ∷ []; decided = [] } }
+        step place layer s dir (event_seen p event) ≡
+        record { state = s; sent = (dir, event_seen p (passed_by place dir event)) ∷ []; decided = [] } }
 {}

@@ -11,7 +11,8 @@ ghost use Rattle.layer_eval.specs.Did.{as_predicted};
 ghost use Rattle.layer_stage.specs.Front.{first_way, first_seen, behind_first};
 ghost use Rattle.layer_stage.specs.Kept.{messages_kept};
 ghost use Rattle.layer_stage.specs.Passes.{is_passed, passed_by};
-ghost use Rattle.layer_stage.specs.Room.{slots_needed, places_needed, headers_met, most_counted, most_kept, CountsWithin};
+ghost use Rattle.layer_stage.specs.Room.{slots_needed, places_needed, headers_met, most_counted, most_kept};
+ghost use Rattle.layer_stage.specs.Room.{CountsWithin};
 ghost use Rattle.layer_stage.specs.Taken.{one_more};
 ghost use Rattle.pool_message.specs.Seen.{event_seen};
 ghost use Rattle.pool_message.specs.Sent.{sent_refs, sent_seen, SentLie, CanPass};
@@ -40,9 +41,9 @@ pub trait Stage {
     /// How many events it took, held at 2^64 - 1.
     ghost taken: { Self → ℕ };
 
-    /// The layer takes the first of the events: that one goes, and what the layer sends comes behind the others. Until then it has its place, so
-    /// that there is one place more than for what is sent. Its state, what it sends and whether it decided as predicted are those of a visit. It
-    /// then took one event more.
+    /// The layer takes the first of the events: that one goes, and what the layer sends comes behind the others. Until
+    /// then it has its place, so that there is one place more than for what is sent. Its state, what it sends and
+    /// whether it decided as predicted are those of a visit. It then took one event more.
     fn take(&mut self, pool: &mut Pool, events: &mut Events) -> Predicted
         requires some { 0 < length events.old.items }
         requires ready { ready pool.old self.old }
@@ -50,18 +51,24 @@ pub trait Stage {
         requires covers { Covers pool.old (refs self.old ++ sent_refs events.old.items) }
         requires counts { CountsWithin most_counted pool.old }
         requires headers { headers_met (first_way events.old.items) (first_seen pool.old events.old.items) ≤ most_above }
-        requires slots { slots_needed (layer self.old) (first_way events.old.items) (first_seen pool.old events.old.items) ≤ spare pool.old }
+        requires slots { slots_needed (layer self.old) (first_way events.old.items)
+            (first_seen pool.old events.old.items) ≤ spare pool.old }
         requires places { length events.old.items
-            + places_needed (layer self.old) (first_way events.old.items) (first_seen pool.old events.old.items) ≤ events.old.capacity }
+            + places_needed (layer self.old) (first_way events.old.items) (first_seen pool.old events.old.items) ≤
+            events.old.capacity }
         ensures state { state pool.new self.new ≡
-            (step (place self.old) (layer self.old) (state pool.old self.old) (first_way events.old.items) (first_seen pool.old events.old.items)).state }
+            (step (place self.old) (layer self.old) (state pool.old self.old) (first_way events.old.items)
+            (first_seen pool.old events.old.items)).state }
         ensures sent { sent_seen pool.new events.new.items ≡ sent_seen pool.old (behind_first events.old.items)
-            ++ (step (place self.old) (layer self.old) (state pool.old self.old) (first_way events.old.items) (first_seen pool.old events.old.items)).sent }
+            ++ (step (place self.old) (layer self.old) (state pool.old self.old) (first_way events.old.items)
+            (first_seen pool.old events.old.items)).sent }
         ensures predicted { result ≡ as_predicted
-            (step (place self.old) (layer self.old) (state pool.old self.old) (first_way events.old.items) (first_seen pool.old events.old.items)).decided }
+            (step (place self.old) (layer self.old) (state pool.old self.old) (first_way events.old.items)
+            (first_seen pool.old events.old.items)).decided }
 
         // Its references, and those of the events, have moved in the pool, and no others.
-        ensures moved { Moved pool.old pool.new (refs self.old ++ sent_refs events.old.items) (refs self.new ++ sent_refs events.new.items) }
+        ensures moved { Moved pool.old pool.new (refs self.old ++ sent_refs events.old.items)
+            (refs self.new ++ sent_refs events.new.items) }
         ensures spent { spare pool.old ≤ spare pool.new
             + slots_needed (layer self.old) (first_way events.old.items) (first_seen pool.old events.old.items) }
         ensures capacity { events.new.capacity ≡ events.old.capacity }
@@ -71,8 +78,8 @@ pub trait Stage {
         ensures layer { layer self.new ≡ layer self.old }
         ensures taken { taken self.new ≡ one_more (taken self.old) };
 
-    /// Lets an event pass where the layer has no handler for it and doesn't drop it, and says whether it did. It is then what a visit by it sends,
-    /// and the layer took one event more; all else is as it was.
+    /// Lets an event pass where the layer has no handler for it and doesn't drop it, and says whether it did. It is
+    /// then what a visit by it sends, and the layer took one event more; all else is as it was.
     fn pass(&mut self, direction: Dir, event: &mut PoolEvent) -> bool
         requires room { CanPass direction event.old.message }
         ensures passes { (p : List Held) → result ≡ is_passed (layer self.old) direction (event_seen p event.old) }

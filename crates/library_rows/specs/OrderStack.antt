@@ -24,7 +24,8 @@ file = record (file_of text) {
   library = bottom.layer ∷ local.layer ∷ total.layer ∷ [];
 }
 
--- The message of a handler goes on in an event of a kind to or from this peer, with the header of this tag and these fields.
+-- The message of a handler goes on in an event of a kind to or from this peer, with the header of this tag and these
+-- fields.
 abbrev pub goes_on : Dir → Kind → mean.ExpressionTree → ℕ → List mean.ExpressionTree → mean.StatementTree
 goes_on direction kind peer tag fields = mean.emit record {
   direction = direction;
@@ -107,7 +108,8 @@ total_layer = record {
       record { name = codes "out"; form = mean.numbers One (mean.number 0) }
       ∷ record { name = codes "next"; form = mean.numbers One (mean.number 0) }
       ∷ [];
-  headers = record { name = codes "num"; fields = 2; ends = false } ∷ record { name = codes "ask"; fields = 0; ends = false } ∷ [];
+  headers = record { name = codes "num"; fields = 2; ends = false } ∷
+      record { name = codes "ask"; fields = 0; ends = false } ∷ [];
   handlers =
       handler Down Cast 0 mean.always (
       choice is_first (two (goes_on Down Cast (mean.local 0) 1 (mean.me ∷ cell 0 ∷ [])) (counts_on 0 (cell 0)))

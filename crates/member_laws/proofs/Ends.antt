@@ -9,7 +9,8 @@ use Rattle.layer_mean.specs.declared.run.Event.{Event}
 use Rattle.layer_mean.specs.Tree.{LayerTree}
 use Rattle.layer_mean.specs.Queue.{Task, Line, Work, layers, next_of, run_for, run, unstarted, starting}
 use Rattle.packet_mean.specs.Plan.{kind_of}
-use Rattle.run_mean.specs.Member.{Entered, app_cast, app_send, app_leave, clock_tick, from_peer, from_below, first_task, output_of, most_turns}
+use Rattle.run_mean.specs.Member.{Entered, app_cast, app_send, app_leave, clock_tick, from_peer, from_below, first_task}
+use Rattle.run_mean.specs.Member.{output_of, most_turns}
 use Rattle.chain_laws.specs.Runs.{TypedStack, IsChainedTask, IsChainedLine}
 use Rattle.chain_laws.proofs.Lists.{each_so}
 use Rattle.chain_laws.proofs.Runs.{turns_keep_chains, runs_keep_chains}
@@ -20,10 +21,12 @@ use Rattle.chain_laws.proofs.Orderly.{typed_is_orderly, chained_is_known}
 use Rattle.member_laws.specs.Steps.{ChainedTurns, ChainedLines, StepsEnd}
 use Rattle.member_laws.proofs.Wires.{first_is}
 
-known_all : (stack : List LayerTree) (tasks : List (Task Event)) → AllByRecursion (IsChainedTask stack) tasks → AllByRecursion (IsKnown stack) tasks
+known_all : (stack : List LayerTree) (tasks : List (Task Event)) → AllByRecursion (IsChainedTask stack) tasks →
+    AllByRecursion (IsKnown stack) tasks
 known_all stack tasks h = each_so (IsChainedTask stack) (IsKnown stack) (chained_is_known stack) tasks h
 
-stays_known : (stack : List LayerTree) (r : Line Work Event) → TypedStack stack → IsChainedLine stack r → StaysKnown stack r
+stays_known : (stack : List LayerTree) (r : Line Work Event) → TypedStack stack → IsChainedLine stack r →
+    StaysKnown stack r
 stays_known stack r typed h = λ k.
     known_all stack (run_for (length stack) (layers stack) k r).tasks (runs_keep_chains stack k r typed h).tasks
 
@@ -73,7 +76,8 @@ steps_end stack here id states what h accepts =
       done = ends.done;
       enough = λ n le. ap (λ (r : Line Work Event). r.world) (ends.enough n le);
       turns =
-          let count : length (map (output_of here) work.outs) ≡ length work.outs = length-map work.outs (output_of here) in
+          let count : length (map (output_of here) work.outs) ≡ length work.outs =
+          length-map work.outs (output_of here) in
           omega (arith, ends.turns, count);
       made = ends.made;
     }

@@ -1,5 +1,6 @@
 -- What a predicted step sends fits its plans.
-use Rattle.std.proofs.Common.{arith, ◌≡◌, refl, sym, ◌∙◌, ap, subst, ℕ, zero, suc, ◌+◌, ◌<◌, Bool, true, false, ◌&&◌, List, [], ◌∷◌, ◌++◌, map, length, Option, Some, None, inl, inr}
+use Rattle.std.proofs.Common.{arith, ◌≡◌, refl, sym, ◌∙◌, ap, subst, ℕ, zero, suc, ◌+◌, ◌<◌, Bool, true, false, ◌&&◌}
+use Rattle.std.proofs.Common.{List, [], ◌∷◌, ◌++◌, map, length, Option, Some, None, inl, inr}
 use Rattle.std.specs.Prelude.{slice_get, if◌then◌else◌, IsSomeAnd, Result, Ok, Err, take, option_map}
 use Rattle.std.specs.List.{All, filter, flat_map, sum_by}
 use Rattle.std.specs.Option.{option_and_then, option_map_or}
@@ -25,7 +26,8 @@ use Rattle.stack_mean.specs.Shape.{Known, ShapeOut, Shape, entry_task, shape}
 use Rattle.stack_mean.specs.Shape as entry
 use Rattle.run_mean.specs.Mode.{layered, bypass}
 use Rattle.run_mean.specs.Common.{is_short, is_common_in, is_planned, first_plan, with_plans}
-use Rattle.run_mean.specs.Member.{Entered, app_cast, app_send, app_leave, clock_tick, from_peer, Output, packet, first_task, output_of, Step, step_from}
+use Rattle.run_mean.specs.Member.{Entered, app_cast, app_send, app_leave, clock_tick, from_peer, Output, packet}
+use Rattle.run_mean.specs.Member.{first_task, output_of, Step, step_from}
 use Rattle.shape_laws.specs.Bare.{BareRun}
 use Rattle.shape_laws.specs.Known.{Pairwise, BeginsAs, HeadersAre}
 use Rattle.shape_laws.specs.Law.{headers_in, run_start, marked_run, OutIs}
@@ -50,7 +52,8 @@ record Sent (o : ShapeOut) (x : Dir × Event) : Type 0 where
 sent_of : (os : List ShapeOut) (logged : List (Logged Event)) → Pairwise OutIs os logged →
     Pairwise Sent os (map (λ x. (x.dir, x.marked.event)) logged)
 sent_of [] [] is = tt
-sent_of (o ∷ os) (x ∷ logged) is = (record { dir = is.0.dir; kind = is.0.kind; headers = is.0.headers }, sent_of os logged is.1)
+sent_of (o ∷ os) (x ∷ logged) is =
+    (record { dir = is.0.dir; kind = is.0.kind; headers = is.0.headers }, sent_of os logged is.1)
 sent_of [] (x ∷ logged) is = absurd is
 sent_of (o ∷ os) [] is = absurd is
 
@@ -86,7 +89,8 @@ some_once : {A : Type 0} (x y : A) → Some x ≡ Some y → x ≡ y
 some_once x y e = cc
 
 -- The outputs of a run fit the plans from a number on, where these are those of its shape.
-outputs_fit : (here : Here) (plans : List Plan) (k : ℕ) (os : List ShapeOut) (xs : List (Dir × Event)) → Pairwise Sent os xs →
+outputs_fit : (here : Here) (plans : List Plan) (k : ℕ) (os : List ShapeOut) (xs : List (Dir × Event)) →
+    Pairwise Sent os xs →
     PlansFrom plans k (packets_among os) → All (FitsItsPlan plans) (with_plans plans (Some k) (map (output_of here) xs))
 outputs_fit here plans k [] [] is from = All-nil (FitsItsPlan plans)
 outputs_fit here plans k (o ∷ os) (x ∷ xs) is from =
@@ -104,7 +108,8 @@ outputs_fit here plans k (o ∷ os) (x ∷ xs) is from =
         All (FitsItsPlan plans) ((y, next) ∷ with_plans plans (Some n) (map (output_of here) xs))
     behind n more next fit = All-cons (FitsItsPlan plans) (y, next) _ fit more
 
-    own : (from : PlansFrom plans k (o ∷ packets_among os)) (p : Option Plan) → slice_get plans k ≡ p → FitsItsPlan plans (y, found p)
+    own : (from : PlansFrom plans k (o ∷ packets_among os)) (p : Option Plan) → slice_get plans k ≡ p →
+        FitsItsPlan plans (y, found p)
     own from None is_none = unplanned plans y
     own from (Some plan) is_plan =
         let at : slice_get plans (k + 0) ≡ Some plan = ap (slice_get plans) (right_zero k) ∙ is_plan in
@@ -115,10 +120,12 @@ outputs_fit here plans k (o ∷ os) (x ∷ xs) is from =
     further from i plan less at = from (suc i) plan (omega (arith, less)) (ap (slice_get plans) (step k i) ∙ at)
 
     go : (b c : Bool) → c ≡ b → PlansFrom plans k (if b then o ∷ packets_among os else packets_among os) →
-        ((n : ℕ) → PlansFrom plans n (packets_among os) → All (FitsItsPlan plans) (with_plans plans (Some n) (map (output_of here) xs))) →
+        ((n : ℕ) → PlansFrom plans n (packets_among os) →
+        All (FitsItsPlan plans) (with_plans plans (Some n) (map (output_of here) xs))) →
         All (FitsItsPlan plans) ((y, if c then found (slice_get plans k) else None) ∷
         with_plans plans (if c then Some (k + 1) else Some k) (map (output_of here) xs))
-    go true true e from rest = behind (k + 1) (rest (k + 1) (further from)) (found (slice_get plans k)) (own from (slice_get plans k) refl)
+    go true true e from rest = behind (k + 1) (rest (k + 1) (further from)) (found (slice_get plans k))
+        (own from (slice_get plans k) refl)
     go false false e from rest = behind k (rest k from) None (unplanned plans y)
     go true false e from rest = absurd (cc e)
     go false true e from rest = absurd (cc e)
@@ -126,7 +133,8 @@ outputs_fit here plans k [] (x ∷ xs) is from = absurd is
 outputs_fit here plans k (o ∷ os) [] is from = absurd is
 
 -- The plans of a group stand from its first number on.
-group_plans : (stack : List LayerTree) (before : List Group) (g : Group) (rest : List Group) (s : Shape) → shape stack g.entry g.case ≡ Ok s →
+group_plans : (stack : List LayerTree) (before : List Group) (g : Group) (rest : List Group) (s : Shape) →
+    shape stack g.entry g.case ≡ Ok s →
     groups ≡ before ++ g ∷ rest →
     PlansFrom (plans_of stack) (sum_by (λ x. length (packets_of stack x)) before) (packets_among s.outs)
 group_plans stack before g rest s made are i plan less at =
@@ -135,7 +143,8 @@ group_plans stack before g rest s made are i plan less at =
     let first = sum_by (λ x. length (packets_of stack x)) before in
     let fewer : i < length (packets_of stack g) = subst (λ os. i < length os) (sym own) less in
     let there : slice_get all (first + i) ≡ slice_get (packets_of stack g) i =
-    ap (λ gs. slice_get (flat_map (packets_of stack) gs) (first + i)) are ∙ in_group (packets_of stack) before g rest i fewer in
+    ap (λ gs. slice_get (flat_map (packets_of stack) gs) (first + i)) are ∙
+    in_group (packets_of stack) before g rest i fewer in
     slice_get-map plan_of (packets_among s.outs) i
     ∙ ap (λ os. option_map plan_of (slice_get os i)) (sym own)
     ∙ ap (option_map plan_of) (sym there)
@@ -143,10 +152,14 @@ group_plans stack before g rest s made are i plan less at =
     ∙ from_take plans_limit (map plan_of all) (first + i) plan at
 
 -- A step that begins as an application's own event and is common in a case.
-pub group_fits : (stack : List LayerTree) (here : Here) (states : List State) (task : Task Event) (before : List Group) (g : Group) (rest : List Group)
-    (s : Shape) → shape stack g.entry g.case ≡ Ok s → groups ≡ before ++ g ∷ rest → BeginsAs (entry_task stack g.entry) task →
-    BareRun g.case stack (run_start states task) → is_predicted g.case (run weight_limit stack states task).world ≡ true →
-    All (FitsItsPlan (plans_of stack)) (with_plans (plans_of stack) (Some (sum_by (λ x. length (packets_of stack x)) before))
+pub group_fits : (stack : List LayerTree) (here : Here) (states : List State) (task : Task Event) (before : List Group)
+    (g : Group) (rest : List Group)
+    (s : Shape) → shape stack g.entry g.case ≡ Ok s → groups ≡ before ++ g ∷ rest →
+    BeginsAs (entry_task stack g.entry) task →
+    BareRun g.case stack (run_start states task) → is_predicted g.case (run weight_limit stack states task).world ≡
+    true →
+    All (FitsItsPlan (plans_of stack))
+    (with_plans (plans_of stack) (Some (sum_by (λ x. length (packets_of stack x)) before))
     (map (output_of here) (run weight_limit stack states task).world.outs))
 group_fits stack here states task before g rest s made are begins bare predicted =
     let log = (marked_run stack states task).world in
@@ -168,18 +181,23 @@ was_made (Err reason) e = absurd (cc e)
 abbrev begins_here : List LayerTree → Here → Entered → Known → Type 0
 begins_here stack here what k = BeginsAs (entry_task stack k) (first_task stack here.rank what)
 
-grouped : (stack : List LayerTree) (here : Here) (states : List State) (what : Entered) (before : List Group) (g : Group) (rest : List Group) →
+grouped : (stack : List LayerTree) (here : Here) (states : List State) (what : Entered) (before : List Group)
+    (g : Group) (rest : List Group) →
     groups ≡ before ++ g ∷ rest → begins_here stack here what g.entry → IsBare stack here states what →
-    (is_short (shape stack g.entry g.case) && is_predicted g.case (run weight_limit stack states (first_task stack here.rank what)).world) ≡ true →
-    All (FitsItsPlan (plans_of stack)) (with_plans (plans_of stack) (Some (sum_by (λ x. length (packets_of stack x)) before))
+    (is_short (shape stack g.entry g.case) &&
+    is_predicted g.case (run weight_limit stack states (first_task stack here.rank what)).world) ≡ true →
+    All (FitsItsPlan (plans_of stack))
+    (with_plans (plans_of stack) (Some (sum_by (λ x. length (packets_of stack x)) before))
     (map (output_of here) (run weight_limit stack states (first_task stack here.rank what)).world.outs))
 grouped stack here states what before g rest are begins bare common =
     let parts = and_parts (is_short (shape stack g.entry g.case)) _ common in
     let made = was_made (shape stack g.entry g.case) parts.0 in
-    group_fits stack here states (first_task stack here.rank what) before g rest made.0 made.1 are begins (bare g.case) parts.1
+    group_fits stack here states (first_task stack here.rank what) before g rest made.0 made.1 are begins (bare g.case)
+    parts.1
 
 in_case : (stack : List LayerTree) (here : Here) (id : ℕ) (states : List State) (what : Entered) (case : Case) →
-    IsBare stack here states what → is_common_in stack (plans_of stack) (step_from stack here id states what) case ≡ true →
+    IsBare stack here states what → is_common_in stack (plans_of stack) (step_from stack here id states what) case ≡
+    true →
     All (FitsItsPlan (plans_of stack))
     (with_plans (plans_of stack) (first_plan stack what case) (step_from stack here id states what).outputs)
 in_case stack here id states (app_cast body) First bare common =
@@ -215,7 +233,8 @@ predicted_packets_fit bypass stack here id states what bare =
     chosen : Bool → Bool → Option Case
     chosen x y = if x then Some First else if y then Some Second else None
 
-    go : (x y : Bool) → is_common_in stack (plans_of stack) s First ≡ x → is_common_in stack (plans_of stack) s Second ≡ y →
+    go : (x y : Bool) → is_common_in stack (plans_of stack) s First ≡ x → is_common_in stack (plans_of stack) s Second ≡
+        y →
         All (FitsItsPlan (plans_of stack))
         (with_plans (plans_of stack) (option_and_then (first_plan stack what) (chosen x y)) s.outputs)
     go true y first second = in_case stack here id states what First bare first
@@ -231,9 +250,11 @@ from_within (suc n) (y ∷ xs) (suc i) x e = let less = from_within n xs i x e i
 
 listed_is_byte : (stack : List LayerTree) (k : ℕ) (plan : Plan) → slice_get (plans_of stack) k ≡ Some plan → k < 256
 listed_is_byte stack k plan is =
-    let less : k < 250 = from_within plans_limit (map plan_of (flat_map (packets_of stack) groups)) k plan is in omega (arith, less)
+    let less : k < 250 = from_within plans_limit (map plan_of (flat_map (packets_of stack) groups)) k plan is in
+    omega (arith, less)
 
-spelled_short : (stack : List LayerTree) (p : Packet) (k : ℕ) (found : Option Plan) → slice_get (plans_of stack) k ≡ found →
+spelled_short : (stack : List LayerTree) (p : Packet) (k : ℕ) (found : Option Plan) → slice_get (plans_of stack) k ≡
+    found →
     IsSomeAnd found (λ plan. fits plan p ≡ true) → IsSpellable stack p →
     SpellsPacket stack (plans_of stack) (option_map_or (λ plan. short_bytes k plan p) found (full_bytes p)) p
 spelled_short stack p k (Some plan) is fit spellable = record {
@@ -249,9 +270,11 @@ spelled_short stack p k (Some plan) is fit spellable = record {
 }
 spelled_short stack p k None is fit spellable = absurd fit
 
-wire_spells : (stack : List LayerTree) (x : Output × Option ℕ) → FitsItsPlan (plans_of stack) x → WireSpells stack (plans_of stack) x
+wire_spells : (stack : List LayerTree) (x : Output × Option ℕ) → FitsItsPlan (plans_of stack) x →
+    WireSpells stack (plans_of stack) x
 wire_spells stack (packet p, None) fit = λ spellable. record { spellable = spellable; spelled = inl refl }
-wire_spells stack (packet p, Some k) fit = λ spellable. spelled_short stack p k (slice_get (plans_of stack) k) refl fit spellable
+wire_spells stack (packet p, Some k) fit = λ spellable. spelled_short stack p k (slice_get (plans_of stack) k) refl fit
+    spellable
 wire_spells stack _ fit = tt
 
 pub short_wires_spell : ShortWiresSpell

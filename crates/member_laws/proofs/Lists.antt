@@ -22,7 +22,8 @@ within (x ∷ xs) ys zero less = refl
 within (x ∷ xs) ys (suc i) less = within xs ys i (omega (arith, less))
 
 -- What a beginning of a list has, the list has.
-pub from_take : {A : Type 0} (n : ℕ) (xs : List A) (i : ℕ) (x : A) → slice_get (take n xs) i ≡ Some x → slice_get xs i ≡ Some x
+pub from_take : {A : Type 0} (n : ℕ) (xs : List A) (i : ℕ) (x : A) → slice_get (take n xs) i ≡ Some x →
+    slice_get xs i ≡ Some x
 from_take zero xs i x e = absurd (cc e)
 from_take (suc n) [] i x e = absurd (cc e)
 from_take (suc n) (y ∷ xs) zero x e = e
@@ -31,10 +32,12 @@ from_take (suc n) (y ∷ xs) (suc i) x e = from_take n xs i x e
 -- A place in one of several lists that stand behind each other.
 pub in_group : {A B : Type 0} (h : A → List B) (before : List A) (g : A) (rest : List A) (i : ℕ) → i < length (h g) →
     slice_get (flat_map h (before ++ g ∷ rest)) (sum_by (λ x. length (h x)) before + i) ≡ slice_get (h g) i
-in_group h [] g rest i less = ap (slice_get (h g ++ flat_map h rest)) (plain_sum i) ∙ within (h g) (flat_map h rest) i less
+in_group h [] g rest i less = ap (slice_get (h g ++ flat_map h rest)) (plain_sum i) ∙ within
+    (h g) (flat_map h rest) i less
 in_group h (x ∷ before) g rest i less =
     ap (λ n. slice_get (h x ++ flat_map h (before ++ g ∷ rest)) (n + i)) (sum_by-cons (λ y. length (h y)) x before)
-    ∙ ap (slice_get (h x ++ flat_map h (before ++ g ∷ rest))) (moved (length (h x)) (sum_by (λ y. length (h y)) before) i)
+    ∙ ap (slice_get (h x ++ flat_map h (before ++ g ∷ rest)))
+    (moved (length (h x)) (sum_by (λ y. length (h y)) before) i)
     ∙ behind (h x) (flat_map h (before ++ g ∷ rest)) (sum_by (λ y. length (h y)) before + i)
     ∙ in_group h before g rest i less
   where

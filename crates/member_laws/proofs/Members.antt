@@ -1,8 +1,11 @@
 -- Members and worlds keep chains: what enters, what a step sends, and what it installs.
-use Rattle.std.proofs.Common.{◌≡◌, ◌∙◌, ℕ, zero, suc, ◌+◌, ◌<◌, ◌≤◌, Bool, true, false, List, [], ◌∷◌, length, map, Option, Some, None, refl, sym, ap, subst, arith}
-use Rattle.std.specs.Prelude.{◌^◌, ◌==◌, ◌&&◌, not, nat_lt, if◌then◌else◌, All, cond, slice_get, slice_index_or, Result, Ok, Err, option_map}
+use Rattle.std.proofs.Common.{◌≡◌, ◌∙◌, ℕ, zero, suc, ◌+◌, ◌<◌, ◌≤◌, Bool, true, false, List, [], ◌∷◌, length, map}
+use Rattle.std.proofs.Common.{Option, Some, None, refl, sym, ap, subst, arith}
+use Rattle.std.specs.Prelude.{◌^◌, ◌==◌, ◌&&◌, not, nat_lt, if◌then◌else◌, All, cond, slice_get, slice_index_or, Result}
+use Rattle.std.specs.Prelude.{Ok, Err, option_map}
 use Rattle.std.specs.Int.{bit_at}
-use Rattle.std.specs.List.{AllByRecursion, enumerate_from, filter, filter_map, cons_option, position, position_or_len, range_with_len, sum_by}
+use Rattle.std.specs.List.{AllByRecursion, enumerate_from, filter, filter_map, cons_option, position, position_or_len}
+use Rattle.std.specs.List.{range_with_len, sum_by}
 use Rattle.std.specs.Option.{option_map_or}
 use Rattle.std.proofs.lemmas.List.{length-map}
 use Rattle.std.proofs.lemmas.Option.{slice_get-get_or}
@@ -47,9 +50,15 @@ use Rattle.chain_laws.proofs.Visits.{fresh_is_chained}
 use Rattle.script_mean.specs.declared.event.ScriptEvent.TheVariants as script
 use Rattle.stack_mean.specs.Plan.{Plan}
 use Rattle.run_mean.specs.View.{first_view, mask_of, last_ltime}
-use Rattle.run_mean.specs.Member.{Member, inside, out, opened, Input, cast, send, leave, tick, datagram, Refusal, too_big, Entered, app_cast, app_send, app_leave, clock_tick, from_peer, from_datagram, entered, first_task, packet, nowhere, content, packet_to, above, below, output_of, announced, packet_in, installed, most_turns, step_from, member_behind}
-use Rattle.run_mean.specs.World.{World, member_at, packet_number, here_of, stepped_inside, stepped_of, stepped, given, happens}
-use Rattle.member_laws.specs.Members.{IsView, IsHere, IsInside, IsChainedMember, IsEntered, EntersInRange, FirstTasksAreChained, OpenedIsChained, StepsKeepChains, IsChainedWorld, FirstWorldIsChained, EventsKeepChains, MomentsAreChained}
+use Rattle.run_mean.specs.Member.{Member, inside, out, opened, Input, cast, send, leave, tick, datagram, Refusal}
+use Rattle.run_mean.specs.Member.{too_big, Entered, app_cast, app_send, app_leave, clock_tick, from_peer, from_datagram}
+use Rattle.run_mean.specs.Member.{entered, first_task, packet, nowhere, content, packet_to, above, below, output_of}
+use Rattle.run_mean.specs.Member.{announced, packet_in, installed, most_turns, step_from, member_behind}
+use Rattle.run_mean.specs.World.{World, member_at, packet_number, here_of, stepped_inside, stepped_of, stepped, given}
+use Rattle.run_mean.specs.World.{happens}
+use Rattle.member_laws.specs.Members.{IsView, IsHere, IsInside, IsChainedMember, IsEntered, EntersInRange}
+use Rattle.member_laws.specs.Members.{FirstTasksAreChained, OpenedIsChained, StepsKeepChains, IsChainedWorld}
+use Rattle.member_laws.specs.Members.{FirstWorldIsChained, EventsKeepChains, MomentsAreChained}
 
 -- what holds of each item, in both forms
 
@@ -62,7 +71,8 @@ all_of P [] h k d below = absurd (omega arith)
 all_of P (x ∷ xs) h zero d below = h.0
 all_of P (x ∷ xs) h (suc k) d below = all_of P xs h.1 k d (omega arith)
 
-each_same_so : {A : Type 0} (P Q : A → Type 0) → ((x : A) → P x → Q x) → (xs : List A) → AllByRecursion P xs → AllByRecursion Q xs
+each_same_so : {A : Type 0} (P Q : A → Type 0) → ((x : A) → P x → Q x) → (xs : List A) → AllByRecursion P xs →
+    AllByRecursion Q xs
 each_same_so P Q f [] h = tt
 each_same_so P Q f (x ∷ xs) h = (f x h.0, each_same_so P Q f xs h.1)
 
@@ -74,7 +84,8 @@ each_unit (x ∷ xs) = (tt, each_unit xs)
 
 -- a message of the lowest place may be in a packet, and one in a packet is such a message
 
-pub spellable_message : (stack : List LayerTree) (p : Packet) → IsSpellable stack p → IsMessage (IsFrom stack 0) p.message
+pub spellable_message : (stack : List LayerTree) (p : Packet) → IsSpellable stack p →
+    IsMessage (IsFrom stack 0) p.message
 spellable_message stack p h = record {
   headers = record {
     chain = h.chained.chain;
@@ -84,7 +95,8 @@ spellable_message stack p h = record {
   body = record { within = h.chained.body; bytes = each_of (λ b. b < 256) p.message.body h.body };
 }
 
-sent_spellable : (stack : List LayerTree) (here : Here) (to : Dest) (m : Content) (e : Event) → IsHere here → IsDestination to →
+sent_spellable : (stack : List LayerTree) (here : Here) (to : Dest) (m : Content) (e : Event) → IsHere here →
+    IsDestination to →
     content e ≡ m → IsMessage (IsFrom stack 0) m → IsSpellable stack (packet_to here to e)
 sent_spellable stack here to m e is destined same h = subst (λ (m : Content). IsSpellable stack (record {
   group = here.group;
@@ -131,7 +143,8 @@ enters_in_range stack plans here (cast body) what numbered h is =
 enters_in_range stack plans here (send to body) what numbered h is =
     let fits = within_body body (app_send to body) what (nat_lt longest_body (length body)) refl is in
     subst (IsEntered stack) fits.1 (h.0, body_is body h.1 fits.0)
-enters_in_range stack plans here leave what numbered h is = let e : app_leave ≡ what = cc is in subst (IsEntered stack) e tt
+enters_in_range stack plans here leave what numbered h is = let e : app_leave ≡ what = cc is in
+    subst (IsEntered stack) e tt
 enters_in_range stack plans here (tick moment) what numbered h is =
     let e : clock_tick moment ≡ what = cc is in subst (IsEntered stack) e h
 enters_in_range stack plans here (datagram bytes) what numbered h is =
@@ -176,7 +189,8 @@ first_tasks_are_chained stack me (from_peer p) small h = record {
 
 position_below : {A : Type 0} (p : A → Bool) (xs : List A) (k : ℕ) → position p xs ≡ Some k → k < length xs
 position_below p xs k is = go (nat_lt (position_or_len p xs) (length xs)) refl is where
-  go : (b : Bool) → nat_lt (position_or_len p xs) (length xs) ≡ b → cond b (Some (position_or_len p xs)) None ≡ Some k → k < length xs
+  go : (b : Bool) → nat_lt (position_or_len p xs) (length xs) ≡ b → cond b (Some (position_or_len p xs)) None ≡ Some k →
+      k < length xs
   go true below is =
       let e : position_or_len p xs ≡ k = cc is in
       omega (arith, e, ltb-true (position_or_len p xs) (length xs) below)
@@ -185,7 +199,8 @@ position_below p xs k is = go (nat_lt (position_or_len p xs) (length xs)) refl i
 filter_le : {A : Type 0} (p : A → Bool) (xs : List A) → length (filter p xs) ≤ length xs
 filter_le p [] = omega arith
 filter_le p (x ∷ xs) = go (p x) (filter_le p xs) where
-  go : (b : Bool) → length (filter p xs) ≤ length xs → length (if b then x ∷ filter p xs else filter p xs) ≤ suc (length xs)
+  go : (b : Bool) → length (filter p xs) ≤ length xs →
+      length (if b then x ∷ filter p xs else filter p xs) ≤ suc (length xs)
   go true h = omega (arith, h)
   go false h = omega (arith, h)
 
@@ -201,7 +216,8 @@ rank_below view id me is = position_below (λ other. other == id) (ids view) me 
 abbrev powers : List ℕ → ℕ
 powers xs = sum_by (λ i. 2 ^ i) xs
 
-pub bits_le : (ranks n : ℕ) (xs : List ℕ) → sum_by (λ x. if bit_at ranks x.0 == 1 then 2 ^ x.1 else 0) (enumerate_from n xs) ≤ powers xs
+pub bits_le : (ranks n : ℕ) (xs : List ℕ) →
+    sum_by (λ x. if bit_at ranks x.0 == 1 then 2 ^ x.1 else 0) (enumerate_from n xs) ≤ powers xs
 bits_le ranks n [] = omega arith
 bits_le ranks n (x ∷ xs) = omega (
   arith,
@@ -217,7 +233,8 @@ bits_le ranks n (x ∷ xs) = omega (
 filter_powers : (p : ℕ → Bool) (xs : List ℕ) → powers (filter p xs) ≤ powers xs
 filter_powers p [] = omega arith
 filter_powers p (x ∷ xs) = go (p x) (filter_powers p xs) where
-  go : (b : Bool) → powers (filter p xs) ≤ powers xs → powers (if b then x ∷ filter p xs else filter p xs) ≤ powers (x ∷ xs)
+  go : (b : Bool) → powers (filter p xs) ≤ powers xs →
+      powers (if b then x ∷ filter p xs else filter p xs) ≤ powers (x ∷ xs)
   go true h = omega (arith, h, sum_by-cons (λ i. 2 ^ i) x (filter p xs), sum_by-cons (λ i. 2 ^ i) x xs)
   go false h = omega (arith, h, sum_by-cons (λ i. 2 ^ i) x xs)
 
@@ -234,7 +251,8 @@ mask_small view ranks = omega (
 
 -- members
 
-map_at : {A B : Type 0} (f : A → B) (xs : List A) (k : ℕ) (x : A) (d : B) → slice_get xs k ≡ Some x → slice_index_or (map f xs) k d ≡ f x
+map_at : {A B : Type 0} (f : A → B) (xs : List A) (k : ℕ) (x : A) (d : B) → slice_get xs k ≡ Some x →
+    slice_index_or (map f xs) k d ≡ f x
 map_at f [] k x d is = absurd (cc is)
 map_at f (y ∷ xs) zero x d is = let e : y ≡ x = cc is in ap f e
 map_at f (y ∷ xs) (suc k) x d is = map_at f xs k x d is
@@ -246,7 +264,8 @@ fresh_states stack me n ltime typed below most small = record {
   states_are = λ place within.
       let layer : LayerTree = slice_index_or stack place no_layer in
       let listed : slice_get stack place ≡ Some layer = slice_get-get_or stack place no_layer within in
-      subst (IsChainedState stack place) (sym (map_at (λ (l : LayerTree). fresh l me n ltime) stack place layer no_state listed))
+      subst (IsChainedState stack place)
+      (sym (map_at (λ (l : LayerTree). fresh l me n ltime) stack place layer no_state listed))
       (fresh_is_chained stack place _ layer me n ltime (stands_typed stack place layer typed listed) below most small);
 }
 
@@ -257,7 +276,8 @@ opened_is_chained stack view id typed is = go (rank view id) refl where
   go None at = tt
   go (Some me) at = record {
     view_is = is;
-    states_are = fresh_states stack me (member_count view) view.ltime typed (rank_below view id me at) (members_few view) is.ltime;
+    states_are = fresh_states stack me (member_count view) view.ltime typed (rank_below view id me at)
+        (members_few view) is.ltime;
   }
 
 installed_is : (stack : List LayerTree) (view : View) (id ranks : ℕ) → TypedStack stack → IsView view →
@@ -273,7 +293,8 @@ installed_is stack view id ranks typed is = go (view.ltime == last_ltime) refl w
 
 -- steps
 
-brought : (C : List Header → Type 0) (m : Option Content) → Brings C true m → IsMessage C (option_map_or (λ m. m) m (plain []))
+brought : (C : List Header → Type 0) (m : Option Content) → Brings C true m →
+    IsMessage C (option_map_or (λ m. m) m (plain []))
 brought C None h = absurd h
 brought C (Some m) h = h
 
@@ -284,39 +305,47 @@ no_packet_above P kind.Block e = tt
 no_packet_above P kind.View e = tt
 no_packet_above P _ e = tt
 
-packet_below : (stack : List LayerTree) (here : Here) (k : Kind) (e : Event) → IsHere here → Brings (IsFrom stack 0) (carries k) e.message →
+packet_below : (stack : List LayerTree) (here : Here) (k : Kind) (e : Event) → IsHere here →
+    Brings (IsFrom stack 0) (carries k) e.message →
     Where (IsSpellable stack) (packet_in (below here k e))
-packet_below stack here kind.Cast e is h = sent_spellable stack here dest.All (content e) e is tt refl (brought (IsFrom stack 0) e.message h)
-packet_below stack here kind.Send e is h = go (nat_lt e.peer (member_count here.view) && not (e.peer == here.rank)) refl where
-  go : (b : Bool) → (nat_lt e.peer (member_count here.view) && not (e.peer == here.rank)) ≡ b →
-      Where (IsSpellable stack) (packet_in (if b then packet (packet_to here (dest.Rank e.peer) e) else nowhere))
-  go true other =
-      let parts = and_parts (nat_lt e.peer (member_count here.view)) (not (e.peer == here.rank)) other in
-      sent_spellable stack here (dest.Rank e.peer) (content e) e is
-      (omega (arith, ltb-true e.peer (member_count here.view) parts.0, members_few here.view)) refl
-      (brought (IsFrom stack 0) e.message h)
-  go false other = tt
+packet_below stack here kind.Cast e is h = sent_spellable stack here dest.All (content e) e is tt refl
+    (brought (IsFrom stack 0) e.message h)
+packet_below stack here kind.Send e is h = go (nat_lt e.peer (member_count here.view) && not (e.peer == here.rank)) refl
+  where
+    go : (b : Bool) → (nat_lt e.peer (member_count here.view) && not (e.peer == here.rank)) ≡ b →
+        Where (IsSpellable stack) (packet_in (if b then packet (packet_to here (dest.Rank e.peer) e) else nowhere))
+    go true other =
+        let parts = and_parts (nat_lt e.peer (member_count here.view)) (not (e.peer == here.rank)) other in
+        sent_spellable stack here (dest.Rank e.peer) (content e) e is
+        (omega (arith, ltb-true e.peer (member_count here.view) parts.0, members_few here.view)) refl
+        (brought (IsFrom stack 0) e.message h)
+    go false other = tt
 packet_below stack here kind.Timer e is h = tt
 packet_below stack here _ e is h = tt
 
-packet_out : (stack : List LayerTree) (here : Here) (dir : Dir) (e : Event) → IsHere here → IsChainedOut stack (dir, e) →
+packet_out : (stack : List LayerTree) (here : Here) (dir : Dir) (e : Event) → IsHere here →
+    IsChainedOut stack (dir, e) →
     Where (IsSpellable stack) (packet_in (output_of here (dir, e)))
 packet_out stack here Up e is h = no_packet_above (IsSpellable stack) e.kind e
 packet_out stack here Down e is h = packet_below stack here e.kind e is h.message
 
-pub cons_each : {A : Type 0} (P : A → Type 0) (o : Option A) (xs : List A) → Where P o → AllByRecursion P xs → AllByRecursion P (cons_option o xs)
+pub cons_each : {A : Type 0} (P : A → Type 0) (o : Option A) (xs : List A) → Where P o → AllByRecursion P xs →
+    AllByRecursion P (cons_option o xs)
 cons_each P None xs h i = i
 cons_each P (Some x) xs h i = (h, i)
 
-packets_out : (stack : List LayerTree) (here : Here) (outs : List (Dir × Event)) → IsHere here → AllByRecursion (IsChainedOut stack) outs →
+packets_out : (stack : List LayerTree) (here : Here) (outs : List (Dir × Event)) → IsHere here →
+    AllByRecursion (IsChainedOut stack) outs →
     AllByRecursion (IsSpellable stack) (filter_map packet_in (map (output_of here) outs))
 packets_out stack here [] is h = tt
 packets_out stack here (x ∷ outs) is h = cons_each (IsSpellable stack) (packet_in (output_of here x)) _
     (packet_out stack here x.0 x.1 is h.0) (packets_out stack here outs is h.1)
 
-behind_is : (stack : List LayerTree) (view : View) (id : ℕ) (states : List State) (announced_first : Option ℕ) → TypedStack stack →
+behind_is : (stack : List LayerTree) (view : View) (id : ℕ) (states : List State) (announced_first : Option ℕ) →
+    TypedStack stack →
     IsView view → AreChainedStates stack states →
-    IsChainedMember stack (option_map_or (λ m. m) (option_map (installed stack view id) announced_first) (inside view states))
+    IsChainedMember stack
+    (option_map_or (λ m. m) (option_map (installed stack view id) announced_first) (inside view states))
 behind_is stack view id states None typed is h = record { view_is = is; states_are = h }
 behind_is stack view id states (Some ranks) typed is h = installed_is stack view id ranks typed is
 
@@ -330,26 +359,33 @@ steps_keep_chains stack here id states what typed is h fits =
       states = line.states;
       outs = line.outs;
       packets = packets_out stack here work.outs is line.outs;
-      member = behind_is stack here.view id work.states (slice_get (filter_map announced (map (output_of here) work.outs)) 0) typed is.view
+      member = behind_is stack here.view id work.states
+          (slice_get (filter_map announced (map (output_of here) work.outs)) 0) typed is.view
           line.states;
     }
 
 -- worlds
 
-here_is : (stack : List LayerTree) (w : World) (view : View) (id : ℕ) → IsChainedWorld stack w → IsView view → IsHere (here_of w view id)
-here_is stack w view id h is = record { group = h.group; stamp = h.stamp; view = is; rank = go (rank view id) refl } where
-  go : (o : Option ℕ) → rank view id ≡ o → option_map_or (λ r. r) o 0 < 32
-  go None at = omega arith
-  go (Some me) at = omega (arith, rank_below view id me at, members_few view)
+here_is : (stack : List LayerTree) (w : World) (view : View) (id : ℕ) → IsChainedWorld stack w → IsView view →
+    IsHere (here_of w view id)
+here_is stack w view id h is = record { group = h.group; stamp = h.stamp; view = is; rank = go (rank view id) refl }
+  where
+    go : (o : Option ℕ) → rank view id ≡ o → option_map_or (λ r. r) o 0 < 32
+    go None at = omega arith
+    go (Some me) at = omega (arith, rank_below view id me at, members_few view)
 
-module _ (stack : List LayerTree) (plans : List Plan) (w : World) (typed : TypedStack stack) (world : IsChainedWorld stack w) where
-  inside_keeps : (id : ℕ) (view : View) (states : List State) (r : Result Entered Refusal) → IsInside stack view states →
-      ((what : Entered) → r ≡ Ok what → IsEntered stack what) → IsChainedWorld stack (stepped_inside stack w id view states r).world
+module _ (stack : List LayerTree) (plans : List Plan) (w : World) (typed : TypedStack stack)
+    (world : IsChainedWorld stack w) where
+  inside_keeps : (id : ℕ) (view : View) (states : List State) (r : Result Entered Refusal) →
+      IsInside stack view states →
+      ((what : Entered) → r ≡ Ok what → IsEntered stack what) →
+      IsChainedWorld stack (stepped_inside stack w id view states r).world
   inside_keeps id view states (Err refusal) is enters = world
   inside_keeps id view states (Ok what) is enters =
       let here = here_of w view id in
       let step = step_from stack here id states what in
-      let h = steps_keep_chains stack here id states what typed (here_is stack w view id world is.view_is) is.states_are (enters what refl) in
+      let h = steps_keep_chains stack here id states what typed (here_is stack w view id world is.view_is) is.states_are
+      (enters what refl) in
       record {
         group = world.group;
         stamp = world.stamp;
@@ -362,9 +398,11 @@ module _ (stack : List LayerTree) (plans : List Plan) (w : World) (typed : Typed
       IsChainedWorld stack (stepped_of stack plans w id input m).world
   member_keeps id input out is enters = world
   member_keeps id input (inside view states) is enters =
-      inside_keeps id view states (entered stack plans (here_of w view id) input) is (λ what. enters (here_of w view id) what)
+      inside_keeps id view states (entered stack plans (here_of w view id) input) is
+      (λ what. enters (here_of w view id) what)
 
-  stepped_keeps : (id : ℕ) (input : Input) → ((here : Here) (what : Entered) → entered stack plans here input ≡ Ok what → IsEntered stack what) →
+  stepped_keeps : (id : ℕ) (input : Input) →
+      ((here : Here) (what : Entered) → entered stack plans here input ≡ Ok what → IsEntered stack what) →
       IsChainedWorld stack (stepped stack plans w id input).world
   stepped_keeps id input enters = member_keeps id input (member_at w id)
       (each_or (IsChainedMember stack) w.members id out world.members tt) enters
@@ -380,7 +418,8 @@ module _ (stack : List LayerTree) (plans : List Plan) (w : World) (typed : Typed
       let as_meant = received_as_meant stack plans here (full_bytes p) p (one_full_spelling stack plans p h).0 in
       subst (IsSpellable stack) (meant_same (meant_for here (preamble_of full_form p)) p q (sym as_meant ∙ taken)) h)
 
-  given_keeps : (id : ℕ) (p : Option Packet) → Where (IsSpellable stack) p → IsChainedWorld stack (given stack plans w id p).world
+  given_keeps : (id : ℕ) (p : Option Packet) → Where (IsSpellable stack) p →
+      IsChainedWorld stack (given stack plans w id p).world
   given_keeps id None h = world
   given_keeps id (Some p) h = stepped_keeps id (datagram (full_bytes p)) (given_enters p h)
 
@@ -391,17 +430,21 @@ module _ (stack : List LayerTree) (plans : List Plan) (w : World) (typed : Typed
 pub events_keep_chains : EventsKeepChains
 unfolding happens
 events_keep_chains stack plans w (script.Cast id body) typed are h world =
-    stepped_keeps stack plans w typed world id (cast body) (λ here what. enters_in_range stack plans here (cast body) what are h)
+    stepped_keeps stack plans w typed world id (cast body)
+    (λ here what. enters_in_range stack plans here (cast body) what are h)
 events_keep_chains stack plans w (script.Send id to body) typed are h world =
-    stepped_keeps stack plans w typed world id (send to body) (λ here what. enters_in_range stack plans here (send to body) what are h)
+    stepped_keeps stack plans w typed world id (send to body)
+    (λ here what. enters_in_range stack plans here (send to body) what are h)
 events_keep_chains stack plans w (script.Leave id) typed are h world =
     stepped_keeps stack plans w typed world id leave (λ here what. enters_in_range stack plans here leave what are tt)
 events_keep_chains stack plans w (script.Tick id moment) typed are h world =
-    stepped_keeps stack plans w typed world id (tick moment) (λ here what. enters_in_range stack plans here (tick moment) what are h)
+    stepped_keeps stack plans w typed world id (tick moment)
+    (λ here what. enters_in_range stack plans here (tick moment) what are h)
 events_keep_chains stack plans w (script.Give k id) typed are h world =
     given_keeps stack plans w typed world id (packet_number w k) (numbered stack plans w typed world k)
 events_keep_chains stack plans w (script.Raw id bytes) typed are h world =
-    stepped_keeps stack plans w typed world id (datagram bytes) (λ here what. enters_in_range stack plans here (datagram bytes) what are h)
+    stepped_keeps stack plans w typed world id (datagram bytes)
+    (λ here what. enters_in_range stack plans here (datagram bytes) what are h)
 events_keep_chains stack plans w (script.Show id) typed are h world = world
 
 pub first_world_is_chained : FirstWorldIsChained

@@ -5,7 +5,8 @@ use Rattle.std.specs.List.{AllByRecursion}
 use Rattle.packet_mean.specs.ChainedState.{IsNumber}
 use Rattle.script_mean.specs.declared.event.ScriptEvent.TheVariants.{Tick}
 use Rattle.script_mean.specs.declared.plan.NodePlan.{NodePlan}
-use Rattle.run_mean.specs.Journal.{Heard, datagram, silence, failure, Note, fed, deaf, hearing, journal, planned_events, while_patient, notes_from, notes_of}
+use Rattle.run_mean.specs.Journal.{Heard, datagram, silence, failure, Note, fed, deaf, hearing, journal, planned_events}
+use Rattle.run_mean.specs.Journal.{while_patient, notes_from, notes_of}
 use Rattle.run_mean.specs.World.{first_world}
 use Rattle.chain_laws.proofs.Lists.{each_map, each_append, each_take, each_drop}
 use Rattle.member_laws.specs.Members.{IsGivenEvent}
@@ -31,12 +32,14 @@ heard_given patience ((id, silence) ∷ rest) h = heard_given patience rest h.1
 heard_given zero ((id, failure) ∷ rest) h = tt
 heard_given (suc patience) ((id, failure) ∷ rest) h = (tt, heard_given patience rest h.1)
 
-pairs_given : (me : List ℕ) (heard : List Heard) → AllByRecursion IsHeard heard → AllByRecursion (λ pair. IsHeard pair.1) (zip me heard)
+pairs_given : (me : List ℕ) (heard : List Heard) → AllByRecursion IsHeard heard →
+    AllByRecursion (λ pair. IsHeard pair.1) (zip me heard)
 pairs_given [] heard h = tt
 pairs_given (id ∷ me) [] h = tt
 pairs_given (id ∷ me) (x ∷ heard) h = (h.0, pairs_given me heard h.1)
 
-ticks_given : (moment : ℕ) → IsNumber moment → (me : List ℕ) → AllByRecursion Given (map (λ id. fed (Tick id moment)) me)
+ticks_given : (moment : ℕ) → IsNumber moment → (me : List ℕ) →
+    AllByRecursion Given (map (λ id. fed (Tick id moment)) me)
 ticks_given moment h [] = tt
 ticks_given moment h (id ∷ me) = (h, ticks_given moment h me)
 
@@ -53,19 +56,23 @@ patient_given None next h = tt
 patient_given (Some left) next h = h left
 
 notes_given : (plan : NodePlan) (me : List ℕ) (t turns patience : ℕ) (clock : List ℕ) (heard : List Heard) →
-    AllByRecursion (λ turn. IsGivenEvent turn.1) plan.turns → AllByRecursion IsNumber clock → AllByRecursion IsHeard heard →
+    AllByRecursion (λ turn. IsGivenEvent turn.1) plan.turns → AllByRecursion IsNumber clock →
+    AllByRecursion IsHeard heard →
     AllByRecursion Given (notes_from plan me t turns patience clock heard)
 notes_given plan me t zero patience clock heard planned told answers = tt
 notes_given plan me t (suc turns) patience [] heard planned told answers = tt
 notes_given plan me t (suc turns) patience (moment ∷ clock) heard planned told answers =
     let pairs = zip me (take (length me) heard) in
     each_append Given (map (λ id. fed (Tick id moment)) me ++ (hearing patience pairs).notes) _
-    (each_append Given (map (λ id. fed (Tick id moment)) me) (hearing patience pairs).notes (ticks_given moment told.0 me)
-    (heard_given patience pairs (pairs_given me (take (length me) heard) (each_take IsHeard (length me) heard answers))))
+    (each_append Given (map (λ id. fed (Tick id moment)) me) (hearing patience pairs).notes
+    (ticks_given moment told.0 me)
+    (heard_given patience pairs
+    (pairs_given me (take (length me) heard) (each_take IsHeard (length me) heard answers))))
     (patient_given (hearing patience pairs).patience
     (λ left. map fed (planned_events plan me t) ++ notes_from plan me (t + 1) turns left clock (drop (length me) heard))
     (λ left. each_append Given (map fed (planned_events plan me t)) _ (planned_given plan me t planned)
-    (notes_given plan me (t + 1) turns left clock (drop (length me) heard) planned told.1 (each_drop IsHeard (length me) heard answers))))
+    (notes_given plan me (t + 1) turns left clock (drop (length me) heard) planned told.1
+    (each_drop IsHeard (length me) heard answers))))
 
 pub nodes_are_chained : NodesAreChained
 nodes_are_chained stack plan me turns patience clock heard typed given =

@@ -1,5 +1,6 @@
 -- The outputs of a run and the packet outputs of a shape.
-use Rattle.std.proofs.Common.{◌≡◌, refl, sym, ◌∙◌, ap, subst, ℕ, ◌==◌, Bool, true, false, not, ◌&&◌, List, [], ◌∷◌, ◌++◌, map, Option, Some, None}
+use Rattle.std.proofs.Common.{◌≡◌, refl, sym, ◌∙◌, ap, subst, ℕ, ◌==◌, Bool, true, false, not, ◌&&◌, List, [], ◌∷◌}
+use Rattle.std.proofs.Common.{◌++◌, map, Option, Some, None}
 use Rattle.std.specs.Prelude.{nat_lt, if◌then◌else◌}
 use Rattle.std.specs.List.{flat_map}
 use Rattle.std.specs.Option.{option_map_or}
@@ -82,7 +83,8 @@ tags_are (d ∷ ds) (h ∷ hs) is = λ i. is.0.tag i ∷ tags_are ds hs is.1 i
 tags_are [] (h ∷ hs) is = absurd is
 tags_are (d ∷ ds) [] is = absurd is
 
-agree_known : (planned : List (Option ℕ)) (numbers : List ℕ) (more : List (Option ℕ)) (rest : List ℕ) → Pairwise IsKnownAs planned numbers →
+agree_known : (planned : List (Option ℕ)) (numbers : List ℕ) (more : List (Option ℕ)) (rest : List ℕ) →
+    Pairwise IsKnownAs planned numbers →
     agree more rest ≡ true → agree (planned ++ more) (numbers ++ rest) ≡ true
 agree_known [] [] more rest known behind = behind
 agree_known (Some n ∷ planned) (v ∷ numbers) more rest known behind =
@@ -103,12 +105,14 @@ own_headers None = refl
 own_headers (Some m) = refl
 
 -- A packet of an output fits the output's plan.
-packet_fits : (here : Here) (o : ShapeOut) (dest : Dest) (e : Event) → o.kind ≡ kind_of dest → HeadersAre o.headers (headers_in e) →
+packet_fits : (here : Here) (o : ShapeOut) (dest : Dest) (e : Event) → o.kind ≡ kind_of dest →
+    HeadersAre o.headers (headers_in e) →
     fits (plan_of o) (packet_to here dest e) ≡ true
 packet_fits here o dest e same headers =
     let is : HeadersAre o.headers (content e).headers = subst (HeadersAre o.headers) (own_headers e.message) headers in
     all_three _ _ _ (true_same kind_row.the_type o.kind (kind_of dest) same)
-    ((bytes_eq-Decides (plan_of o).tags (map (λ h. h.tag) (content e).headers)).1 (tags_are o.headers (content e).headers is))
+    ((bytes_eq-Decides (plan_of o).tags (map (λ h. h.tag) (content e).headers)).1
+    (tags_are o.headers (content e).headers is))
     (fields_agree o.headers (content e).headers is)
   where
     all_three : (x y z : Bool) → x ≡ true → y ≡ true → z ≡ true → (x && y && z) ≡ true
@@ -134,10 +138,11 @@ above_fits plan kind.Leave e = tt
 below_fits : (here : Here) (o : ShapeOut) (k : Kind) (e : Event) → o.kind ≡ k → HeadersAre o.headers (headers_in e) →
     FitsPlan (plan_of o) (below here k e)
 below_fits here o kind.Cast e same headers = packet_fits here o All e same headers
-below_fits here o kind.Send e same headers = go (nat_lt e.peer (member_count here.view) && not (e.peer == here.rank)) where
-  go : (b : Bool) → FitsPlan (plan_of o) (if b then packet (packet_to here (Rank e.peer) e) else nowhere)
-  go true = packet_fits here o (Rank e.peer) e same headers
-  go false = tt
+below_fits here o kind.Send e same headers = go (nat_lt e.peer (member_count here.view) && not (e.peer == here.rank))
+  where
+    go : (b : Bool) → FitsPlan (plan_of o) (if b then packet (packet_to here (Rank e.peer) e) else nowhere)
+    go true = packet_fits here o (Rank e.peer) e same headers
+    go false = tt
 below_fits here o kind.Block e same headers = tt
 below_fits here o kind.View e same headers = tt
 below_fits here o kind.Timer e same headers = tt
@@ -149,7 +154,8 @@ below_fits here o kind.BlockOk e same headers = tt
 below_fits here o kind.Flushed e same headers = tt
 below_fits here o kind.Leave e same headers = tt
 
-pub output_fits : (here : Here) (o : ShapeOut) (x : Dir × Event) → o.kind ≡ x.1.kind → HeadersAre o.headers (headers_in x.1) →
+pub output_fits : (here : Here) (o : ShapeOut) (x : Dir × Event) → o.kind ≡ x.1.kind →
+    HeadersAre o.headers (headers_in x.1) →
     FitsPlan (plan_of o) (output_of here x)
 output_fits here o (Up, e) same headers = above_fits (plan_of o) e.kind e
 output_fits here o (Down, e) same headers = below_fits here o e.kind e same headers

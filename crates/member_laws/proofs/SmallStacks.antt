@@ -14,7 +14,8 @@ use Rattle.file_laws.proofs.SmallFiles.{counter_is_typed}
 use Rattle.member_laws.specs.Members.{IsView}
 use Rattle.member_laws.proofs.Members.{all_of, first_world_is_chained, opened_is_chained}
 use Rattle.member_laws.specs.Steps.{IsStep}
-use Rattle.member_laws.specs.Samples.{keeping, fresh_states, two_letters, KeepingStep, two_members, one_cast, CounterWorld}
+use Rattle.member_laws.specs.Samples.{keeping, fresh_states, two_letters, KeepingStep, two_members, one_cast}
+use Rattle.member_laws.specs.Samples.{CounterWorld}
 use Rattle.member_laws.proofs.Numbered.{worlds_are_chained}
 
 keeping_typed : TypedStack keeping
@@ -43,7 +44,10 @@ keeping_typed = (
                 refl,
                 (
                   record {
-                    rows = record { capacity = 4; items = record { numbers = []; message = Some (codes "p", mean.part) } };
+                    rows = record {
+                      capacity = 4;
+                      items = record { numbers = []; message = Some (codes "p", mean.part) };
+                    };
                     listed = refl;
                     sort = refl;
                     blanks = tt;
@@ -80,8 +84,10 @@ keeping_step = (keeping_is, refl, refl, refl, refl, refl, refl)
 pub counter_world : CounterWorld
 unfolding step run drawn_shape has_second_case happens
 counter_world =
-    let first = first_world_is_chained counter.stack 1 1 2 counter_is_typed.2 (omega arith) (omega arith) (omega arith) in (
+    let first = first_world_is_chained counter.stack 1 1 2 counter_is_typed.2 (omega arith) (omega arith) (omega arith)
+    in (
       first,
-      worlds_are_chained counter.stack two_members one_cast counter_is_typed.2 (all_of (λ b. b < 256) (codes "hi") (omega arith, (omega arith, tt)), tt) first,
+      worlds_are_chained counter.stack two_members one_cast counter_is_typed.2
+          (all_of (λ b. b < 256) (codes "hi") (omega arith, (omega arith, tt)), tt) first,
       refl,
     )

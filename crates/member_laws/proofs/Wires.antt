@@ -8,7 +8,8 @@ use Rattle.packet_mean.specs.declared.here.Here.{Here}
 use Rattle.stack_mean.specs.Plan.{Plan}
 use Rattle.stack_mean.specs.Plans.{plans_of}
 use Rattle.run_mean.specs.Common.{plan_behind, with_plans, short_from, as_sent}
-use Rattle.run_mean.specs.Member.{Entered, Output, deliver_cast, deliver_send, block, announce, packet, nowhere, timer, quiet, packet_in, first_task, step_from}
+use Rattle.run_mean.specs.Member.{Entered, Output, deliver_cast, deliver_send, block, announce, packet, nowhere, timer}
+use Rattle.run_mean.specs.Member.{quiet, packet_in, first_task, step_from}
 use Rattle.member_laws.specs.Fit.{WireSpells, IsBare}
 use Rattle.member_laws.proofs.Fit.{predicted_packets_fit, short_wires_spell}
 use Rattle.chain_laws.specs.Runs.{IsChainedTask}
@@ -16,24 +17,30 @@ use Rattle.member_laws.proofs.Members.{each_of, all_of, first_tasks_are_chained,
 use Rattle.member_laws.specs.Steps.{IsStep, PacketsFit, WireIsSpelled, WiresAreSpelled}
 use Rattle.member_laws.proofs.Bare.{typed_runs_are_bare}
 
-pub first_is : (stack : List LayerTree) (here : Here) (states : List State) (what : Entered) → IsStep stack here states what →
+pub first_is : (stack : List LayerTree) (here : Here) (states : List State) (what : Entered) →
+    IsStep stack here states what →
     IsChainedTask stack (first_task stack here.rank what)
 first_is stack here states what h = first_tasks_are_chained stack here.rank what (omega (arith, h.at.rank)) h.input
 
-step_bare : (stack : List LayerTree) (here : Here) (states : List State) (what : Entered) → IsStep stack here states what →
+step_bare : (stack : List LayerTree) (here : Here) (states : List State) (what : Entered) →
+    IsStep stack here states what →
     IsBare stack here states what
 step_bare stack here states what h = λ case.
-    typed_runs_are_bare case stack states (first_task stack here.rank what) h.typed h.states_are (first_is stack here states what h)
+    typed_runs_are_bare case stack states (first_task stack here.rank what) h.typed h.states_are
+    (first_is stack here states what h)
 
 pub packets_fit : PacketsFit
-packets_fit mode stack here id states what h = predicted_packets_fit mode stack here id states what (step_bare stack here states what h)
+packets_fit mode stack here id states what h = predicted_packets_fit mode stack here id states what
+    (step_bare stack here states what h)
 
 -- what can be spelled is
 spelled : (stack : List LayerTree) (plans : List Plan) (next : Option ℕ) (outputs : List Output) →
-    AllByRecursion (IsSpellable stack) (filter_map packet_in outputs) → AllByRecursion (WireSpells stack plans) (with_plans plans next outputs) →
+    AllByRecursion (IsSpellable stack) (filter_map packet_in outputs) →
+    AllByRecursion (WireSpells stack plans) (with_plans plans next outputs) →
     AllByRecursion (WireIsSpelled stack plans) (with_plans plans next outputs)
 spelled stack plans next [] h i = tt
-spelled stack plans next (packet p ∷ outputs) h i = (i.0 h.0, spelled stack plans (plan_behind next (packet p)) outputs h.1 i.1)
+spelled stack plans next (packet p ∷ outputs) h i =
+    (i.0 h.0, spelled stack plans (plan_behind next (packet p)) outputs h.1 i.1)
 spelled stack plans next (deliver_cast peer body ∷ outputs) h i = (tt, spelled stack plans _ outputs h i.1)
 spelled stack plans next (deliver_send peer body ∷ outputs) h i = (tt, spelled stack plans _ outputs h i.1)
 spelled stack plans next (block n ∷ outputs) h i = (tt, spelled stack plans _ outputs h i.1)

@@ -30,7 +30,8 @@ IsBare stack here states what = (case : Case) → BareRun case stack (run_start 
 
 -- In whatever mode, each packet of a step that is sent short fits the plan under which it is.
 abbrev pub PredictedPacketsFit : Type 0
-PredictedPacketsFit = (mode : Mode) (stack : List LayerTree) (here : Here) (id : ℕ) (states : List State) (what : Entered) →
+PredictedPacketsFit = (mode : Mode) (stack : List LayerTree) (here : Here) (id : ℕ) (states : List State)
+    (what : Entered) →
     IsBare stack here states what →
     All (FitsItsPlan (plans_of stack)) (as_sent mode stack (plans_of stack) (step_from stack here id states what))
 

@@ -13,7 +13,9 @@ use Rattle.chain_laws.specs.Runs.{TypedStack, AreChainedStates, IsChainedTask, I
 use Rattle.script_mean.specs.declared.event.ScriptEvent.{ScriptEvent}
 use Rattle.script_mean.specs.declared.event.ScriptEvent.TheVariants as script
 use Rattle.stack_mean.specs.Plan.{Plan}
-use Rattle.run_mean.specs.Member.{Member, inside, out, opened, Input, cast, send, leave, tick, datagram, Entered, app_cast, app_send, app_leave, clock_tick, from_peer, entered, first_task, Step, step_from, member_behind, packet_in}
+use Rattle.run_mean.specs.Member.{Member, inside, out, opened, Input, cast, send, leave, tick, datagram, Entered}
+use Rattle.run_mean.specs.Member.{app_cast, app_send, app_leave, clock_tick, from_peer, entered, first_task, Step}
+use Rattle.run_mean.specs.Member.{step_from, member_behind, packet_in}
 use Rattle.run_mean.specs.World.{World, first_world, happens}
 use Rattle.run_mean.specs.Report.{Moment, moments}
 
@@ -56,7 +58,8 @@ IsEntered stack (from_peer packet) = IsSpellable stack packet
 
 -- An input that isn't refused enters so, and the first task of what entered is chained.
 abbrev pub EntersInRange : Type 0
-EntersInRange = (stack : List LayerTree) (plans : List Plan) (here : Here) (input : Input) (what : Entered) → AreNumbered plans →
+EntersInRange = (stack : List LayerTree) (plans : List Plan) (here : Here) (input : Input) (what : Entered) →
+    AreNumbered plans →
     IsInput input → entered stack plans here input ≡ Ok what → IsEntered stack what
 
 abbrev pub FirstTasksAreChained : Type 0
@@ -76,8 +79,10 @@ pub record IsChainedStep (stack : List LayerTree) (here : Here) (s : Step) : Typ
   pub member : IsChainedMember stack (member_behind here.view s)
 
 abbrev pub StepsKeepChains : Type 0
-StepsKeepChains = (stack : List LayerTree) (here : Here) (id : ℕ) (states : List State) (what : Entered) → TypedStack stack → IsHere here →
-    AreChainedStates stack states → IsEntered stack what → IsChainedStep stack here (step_from stack here id states what)
+StepsKeepChains = (stack : List LayerTree) (here : Here) (id : ℕ) (states : List State) (what : Entered) →
+    TypedStack stack → IsHere here →
+    AreChainedStates stack states → IsEntered stack what →
+    IsChainedStep stack here (step_from stack here id states what)
 
 -- The members of a world are chained, and its packets can be spelled.
 pub record IsChainedWorld (stack : List LayerTree) (w : World) : Type 0 where
@@ -87,7 +92,8 @@ pub record IsChainedWorld (stack : List LayerTree) (w : World) : Type 0 where
   pub packets : AllByRecursion (IsSpellable stack) w.packets
 
 abbrev pub FirstWorldIsChained : Type 0
-FirstWorldIsChained = (stack : List LayerTree) (group stamp n : ℕ) → TypedStack stack → IsNumber group → IsNumber stamp → n ≤ most_members →
+FirstWorldIsChained = (stack : List LayerTree) (group stamp n : ℕ) → TypedStack stack → IsNumber group →
+    IsNumber stamp → n ≤ most_members →
     IsChainedWorld stack (first_world stack group stamp n)
 
 -- What an event of a script says is made of bytes and numbers.
@@ -100,12 +106,15 @@ IsGivenEvent _ = Unit {0}
 
 -- An event keeps a world chained; so along a run each world is, in front of its event and behind it.
 abbrev pub EventsKeepChains : Type 0
-EventsKeepChains = (stack : List LayerTree) (plans : List Plan) (w : World) (event : ScriptEvent) → TypedStack stack → AreNumbered plans →
+EventsKeepChains = (stack : List LayerTree) (plans : List Plan) (w : World) (event : ScriptEvent) → TypedStack stack →
+    AreNumbered plans →
     IsGivenEvent event → IsChainedWorld stack w → IsChainedWorld stack (happens stack plans w event).world
 
 abbrev pub IsChainedMoment : List LayerTree → Moment → Type 0
 IsChainedMoment stack m = IsChainedWorld stack m.before × IsChainedWorld stack m.happening.world
 
 abbrev pub MomentsAreChained : Type 0
-MomentsAreChained = (stack : List LayerTree) (plans : List Plan) (w : World) (events : List ScriptEvent) → TypedStack stack → AreNumbered plans →
-    AllByRecursion IsGivenEvent events → IsChainedWorld stack w → AllByRecursion (IsChainedMoment stack) (moments stack plans w events)
+MomentsAreChained = (stack : List LayerTree) (plans : List Plan) (w : World) (events : List ScriptEvent) →
+    TypedStack stack → AreNumbered plans →
+    AllByRecursion IsGivenEvent events → IsChainedWorld stack w →
+    AllByRecursion (IsChainedMoment stack) (moments stack plans w events)

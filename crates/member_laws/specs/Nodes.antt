@@ -17,7 +17,8 @@ IsHeard (datagram bytes) = AreBytes bytes
 IsHeard silence = Unit {0}
 IsHeard failure = Unit {0}
 
--- A plan, the moments of a clock and what members heard are made of bytes and numbers, of members as many as there may be.
+-- A plan, the moments of a clock and what members heard are made of bytes and numbers, of members as many as there may
+-- be.
 pub record IsGivenNode (plan : NodePlan) (clock : List ℕ) (heard : List Heard) : Type 0 where
   pub group : IsNumber plan.group
   pub stamp : IsNumber plan.stamp
@@ -28,6 +29,8 @@ pub record IsGivenNode (plan : NodePlan) (clock : List ℕ) (heard : List Heard)
 
 -- So the world of a node is chained in front of each event of its journal and behind it.
 abbrev pub NodesAreChained : Type 0
-NodesAreChained = (stack : List LayerTree) (plan : NodePlan) (me : List ℕ) (turns patience : ℕ) (clock : List ℕ) (heard : List Heard) →
+NodesAreChained = (stack : List LayerTree) (plan : NodePlan) (me : List ℕ) (turns patience : ℕ) (clock : List ℕ)
+    (heard : List Heard) →
     TypedStack stack → IsGivenNode plan clock heard →
-    AllByRecursion (IsChainedMoment stack) (node_run stack (plans_of stack) plan (notes_of plan me turns patience clock heard))
+    AllByRecursion (IsChainedMoment stack)
+    (node_run stack (plans_of stack) plan (notes_of plan me turns patience clock heard))

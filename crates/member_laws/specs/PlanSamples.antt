@@ -19,7 +19,8 @@ fresh_states = map (λ layer. fresh layer 0 2 0) kept
 abbrev pub kept_step : Step
 kept_step = step_from kept first_of_two 0 fresh_states (app_cast (codes "x"))
 
--- The step is common: its delivery has no plan, and its packet has the first one in bypass mode and none where all is layered.
+-- The step is common: its delivery has no plan, and its packet has the first one in bypass mode and none where all is
+-- layered.
 abbrev pub KeptStepIsShort : Type 0
 KeptStepIsShort =
     (is_common kept (plans_of kept) kept_step ≡ true) ×

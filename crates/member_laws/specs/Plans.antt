@@ -18,10 +18,12 @@ PlansAreNumbered = (stack : List LayerTree) → TypedStack stack → AreNumbered
 
 -- So what a member of a typed stack is given enters in range where it isn't refused.
 abbrev pub InputsAreInRange : Type 0
-InputsAreInRange = (stack : List LayerTree) (here : Here) (input : Input) (what : Entered) → TypedStack stack → IsInput input →
+InputsAreInRange = (stack : List LayerTree) (here : Here) (input : Input) (what : Entered) → TypedStack stack →
+    IsInput input →
     entered stack (plans_of stack) here input ≡ Ok what → IsEntered stack what
 
 -- And along a run of the world each world is chained.
 abbrev pub WorldsAreChained : Type 0
-WorldsAreChained = (stack : List LayerTree) (w : World) (events : List ScriptEvent) → TypedStack stack → AllByRecursion IsGivenEvent events →
+WorldsAreChained = (stack : List LayerTree) (w : World) (events : List ScriptEvent) → TypedStack stack →
+    AllByRecursion IsGivenEvent events →
     IsChainedWorld stack w → AllByRecursion (IsChainedMoment stack) (moments stack (plans_of stack) w events)

@@ -29,7 +29,10 @@ abbrev pub keeper : LayerTree
 keeper = record {
   name = codes "keeper";
   cells =
-      record { name = codes "parts"; form = mean.queue 4 record { numbers = []; message = Some (codes "p", mean.part) } } ∷ [];
+      record {
+        name = codes "parts";
+        form = mean.queue 4 record { numbers = []; message = Some (codes "p", mean.part) };
+      } ∷ [];
   headers = record { name = codes "piece"; fields = 1; ends = true } ∷ [];
   handlers =
       record {
@@ -48,7 +51,12 @@ keeper = record {
               direction = Down;
               kind = kind.Cast;
               numbers = mean.local 0 ∷ [];
-              content = Some record { message = mean.held 0 (mean.number 0) (mean.number 0) mean.part; tag = 1; fields = mean.number 7 ∷ [] };
+              content = Some record {
+                message = mean.held 0 (mean.number 0) (mean.number 0) mean.part;
+                tag = 1;
+                fields =
+                    mean.number 7 ∷ [];
+              };
             })
             mean.none);
       }
@@ -68,7 +76,8 @@ two_letters = app_cast (codes "hi")
 abbrev pub keeping_step : Step
 keeping_step = step_from keeping first_of_two 0 fresh_states two_letters
 
--- Its predicted way reads a part, and its packet is sent short under the first plan, that of casts; its run takes the two turns that its entry weighs.
+-- Its predicted way reads a part, and its packet is sent short under the first plan, that of casts; its run takes the
+-- two turns that its entry weighs.
 abbrev pub KeepingStep : Type 0
 KeepingStep =
     IsStep keeping first_of_two fresh_states two_letters ×
@@ -90,5 +99,6 @@ one_cast = script.Cast 0 (codes "hi") ∷ []
 abbrev pub CounterWorld : Type 0
 CounterWorld =
     IsChainedWorld counter.stack two_members ×
-    AllByRecursion (IsChainedMoment counter.stack) (moments counter.stack (plans_of counter.stack) two_members one_cast) ×
+    AllByRecursion (IsChainedMoment counter.stack) (moments counter.stack (plans_of counter.stack) two_members one_cast)
+    ×
     (length (happens counter.stack (plans_of counter.stack) two_members (script.Cast 0 (codes "hi"))).world.packets ≡ 1)

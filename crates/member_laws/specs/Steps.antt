@@ -1,4 +1,5 @@
--- What is so of each step of a member of a typed stack: what it sends fits its plans and is spelled by its bytes, and its run ends.
+-- What is so of each step of a member of a typed stack: what it sends fits its plans and is spelled by its bytes, and
+-- its run ends.
 use Rattle.std.specs.Prelude.{◌≡◌, ℕ, ◌+◌, ◌≤◌, List, [], ◌∷◌, length, Option, None, Ok}
 use Rattle.std.specs.List.{All}
 use Rattle.layer_mean.specs.declared.run.Case.{Case}
@@ -49,7 +50,8 @@ WireIsSpelled stack plans _ = Unit {0}
 abbrev pub WiresAreSpelled : Type 0
 WiresAreSpelled = (mode : Mode) (stack : List LayerTree) (here : Here) (id : ℕ) (states : List State) (what : Entered) →
     IsStep stack here states what →
-    All (WireIsSpelled stack (plans_of stack)) (as_sent mode stack (plans_of stack) (step_from stack here id states what))
+    All (WireIsSpelled stack (plans_of stack))
+    (as_sent mode stack (plans_of stack) (step_from stack here id states what))
 
 -- One turn of a chained line of a stack without cycles is one of which all is known, and so is the line.
 abbrev pub ChainedTurns : Type 0
@@ -57,11 +59,12 @@ ChainedTurns = (stack : List LayerTree) (w : Work) (t : Task Event) (rest : List
     first_on_cycle stack ≡ None → IsChainedLine stack (record { world = w; tasks = t ∷ rest }) → IsTurn stack w t rest
 
 abbrev pub ChainedLines : Type 0
-ChainedLines = (stack : List LayerTree) (r : Line Work Event) → TypedStack stack → first_on_cycle stack ≡ None → IsChainedLine stack r →
+ChainedLines = (stack : List LayerTree) (r : Line Work Event) → TypedStack stack → first_on_cycle stack ≡ None →
+    IsChainedLine stack r →
     IsLine stack r
 
--- The run of a step of an accepted stack is within the limits: no task is left, and more turns change nothing; its visits and outputs are
--- at most the weight of its entry, and its joins at most its entry's.
+-- The run of a step of an accepted stack is within the limits: no task is left, and more turns change nothing; its
+-- visits and outputs are at most the weight of its entry, and its joins at most its entry's.
 pub record StepEnds (stack : List LayerTree) (states : List State) (first : Task Event) (s : Step) : Type 0 where
   pub weight : task_weight stack first ≤ most_turns
   pub joins : task_joins stack first ≤ joins_limit
@@ -71,6 +74,7 @@ pub record StepEnds (stack : List LayerTree) (states : List State) (first : Task
   pub made : (n : ℕ) → run_joins stack n (starting (unstarted states) first) ≤ task_joins stack first
 
 abbrev pub StepsEnd : Type 0
-StepsEnd = (stack : List LayerTree) (here : Here) (id : ℕ) (states : List State) (what : Entered) → IsStep stack here states what →
+StepsEnd = (stack : List LayerTree) (here : Here) (id : ℕ) (states : List State) (what : Entered) →
+    IsStep stack here states what →
     accepted stack ≡ Ok stack →
     StepEnds stack states (first_task stack here.rank what) (step_from stack here id states what)

@@ -1,13 +1,16 @@
-//! Laws of members, their steps and worlds, each the contract of a function that does nothing: what they keep and send is chained, what a
-//! step sends fits its plans and is spelled by its bytes, and its run ends within the weight of its entry.
+//! Laws of members, their steps and worlds, each the contract of a function that does nothing: what they keep and send
+//! is chained, what a step sends fits its plans and is spelled by its bytes, and its run ends within the weight of its
+//! entry.
 #![tactic(auto)]
 
 pub mod samples;
 
-ghost use Rattle.member_laws.specs.Members.{EntersInRange, EventsKeepChains, FirstTasksAreChained, FirstWorldIsChained, MomentsAreChained, OpenedIsChained, StepsKeepChains};
+ghost use Rattle.member_laws.specs.Members.{EntersInRange, EventsKeepChains, FirstTasksAreChained, FirstWorldIsChained};
+ghost use Rattle.member_laws.specs.Members.{MomentsAreChained, OpenedIsChained, StepsKeepChains};
 ghost use Rattle.member_laws.specs.Nodes.{NodesAreChained};
 ghost use Rattle.member_laws.specs.Plans.{InputsAreInRange, PlansAreNumbered, WorldsAreChained};
-ghost use Rattle.member_laws.specs.Steps.{ChainedLines, ChainedTurns, PacketsFit, StepsEnd, TypedRunsAreBare, WiresAreSpelled};
+ghost use Rattle.member_laws.specs.Steps.{ChainedLines, ChainedTurns, PacketsFit, StepsEnd, TypedRunsAreBare};
+ghost use Rattle.member_laws.specs.Steps.{WiresAreSpelled};
 ghost use Rattle.member_laws.specs.Fit.{PredictedPacketsFit, ShortWiresSpell};
 ghost use Rattle.member_laws.specs.PlanSamples.{KeptStepIsShort};
 

@@ -112,8 +112,10 @@ impl<'b> Shown<'b> {
 
 /// The layer at a place, of a member that is in a view; None where it isn't in one, or has no layer there.
 fn layer_at(view: Option<View>, layers: &[FileLayer], place: u8) -> Option<&FileLayer>
-    ensures state { (p : List Held) → state_of p result ≡ state_shown (member_in view (map (state_in p) layers.now)) place }
-    ensures order { (p : List Held) → AllByRecursion (IsInOrder p) layers.now → IfSome result (λ layer. IsInOrder p layer.now) }
+    ensures state { (p : List Held) →
+        state_of p result ≡ state_shown (member_in view (map (state_in p) layers.now)) place }
+    ensures order { (p : List Held) → AllByRecursion (IsInOrder p) layers.now →
+        IfSome result (λ layer. IsInOrder p layer.now) }
 {
     match view {
         Some(_) => layers.get(usize::from(place)),

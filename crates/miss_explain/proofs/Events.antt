@@ -1,5 +1,6 @@
 -- What one event comes to that is probed, and then fed unless it was a common step.
-use Rattle.std.proofs.Common.{◌≡◌, ℕ, true, if◌then◌else◌, List, [], Option, Some, None, option_map, refl, sym, ap, subst, ◌∙◌, append-nil}
+use Rattle.std.proofs.Common.{◌≡◌, ℕ, true, if◌then◌else◌, List, [], Option, Some, None, option_map, refl, sym, ap}
+use Rattle.std.proofs.Common.{subst, ◌∙◌, append-nil}
 use Rattle.std.specs.List.{concat}
 use Rattle.std.specs.Prelude.{Ok, option_to_list}
 use Rattle.group_feed.specs.Probing.{IsProbed}
@@ -26,10 +27,12 @@ use Rattle.miss_explain.specs.Told.{IsTold}
 use Rattle.miss_explain.proofs.Told.{told}
 
 -- a common step lacks nothing
-common_lacks : (stack : List LayerTree) (plans : List Plan) (s : Step) → is_common stack plans s ≡ true → miss_of stack plans s ≡ None
+common_lacks : (stack : List LayerTree) (plans : List Plan) (s : Step) → is_common stack plans s ≡ true →
+    miss_of stack plans s ≡ None
 unfolding miss_of
 common_lacks stack plans s common =
-    ap (λ b. if b then None else option_map (miss_by stack s (entry_of plans s.entered)) (entry_named plans s.entered)) common
+    ap (λ b. if b then None else option_map (miss_by stack s (entry_of plans s.entered)) (entry_named plans s.entered))
+    common
 
 -- what was told
 abbrev lacked_of : Probed → Option Miss
@@ -37,29 +40,37 @@ lacked_of Common = None
 lacked_of Other = None
 lacked_of (Missed miss) = Some (miss_meant miss)
 
-own_lacked : (c c' : Peopled) (h : Happening) (probed : Probed) → IsProbed c h c' probed → missed_in c.stack c.plans h.did ≡ lacked_of probed
+own_lacked : (c c' : Peopled) (h : Happening) (probed : Probed) → IsProbed c h c' probed →
+    missed_in c.stack c.plans h.did ≡ lacked_of probed
 own_lacked c c' h Common is = ap (missed_in c.stack c.plans) is.did ∙ common_lacks c.stack c.plans is.step is.common
 own_lacked c c' h Other is = is.lacked
 own_lacked c c' h (Missed miss) is = is.lacked
 
-own_behind : (c c' : Peopled) (w : World) (event : ScriptEvent) (probed : Probed) (last : Peopled) → IsProbed c (happens c.stack c.plans w event) c' probed →
-    Stands c w → ((v : World) → Stands c' v → Follows probed c' event v last (Ok tt)) → Stands last (happens c.stack c.plans w event).world
+own_behind : (c c' : Peopled) (w : World) (event : ScriptEvent) (probed : Probed) (last : Peopled) →
+    IsProbed c (happens c.stack c.plans w event) c' probed →
+    Stands c w → ((v : World) → Stands c' v → Follows probed c' event v last (Ok tt)) →
+    Stands last (happens c.stack c.plans w event).world
 own_behind c c' w event Common last is stands follows =
-    subst (λ x. Stands x (happens c.stack c.plans w event).world) (sym (follows (happens c.stack c.plans w event).world is.world)) is.world
+    subst (λ x. Stands x (happens c.stack c.plans w event).world)
+    (sym (follows (happens c.stack c.plans w event).world is.world)) is.world
 own_behind c c' w event Other last is stands follows =
-    subst (λ x. Stands last (happens x.stack x.plans w event).world) is.same (follows w (subst (λ x. Stands x w) (sym is.same) stands))
+    subst (λ x. Stands last (happens x.stack x.plans w event).world) is.same
+    (follows w (subst (λ x. Stands x w) (sym is.same) stands))
 own_behind c c' w event (Missed miss) last is stands follows =
-    subst (λ x. Stands last (happens x.stack x.plans w event).world) is.same (follows w (subst (λ x. Stands x w) (sym is.same) stands))
+    subst (λ x. Stands last (happens x.stack x.plans w event).world) is.same
+    (follows w (subst (λ x. Stands x w) (sym is.same) stands))
 
 probed_line : (file : FileTree) (stack : List LayerTree) (plans : List Plan) (number id : ℕ) (probed : Probed) →
-    probed_lines file stack plans number id probed ≡ option_to_list (option_map (miss_line file stack plans number id) (lacked_of probed))
+    probed_lines file stack plans number id probed ≡
+    option_to_list (option_map (miss_line file stack plans number id) (lacked_of probed))
 probed_line file stack plans number id Common = refl
 probed_line file stack plans number id Other = refl
 probed_line file stack plans number id (Missed miss) = refl
 
 -- lines that were all written, though memory ran out behind them
 pub begins_all : (a b : Tells) (lines : List (List ℕ)) → Gains a b lines → Begins a b (concat lines)
-begins_all a b lines gained = begins_after a b b (concat lines) [] (concat lines) gained.gained (begins_none b []) (sym (append-nil (concat lines)))
+begins_all a b lines gained = begins_after a b b (concat lines) [] (concat lines) gained.gained (begins_none b [])
+    (sym (append-nil (concat lines)))
 
 module _ (file : FileTree) (stack : List LayerTree) (plans : List Plan) where
   -- what happened and is missed may be told
@@ -69,31 +80,37 @@ module _ (file : FileTree) (stack : List LayerTree) (plans : List Plan) where
   happened_told world.absent m is = absurd (cc is)
   happened_told world.shown m is = absurd (cc is)
 
-  module _ (c c' : Peopled) (stack_is : c.stack ≡ stack) (plans_are : c.plans ≡ plans) (w : World) (event : ScriptEvent) (probed : Probed)
+  module _ (c c' : Peopled) (stack_is : c.stack ≡ stack) (plans_are : c.plans ≡ plans) (w : World) (event : ScriptEvent)
+      (probed : Probed)
       (is : IsProbed c (happens c.stack c.plans w event) c' probed) where
     -- what holds of a group's own stack and plans
     as_given : (P : List LayerTree → List Plan → Type 0) → P c.stack c.plans → P stack plans
     as_given P own = subst {A = List LayerTree × List Plan} (λ x. P x.0 x.1) (λ k. (stack_is k, plans_are k)) own
 
     lacked : missed_in stack plans (happens stack plans w event).did ≡ lacked_of probed
-    lacked = as_given (λ st pl. missed_in st pl (happens st pl w event).did ≡ lacked_of probed) (own_lacked c c' (happens c.stack c.plans w event) probed is)
+    lacked = as_given (λ st pl. missed_in st pl (happens st pl w event).did ≡ lacked_of probed)
+        (own_lacked c c' (happens c.stack c.plans w event) probed is)
 
     pub may_be_told : MayBeTold stack plans probed
     may_be_told = go probed lacked where
-      go : (p : Probed) → missed_in stack plans (happens stack plans w event).did ≡ lacked_of p → MayBeTold stack plans p
+      go : (p : Probed) → missed_in stack plans (happens stack plans w event).did ≡ lacked_of p →
+          MayBeTold stack plans p
       go Common lacks = tt
       go Other lacks = tt
       go (Missed miss) lacks = happened_told (happens stack plans w event).did (miss_meant miss) lacks
 
     -- the lines of what was told are those of the event
-    pub lines_are : (number id : ℕ) → id ≡ member_of event → probed_lines file stack plans number id probed ≡ lines_at file stack plans number w event
+    pub lines_are : (number id : ℕ) → id ≡ member_of event → probed_lines file stack plans number id probed ≡
+        lines_at file stack plans number w event
     lines_are number id named =
         probed_line file stack plans number id probed
         ∙ ap (λ i. option_to_list (option_map (miss_line file stack plans number i) (lacked_of probed))) named
         ∙ ap (λ o. option_to_list (option_map (miss_line file stack plans number (member_of event)) o)) (sym lacked)
 
     -- behind it the group stands at the world of what happened
-    pub stands_behind : (last : Peopled) → Stands c w → ((v : World) → Stands c' v → Follows probed c' event v last (Ok tt)) →
+    pub stands_behind : (last : Peopled) → Stands c w →
+        ((v : World) → Stands c' v → Follows probed c' event v last (Ok tt)) →
         Stands last (happens stack plans w event).world
     stands_behind last stands follows =
-        as_given (λ st pl. Stands last (happens st pl w event).world) (own_behind c c' w event probed last is stands follows)
+        as_given (λ st pl. Stands last (happens st pl w event).world)
+        (own_behind c c' w event probed last is stands follows)

@@ -1,5 +1,6 @@
 -- The search through the decisions of visits.
-use Rattle.std.proofs.Common.{◌≡◌, ℕ, zero, suc, ◌+◌, ◌<◌, ◌≤◌, List, [], ◌∷◌, ◌++◌, map, drop, length, get_or, Option, Some, None, slice_get, refl, sym, ap, ap₂, ◌∙◌, subst, arith}
+use Rattle.std.proofs.Common.{◌≡◌, ℕ, zero, suc, ◌+◌, ◌<◌, ◌≤◌, List, [], ◌∷◌, ◌++◌, map, drop, length, get_or, Option}
+use Rattle.std.proofs.Common.{Some, None, slice_get, refl, sym, ap, ap₂, ◌∙◌, subst, arith}
 use Rattle.std.proofs.Math.ListN.{get_or-map}
 use Rattle.std.proofs.Math.Seq.{drop-cons}
 use Rattle.std.proofs.lemmas.List.{length-map}
@@ -34,7 +35,8 @@ module _ {S : Type 0} where
   passes_on : (made : ℕ → S) (rest : List S) (lines : List ℕ) (left : ℕ) →
       Sought made rest (slice_get (map made lines ++ rest) left) (fold passed (Ahead left) lines)
   passes_on made rest [] left = refl
-  passes_on made rest (line ∷ lines) zero = subst (Sought made rest (Some (made line))) (sym (found_stays lines line)) refl
+  passes_on made rest (line ∷ lines) zero = subst (Sought made rest (Some (made line))) (sym (found_stays lines line))
+      refl
   passes_on made rest (line ∷ lines) (suc left) = passes_on made rest lines left
 
   -- the lines of a visit are passed
@@ -48,7 +50,8 @@ module _ {S : Type 0} where
 
 -- The decisions of the visits behind the first ones.
 abbrev pub rest_spots : Case → FileTree → List LayerTree → List ShapeVisit → ℕ → List Spot
-rest_spots case file stack visits k = flat_map (visit_spots case file stack) (enumerate_from (k + 1) (drop k (map visit_tree visits)))
+rest_spots case file stack visits k =
+    flat_map (visit_spots case file stack) (enumerate_from (k + 1) (drop k (map visit_tree visits)))
 
 module _ (case : Case) (file : FileTree) (stack : List LayerTree) (visits : List ShapeVisit) where
   abbrev pub spot_at : ℕ → ShapeVisit → ℕ → Spot
@@ -62,18 +65,24 @@ module _ (case : Case) (file : FileTree) (stack : List LayerTree) (visits : List
       let next : suc k ≡ k + 1 = omega arith in
       ap (λ vs. flat_map (visit_spots case file stack) (enumerate_from (k + 1) vs))
       (drop-cons (map visit_tree visits) k (visit_tree v) within
-      ∙ ap₂ (λ x n. x ∷ drop n (map visit_tree visits)) (get_or-map visit_tree visits k v ∙ ap visit_tree (sym is)) next)
+      ∙ ap₂ (λ x n. x ∷ drop n (map visit_tree visits)) (get_or-map visit_tree visits k v ∙ ap visit_tree (sym is))
+      next)
 
-  pub seeks_on : (k : ℕ) (v : ShapeVisit) (sought : Option Spot) (old new : Search) → k < length visits → v ≡ get_or visits k v →
-      Seeks (rest_spots case file stack visits k) sought old → Passes old (visit_lines case file stack (visit_tree v)) new →
+  pub seeks_on : (k : ℕ) (v : ShapeVisit) (sought : Option Spot) (old new : Search) → k < length visits →
+      v ≡ get_or visits k v →
+      Seeks (rest_spots case file stack visits k) sought old →
+      Passes old (visit_lines case file stack (visit_tree v)) new →
       Sought (spot_at k v) (rest_spots case file stack visits (k + 1)) sought new
   seeks_on k v sought old new lt is seeks passes =
-      seeks_more (spot_at k v) (rest_spots case file stack visits (k + 1)) (visit_lines case file stack (visit_tree v)) sought old new
+      seeks_more (spot_at k v) (rest_spots case file stack visits (k + 1)) (visit_lines case file stack (visit_tree v))
+      sought old new
       (subst (λ rest. Seeks rest sought old) (rest_is k v lt is) seeks) passes
 
   -- behind the last visit there is none
-  pub seeks_none : (k : ℕ) (sought : Option Spot) (s : Search) → length visits ≤ k → Seeks (rest_spots case file stack visits k) sought s → None ≡ sought
+  pub seeks_none : (k : ℕ) (sought : Option Spot) (s : Search) → length visits ≤ k →
+      Seeks (rest_spots case file stack visits k) sought s → None ≡ sought
   seeks_none k sought (Ahead left) past seeks =
-      let none : drop k (map visit_tree visits) ≡ [] = drop_all (map visit_tree visits) k (omega (arith, past, length-map visits visit_tree)) in
+      let none : drop k (map visit_tree visits) ≡ [] =
+      drop_all (map visit_tree visits) k (omega (arith, past, length-map visits visit_tree)) in
       sym (seeks ∙ ap (λ vs. slice_get (flat_map (visit_spots case file stack) (enumerate_from (k + 1) vs)) left) none)
   seeks_none k sought (Found line) past seeks = absurd seeks

@@ -1,5 +1,6 @@
 -- What holds between the events of a script that is explained.
-use Rattle.std.proofs.Common.{◌≡◌, ℕ, suc, ◌+◌, ◌<◌, ◌≤◌, List, [], ◌∷◌, ◌++◌, length, drop, get_or, refl, sym, ap, ap₂, subst, ◌∙◌, append_assoc, append-nil, arith}
+use Rattle.std.proofs.Common.{◌≡◌, ℕ, suc, ◌+◌, ◌<◌, ◌≤◌, List, [], ◌∷◌, ◌++◌, length, drop, get_or, refl, sym, ap, ap₂}
+use Rattle.std.proofs.Common.{subst, ◌∙◌, append_assoc, append-nil, arith}
 use Rattle.std.proofs.Math.Seq.{drop-cons}
 use Rattle.std.specs.Prelude.{Err}
 use Rattle.file_scope.proofs.Lists.{drop_all}
@@ -19,8 +20,8 @@ use Rattle.stack_mean.specs.Plan.{Plan}
 use Rattle.miss_explain.specs.Explaining.{IsAtFirst, IsExplained, IsReady, Keeps, lines_at, misses_from, script_misses}
 
 module _ (file : FileTree) (stack : List LayerTree) (plans : List Plan) (s : Script) where
-  -- After k events a group stands at a world, with as many members as at first, and the lines that are left are those of the other events from
-  -- there on.
+  -- After k events a group stands at a world, with as many members as at first, and the lines that are left are those
+  -- of the other events from there on.
   pub record Held (k : ℕ) (c : Peopled) (places : ℕ) (a b : Tells) : Type 0 where
     pub ready : IsReady stack plans c places
     pub count : length c.members ≡ s.members
@@ -54,9 +55,11 @@ module _ (file : FileTree) (stack : List LayerTree) (plans : List Plan) (s : Scr
     whole_is : (c : Peopled) (places : ℕ) (a b : Tells) (held : Held k c places a b) →
         script_misses file stack plans s ≡ (held.front ++ lines_at file stack plans (k + 1) held.world event)
         ++ misses_from file stack plans (k + 1 + 1) (happens stack plans held.world event).world (drop (k + 1) s.events)
-    whole_is c places a b held = held.whole ∙ ap (λ ls. held.front ++ ls) (from_here held.world) ∙ sym (append_assoc held.front _ _)
+    whole_is c places a b held = held.whole ∙ ap (λ ls. held.front ++ ls) (from_here held.world) ∙
+        sym (append_assoc held.front _ _)
 
-    pub held_more : (c c' : Peopled) (places places' : ℕ) (a b d : Tells) (held : Held k c places a b) → Keeps stack plans c c' places' →
+    pub held_more : (c c' : Peopled) (places places' : ℕ) (a b d : Tells) (held : Held k c places a b) →
+        Keeps stack plans c c' places' →
         IsExplained file stack plans (k + 1) held.world event c' b d → Held (k + 1) c' places' a d
     held_more c c' places places' a b d held kept told = record {
       ready = kept.ready;
@@ -65,14 +68,18 @@ module _ (file : FileTree) (stack : List LayerTree) (plans : List Plan) (s : Scr
       stands = told.world;
       front = held.front ++ lines_at file stack plans (k + 1) held.world event;
       whole = whole_is c places a b held;
-      gained = gains_then a b d held.front (lines_at file stack plans (k + 1) held.world event) _ held.gained told.gained refl;
+      gained = gains_then a b d held.front (lines_at file stack plans (k + 1) held.world event) _ held.gained
+          told.gained refl;
     }
 
     pub held_cut : (c : Peopled) (places : ℕ) (a b d : Tells) (e : SinkError) (held : Held k c places a b) →
-        Wrote (lines_at file stack plans (k + 1) held.world event) b d (Err e) → Wrote (script_misses file stack plans s) a d (Err e)
+        Wrote (lines_at file stack plans (k + 1) held.world event) b d (Err e) →
+        Wrote (script_misses file stack plans s) a d (Err e)
     held_cut c places a b d e held cut =
-        cut_short a b d held.front (lines_at file stack plans (k + 1) held.world event) (script_misses file stack plans s)
-        (misses_from file stack plans (k + 1 + 1) (happens stack plans held.world event).world (drop (k + 1) s.events)) e held.gained cut
+        cut_short a b d held.front (lines_at file stack plans (k + 1) held.world event)
+        (script_misses file stack plans s)
+        (misses_from file stack plans (k + 1 + 1) (happens stack plans held.world event).world (drop (k + 1) s.events))
+        e held.gained cut
         (whole_is c places a b held)
 
   pub held_last : (k : ℕ) (c : Peopled) (places : ℕ) (a b : Tells) → Held k c places a b → length s.events ≤ k →
@@ -83,6 +90,7 @@ module _ (file : FileTree) (stack : List LayerTree) (plans : List Plan) (s : Scr
       ∙ append-nil held.front)) held.gained
 
   -- the lines of a script, and its last one
-  pub explained_is : script_misses file stack plans s ++ end_line (length s.events) ∷ [] ≡ explained_lines file stack plans s
+  pub explained_is : script_misses file stack plans s ++ end_line (length s.events) ∷ [] ≡
+      explained_lines file stack plans s
   unfolding explained_lines
   explained_is = refl

@@ -1,5 +1,6 @@
 -- Numbers of handlers.
-use Rattle.std.proofs.Common.{◌≡◌, ℕ, ◌+◌, ◌≤◌, Bool, not, if◌then◌else◌, nat_lt, List, [], ◌∷◌, map, length, Some, None, refl, ap, ap₂}
+use Rattle.std.proofs.Common.{◌≡◌, ℕ, ◌+◌, ◌≤◌, Bool, not, if◌then◌else◌, nat_lt, List, [], ◌∷◌, map, length, Some}
+use Rattle.std.proofs.Common.{None, refl, ap, ap₂}
 use Rattle.std.proofs.lemmas.List.{length-map, get_or_past}
 use Rattle.layer_mean.specs.Visit.{is_for}
 use Rattle.std.specs.List.{position, position_or_len}
@@ -16,13 +17,16 @@ or_len_map tree test (x ∷ xs) = ap (λ k. if not (test (tree x)) then 1 + k el
 
 pub position_map : {X A : Type 0} (tree : X → A) (test : A → Bool) (xs : List X) →
     position test (map tree xs) ≡ position (λ x. test (tree x)) xs
-position_map tree test xs = ap₂ (λ k n. if nat_lt k n then Some k else None) (or_len_map tree test xs) (length-map xs tree)
+position_map tree test xs = ap₂ (λ k n. if nat_lt k n then Some k else None) (or_len_map tree test xs)
+    (length-map xs tree)
 
 -- past the last place no handler is met
 pub no_number : (stack : List LayerTree) (v : ShapeVisit) → length stack ≤ v.place → handler_number stack v ≡ None
 no_number stack v past =
-    ap (λ layer. position (is_for v.dir v.kind (popped_tag v.dir v.tag)) layer.handlers) (get_or_past stack v.place no_layer past)
+    ap (λ layer. position (is_for v.dir v.kind (popped_tag v.dir v.tag)) layer.handlers)
+    (get_or_past stack v.place no_layer past)
 
 -- nor is there a name
-pub no_name : (stack : List LayerTree) (place : ℕ) → length stack ≤ place → (slice_index_or stack place no_layer).name ≡ []
+pub no_name : (stack : List LayerTree) (place : ℕ) → length stack ≤ place → (slice_index_or stack place no_layer).name ≡
+    []
 no_name stack place past = ap (λ layer. layer.name) (get_or_past stack place no_layer past)

@@ -13,5 +13,6 @@ pub passes_both : (a b c : Search) (xs ys : List ℕ) → Passes a xs b → Pass
 unfolding Passes
 passes_both a b c xs ys one two = two ∙ (ap (λ s. fold passed s ys) one ∙ sym (fold-append passed a xs ys))
 
-pub passes_more : (a b c : Search) (line : ℕ) (ys : List ℕ) → Passes a (line ∷ []) b → Passes b ys c → Passes a (line ∷ ys) c
+pub passes_more : (a b c : Search) (line : ℕ) (ys : List ℕ) → Passes a (line ∷ []) b → Passes b ys c →
+    Passes a (line ∷ ys) c
 passes_more a b c line ys one two = passes_both a b c (line ∷ []) ys one two

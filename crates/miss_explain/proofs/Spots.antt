@@ -1,5 +1,6 @@
 -- What is kept of an entry's shapes tells where the decisions stand of which one is told.
-use Rattle.std.proofs.Common.{◌≡◌, ℕ, true, if◌then◌else◌, List, [], slice_get, Option, Some, None, option_map, refl, sym, ap, subst, ◌∙◌}
+use Rattle.std.proofs.Common.{◌≡◌, ℕ, true, if◌then◌else◌, List, [], slice_get, Option, Some, None, option_map, refl}
+use Rattle.std.proofs.Common.{sym, ap, subst, ◌∙◌}
 use Rattle.std.proofs.lemmas.Option.{slice_get-map}
 use Rattle.std.specs.Option.{option_map_or}
 use Rattle.std.specs.Prelude.{Result, Ok, Err}
@@ -31,22 +32,28 @@ limited_short : (s : Result Shape NoShape) → is_short s ≡ true → limited s
 limited_short (Ok s) short = ap (λ b. if b then Ok s else Err no_shape.long) short
 limited_short (Err reason) short = refl
 
-kept_in : (case : Case) (stack : List LayerTree) (known : Known) → drawn_in case (kept_shapes stack known) ≡ limited (shape stack known case)
+kept_in : (case : Case) (stack : List LayerTree) (known : Known) → drawn_in case (kept_shapes stack known) ≡
+    limited (shape stack known case)
 kept_in First stack known = refl
 kept_in Second stack known = refl
 
 module _ (case : Case) (file : FileTree) (stack : List LayerTree) where
   spots_of : (known : Known) → is_short (shape stack known case) ≡ true →
-      drawn_spots case file stack (drawn_in case (kept_shapes stack known)) ≡ drawn_spots case file stack (shape stack known case)
-  spots_of known short = ap (drawn_spots case file stack) (kept_in case stack known ∙ limited_short (shape stack known case) short)
+      drawn_spots case file stack (drawn_in case (kept_shapes stack known)) ≡
+      drawn_spots case file stack (shape stack known case)
+  spots_of known short =
+      ap (drawn_spots case file stack) (kept_in case stack known ∙ limited_short (shape stack known case) short)
 
   planned : (o : Option Plan) (k : ℕ) → HasShape stack case (option_map plan_entry o) (missed k) →
-      kept_spots case file stack (option_map (plan_shapes stack) o) ≡ entry_spots case file stack (option_map plan_entry o)
+      kept_spots case file stack (option_map (plan_shapes stack) o) ≡
+      entry_spots case file stack (option_map plan_entry o)
   planned None k short = refl
   planned (Some plan) k short = spots_of (plan_entry plan) short
 
-  spots_kept : (plans : List Plan) (e : EntryOf) (k : ℕ) → HasShape stack case (known_at plans (entry_meant e)) (missed k) →
-      kept_spots case file stack (shapes_at (short_shapes stack plans) e) ≡ entry_spots case file stack (known_at plans (entry_meant e))
+  spots_kept : (plans : List Plan) (e : EntryOf) (k : ℕ) →
+      HasShape stack case (known_at plans (entry_meant e)) (missed k) →
+      kept_spots case file stack (shapes_at (short_shapes stack plans) e) ≡
+      entry_spots case file stack (known_at plans (entry_meant e))
   spots_kept plans entry.Cast k short = spots_of app_cast short
   spots_kept plans entry.Send k short = spots_of app_send short
   spots_kept plans (entry.Plan n) k short =
@@ -54,13 +61,16 @@ module _ (case : Case) (file : FileTree) (stack : List LayerTree) where
   spots_kept plans entry.None k short = refl
 
   -- the words of a decision that is found
-  pub told_text : (plans : List Plan) (entries : ShortShapes) (e : EntryOf) (lack : Lack) (k : ℕ) (o : Option Spot) → entries ≡ short_shapes stack plans →
+  pub told_text : (plans : List Plan) (entries : ShortShapes) (e : EntryOf) (lack : Lack) (k : ℕ) (o : Option Spot) →
+      entries ≡ short_shapes stack plans →
       lack ≡ Check k → HasShape stack case (known_at plans (entry_meant e)) (lack_meant lack) →
       option_map spot_tree o ≡ slice_get (kept_spots case file stack (shapes_at entries e)) k →
-      option_map_or (spot_text stack) (option_map spot_tree o) [] ≡ lack_text stack (entry_spots case file stack (known_at plans (entry_meant e))) (lack_meant lack)
+      option_map_or (spot_text stack) (option_map spot_tree o) [] ≡
+      lack_text stack (entry_spots case file stack (known_at plans (entry_meant e))) (lack_meant lack)
   told_text plans entries e lack k o same is told found =
       let short : HasShape stack case (known_at plans (entry_meant e)) (missed k) =
       subst (λ l. HasShape stack case (known_at plans (entry_meant e)) (lack_meant l)) is told in
       ap (λ x. option_map_or (spot_text stack) x [])
-      (found ∙ ap (λ x. slice_get (kept_spots case file stack (shapes_at x e)) k) same ∙ ap (λ spots. slice_get spots k) (spots_kept plans e k short))
+      (found ∙ ap (λ x. slice_get (kept_spots case file stack (shapes_at x e)) k) same ∙
+      ap (λ spots. slice_get spots k) (spots_kept plans e k short))
       ∙ ap (λ l. lack_text stack (entry_spots case file stack (known_at plans (entry_meant e))) (lack_meant l)) (sym is)

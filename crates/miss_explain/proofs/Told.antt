@@ -1,12 +1,14 @@
 -- What a step lacked may be told.
-use Rattle.std.proofs.Common.{◌≡◌, ℕ, Bool, true, false, nat_le, if◌then◌else◌, List, slice_get, Option, Some, None, option_map, unwrap_or, refl, ap, subst, ◌∙◌}
+use Rattle.std.proofs.Common.{◌≡◌, ℕ, Bool, true, false, nat_le, if◌then◌else◌, List, slice_get, Option, Some, None}
+use Rattle.std.proofs.Common.{option_map, unwrap_or, refl, ap, subst, ◌∙◌}
 use Rattle.std.specs.Option.{option_and_then, option_map_or}
 use Rattle.std.specs.Prelude.{Result, Ok, Err}
 use Rattle.layer_mean.specs.Tree.{LayerTree}
 use Rattle.layer_mean.specs.declared.run.Case.{Case}
 use Rattle.layer_mean.specs.declared.run.Case.TheVariants.{First, Second}
 use Rattle.miss_mean.specs.Lacks as lacks
-use Rattle.miss_mean.specs.Lacks.{Lack, absent, missed, Entry, Miss, entry_named, lack_of, first_lack, second_lack, miss_by, miss_of}
+use Rattle.miss_mean.specs.Lacks.{Lack, absent, missed, Entry, Miss, entry_named, lack_of, first_lack, second_lack}
+use Rattle.miss_mean.specs.Lacks.{miss_by, miss_of}
 use Rattle.miss_mean.specs.Text.{known_at}
 use Rattle.packet_mean.specs.Plan.{least_fit}
 use Rattle.run_mean.specs.Common.{entry_of, is_common, is_short, longest_shape, plan_entry}
@@ -37,7 +39,8 @@ module _ (stack : List LayerTree) (plans : List Plan) (s : Step) where
   second_told : (known : Option Known) → HaveShape stack Second known (option_and_then (second_lack stack s) known)
   second_told None = tt
   second_told (Some known) = go (has_second_case stack known) where
-    go : (b : Bool) → HaveShape stack Second (Some known) (if b then Some (lack_of Second s (shape stack known Second)) else None)
+    go : (b : Bool) → HaveShape stack Second (Some known)
+        (if b then Some (lack_of Second s (shape stack known Second)) else None)
     go true = case_told Second known
     go false = tt
 
@@ -48,11 +51,13 @@ module _ (stack : List LayerTree) (plans : List Plan) (s : Step) where
   entry_told : (m : Miss) (e : Entry) → Some (miss_by stack s (known_at plans e) e) ≡ Some m → IsTold stack plans m
   entry_told m e is = subst (IsTold stack plans) (ap (λ o. unwrap_or o m) is) (made_told e)
 
-  entered_told : (m : Miss) (what : Entered) → option_map (miss_by stack s (entry_of plans what)) (entry_named plans what) ≡ Some m → IsTold stack plans m
+  entered_told : (m : Miss) (what : Entered) →
+      option_map (miss_by stack s (entry_of plans what)) (entry_named plans what) ≡ Some m → IsTold stack plans m
   entered_told m (app_cast body) is = entry_told m lacks.cast is
   entered_told m (app_send to body) is = entry_told m lacks.send is
   entered_told m (from_peer p) is = go (least_fit plans p) is where
-    go : (o : Option ℕ) → option_map (miss_by stack s (option_and_then (λ k. option_map plan_entry (slice_get plans k)) o))
+    go : (o : Option ℕ) →
+        option_map (miss_by stack s (option_and_then (λ k. option_map plan_entry (slice_get plans k)) o))
         (Some (option_map_or lacks.plan o lacks.none)) ≡ Some m → IsTold stack plans m
     go None is = entry_told m lacks.none is
     go (Some k) is = entry_told m (lacks.plan k) is
@@ -62,7 +67,8 @@ module _ (stack : List LayerTree) (plans : List Plan) (s : Step) where
   pub told : (m : Miss) → miss_of stack plans s ≡ Some m → IsTold stack plans m
   unfolding miss_of
   told m is = go (is_common stack plans s) is where
-    go : (b : Bool) → (if b then None else option_map (miss_by stack s (entry_of plans s.entered)) (entry_named plans s.entered)) ≡ Some m →
+    go : (b : Bool) → (if b then None else option_map (miss_by stack s (entry_of plans s.entered))
+        (entry_named plans s.entered)) ≡ Some m →
         IsTold stack plans m
     go true none = absurd (cc none)
     go false some = entered_told m s.entered some

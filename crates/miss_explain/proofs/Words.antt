@@ -14,21 +14,28 @@ use Rattle.miss_explain.specs.Words.{front_text, second_part}
 
 parts : (before miss space end event id entry first last : List ℕ) →
     before ++ (miss ++ space ++ event ++ space ++ id ++ space ++ entry ++ space) ++ first ++ last ++ end
-    ≡ before ++ (miss ++ ((space ++ event) ++ ((space ++ id) ++ ((space ++ entry) ++ ((space ++ first) ++ last)))) ++ end)
+    ≡ before ++ (miss ++ ((space ++ event) ++ ((space ++ id) ++ ((space ++ entry) ++ ((space ++ first) ++ last)))) ++
+    end)
 parts before miss space end event id entry first last = simp append_assoc
 
 words : (stack : List LayerTree) (spots : List Spot) (second : Option Lack) (before event id entry first : List ℕ) →
-    before ++ (codes "miss " ++ event ++ codes " " ++ id ++ codes " " ++ entry ++ codes " ") ++ first ++ second_part stack spots second ++ codes "\n"
+    before ++ (codes "miss " ++ event ++ codes " " ++ id ++ codes " " ++ entry ++ codes " ") ++ first ++
+    second_part stack spots second ++ codes "\n"
     ≡ before ++ line (codes "miss" ∷ event ∷ id ∷ entry ∷ first ∷ second_text stack spots second)
-words stack spots None before event id entry first = parts before (codes "miss") (codes " ") (codes "\n") event id entry first []
+words stack spots None before event id entry first = parts before (codes "miss") (codes " ") (codes "\n") event id entry
+    first []
 words stack spots (Some lack) before event id entry first =
-    parts before (codes "miss") (codes " ") (codes "\n") event id entry first (codes " or " ++ lack_text stack spots lack)
-    ∙ ap (λ last. before ++ (codes "miss" ++ ((codes " " ++ event) ++ ((codes " " ++ id) ++ ((codes " " ++ entry) ++ ((codes " " ++ first) ++ last)))) ++ codes "\n"))
+    parts before (codes "miss") (codes " ") (codes "\n") event id entry first
+    (codes " or " ++ lack_text stack spots lack)
+    ∙ ap (λ last. before ++
+    (codes "miss" ++ ((codes " " ++ event) ++
+    ((codes " " ++ id) ++ ((codes " " ++ entry) ++ ((codes " " ++ first) ++ last)))) ++ codes "\n"))
     (tail (lack_text stack spots lack)) where
       tail : (text : List ℕ) → codes " or " ++ text ≡ (codes " " ++ codes "or") ++ ((codes " " ++ text) ++ [])
       tail text = ap (λ x. codes " or " ++ x) (sym (append-nil text))
 
-pub line_is : (file : FileTree) (stack : List LayerTree) (plans : List Plan) (event id : ℕ) (m : Miss) (before front first second : List ℕ) →
+pub line_is : (file : FileTree) (stack : List LayerTree) (plans : List Plan) (event id : ℕ) (m : Miss)
+    (before front first second : List ℕ) →
     front ≡ before ++ front_text event id m.entry →
     first ≡ front ++ lack_text stack (entry_spots First file stack (known_at plans m.entry)) m.first →
     second ≡ first ++ second_part stack (entry_spots Second file stack (known_at plans m.entry)) m.second →
@@ -37,5 +44,6 @@ unfolding miss_line
 line_is file stack plans event id m before front first second is_front is_first is_second =
     let lack = lack_text stack (entry_spots First file stack (known_at plans m.entry)) m.first in
     let spots = entry_spots Second file stack (known_at plans m.entry) in
-    ap (λ x. x ++ codes "\n") (is_second ∙ ap (λ x. x ++ second_part stack spots m.second) (is_first ∙ ap (λ x. x ++ lack) is_front))
+    ap (λ x. x ++ codes "\n")
+    (is_second ∙ ap (λ x. x ++ second_part stack spots m.second) (is_first ∙ ap (λ x. x ++ lack) is_front))
     ∙ words stack spots m.second before (decimal event) (decimal id) (entry_text m.entry) lack

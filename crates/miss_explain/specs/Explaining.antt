@@ -71,19 +71,24 @@ abbrev pub lines_at : FileTree → List LayerTree → List Plan → ℕ → Worl
 lines_at file stack plans number w event = event_misses file stack plans (number, moment_of stack plans w event)
 
 -- An event is behind, and its line is written; or that was cut short.
-pub record IsExplained (file : FileTree) (stack : List LayerTree) (plans : List Plan) (number : ℕ) (w : World) (event : ScriptEvent) (c' : Peopled)
+pub record IsExplained (file : FileTree) (stack : List LayerTree) (plans : List Plan) (number : ℕ) (w : World)
+    (event : ScriptEvent) (c' : Peopled)
     (before after : Tells) : Type 0 where
   pub world : Stands c' (happens stack plans w event).world
   pub gained : Gains before after (lines_at file stack plans number w event)
 
-abbrev pub Explains : FileTree → List LayerTree → List Plan → ℕ → World → ScriptEvent → Peopled → (before after : Tells) →
+abbrev pub Explains : FileTree → List LayerTree → List Plan → ℕ → World → ScriptEvent → Peopled →
+    (before after : Tells) →
     Result (Unit {0}) SinkError → Type 0
-Explains file stack plans number w event c' before after (Ok done) = IsExplained file stack plans number w event c' before after
-Explains file stack plans number w event c' before after (Err e) = Wrote (lines_at file stack plans number w event) before after (Err e)
+Explains file stack plans number w event c' before after (Ok done) =
+    IsExplained file stack plans number w event c' before after
+Explains file stack plans number w event c' before after (Err e) =
+    Wrote (lines_at file stack plans number w event) before after (Err e)
 
 -- The lines of events from a world on, the first of them with this number; and those of a script.
 abbrev pub misses_from : FileTree → List LayerTree → List Plan → ℕ → World → List ScriptEvent → List (List ℕ)
-misses_from file stack plans number w events = flat_map (event_misses file stack plans) (enumerate_from number (moments stack plans w events))
+misses_from file stack plans number w events =
+    flat_map (event_misses file stack plans) (enumerate_from number (moments stack plans w events))
 
 abbrev pub script_misses : FileTree → List LayerTree → List Plan → Script → List (List ℕ)
 script_misses file stack plans s = misses_from file stack plans 1 (first_world stack s.group s.stamp s.members) s.events

@@ -8,7 +8,8 @@ use Rattle.miss_mean.specs.Text.{entry_text, lack_text}
 
 -- `miss I M E `.
 abbrev pub front_text : ℕ → ℕ → Entry → List ℕ
-front_text event id entry = codes "miss " ++ decimal event ++ codes " " ++ decimal id ++ codes " " ++ entry_text entry ++ codes " "
+front_text event id entry = codes "miss " ++ decimal event ++ codes " " ++ decimal id ++ codes " " ++
+    entry_text entry ++ codes " "
 
 -- ` or LACK`, where a second case is made.
 abbrev pub second_part : List LayerTree → List Spot → Option Lack → List ℕ

@@ -33,7 +33,8 @@ fn drawn_spot(
     number: u32,
 ) -> Option<Spot>
     ensures { option_map spot_tree result
-        ≡ slice_get (drawn_spots case (file_tree texts.entry.file.now) (stack_tree texts.entry.stack.now) (drawn_tree drawn.now)) number }
+        ≡ slice_get (drawn_spots case (file_tree texts.entry.file.now) (stack_tree texts.entry.stack.now)
+        (drawn_tree drawn.now)) number }
 {
     match drawn {
         Ok(shape) => find_spot(case, texts.file, texts.stack.stack(), shape, number),
@@ -44,7 +45,8 @@ fn drawn_spot(
 /// Where the decision of a number stands among those of an entry in a case, if its shape is kept.
 pub(crate) fn kept_spot(texts: Texts<'_>, case: Case, entry: EntryOf, number: u32) -> Option<Spot>
     ensures { option_map spot_tree result
-        ≡ slice_get (kept_spots case (file_tree texts.entry.file.now) (stack_tree texts.entry.stack.now) (shapes_at texts.entry.entries.now entry)) number }
+        ≡ slice_get (kept_spots case (file_tree texts.entry.file.now) (stack_tree texts.entry.stack.now)
+        (shapes_at texts.entry.entries.now entry)) number }
 {
     match texts.entries.at(entry) {
         Some(shapes) => drawn_spot(texts, case, drawn_in(shapes, case), number),

@@ -83,7 +83,8 @@ fn push_spot(line: &mut Line, stack: &NamedStack, spot: Spot) -> Result<(), Memo
 
 /// The same, if there is such a decision.
 fn push_found(line: &mut Line, stack: &NamedStack, spot: Option<Spot>) -> Result<(), Memory>
-    ensures { OnOk result (line.new ≡ line.old ++ option_map_or (spot_text (stack_tree stack.now)) (option_map spot_tree spot) []) }
+    ensures { OnOk result
+        (line.new ≡ line.old ++ option_map_or (spot_text (stack_tree stack.now)) (option_map spot_tree spot) []) }
 {
     match spot {
         Some(spot) => push_spot(line, stack, spot),
@@ -108,9 +109,11 @@ pub(crate) fn push_lack(
     lack: Lack,
 ) -> Result<(), Memory>
     requires entries { texts.entries.now ≡ short_shapes (stack_tree texts.stack.now) (plans_tree texts.plans.now) }
-    requires told { HasShape (stack_tree texts.stack.now) case (known_at (plans_tree texts.plans.now) (entry_meant entry)) (lack_meant lack) }
+    requires told { HasShape (stack_tree texts.stack.now) case
+        (known_at (plans_tree texts.plans.now) (entry_meant entry)) (lack_meant lack) }
     ensures { OnOk result (line.new ≡ line.old ++ lack_text (stack_tree texts.entry.stack.now)
-        (entry_spots case (file_tree texts.entry.file.now) (stack_tree texts.entry.stack.now) (known_at (plans_tree texts.entry.plans.now) (entry_meant entry)))
+        (entry_spots case (file_tree texts.entry.file.now) (stack_tree texts.entry.stack.now)
+        (known_at (plans_tree texts.entry.plans.now) (entry_meant entry)))
         (lack_meant lack)) }
 {
     match lack {

@@ -1,5 +1,5 @@
-//! Why the steps of a script weren't common, written line by line: what each case of such a step lacked, and where in the layers' texts the
-//! decision stands that left the prediction.
+//! Why the steps of a script weren't common, written line by line: what each case of such a step lacked, and where in
+//! the layers' texts the decision stands that left the prediction.
 #![tactic(auto)]
 
 mod handlers;

@@ -66,14 +66,16 @@ fn named<'a>(layers: &'a [Layer], word: &Word) -> Option<&'a Layer>
 /// The same, in the definitions' words.
 #[tactic(auto, using(crate::proofs::Layers::among))]
 fn layer_among<'a>(layers: &'a [Layer], word: &Word) -> Option<&'a Layer>
-    ensures { option_map (λ l. written.layer_tree l.now) result ≡ places.layer_among (map written.layer_tree layers.now) word.now }
+    ensures { option_map (λ l. written.layer_tree l.now) result ≡ places.layer_among (map written.layer_tree layers.now)
+        word.now }
 {
     named(layers, word)
 }
 
 /// The layer that a place names: one of the file, or else one of the library.
 fn layer_at<'a>(file: &'a File, place: &Place) -> Option<&'a Layer>
-    ensures { option_map (λ l. written.layer_tree l.now) result ≡ places.layer_at (written.file_tree file.now) (written.place_tree place.now) }
+    ensures { option_map (λ l. written.layer_tree l.now) result ≡
+        places.layer_at (written.file_tree file.now) (written.place_tree place.now) }
 {
     match layer_among(&file.layers, &place.name.word) {
         Some(layer) => Some(layer),
@@ -83,7 +85,8 @@ fn layer_at<'a>(file: &'a File, place: &Place) -> Option<&'a Layer>
 
 /// The layer at a place of the stack, counted from 0.
 fn layer_at_place(file: &File, place: u8) -> Option<&Layer>
-    ensures { option_map (λ l. written.layer_tree l.now) result ≡ spots.layer_at_place (written.file_tree file.now) place }
+    ensures { option_map (λ l. written.layer_tree l.now) result ≡
+        spots.layer_at_place (written.file_tree file.now) place }
 {
     match file.places.get(usize::from(place)) {
         Some(place) => layer_at(file, place),
@@ -93,7 +96,8 @@ fn layer_at_place(file: &File, place: u8) -> Option<&Layer>
 
 /// The handler of a file's layer that has this number.
 pub(crate) fn handler_at(file: &File, place: u8, number: usize) -> Option<&Handler>
-    ensures { option_map (λ h. written.handler_tree h.now) result ≡ spots.handler_at (written.file_tree file.now) place number }
+    ensures { option_map (λ h. written.handler_tree h.now) result ≡ spots.handler_at (written.file_tree file.now) place
+        number }
 {
     match layer_at_place(file, place) {
         Some(layer) => layer.handlers.get(number),

@@ -43,9 +43,11 @@ fn push_second(
     second: Option<Lack>,
 ) -> Result<(), Memory>
     requires entries { texts.entries.now ≡ short_shapes (stack_tree texts.stack.now) (plans_tree texts.plans.now) }
-    requires told { HaveShape (stack_tree texts.stack.now) Second (known_at (plans_tree texts.plans.now) (entry_meant entry)) (option_map lack_meant second) }
+    requires told { HaveShape (stack_tree texts.stack.now) Second
+        (known_at (plans_tree texts.plans.now) (entry_meant entry)) (option_map lack_meant second) }
     ensures { OnOk result (line.new ≡ line.old ++ second_part (stack_tree texts.entry.stack.now)
-        (entry_spots Second (file_tree texts.entry.file.now) (stack_tree texts.entry.stack.now) (known_at (plans_tree texts.entry.plans.now) (entry_meant entry)))
+        (entry_spots Second (file_tree texts.entry.file.now) (stack_tree texts.entry.stack.now)
+        (known_at (plans_tree texts.entry.plans.now) (entry_meant entry)))
         (option_map lack_meant second)) }
 {
     match second {
@@ -67,7 +69,8 @@ fn build_miss(
 ) -> Result<(), Memory>
     requires entries { texts.entries.now ≡ short_shapes (stack_tree texts.stack.now) (plans_tree texts.plans.now) }
     requires told { IsTold (stack_tree texts.stack.now) (plans_tree texts.plans.now) (miss_meant miss.now) }
-    ensures { OnOk result (line.new ≡ line.old ++ miss_line (file_tree texts.entry.file.now) (stack_tree texts.entry.stack.now)
+    ensures { OnOk result
+        (line.new ≡ line.old ++ miss_line (file_tree texts.entry.file.now) (stack_tree texts.entry.stack.now)
         (plans_tree texts.entry.plans.now) event member (miss_meant miss.now)) }
 {
     push_front(line, event, member, miss.entry)?;
@@ -76,7 +79,8 @@ fn build_miss(
     line.text(b"\n")
 }
 
-/// Puts the line of a step of a member at an event of a script that wasn't common. The line is built in one that is kept from line to line.
+/// Puts the line of a step of a member at an event of a script that wasn't common. The line is built in one that is
+/// kept from line to line.
 pub fn write_miss<O: Sink>(
     line: &mut Line,
     texts: Texts<'_>,
@@ -87,7 +91,8 @@ pub fn write_miss<O: Sink>(
 ) -> Result<(), SinkError>
     requires entries { texts.entries.now ≡ short_shapes (stack_tree texts.stack.now) (plans_tree texts.plans.now) }
     requires told { IsTold (stack_tree texts.stack.now) (plans_tree texts.plans.now) (miss_meant miss.now) }
-    ensures { Wrote (miss_line (file_tree texts.entry.file.now) (stack_tree texts.entry.stack.now) (plans_tree texts.entry.plans.now) event member
+    ensures { Wrote (miss_line (file_tree texts.entry.file.now) (stack_tree texts.entry.stack.now)
+        (plans_tree texts.entry.plans.now) event member
         (miss_meant miss.now) ∷ []) (tells_of O.Sink out.old) (tells_of O.Sink out.new) result }
 {
     line.clear();

@@ -15,7 +15,8 @@ ghost use Rattle.script_mean.specs.Script.{IsRunnable};
 ghost use Rattle.stack_mean.specs.Acceptance.{largest_weight};
 ghost use Rattle.stack_shapes.specs.Shapes.{short_shapes};
 ghost use Rattle.stack_shapes.specs.Trees.{plans_tree};
-ghost use Rattle.miss_explain.specs.Explaining.{Explains, FedOn, Follows, IsAtFirst, IsReady, Keeps, MayBeTold, SomeWorld, probed_lines, script_misses};
+ghost use Rattle.miss_explain.specs.Explaining.{Explains, FedOn, Follows, IsAtFirst, IsReady, Keeps, MayBeTold};
+ghost use Rattle.miss_explain.specs.Explaining.{SomeWorld, probed_lines, script_misses};
 
 use crate::miss::write_miss;
 use crate::texts::Texts;
@@ -32,7 +33,8 @@ use step_outputs::Outputs;
 fn feed<P: Probe>(probe: &mut P, event: &ScriptEvent, outputs: &mut Outputs) -> Result<(), Memory>
     requires member { member_of event.now < length (P.group probe.old).members }
     requires places { outputs.old.places ≡ largest_weight (P.group probe.old).stack }
-    ensures fed { (w : mean.World) → Stands (P.group probe.old) w → FedOn (P.group probe.old) event.now w (P.group probe.new) result }
+    ensures fed { (w : mean.World) → Stands (P.group probe.old) w →
+        FedOn (P.group probe.old) event.now w (P.group probe.new) result }
     ensures stays { Stays (P.group probe.old) (P.group probe.new) }
     ensures places { outputs.new.places ≡ outputs.old.places }
 {
@@ -52,7 +54,8 @@ fn feed_uncommon<P: Probe>(
 ) -> Result<(), Memory>
     requires member { member_of event.now < length (P.group probe.old).members }
     requires places { outputs.old.places ≡ largest_weight (P.group probe.old).stack }
-    ensures follows { (w : mean.World) → Stands (P.group probe.old) w → Follows probed (P.group probe.old) event.now w (P.group probe.new) result }
+    ensures follows { (w : mean.World) → Stands (P.group probe.old) w →
+        Follows probed (P.group probe.old) event.now w (P.group probe.new) result }
     ensures stays { Stays (P.group probe.old) (P.group probe.new) }
     ensures places { outputs.new.places ≡ outputs.old.places }
 {
@@ -74,7 +77,8 @@ fn write_probed<O: Sink>(
 ) -> Result<(), SinkError>
     requires entries { texts.entries.now ≡ short_shapes (stack_tree texts.stack.now) (plans_tree texts.plans.now) }
     requires told { MayBeTold (stack_tree texts.stack.now) (plans_tree texts.plans.now) probed }
-    ensures { Wrote (probed_lines (file_tree texts.entry.file.now) (stack_tree texts.entry.stack.now) (plans_tree texts.entry.plans.now) number member probed)
+    ensures { Wrote (probed_lines (file_tree texts.entry.file.now) (stack_tree texts.entry.stack.now)
+        (plans_tree texts.entry.plans.now) number member probed)
         (tells_of O.Sink out.old) (tells_of O.Sink out.new) result }
 {
     match probed {
@@ -95,12 +99,15 @@ fn explain_event<P: Probe, O: Sink>(
     out: &mut O,
 ) -> Result<(), SinkError>
     requires entries { texts.entries.now ≡ short_shapes (stack_tree texts.stack.now) (plans_tree texts.plans.now) }
-    requires ready { IsReady (stack_tree texts.stack.now) (plans_tree texts.plans.now) (P.group probe.old) outputs.old.places }
+    requires ready { IsReady (stack_tree texts.stack.now) (plans_tree texts.plans.now) (P.group probe.old)
+        outputs.old.places }
     requires world { SomeWorld (P.group probe.old) }
     requires member { member_of event.now < length (P.group probe.old).members }
-    ensures kept { Keeps (stack_tree texts.entry.stack.now) (plans_tree texts.entry.plans.now) (P.group probe.old) (P.group probe.new) outputs.new.places }
+    ensures kept { Keeps (stack_tree texts.entry.stack.now) (plans_tree texts.entry.plans.now) (P.group probe.old)
+        (P.group probe.new) outputs.new.places }
     ensures told { (w : mean.World) → Stands (P.group probe.old) w →
-        Explains (file_tree texts.entry.file.now) (stack_tree texts.entry.stack.now) (plans_tree texts.entry.plans.now) number w event.now (P.group probe.new)
+        Explains (file_tree texts.entry.file.now) (stack_tree texts.entry.stack.now) (plans_tree texts.entry.plans.now)
+        number w event.now (P.group probe.new)
         (tells_of O.Sink out.old) (tells_of O.Sink out.new) result }
 {
     match probe.probe(event, outputs) {
@@ -125,10 +132,12 @@ fn explain_events<P: Probe, O: Sink>(
     out: &mut O,
 ) -> Result<(), SinkError>
     requires entries { texts.entries.now ≡ short_shapes (stack_tree texts.stack.now) (plans_tree texts.plans.now) }
-    requires first { IsAtFirst (stack_tree texts.stack.now) (plans_tree texts.plans.now) script.now (P.group probe.old) outputs.old.places }
+    requires first { IsAtFirst (stack_tree texts.stack.now) (plans_tree texts.plans.now) script.now (P.group probe.old)
+        outputs.old.places }
     requires runs { IsRunnable script.now }
     requires few { length script.now.events ≤ most_lines }
-    ensures { Wrote (script_misses (file_tree texts.entry.file.now) (stack_tree texts.entry.stack.now) (plans_tree texts.entry.plans.now) script.now)
+    ensures { Wrote (script_misses (file_tree texts.entry.file.now) (stack_tree texts.entry.stack.now)
+        (plans_tree texts.entry.plans.now) script.now)
         (tells_of O.Sink out.old) (tells_of O.Sink out.new) result }
 {
     let events = script.events.slice();
@@ -151,8 +160,8 @@ fn write_end<O: Sink>(line: &mut Line, events: u64, out: &mut O) -> Result<(), S
     }
 }
 
-/// Explains a script with a group that begins, runs by bypasses and tells of an event why it is no common step: of each step that isn't common its
-/// line is put, then the last line.
+/// Explains a script with a group that begins, runs by bypasses and tells of an event why it is no common step: of each
+/// step that isn't common its line is put, then the last line.
 pub fn explain<P: Probe, O: Sink>(
     alloc: Global,
     probe: &mut P,
@@ -162,10 +171,12 @@ pub fn explain<P: Probe, O: Sink>(
     out: &mut O,
 ) -> Result<(), SinkError>
     requires entries { texts.entries.now ≡ short_shapes (stack_tree texts.stack.now) (plans_tree texts.plans.now) }
-    requires first { IsAtFirst (stack_tree texts.stack.now) (plans_tree texts.plans.now) script.now (P.group probe.old) outputs.old.places }
+    requires first { IsAtFirst (stack_tree texts.stack.now) (plans_tree texts.plans.now) script.now (P.group probe.old)
+        outputs.old.places }
     requires runs { IsRunnable script.now }
     requires few { length script.now.events ≤ most_lines }
-    ensures { Wrote (explained_lines (file_tree texts.entry.file.now) (stack_tree texts.entry.stack.now) (plans_tree texts.entry.plans.now) script.now)
+    ensures { Wrote (explained_lines (file_tree texts.entry.file.now) (stack_tree texts.entry.stack.now)
+        (plans_tree texts.entry.plans.now) script.now)
         (tells_of O.Sink out.old) (tells_of O.Sink out.new) result }
 {
     let mut line = Line::new(alloc);

@@ -16,8 +16,8 @@ use layer_ast::File;
 use layer_mean::Case;
 use shape_core::{Shape, ShapeVisit};
 
-/// A decision on the way of a shape: the visit in which it is made, counted from 1, the place of that, and its line in the text of the place's
-/// layer.
+/// A decision on the way of a shape: the visit in which it is made, counted from 1, the place of that, and its line in
+/// the text of the place's layer.
 #[derive(Clone, Copy, Debug, PartialEq, Eq)]
 pub(crate) struct Spot {
     pub visit: u64,
@@ -28,7 +28,8 @@ pub(crate) struct Spot {
 /// Passes the decisions of a visit.
 #[tactic(auto, using(crate::proofs::Passing::passes_none))]
 fn pass_visit(search: &mut Search, case: Case, file: &File, stack: &Stack, visit: ShapeVisit)
-    ensures { Passes search.old (mean.visit_lines case (file_tree file.now) (stack_tree stack.now) (visit_tree visit)) search.new }
+    ensures { Passes search.old (mean.visit_lines case (file_tree file.now) (stack_tree stack.now) (visit_tree visit))
+        search.new }
 {
     match handler_number(stack, visit) {
         Some(number) => match handler_at(file, visit.place, number) {
@@ -47,7 +48,8 @@ pub(crate) fn find_spot(
     shape: &Shape,
     number: u32,
 ) -> Option<Spot>
-    ensures { option_map spot_tree result ≡ slice_get (mean.shape_spots case (file_tree file.now) (stack_tree stack.now) (shape_tree shape.now)) number }
+    ensures { option_map spot_tree result ≡
+        slice_get (mean.shape_spots case (file_tree file.now) (stack_tree stack.now) (shape_tree shape.now)) number }
 {
     let mut search = Search::Ahead(number);
     for index in 0..shape.visits.len() {

@@ -1,5 +1,7 @@
 -- The tests of conjuncts find the first that doesn't hold.
-use Rattle.std.proofs.Common.{◌≡◌, ◌∙◌, ℕ, suc, ◌+◌, ◌<◌, ◌≤◌, Bool, true, false, ◌&&◌, if◌then◌else◌, List, [], ◌∷◌, ◌++◌, length, Option, option_map, Some, None, fold, refl, sym, ap, subst, arith, append_assoc}
+use Rattle.std.proofs.Common.{◌≡◌, ◌∙◌, ℕ, suc, ◌+◌, ◌<◌, ◌≤◌, Bool, true, false, ◌&&◌, if◌then◌else◌, List, [], ◌∷◌}
+use Rattle.std.proofs.Common.{◌++◌, length, Option, option_map, Some, None, fold, refl, sym, ap, subst, arith}
+use Rattle.std.proofs.Common.{append_assoc}
 use Rattle.std.specs.Prelude.{not, cond, nat_le}
 use Rattle.std.specs.List.{count_by, list_all, position_from}
 use Rattle.std.proofs.lemmas.Bool.{leb-true, le-leb, lt-leb}
@@ -49,9 +51,11 @@ abbrev ends_before : ℕ → List ℕ → ℕ
 ends_before n ends = count_by (λ end. nat_le end n) ends
 
 -- later ends stand behind it
-later_ends : (es : List TraceNumber) (c : Checking) (n : ℕ) → n < length c.guarding.tests → ends_before n (fold one_check c es).ends ≡ ends_before n c.ends
+later_ends : (es : List TraceNumber) (c : Checking) (n : ℕ) → n < length c.guarding.tests →
+    ends_before n (fold one_check c es).ends ≡ ends_before n c.ends
 later_ends [] c n less = refl
-later_ends (e ∷ es) c n less = later_ends es next n (omega (arith, less, longer)) ∙ sum_by_push (λ end. cond (nat_le end n) 1 0) c.ends _
+later_ends (e ∷ es) c n less = later_ends es next n (omega (arith, less, longer)) ∙
+    sum_by_push (λ end. cond (nat_le end n) 1 0) c.ends _
     ∙ behind (nat_le (length next.guarding.tests) n) refl where
       next : Checking
       next = one_check c e
@@ -59,8 +63,10 @@ later_ends (e ∷ es) c n less = later_ends es next n (omega (arith, less, longe
       longer : length c.guarding.tests ≤ length next.guarding.tests
       longer = grown_longer c.guarding.tests next.guarding.tests (conjunct_grows c.guarding e)
 
-      behind : (b : Bool) → nat_le (length next.guarding.tests) n ≡ b → ends_before n c.ends + cond b 1 0 ≡ ends_before n c.ends
-      behind true is = let reached = leb-true (length next.guarding.tests) n is in absurd (omega (arith, less, longer, reached))
+      behind : (b : Bool) → nat_le (length next.guarding.tests) n ≡ b → ends_before n c.ends + cond b 1 0 ≡
+          ends_before n c.ends
+      behind true is = let reached = leb-true (length next.guarding.tests) n is in
+          absurd (omega (arith, less, longer, reached))
       behind false is = omega arith
 
 module _ (i : Input) (ss : List State) where
@@ -71,7 +77,8 @@ module _ (i : Input) (ss : List State) where
   stays_failed : (ts : List Test) (t : Tested) → t.passes ≡ false → (fold (tests i ss) t ts).passes ≡ false
   stays_failed [] t is = is
   stays_failed (prepare r ∷ ts) t is = stays_failed ts (tests i ss t (prepare r)) is
-  stays_failed (require r ∷ ts) t is = stays_failed ts (tests i ss t (require r)) (ap (λ b. b && is_true (reading_of i t.kept ss r)) is)
+  stays_failed (require r ∷ ts) t is =
+      stays_failed ts (tests i ss t (require r)) (ap (λ b. b && is_true (reading_of i t.kept ss r)) is)
   stays_failed (require_operand a ∷ ts) t is =
       stays_failed ts (tests i ss t (require_operand a)) (ap (λ b. b && is_true (operand_at i t.kept a)) is)
 
@@ -88,18 +95,22 @@ module _ (i : Input) (ss : List State) where
             failing_behind n (record { kept = now; passes = b }) (λ x. failing_from i ss (suc n) x.kept (ts ++ us)) ≡
             failing_from i ss (n + suc (length ts)) (fold (tests i ss) (record { kept = now; passes = b }) ts).kept us
         go now true rest passed = rest now passed
-            ∙ (let there : suc n + length ts ≡ n + suc (length ts) = omega arith in ap (λ m. failing_from i ss m (passing now ts).kept us) there)
-        go now false rest passed = absurd (cc (sym passed ∙ stays_failed ts (record { kept = now; passes = false }) refl))
+            ∙ (let there : suc n + length ts ≡ n + suc (length ts) = omega arith in
+            ap (λ m. failing_from i ss m (passing now ts).kept us) there)
+        go now false rest passed =
+            absurd (cc (sym passed ∙ stays_failed ts (record { kept = now; passes = false }) refl))
 
   all_passed : (ts : List Test) (n : ℕ) (k : Kept) → (passing k ts).passes ≡ true → failing_from i ss n k ts ≡ None
   all_passed [] n k passed = refl
   all_passed (t ∷ ts) n k passed = go (tests i ss (record { kept = k; passes = true }) t).kept
       (tests i ss (record { kept = k; passes = true }) t).passes (all_passed ts (suc n)) passed where
-        go : (now : Kept) (b : Bool) → ((now : Kept) → (passing now ts).passes ≡ true → failing_from i ss (suc n) now ts ≡ None) →
+        go : (now : Kept) (b : Bool) →
+            ((now : Kept) → (passing now ts).passes ≡ true → failing_from i ss (suc n) now ts ≡ None) →
             (fold (tests i ss) (record { kept = now; passes = b }) ts).passes ≡ true →
             failing_behind n (record { kept = now; passes = b }) (λ x. failing_from i ss (suc n) x.kept ts) ≡ None
         go now true rest passed = rest now passed
-        go now false rest passed = absurd (cc (sym passed ∙ stays_failed ts (record { kept = now; passes = false }) refl))
+        go now false rest passed =
+            absurd (cc (sym passed ∙ stays_failed ts (record { kept = now; passes = false }) refl))
 
   -- one of these fails
   record FailsWithin (from to : ℕ) (found : Option ℕ) : Type 0 where
@@ -108,25 +119,33 @@ module _ (i : Input) (ss : List State) where
     reached : from ≤ at
     below : at < to
 
-  one_fails : (ts us : List Test) (n : ℕ) (k : Kept) → (passing k ts).passes ≡ false → FailsWithin n (n + length ts) (failing_from i ss n k (ts ++ us))
+  one_fails : (ts us : List Test) (n : ℕ) (k : Kept) → (passing k ts).passes ≡ false →
+      FailsWithin n (n + length ts) (failing_from i ss n k (ts ++ us))
   one_fails [] us n k failed = absurd (cc failed)
   one_fails (t ∷ ts) us n k failed = go (tests i ss (record { kept = k; passes = true }) t).kept
       (tests i ss (record { kept = k; passes = true }) t).passes (one_fails ts us (suc n)) failed where
         go : (now : Kept) (b : Bool) →
-            ((now : Kept) → (passing now ts).passes ≡ false → FailsWithin (suc n) (suc n + length ts) (failing_from i ss (suc n) now (ts ++ us))) →
+            ((now : Kept) → (passing now ts).passes ≡ false →
+            FailsWithin (suc n) (suc n + length ts) (failing_from i ss (suc n) now (ts ++ us))) →
             (fold (tests i ss) (record { kept = now; passes = b }) ts).passes ≡ false →
-            FailsWithin n (n + suc (length ts)) (failing_behind n (record { kept = now; passes = b }) (λ x. failing_from i ss (suc n) x.kept (ts ++ us)))
+            FailsWithin n (n + suc (length ts))
+            (failing_behind n (record { kept = now; passes = b })
+            (λ x. failing_from i ss (suc n) x.kept (ts ++ us)))
         go now true rest failed = let f = rest now failed in let least = f.reached in let most = f.below in
             record { at = f.at; is = f.is; reached = omega (arith, least); below = omega (arith, most) }
         go now false rest failed = record { at = n; is = refl; reached = omega arith; below = omega arith }
 
   -- where some tests are passed and with more of them not all are, one of these more fails
-  fails_between : (ts us vs : List Test) → (tested i ts ss).passes ≡ true → (tested i us ss).passes ≡ false → Grown ts us → Grown us vs →
+  fails_between : (ts us vs : List Test) → (tested i ts ss).passes ≡ true → (tested i us ss).passes ≡ false →
+      Grown ts us → Grown us vs →
       FailsWithin (length ts) (length us) (failing_from i ss 0 nothing_kept vs)
-  fails_between ts us vs passed failed more rest = subst (λ l. FailsWithin (length ts) (length us) (failing_from i ss 0 nothing_kept l)) (sym parted)
+  fails_between ts us vs passed failed more rest =
+      subst (λ l. FailsWithin (length ts) (length us) (failing_from i ss 0 nothing_kept l)) (sym parted)
       (subst (λ o. FailsWithin (length ts) (length us) o) (sym (passed_by ts (more.0 ++ rest.0) 0 nothing_kept passed))
-      (subst (λ m. FailsWithin (length ts) m (failing_from i ss (0 + length ts) (tested i ts ss).kept (more.0 ++ rest.0))) (sym long)
-      (subst (λ n. FailsWithin (length ts) (length ts + length more.0) (failing_from i ss n (tested i ts ss).kept (more.0 ++ rest.0)))
+      (subst (λ m. FailsWithin
+      (length ts) m (failing_from i ss (0 + length ts) (tested i ts ss).kept (more.0 ++ rest.0))) (sym long)
+      (subst (λ n. FailsWithin
+      (length ts) (length ts + length more.0) (failing_from i ss n (tested i ts ss).kept (more.0 ++ rest.0)))
       (let here : length ts ≡ 0 + length ts = omega arith in here) within))) where
         parted : vs ≡ ts ++ (more.0 ++ rest.0)
         parted = rest.1 ∙ ap (λ l. l ++ rest.0) more.1 ∙ append_assoc ts more.0 rest.0
@@ -135,11 +154,14 @@ module _ (i : Input) (ss : List State) where
         long = ap length more.1 ∙ length-append ts more.0
 
         last : (passing (tested i ts ss).kept more.0).passes ≡ false
-        last = ap (λ b. (fold (tests i ss) (record { kept = (tested i ts ss).kept; passes = b }) more.0).passes) (sym passed)
-            ∙ ap (λ (t : Tested). t.passes) (sym (fold-append (tests i ss) (record { kept = nothing_kept; passes = true }) ts more.0))
+        last = ap (λ b. (fold (tests i ss) (record { kept = (tested i ts ss).kept; passes = b }) more.0).passes)
+            (sym passed)
+            ∙ ap (λ (t : Tested). t.passes)
+            (sym (fold-append (tests i ss) (record { kept = nothing_kept; passes = true }) ts more.0))
             ∙ ap (λ l. (tested i l ss).passes) (sym more.1) ∙ failed
 
-        within : FailsWithin (length ts) (length ts + length more.0) (failing_from i ss (length ts) (tested i ts ss).kept (more.0 ++ rest.0))
+        within : FailsWithin (length ts) (length ts + length more.0)
+            (failing_from i ss (length ts) (tested i ts ss).kept (more.0 ++ rest.0))
         within = one_fails more.0 rest.0 (length ts) (tested i ts ss).kept last
 
   module _ (values : List TraceNumber) where
@@ -153,7 +175,8 @@ module _ (i : Input) (ss : List State) where
     unheld e = not (holding e)
 
     -- the tests of conjuncts are passed where all hold
-    passed_as : (es : List TraceNumber) → (tested i (fold conjunct_tests start es).tests ss).passes ≡ list_all holding es
+    passed_as : (es : List TraceNumber) → (tested i (fold conjunct_tests start es).tests ss).passes ≡
+        list_all holding es
     passed_as es = let g : Guarded = record { values = values; conjuncts = es; operations = [] } in
         same_choice (tested i (code_of g).tests ss).passes (holds i g ss) _ _ (code_is_same g i ss)
 
@@ -163,14 +186,16 @@ module _ (i : Input) (ss : List State) where
       hold : list_all holding front ≡ true
       ends : (n : ℕ) → length c.guarding.tests ≤ n → ends_before n c.ends ≡ length front
 
-    passed_behind : (front : List TraceNumber) (c : Checking) → Behind front c → (tested i c.guarding.tests ss).passes ≡ true
+    passed_behind : (front : List TraceNumber) (c : Checking) → Behind front c → (tested i c.guarding.tests ss).passes ≡
+        true
     passed_behind front c b = ap (λ (g : Guarding). (tested i g.tests ss).passes) b.made ∙ passed_as front ∙ b.hold
 
     made_next : (front : List TraceNumber) (c : Checking) (e : TraceNumber) → Behind front c →
         (one_check c e).guarding ≡ fold conjunct_tests start (front ++ e ∷ [])
     made_next front c e b = ap (λ g. conjunct_tests g e) b.made ∙ sym (fold-append conjunct_tests start front (e ∷ []))
 
-    holds_next : (front : List TraceNumber) (e : TraceNumber) (w : Bool) → list_all holding front ≡ true → holding e ≡ w →
+    holds_next : (front : List TraceNumber) (e : TraceNumber) (w : Bool) → list_all holding front ≡ true →
+        holding e ≡ w →
         list_all holding (front ++ e ∷ []) ≡ w
     holds_next front e w hold is = list_all-append holding front (e ∷ []) ∙ (λ z. hold z && (is z && true)) ∙ and-true w
 
@@ -180,7 +205,8 @@ module _ (i : Input) (ss : List State) where
       made = made_next front c e b;
       hold = holds_next front e true b.hold is;
       ends = λ n past. sum_by_push (λ end. cond (nat_le end n) 1 0) c.ends _
-          ∙ (λ z. b.ends n (let longer = grown_longer c.guarding.tests (one_check c e).guarding.tests (conjunct_grows c.guarding e) in
+          ∙ (λ z. b.ends n (let longer = grown_longer c.guarding.tests (one_check c e).guarding.tests
+          (conjunct_grows c.guarding e) in
           omega (arith, longer, past)) z + cond (le-leb _ _ past z) 1 0)
           ∙ sym (length-append front (e ∷ []));
     }
@@ -189,39 +215,48 @@ module _ (i : Input) (ss : List State) where
     abbrev check_found : Checking → Option ℕ
     check_found c = option_map (λ n. ends_before n c.ends) (failing_from i ss 0 nothing_kept c.guarding.tests)
 
-    unheld_next : (front : List TraceNumber) (c : Checking) (e : TraceNumber) (es : List TraceNumber) → Behind front c → holding e ≡ false →
+    unheld_next : (front : List TraceNumber) (c : Checking) (e : TraceNumber) (es : List TraceNumber) → Behind front c →
+        holding e ≡ false →
         check_found (fold one_check (one_check c e) es) ≡ Some (length front)
     unheld_next front c e es b is =
         ap (option_map (λ n. ends_before n (fold one_check next es).ends)) found.is
-        ∙ ap Some (later_ends es next found.at found.below ∙ sum_by_push (λ end. cond (nat_le end found.at) 1 0) c.ends _
-        ∙ (λ z. b.ends found.at found.reached z + cond (later z) 1 0) ∙ (let same : length front + 0 ≡ length front = omega arith in same)) where
+        ∙ ap Some (later_ends es next found.at found.below ∙ sum_by_push (λ end. cond (nat_le end found.at) 1 0) c.ends
+        _
+        ∙ (λ z. b.ends found.at found.reached z + cond (later z) 1 0) ∙
+        (let same : length front + 0 ≡ length front = omega arith in same)) where
           next : Checking
           next = one_check c e
 
           failed : (tested i next.guarding.tests ss).passes ≡ false
-          failed = ap (λ (g : Guarding). (tested i g.tests ss).passes) (made_next front c e b) ∙ passed_as (front ++ e ∷ [])
+          failed = ap (λ (g : Guarding). (tested i g.tests ss).passes) (made_next front c e b) ∙
+              passed_as (front ++ e ∷ [])
               ∙ holds_next front e false b.hold is
 
           found : FailsWithin (length c.guarding.tests) (length next.guarding.tests)
               (failing_from i ss 0 nothing_kept (fold one_check next es).guarding.tests)
-          found = fails_between c.guarding.tests next.guarding.tests (fold one_check next es).guarding.tests (passed_behind front c b) failed
+          found = fails_between c.guarding.tests next.guarding.tests (fold one_check next es).guarding.tests
+              (passed_behind front c b) failed
               (conjunct_grows c.guarding e) (checks_grow es next)
 
           later : nat_le (length next.guarding.tests) found.at ≡ false
           later = lt-leb (length next.guarding.tests) found.at found.below
 
-    finds : (es front : List TraceNumber) (c : Checking) → Behind front c → check_found (fold one_check c es) ≡ position_from unheld (length front) es
-    finds [] front c b = ap (option_map (λ n. ends_before n c.ends)) (all_passed c.guarding.tests 0 nothing_kept (passed_behind front c b))
+    finds : (es front : List TraceNumber) (c : Checking) → Behind front c → check_found (fold one_check c es) ≡
+        position_from unheld (length front) es
+    finds [] front c b = ap (option_map (λ n. ends_before n c.ends))
+        (all_passed c.guarding.tests 0 nothing_kept (passed_behind front c b))
     finds (e ∷ es) front c b = go (holding e) refl (finds es (front ++ e ∷ []) (one_check c e)) where
       go : (w : Bool) → holding e ≡ w →
           (Behind (front ++ e ∷ []) (one_check c e) →
           check_found (fold one_check (one_check c e) es) ≡ position_from unheld (length (front ++ e ∷ [])) es) →
-          check_found (fold one_check (one_check c e) es) ≡ cond (not w) (Some (length front)) (position_from unheld (length front + 1) es)
+          check_found (fold one_check (one_check c e) es) ≡
+          cond (not w) (Some (length front)) (position_from unheld (length front + 1) es)
       go true is rest = rest (behind_next front c e b is)
           ∙ ap (λ n. position_from unheld n es) (length-append front (e ∷ []))
       go false is rest = unheld_next front c e es b is
 
 pub checks_find_unheld : ChecksFindUnheld
-checks_find_unheld g i ss = finds i ss g.values g.conjuncts [] (record { guarding = fold value_tests unguarded g.values; ends = [] })
+checks_find_unheld g i ss =
+    finds i ss g.values g.conjuncts [] (record { guarding = fold value_tests unguarded g.values; ends = [] })
     (record { made = refl; hold = refl; ends = λ n past. refl })
     ∙ sym (position_from-zero (λ e. not (holds_at i (only_values (values_of i ss g.values)) ss e)) g.conjuncts)

@@ -1,5 +1,6 @@
 -- The first item of a list that doesn't pass a test.
-use Rattle.std.proofs.Common.{◌≡◌, ◌∙◌, ℕ, suc, ◌+◌, Bool, true, false, ◌&&◌, List, [], ◌∷◌, ◌++◌, length, Option, Some, None, refl, ap, arith}
+use Rattle.std.proofs.Common.{◌≡◌, ◌∙◌, ℕ, suc, ◌+◌, Bool, true, false, ◌&&◌, List, [], ◌∷◌, ◌++◌, length, Option, Some}
+use Rattle.std.proofs.Common.{None, refl, ap, arith}
 use Rattle.std.specs.Prelude.{not, cond}
 use Rattle.std.specs.List.{list_all, position_from}
 
@@ -25,9 +26,11 @@ module _ {A : Type 0} (p : A → Bool) where
     go false is = let here : n ≡ n + 0 = omega arith in ap Some here
   last_failed (y ∷ ys) x n all not_all = go (p y) all not_all (last_failed ys x (n + 1)) where
     go : (b : Bool) → (b && list_all p ys) ≡ true → (b && list_all p (ys ++ x ∷ [])) ≡ false →
-        (list_all p ys ≡ true → list_all p (ys ++ x ∷ []) ≡ false → failed_from (n + 1) (ys ++ x ∷ []) ≡ Some (n + 1 + length ys)) →
+        (list_all p ys ≡ true → list_all p (ys ++ x ∷ []) ≡ false → failed_from (n + 1) (ys ++ x ∷ []) ≡
+        Some (n + 1 + length ys)) →
         cond (not b) (Some n) (failed_from (n + 1) (ys ++ x ∷ [])) ≡ Some (n + suc (length ys))
-    go true all not_all rest = let there : n + 1 + length ys ≡ n + suc (length ys) = omega arith in rest all not_all ∙ ap Some there
+    go true all not_all rest = let there : n + 1 + length ys ≡ n + suc (length ys) = omega arith in rest all not_all ∙
+        ap Some there
     go false all not_all rest = absurd (cc all)
 
   -- the first is the first of a longer list

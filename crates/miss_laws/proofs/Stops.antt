@@ -1,5 +1,6 @@
 -- Of a hoisted trace the first conjunct that doesn't hold is the check at which following it stops.
-use Rattle.std.proofs.Common.{◌≡◌, ◌∙◌, ℕ, ◌+◌, Bool, true, false, if◌then◌else◌, List, [], ◌∷◌, length, Option, Some, fold, refl, sym, ap, arith}
+use Rattle.std.proofs.Common.{◌≡◌, ◌∙◌, ℕ, ◌+◌, Bool, true, false, if◌then◌else◌, List, [], ◌∷◌, length, Option, Some}
+use Rattle.std.proofs.Common.{fold, refl, sym, ap, arith}
 use Rattle.std.specs.Prelude.{not}
 use Rattle.std.proofs.lemmas.Iterator.Adapters.{position_from-zero}
 use Rattle.std.proofs.lemmas.List.{length-append}
@@ -50,31 +51,37 @@ module _ (sq : Squares) (i : Input) (ss : List State) where
   }
   counts_check t h e false p failed = λ vs b.
       last_failed (holds_at i (only_values vs) ss) h.conjuncts (back h e h.values).term 0
-      (p.guards.passed vs (behind_more sq i ss h.values (back h e h.values).values vs (back_grows h e h.values) b)) (failed vs b)
+      (p.guards.passed vs (behind_more sq i ss h.values (back h e h.values).values vs (back_grows h e h.values) b))
+      (failed vs b)
       ∙ ap Some (let many = p.many in let same : 0 + length h.conjuncts ≡ t.checks = omega (arith, many) in same)
 
   counts : (operations : List Operation) (h : Hoisting) (f : Followed) → Sound sq i operations f → Counts f h →
       Counts (follows i operations f) (fold hoists h operations)
   counts [] h f sound c = c
-  counts (o ∷ operations) h (stopped_at k) sound c = counts operations (hoists h o) (stopped_at k) (unsound operations) (stays_counted k h o c) where
-    unsound : (operations : List Operation) → Sound sq i operations (stopped_at k)
-    unsound [] = tt
-    unsound (o ∷ operations) = tt
-  counts (o ∷ operations) h (on t) sound c = counts operations (hoists h o) (operates i t o) sound.1 (one o (step sq i ss t h o sound.0 c.guards) c) where
-    one : (o : Operation) → Claim sq i ss (operates i t o) (hoists h o) → Passed t h → Counts (operates i t o) (hoists h o)
-    one (check e) claim p = counts_check t h e (is_true (number_of i t.kept t.states e)) p claim
-    one (bind e) claim p = record { guards = claim; many = p.many }
-    one (note m) claim p = record { guards = claim; many = p.many }
-    one (set p c e v) claim q = record { guards = claim; many = q.many }
-    one (set_square p c r k v) claim q = record { guards = claim; many = q.many }
-    one (push p c e numbers m) claim q = record { guards = claim; many = q.many }
-    one (take p c e) claim q = record { guards = claim; many = q.many }
-    one (output dir kind numbers m) claim p = record { guards = claim; many = p.many }
+  counts (o ∷ operations) h (stopped_at k) sound c = counts operations (hoists h o) (stopped_at k) (unsound operations)
+      (stays_counted k h o c) where
+        unsound : (operations : List Operation) → Sound sq i operations (stopped_at k)
+        unsound [] = tt
+        unsound (o ∷ operations) = tt
+  counts (o ∷ operations) h (on t) sound c = counts operations (hoists h o) (operates i t o) sound.1
+      (one o (step sq i ss t h o sound.0 c.guards) c) where
+        one : (o : Operation) → Claim sq i ss (operates i t o) (hoists h o) → Passed t h →
+            Counts (operates i t o) (hoists h o)
+        one (check e) claim p = counts_check t h e (is_true (number_of i t.kept t.states e)) p claim
+        one (bind e) claim p = record { guards = claim; many = p.many }
+        one (note m) claim p = record { guards = claim; many = p.many }
+        one (set p c e v) claim q = record { guards = claim; many = q.many }
+        one (set_square p c r k v) claim q = record { guards = claim; many = q.many }
+        one (push p c e numbers m) claim q = record { guards = claim; many = q.many }
+        one (take p c e) claim q = record { guards = claim; many = q.many }
+        one (output dir kind numbers m) claim p = record { guards = claim; many = p.many }
 
-  ends : (operations : List Operation) → Sound sq i operations (on (before ss)) → first_unheld i (hoisted operations) ss ≡ stop_of (follow i operations ss)
+  ends : (operations : List Operation) → Sound sq i operations (on (before ss)) →
+      first_unheld i (hoisted operations) ss ≡ stop_of (follow i operations ss)
   unfolding follow
   ends operations sound = position_from-zero unheld h.conjuncts
-      ∙ go (follows i operations (on (before ss))) (counts operations nothing_yet (on (before ss)) sound (record { guards = start sq i ss; many = refl })) where
+      ∙ go (follows i operations (on (before ss)))
+      (counts operations nothing_yet (on (before ss)) sound (record { guards = start sq i ss; many = refl })) where
         h : Hoisting
         h = fold hoists nothing_yet operations
 
@@ -90,4 +97,5 @@ module _ (sq : Squares) (i : Input) (ss : List State) where
 
 pub unheld_stops : UnheldStops
 unheld_stops case stack k fields operations i states named made enters =
-    ends (squares_of stack) i states operations (entries_are_sound case stack k fields operations i states named made enters)
+    ends (squares_of stack) i states operations
+    (entries_are_sound case stack k fields operations i states named made enters)

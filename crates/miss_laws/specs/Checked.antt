@@ -15,11 +15,15 @@ use Rattle.check_mean.specs.Checks.{stop_of, first_unheld, checks_of, first_fail
 
 -- The tests of a guarded handler's conjuncts find the first that doesn't hold.
 abbrev pub ChecksFindUnheld : Type 0
-ChecksFindUnheld = (g : Guarded) (i : Input) (states : List State) → first_failing i (checks_of g) states ≡ first_unheld i g states
+ChecksFindUnheld = (g : Guarded) (i : Input) (states : List State) → first_failing i (checks_of g) states ≡
+    first_unheld i g states
 
--- In layers that name only what is there, on the states and inputs of an entry, the first conjunct of its hoisted trace that doesn't hold has the
--- number of the check at which following the trace stops; and all hold where it stops at none.
+-- In layers that name only what is there, on the states and inputs of an entry, the first conjunct of its hoisted trace
+-- that doesn't hold has the number of the check at which following the trace stops; and all hold where it stops at
+-- none.
 abbrev pub UnheldStops : Type 0
-UnheldStops = (case : Case) (stack : List LayerTree) (k : Known) (fields : List (Option ℕ)) (operations : List Operation)
-    (i : Input) (states : List State) → NamedStack stack → trace_of case stack k fields ≡ Ok operations → Enters stack k fields i states →
+UnheldStops = (case : Case) (stack : List LayerTree) (k : Known) (fields : List (Option ℕ))
+    (operations : List Operation)
+    (i : Input) (states : List State) → NamedStack stack → trace_of case stack k fields ≡ Ok operations →
+    Enters stack k fields i states →
     first_unheld i (hoisted operations) states ≡ stop_of (follow i operations states)

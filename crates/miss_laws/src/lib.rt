@@ -1,4 +1,5 @@
-//! That the checks of a stack's traces, asked on the states before a step, tell what the step lacked: the contracts of functions that do nothing.
+//! That the checks of a stack's traces, asked on the states before a step, tell what the step lacked: the contracts of
+//! functions that do nothing.
 #![tactic(auto)]
 
 ghost use Rattle.miss_laws.specs.Checked.{ChecksFindUnheld, UnheldStops};

@@ -12,8 +12,8 @@ use Rattle.stack_mean.specs.Shape.{Known, Shape, shape, has_second_case}
 use Rattle.run_mean.specs.Common.{entry_of, longest_shape, is_common, first_missed}
 use Rattle.run_mean.specs.Member.{Entered, app_cast, app_send, app_leave, clock_tick, from_peer, Step}
 
--- A case lacks a plan, where its packet fits none; or a shape within the limits, for a reason; or its run left the prediction, first at the
--- decision of this number, counted from 0 through all its visits.
+-- A case lacks a plan, where its packet fits none; or a shape within the limits, for a reason; or its run left the
+-- prediction, first at the decision of this number, counted from 0 through all its visits.
 pub data Lack : Type 0 where
   no_plan : Lack
   absent : NoShape → Lack
@@ -44,7 +44,8 @@ entry_named plans (clock_tick moment) = None
 abbrev pub lack_of : Case → Step → Result Shape NoShape → Lack
 lack_of case s (Err reason) = absent reason
 lack_of case s (Ok x) =
-    if nat_le x.length longest_shape then missed (option_map_or (λ k. k) (first_missed case s) 0) else absent no_shape.long
+    if nat_le x.length longest_shape then missed (option_map_or (λ k. k) (first_missed case s) 0) else absent
+    no_shape.long
 
 -- What the first case of an entry lacks, if there is an entry, and the second, if it is made.
 abbrev pub first_lack : List LayerTree → Step → Option Known → Lack
@@ -52,7 +53,8 @@ first_lack stack s None = no_plan
 first_lack stack s (Some known) = lack_of First s (shape stack known First)
 
 abbrev pub second_lack : List LayerTree → Step → Known → Option Lack
-second_lack stack s known = if has_second_case stack known then Some (lack_of Second s (shape stack known Second)) else None
+second_lack stack s known = if has_second_case stack known then Some (lack_of Second s (shape stack known Second)) else
+    None
 
 abbrev pub miss_by : List LayerTree → Step → Option Known → Entry → Miss
 miss_by stack s known entry =

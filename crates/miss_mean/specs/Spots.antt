@@ -1,4 +1,5 @@
--- Where in the layers' texts the decisions of an entry stand: the lines of the statements at which its predicted way decides.
+-- Where in the layers' texts the decisions of an entry stand: the lines of the statements at which its predicted way
+-- decides.
 use Rattle.std.specs.Prelude.{ℕ, List, [], ◌∷◌, ◌++◌, map, slice_get, slice_index_or, Option, option_and_then}
 use Rattle.std.specs.List.{enumerate_from, flat_map, position}
 use Rattle.std.specs.Option.{option_map_or}
@@ -16,7 +17,8 @@ use Rattle.fault_mean.specs.Sorts.{expression_at}
 use Rattle.stack_mean.specs.Shape.{ShapeVisit, Shape}
 
 abbrev mutual
-  -- The lines of the decisions of a statement on its predicted way in a case: of its own, then of the block that is predicted.
+  -- The lines of the decisions of a statement on its predicted way in a case: of its own, then of the block that is
+  -- predicted.
   pub statement_lines : Case → ast.StatementTree → List ℕ
   statement_lines case (ast.push at q items otherwise) = at.line ∷ []
   statement_lines case (ast.take at q names block otherwise) = at.line ∷ block_lines case block
@@ -67,15 +69,16 @@ abbrev pub visit_lines : Case → FileTree → List LayerTree → ShapeVisit →
 visit_lines case file stack v =
     option_map_or (handler_lines case) (option_and_then (handler_at file v.place) (handler_number stack v)) []
 
--- A decision on the way of a shape: the visit in which it is made, counted from 1, the place of that, and its line in the text of the place's
--- layer, which for a layer of the library is counted in that layer's own text.
+-- A decision on the way of a shape: the visit in which it is made, counted from 1, the place of that, and its line in
+-- the text of the place's layer, which for a layer of the library is counted in that layer's own text.
 pub record Spot : Type 0 where
   pub visit : ℕ
   pub place : ℕ
   pub line : ℕ
 
 abbrev pub visit_spots : Case → FileTree → List LayerTree → ℕ × ShapeVisit → List Spot
-visit_spots case file stack x = map (λ line. record { visit = x.0; place = x.1.place; line = line }) (visit_lines case file stack x.1)
+visit_spots case file stack x = map (λ line. record { visit = x.0; place = x.1.place; line = line })
+    (visit_lines case file stack x.1)
 
 -- The decisions of a shape, in order.
 abbrev pub shape_spots : Case → FileTree → List LayerTree → Shape → List Spot

@@ -1,5 +1,6 @@
 -- How it is told why steps weren't common: a line for each of a script.
-use Rattle.std.specs.Prelude.{ℕ, List, [], ◌∷◌, ◌++◌, codes, length, slice_get, slice_index_or, Option, Some, None, option_map, option_to_list, Result, Ok, Err}
+use Rattle.std.specs.Prelude.{ℕ, List, [], ◌∷◌, ◌++◌, codes, length, slice_get, slice_index_or, Option, Some, None}
+use Rattle.std.specs.Prelude.{option_map, option_to_list, Result, Ok, Err}
 use Rattle.std.specs.Fmt.{decimal}
 use Rattle.std.specs.List.{enumerate_from, flat_map}
 use Rattle.std.specs.Option.{option_and_then, option_map_or}
@@ -48,7 +49,8 @@ abbrev pub spot_text : List LayerTree → Spot → List ℕ
 spot_text stack s = codes "visit " ++ decimal s.visit ++ codes " place " ++ decimal s.place ++ codes " "
     ++ (slice_index_or stack s.place no_layer).name ++ codes " line " ++ decimal s.line
 
--- What a case lacks: `noplan`, `absent` with the reason, or where the first decision stands that wasn't taken as predicted.
+-- What a case lacks: `noplan`, `absent` with the reason, or where the first decision stands that wasn't taken as
+-- predicted.
 abbrev pub lack_text : List LayerTree → List Spot → Lack → List ℕ
 lack_text stack spots no_plan = codes "noplan"
 lack_text stack spots (absent reason) = codes "absent " ++ reason_text reason
@@ -59,7 +61,8 @@ abbrev pub second_text : List LayerTree → List Spot → Option Lack → List (
 second_text stack spots None = []
 second_text stack spots (Some lack) = codes "or" ∷ lack_text stack spots lack ∷ []
 
--- `miss I M E LACK`, and ` or LACK` where there is a second case: the step of member M at event I of a script wasn't common.
+-- `miss I M E LACK`, and ` or LACK` where there is a second case: the step of member M at event I of a script wasn't
+-- common.
 unfoldable pub miss_line : FileTree → List LayerTree → List Plan → ℕ → ℕ → Miss → List ℕ
 miss_line file stack plans event id miss = let known = known_at plans miss.entry in line
     (codes "miss" ∷ decimal event ∷ decimal id ∷ entry_text miss.entry
@@ -75,7 +78,9 @@ abbrev pub event_misses : FileTree → List LayerTree → List Plan → ℕ × M
 event_misses file stack plans x = option_to_list (option_map (miss_line file stack plans x.0 (member_of x.1.event))
     (missed_in stack plans x.1.happening.did))
 
--- Why the steps of a script weren't common: a line for each that wasn't, its events counted from 1; last `end N`, of N events.
+-- Why the steps of a script weren't common: a line for each that wasn't, its events counted from 1; last `end N`, of N
+-- events.
 unfoldable pub explained_lines : FileTree → List LayerTree → List Plan → Script → List (List ℕ)
 explained_lines file stack plans s =
-    flat_map (event_misses file stack plans) (enumerate_from 1 (run_of stack plans s)) ++ end_line (length s.events) ∷ []
+    flat_map (event_misses file stack plans) (enumerate_from 1 (run_of stack plans s)) ++ end_line (length s.events) ∷
+    []

@@ -1,4 +1,5 @@
--- How many places a stack has at most, and how many headers a message; what a layer declares of them, and what they carry.
+-- How many places a stack has at most, and how many headers a message; what a layer declares of them, and what they
+-- carry.
 use Rattle.std.specs.Prelude.{ℕ}
 
 abbrev pub most_places : ℕ

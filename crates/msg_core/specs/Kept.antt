@@ -7,7 +7,8 @@ abbrev pub kept : List ℕ → List ℕ
 kept fields = fields ++ replicate (most_fields - length fields) 0
 
 -- the first of these numbers behind which there are zeros, with zeros behind them, are these numbers
-pub kept-take : (n : ℕ) (numbers : List ℕ) → n ≤ length numbers → drop n numbers ≡ replicate (most_fields - n) 0 → kept (take n numbers) ≡ numbers
+pub kept-take : (n : ℕ) (numbers : List ℕ) → n ≤ length numbers → drop n numbers ≡ replicate (most_fields - n) 0 →
+    kept (take n numbers) ≡ numbers
 kept-take n numbers le zeros =
     ap (λ k. take n numbers ++ replicate (most_fields - k) 0) (length-take-le n numbers le)
     ∙ (ap (λ rest. take n numbers ++ rest) (sym zeros) ∙ take-append-drop n numbers)

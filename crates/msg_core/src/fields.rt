@@ -8,7 +8,8 @@ use std::marker::Model;
 /// The most numbers that a header carries.
 pub const MOST_FIELDS: usize = 4;
 
-/// Up to `MOST_FIELDS` numbers, kept in place, with zeros behind them, so that a copy takes no memory; contracts see their list.
+/// Up to `MOST_FIELDS` numbers, kept in place, with zeros behind them, so that a copy takes no memory; contracts see
+/// their list.
 #[derive(Clone, Copy)]
 pub struct Fields {
     numbers: [u32; MOST_FIELDS],
@@ -25,7 +26,8 @@ impl Model for Fields {
 
     ghost view = { λ f. take f.len f.numbers };
 
-    ghost invariant = { λ f. (f.len ≤ most_fields) × (length f.numbers ≡ most_fields) × (drop f.len f.numbers ≡ replicate (most_fields - f.len) 0) };
+    ghost invariant = { λ f. (f.len ≤ most_fields) × (length f.numbers ≡ most_fields) ×
+        (drop f.len f.numbers ≡ replicate (most_fields - f.len) 0) };
 
     ghost inverse = { λ fields. record { numbers = kept fields; len = length fields } };
 

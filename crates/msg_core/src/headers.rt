@@ -12,8 +12,8 @@ use std::marker::Model;
 /// The most headers of a message: one for each place of a stack.
 pub const MOST_HEADERS: usize = 24;
 
-/// At most 24 headers, which take no memory; contracts see their list, the lowest layer's first. They fill the array from its back,
-/// so that a push and a pop at the front touch one header.
+/// At most 24 headers, which take no memory; contracts see their list, the lowest layer's first. They fill the array
+/// from its back, so that a push and a pop at the front touch one header.
 #[derive(Drop)]
 pub struct Headers {
     places: [Header; MOST_HEADERS],

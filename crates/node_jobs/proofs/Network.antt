@@ -1,5 +1,6 @@
 -- What a node handed to its network and heard of it, and which of its receives failed.
-use Rattle.std.proofs.Common.{arith, ◌≡◌, refl, sym, ◌∙◌, ap, subst, ℕ, zero, suc, ◌+◌, ◌<◌, ◌≤◌, Bool, true, false, List, [], ◌∷◌, ◌++◌, length, drop, map, Option, Some, None, append-nil}
+use Rattle.std.proofs.Common.{arith, ◌≡◌, refl, sym, ◌∙◌, ap, subst, ℕ, zero, suc, ◌+◌, ◌<◌, ◌≤◌, Bool, true, false}
+use Rattle.std.proofs.Common.{List, [], ◌∷◌, ◌++◌, length, drop, map, Option, Some, None, append-nil}
 use Rattle.std.specs.Prelude.{replicate, if◌then◌else◌, cond}
 use Rattle.std.proofs.lemmas.List.Sums.{sum_by-cons}
 use Rattle.outside.specs.Links.{Network, Came, Quiet, Broke, next_met, after_recv, first_for}
@@ -26,15 +27,19 @@ use Rattle.node_loop.specs.Serve.{Task, RanOver, after_listens, first_of_plan, f
 use Rattle.node_laws.specs.Network.{sent_as}
 
 -- what was handed on is what the journal hands on
-sends_are : (stack : List LayerTree) (plan : NodePlan) (turns : ℕ) (me : List ℕ) (patience : ℕ) (mode : Mode) (s : Surroundings) →
+sends_are : (stack : List LayerTree) (plan : NodePlan) (turns : ℕ) (me : List ℕ) (patience : ℕ) (mode : Mode)
+    (s : Surroundings) →
     sends_of mode stack (plans_of stack) (first_of_plan stack plan) (doings_of plan me turns patience s.clock s.heard)
     ≡ handed_by stack plan (node_words turns me patience mode) s
 sends_are stack plan turns me patience mode s =
-    sym (sends_are_handed mode stack (plans_of stack) (first_of_plan stack plan) (doings_of plan me turns patience s.clock s.heard))
-    ∙ ap (λ notes. handed mode stack (plans_of stack) (moments stack (plans_of stack) (first_of_plan stack plan) (journal notes)))
+    sym (sends_are_handed mode stack (plans_of stack) (first_of_plan stack plan)
+    (doings_of plan me turns patience s.clock s.heard))
+    ∙ ap (λ notes. handed mode stack (plans_of stack)
+    (moments stack (plans_of stack) (first_of_plan stack plan) (journal notes)))
     (notes_are_of_doings plan me 0 turns patience s.clock s.heard)
 
-module _ (stack : List LayerTree) (plan : NodePlan) (turns : ℕ) (me : List ℕ) (patience : ℕ) (mode : Mode) (s : Surroundings)
+module _ (stack : List LayerTree) (plan : NodePlan) (turns : ℕ) (me : List ℕ) (patience : ℕ) (mode : Mode)
+    (s : Surroundings)
     (all : heard_in (doings_of plan me turns patience s.clock s.heard) ≡ s.heard) where
   abbrev task : Task
   task = record { stack = stack; plan = plan; words = node_words turns me patience mode }
@@ -43,11 +48,14 @@ module _ (stack : List LayerTree) (plan : NodePlan) (turns : ℕ) (me : List ℕ
   doings = doings_of plan me turns patience s.clock s.heard
 
   -- a network that tells was handed this, and told this
-  ran_over : (n n' : Network) → RanOver task s n n' → HandedSome (handed_by stack plan (node_words turns me patience mode) s) s.heard n n'
+  ran_over : (n n' : Network) → RanOver task s n n' →
+      HandedSome (handed_by stack plan (node_words turns me patience mode) s) s.heard n n'
   ran_over n n' r = record {
-    handed = goes_handed mode stack (plans_of stack) (first_of_plan stack plan) doings r.flags (after_listens plan.peers me n) n' r.goes
+    handed = goes_handed mode stack (plans_of stack) (first_of_plan stack plan) doings r.flags
+        (after_listens plan.peers me n) n' r.goes
         ∙ ap (λ h. n.handed ++ map sent_as h) (sends_are stack plan turns me patience mode s);
-    met = goes_met mode stack (plans_of stack) (first_of_plan stack plan) doings r.flags (after_listens plan.peers me n) n' r.goes
+    met = goes_met mode stack (plans_of stack) (first_of_plan stack plan) doings r.flags (after_listens plan.peers me n)
+        n' r.goes
         ∙ ap (λ h. n.met ++ map met_as h) all;
   }
 
@@ -57,13 +65,16 @@ module _ (stack : List LayerTree) (plan : NodePlan) (turns : ℕ) (me : List ℕ
 
 -- a network behind listens or behind nothing
 pub handed_nothing : (n n' : Network) → n'.handed ≡ n.handed → n'.met ≡ n.met → HandedSome [] [] n n'
-handed_nothing n n' handed met = record { handed = handed ∙ sym (append-nil n.handed); met = met ∙ sym (append-nil n.met) }
+handed_nothing n n' handed met =
+    record { handed = handed ∙ sym (append-nil n.handed); met = met ∙ sym (append-nil n.met) }
 
 -- the receives that fail are those that are to fail
 
-flag_is : (id : ℕ) (n : Network) (heard : Heard) → next_met id n ≡ met_as heard → is_next_to_fail n.recvs ≡ is_failure heard
+flag_is : (id : ℕ) (n : Network) (heard : Heard) → next_met id n ≡ met_as heard →
+    is_next_to_fail n.recvs ≡ is_failure heard
 flag_is id n heard is = go (is_next_to_fail n.recvs) (first_for id n.waiting) heard is where
-  go : (b : Bool) (o : Option (List ℕ)) (heard : Heard) → (if b then Broke else elim o [ None ↦ Quiet | Some bytes ↦ Came bytes ]) ≡ met_as heard →
+  go : (b : Bool) (o : Option (List ℕ)) (heard : Heard) →
+      (if b then Broke else elim o [ None ↦ Quiet | Some bytes ↦ Came bytes ]) ≡ met_as heard →
       b ≡ is_failure heard
   go true o (datagram bytes) is = absurd (cc is)
   go true o silence is = absurd (cc is)
@@ -84,21 +95,28 @@ receives_behind : (sends : List Handed) (n : Network) → (after_sends sends n).
 receives_behind [] n = refl
 receives_behind (h ∷ sends) n = receives_behind sends _
 
-pub receives_failed : (mode : Mode) (stack : List LayerTree) (plans : List Plan) (w : World) (doings : List Doing) (flags : List (List Bool)) (n n' : Network) →
-    Goes mode stack plans w doings flags n n' → failures_in (flags_of (length (heard_in doings)) n.recvs) ≡ failures (heard_in doings)
+pub receives_failed : (mode : Mode) (stack : List LayerTree) (plans : List Plan) (w : World) (doings : List Doing)
+    (flags : List (List Bool)) (n n' : Network) →
+    Goes mode stack plans w doings flags n n' → failures_in (flags_of (length (heard_in doings)) n.recvs) ≡
+    failures (heard_in doings)
 receives_failed mode stack plans w [] flags n n' g = refl
 receives_failed mode stack plans w (does event ∷ doings) flags n n' g =
-    ap (λ recvs. failures_in (flags_of (length (heard_in doings)) recvs)) (sym (receives_behind (event_sends mode stack plans w event) n))
-    ∙ receives_failed mode stack plans (happens stack plans w event).world doings (drop 1 flags) (after_sends (event_sends mode stack plans w event) n) n' g.1
+    ap (λ recvs. failures_in (flags_of (length (heard_in doings)) recvs))
+    (sym (receives_behind (event_sends mode stack plans w event) n))
+    ∙ receives_failed mode stack plans (happens stack plans w event).world doings (drop 1 flags)
+    (after_sends (event_sends mode stack plans w event) n) n' g.1
 receives_failed mode stack plans w (asks id heard ∷ doings) flags n n' g =
     flags_more (length (heard_in doings)) n.recvs
     ∙ ap (λ b. cond b 1 0 + failures_in (flags_of (length (heard_in doings)) (drop 1 n.recvs))) (flag_is id n heard g.0)
-    ∙ ap (λ k. cond (is_failure heard) 1 0 + k) (receives_failed mode stack plans w doings flags (after_recv id n) n' g.1)
+    ∙ ap (λ k. cond (is_failure heard) 1 0 + k)
+    (receives_failed mode stack plans w doings flags (after_recv id n) n' g.1)
     ∙ sym (sum_by-cons (λ x. cond (is_failure x) 1 0) heard (heard_in doings))
-receives_failed mode stack plans w (bears id ∷ doings) flags n n' g = receives_failed mode stack plans w doings flags n n' g
+receives_failed mode stack plans w (bears id ∷ doings) flags n n' g =
+    receives_failed mode stack plans w doings flags n n' g
 
 -- fewer calls fail no more
-pub fewer_fail : (few more : ℕ) (flags : List Bool) → few ≤ more → failures_in (flags_of few flags) ≤ failures_in (flags_of more flags)
+pub fewer_fail : (few more : ℕ) (flags : List Bool) → few ≤ more → failures_in (flags_of few flags) ≤ failures_in
+    (flags_of more flags)
 fewer_fail zero more flags le = omega arith
 fewer_fail (suc few) zero flags le = absurd (omega (arith, le))
 fewer_fail (suc few) (suc more) flags le =

@@ -26,7 +26,8 @@ own (Give number id) is = absurd (cc is)
 own (Raw id bytes) is = tt
 own (Show id) is = absurd (cc is)
 
-each_own : (turns : List (ℕ × ScriptEvent)) → AllByRecursion (λ entry. is_request entry.1 ≡ true) turns → AllByRecursion (λ entry. IsOwn entry.1) turns
+each_own : (turns : List (ℕ × ScriptEvent)) → AllByRecursion (λ entry. is_request entry.1 ≡ true) turns →
+    AllByRecursion (λ entry. IsOwn entry.1) turns
 each_own [] h = tt
 each_own (entry ∷ turns) h = (own entry.1 h.0, each_own turns h.1)
 
@@ -36,4 +37,5 @@ servable text plan is runs =
 
 -- A text of too many bytes is refused.
 pub large_plan : (text : List ℕ) → longest_second < length text → node_plan text ≡ Err too_long
-large_plan text more = ap (λ b. if b then Err too_long else plan_of_lines (line_count text + 1) (said_lines text)) (too_large text more)
+large_plan text more = ap (λ b. if b then Err too_long else plan_of_lines (line_count text + 1) (said_lines text))
+    (too_large text more)

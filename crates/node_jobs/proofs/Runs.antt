@@ -24,7 +24,8 @@ use Rattle.node_jobs.specs.Plan.{IsServable, IsReady, RunsPlan, end_of}
 use Rattle.node_jobs.proofs.Below.{each_below}
 
 -- its own members are of the group, and their rows have room
-pub ready : (stack : List LayerTree) (plan : NodePlan) (w : Node) (count : ℕ) → count ≡ length plan.peers → (ids : List ℕ) → ids ≡ w.me →
+pub ready : (stack : List LayerTree) (plan : NodePlan) (w : Node) (count : ℕ) → count ≡ length plan.peers →
+    (ids : List ℕ) → ids ≡ w.me →
     (b : Bool) → b ≡ list_all (λ id. nat_lt id count) ids → b ≡ true → HasRoom stack count → IsReady stack plan w.me
 ready stack plan w count all ids ids_are b is own room = record {
   members = All-from_recursion (λ id. id < length plan.peers) w.me
@@ -33,13 +34,19 @@ ready stack plan w count all ids ids_are b is own room = record {
 }
 
 -- a run of its group
-pub run : (stack : List LayerTree) (plan : NodePlan) (w : Node) → IsReady stack plan w.me → (other : List LayerTree) → other ≡ stack →
-    (me : List ℕ) → me ≡ w.me → (mode : Mode) → mode ≡ w.mode → (a b : Whereabouts) (r : Result (Unit {0}) NodeError) (end : Ended) → end ≡ end_of r →
-    Serves (record { stack = other; plan = plan; words = node_words w.turns me w.patience mode }) a b r → RunsPlan stack plan w a b end
-run stack plan w is_ready other stack_is me me_is mode mode_is a b r end end_is s = subst (RunsPlan stack plan w a b) (sym end_is) (ended r
-    (subst {A = List LayerTree × List ℕ × Mode} (λ x. Serves (record { stack = x.0; plan = plan; words = node_words w.turns x.1 w.patience x.2 }) a b r)
+pub run : (stack : List LayerTree) (plan : NodePlan) (w : Node) → IsReady stack plan w.me → (other : List LayerTree) →
+    other ≡ stack →
+    (me : List ℕ) → me ≡ w.me → (mode : Mode) → mode ≡ w.mode →
+    (a b : Whereabouts) (r : Result (Unit {0}) NodeError) (end : Ended) → end ≡ end_of r →
+    Serves (record { stack = other; plan = plan; words = node_words w.turns me w.patience mode }) a b r →
+    RunsPlan stack plan w a b end
+run stack plan w is_ready other stack_is me me_is mode mode_is a b r end end_is s =
+    subst (RunsPlan stack plan w a b) (sym end_is) (ended r
+    (subst {A = List LayerTree × List ℕ × Mode}
+    (λ x. Serves (record { stack = x.0; plan = plan; words = node_words w.turns x.1 w.patience x.2 }) a b r)
     (λ k. (stack_is k, me_is k, mode_is k)) s)) where
-      ended : (r : Result (Unit {0}) NodeError) → Serves (record { stack = stack; plan = plan; words = node_words w.turns w.me w.patience w.mode }) a b r →
+      ended : (r : Result (Unit {0}) NodeError) →
+          Serves (record { stack = stack; plan = plan; words = node_words w.turns w.me w.patience w.mode }) a b r →
           RunsPlan stack plan w a b (end_of r)
       ended (Ok served) s = record { ready = is_ready; served = s }
       ended (Err Link) s = record { ready = is_ready; served = s }
@@ -56,7 +63,15 @@ module _ (w : Node) (a : Around) (n : Beyond) (between : ℕ) (stack : List Laye
     second = t.text;
     found = f.found;
     beside = t.found;
-    node = record { stack = stack; means = f.means; plan = plan; spelled = t.spells; members = ready.members; room = ready.room };
+    node = record {
+      stack = stack;
+      means = f.means;
+      plan = plan;
+      spelled = t.spells;
+      members = ready.members;
+      room =
+          ready.room;
+    };
   }
 
   untouched : behind a n ≡ before a n → Untouched n

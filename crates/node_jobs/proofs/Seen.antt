@@ -1,5 +1,6 @@
 -- How a node's job ended, as a run of the program.
-use Rattle.std.proofs.Common.{arith, ◌≡◌, refl, sym, ◌∙◌, ap, subst, ℕ, ◌+◌, ◌≤◌, List, [], ◌++◌, length, Option, Some, None, inl, inr}
+use Rattle.std.proofs.Common.{arith, ◌≡◌, refl, sym, ◌∙◌, ap, subst, ℕ, ◌+◌, ◌≤◌, List, [], ◌++◌, length, Option, Some}
+use Rattle.std.proofs.Common.{None, inl, inr}
 use Rattle.std.specs.Prelude.{◌⊎◌, ◌*◌, IsSomeAnd}
 use Rattle.std.specs.List.{concat}
 use Rattle.std.specs.Io.KnownBytes.{Appends}
@@ -9,10 +10,12 @@ use Rattle.outside.specs.declared.sink.SinkError.{SinkError}
 use Rattle.outside.specs.declared.sink.SinkError.TheVariants as sink
 use Rattle.stack_mean.specs.Plans.{plans_of}
 use Rattle.job_mean.specs.Job.{Job, job_of_words}
-use Rattle.end_mean.specs.Status.{FileFault, SecondFault, Ended, done, file_refused, second_refused, read_failed, write_failed, link_failed, no_memory}
+use Rattle.end_mean.specs.Status.{FileFault, SecondFault, Ended, done, file_refused, second_refused, read_failed}
+use Rattle.end_mean.specs.Status.{write_failed, link_failed, no_memory}
 use Rattle.run_mean.specs.Journal.{Handed, note_lines, node_lines}
 use Rattle.job_ends.specs.Printed.{printed_text}
-use Rattle.program_mean.specs.Headline.{Run, OfJob, ReadsStack, Unread, second_for, whole_end, WritesOf, WroteNothing, Began, Ends, Says, LinksFail, whole, cut_off, out_of_memory, gone_on}
+use Rattle.program_mean.specs.Headline.{Run, OfJob, ReadsStack, Unread, second_for, whole_end, WritesOf, WroteNothing}
+use Rattle.program_mean.specs.Headline.{Began, Ends, Says, LinksFail, whole, cut_off, out_of_memory, gone_on}
 use Rattle.group_mean.specs.Node.{node_words}
 use Rattle.group_mean.specs.Node.{Surroundings, NodeWords, failed, noted, played, handed_by}
 use Rattle.output_mean.specs.Judged.{Means}
@@ -30,7 +33,8 @@ use Rattle.node_loop.specs.Around.{Told}
 use Rattle.node_loop.specs.Passing.{HandedSome}
 use Rattle.node_loop.specs.Serve.{MadeAllTurns, CouldNotListen, WentDeaf, BrokenOff, told_on}
 use Rattle.node_laws.proofs.Sendings.{tells_as, tells_same}
-use Rattle.node_jobs.specs.Comes.{Beyond, Node, Good, Ran, Untouched, Lost, Broken, NodeComes, job_of, task_of, before, behind}
+use Rattle.node_jobs.specs.Comes.{Beyond, Node, Good, Ran, Untouched, Lost, Broken, NodeComes, job_of, task_of, before}
+use Rattle.node_jobs.specs.Comes.{behind}
 use Rattle.node_jobs.specs.Seen.{run_of, NodeSeen}
 use Rattle.node_jobs.proofs.Heard.{hears_all, hears_last}
 use Rattle.node_jobs.proofs.Network.{handed_on, handed_nothing}
@@ -71,11 +75,14 @@ module _ (words : List Text) (w : Node) (a : Around) (n : Beyond) (is : job_of_w
   the_run file second s sent written e said = run_of words a n e file second s sent written said
 
   -- what holds of the job and its files
-  job_holds : (Holds : Job → (file second : List ℕ) → Type 0) (good : Good w a.told) (s : Surroundings) (sent : List Handed) (written : List ℕ)
+  job_holds : (Holds : Job → (file second : List ℕ) → Type 0) (good : Good w a.told) (s : Surroundings)
+      (sent : List Handed) (written : List ℕ)
       (e : Errors) (said : List ℕ) → a.reads_after ≡ a.reads → Holds (job_of w) good.file good.second →
       OfJob (the_run (Some good.file) (Some good.second) s sent written e said) Holds
   job_holds Holds good s sent written e said sound holds =
-      subst (λ o. IsSomeAnd o (λ job. (a.reads_after ≡ a.reads) × IsSomeAnd (second_for job (Some good.second)) (λ second. Holds job good.file second)))
+      subst (λ o. IsSomeAnd o
+      (λ job. (a.reads_after ≡ a.reads) ×
+      IsSomeAnd (second_for job (Some good.second)) (λ second. Holds job good.file second)))
       (sym is) (sound, holds)
 
   module _ (r : Ran w a n MadeAllTurns) where
@@ -83,7 +90,8 @@ module _ (words : List Text) (w : Node) (a : Around) (n : Beyond) (is : job_of_w
     words_are = node_words w.turns w.me w.patience w.mode
 
     abbrev lines : List (List ℕ)
-    lines = node_lines r.good.node.stack (plans_of r.good.node.stack) (failed r.served.s) (noted r.good.node.plan words_are r.served.s)
+    lines = node_lines r.good.node.stack (plans_of r.good.node.stack) (failed r.served.s)
+        (noted r.good.node.plan words_are r.served.s)
         (played r.good.node.stack r.good.node.plan words_are r.served.s)
 
     abbrev sent : List Handed
@@ -99,13 +107,17 @@ module _ (words : List Text) (w : Node) (a : Around) (n : Beyond) (is : job_of_w
       sent = sent;
       clock = r.served.told.clock;
       network = handed_on r.good.node.stack r.good.node.plan w.turns w.me w.patience w.mode r.served.s
-          (hears_all r.good.node.plan w.me 0 w.turns w.patience r.served.s.clock r.served.s.heard r.served.moments r.served.answers r.served.borne)
+          (hears_all r.good.node.plan w.me 0 w.turns w.patience r.served.s.clock r.served.s.heard r.served.moments
+          r.served.answers r.served.borne)
           n.told n.told_after r.served.told.network;
       lost = r.served.told.sends;
       written = concat lines;
       put = r.served.written.gained;
       ends = λ e said. (
-        job_holds (λ job file second. WritesOf printed_text job (the_run (Some r.good.file) (Some r.good.second) r.served.s sent (concat lines) e said) file second (concat lines) × (whole_end job file ≡ done))
+        job_holds (λ job file second.
+            WritesOf printed_text job
+            (the_run (Some r.good.file) (Some r.good.second) r.served.s sent (concat lines) e said) file second
+            (concat lines) × (whole_end job file ≡ done))
             r.good r.served.s sent (concat lines) e said r.sound (
               record {
                 node = r.good.node;
@@ -132,15 +144,20 @@ module _ (words : List Text) (w : Node) (a : Around) (n : Beyond) (is : job_of_w
     surroundings = nothing_told;
     sent = [];
     clock = clock_untouched n r.served.clock;
-    network = tells_as n.told n.told_after r.served.network (λ m m' f. handed_nothing m m' (ap (λ x. x.handed) f.is) (ap (λ x. x.met) f.is));
+    network = tells_as n.told n.told_after r.served.network
+        (λ m m' f. handed_nothing m m' (ap (λ x. x.handed) f.is) (ap (λ x. x.met) f.is));
     lost = inl (r.served.sends ∙ omega arith);
     written = [];
     put = same_gained a.output a.output_after r.served.untouched;
     ends = λ e said. (
       ap (λ t. t.faults) r.served.untouched,
-      job_holds (λ job file second. LinksFail job (the_run (Some r.good.file) (Some r.good.second) nothing_told [] [] e said) file second)
+      job_holds (λ job file second.
+          LinksFail job (the_run (Some r.good.file) (Some r.good.second) nothing_told [] [] e said) file second)
           r.good nothing_told [] [] e said r.sound
-          (inl (record { node = r.good.node; moments = refl; answers = refl; written = refl; handed_on = refl }, r.served.faults)),
+          (inl (
+            record { node = r.good.node; moments = refl; answers = refl; written = refl; handed_on = refl },
+            r.served.faults,
+          )),
     );
   }
 
@@ -150,16 +167,20 @@ module _ (words : List Text) (w : Node) (a : Around) (n : Beyond) (is : job_of_w
     deaf_words = node_words w.turns w.me w.patience w.mode
 
     abbrev deaf_lines : List (List ℕ)
-    deaf_lines = note_lines r.good.node.stack (plans_of r.good.node.stack) (failed r.served.s) (noted r.good.node.plan deaf_words r.served.s)
+    deaf_lines = note_lines r.good.node.stack (plans_of r.good.node.stack) (failed r.served.s)
+        (noted r.good.node.plan deaf_words r.served.s)
         (played r.good.node.stack r.good.node.plan deaf_words r.served.s)
 
     abbrev deaf_sent : List Handed
     deaf_sent = handed_by r.good.node.stack r.good.node.plan deaf_words r.served.s
 
-    pub deaf_hears : heard_in (doings_of r.good.node.plan w.me w.turns w.patience r.served.s.clock r.served.s.heard) ≡ r.served.s.heard
-    deaf_hears = subst (λ heard. heard_in (doings_of r.good.node.plan w.me w.turns w.patience r.served.s.clock heard) ≡ heard) (sym r.served.last)
+    pub deaf_hears : heard_in (doings_of r.good.node.plan w.me w.turns w.patience r.served.s.clock r.served.s.heard) ≡
+        r.served.s.heard
+    deaf_hears = subst (λ heard. heard_in (doings_of r.good.node.plan w.me w.turns w.patience r.served.s.clock heard) ≡
+        heard) (sym r.served.last)
         (hears_last r.good.node.plan w.me 0 w.turns w.patience r.served.s.clock r.served.before r.served.turns
-        (subst (λ heard. length heard ≤ length r.served.s.clock * length w.me) r.served.last r.served.within) r.served.borne)
+        (subst (λ heard. length heard ≤ length r.served.s.clock * length w.me) r.served.last r.served.within)
+        r.served.borne)
 
     went_deaf : Reached words w a n link_failed
     went_deaf = record {
@@ -170,13 +191,17 @@ module _ (words : List Text) (w : Node) (a : Around) (n : Beyond) (is : job_of_w
       surroundings = r.served.s;
       sent = deaf_sent;
       clock = r.served.told.clock;
-      network = handed_on r.good.node.stack r.good.node.plan w.turns w.me w.patience w.mode r.served.s deaf_hears n.told n.told_after r.served.told.network;
+      network = handed_on r.good.node.stack r.good.node.plan w.turns w.me w.patience w.mode r.served.s deaf_hears n.told
+          n.told_after r.served.told.network;
       lost = r.served.told.sends;
       written = concat deaf_lines;
       put = r.served.written.gained;
       ends = λ e said. (
         r.served.written.sound,
-        job_holds (λ job file second. LinksFail job (the_run (Some r.good.file) (Some r.good.second) r.served.s deaf_sent (concat deaf_lines) e said) file second)
+        job_holds (λ job file second.
+            LinksFail job (the_run (Some r.good.file) (Some r.good.second) r.served.s deaf_sent (concat deaf_lines) e
+            said)
+            file second)
             r.good r.served.s deaf_sent (concat deaf_lines) e said r.sound
             (inr (
               record {
@@ -196,7 +221,8 @@ module _ (words : List Text) (w : Node) (a : Around) (n : Beyond) (is : job_of_w
     }
 
   -- it was broken off behind a part of what it writes
-  module _ (good : Good w a.told) (sound : a.reads_after ≡ a.reads) (e : SinkError) (r : BrokenOff (task_of w a.told good) e (before a n) (behind a n)) where
+  module _ (good : Good w a.told) (sound : a.reads_after ≡ a.reads) (e : SinkError)
+      (r : BrokenOff (task_of w a.told good) e (before a n) (behind a n)) where
     abbrev on : Surroundings
     on = told_on r.s r.clock_on r.heard_on
 
@@ -204,7 +230,8 @@ module _ (words : List Text) (w : Node) (a : Around) (n : Beyond) (is : job_of_w
     broken_words = node_words w.turns w.me w.patience w.mode
 
     abbrev broken_lines : List (List ℕ)
-    broken_lines = node_lines good.node.stack (plans_of good.node.stack) (failed r.s) (noted good.node.plan broken_words on)
+    broken_lines = node_lines good.node.stack (plans_of good.node.stack) (failed r.s)
+        (noted good.node.plan broken_words on)
         (played good.node.stack good.node.plan broken_words on)
 
     began : (part rest : List ℕ) → concat broken_lines ≡ part ++ rest → (errors : Errors) (said : List ℕ) →
@@ -214,7 +241,10 @@ module _ (words : List Text) (w : Node) (a : Around) (n : Beyond) (is : job_of_w
       heard = r.heard_on;
       sent = r.sent_on;
       rest = rest;
-      whole = job_holds (λ job file second. WritesOf printed_text job (gone_on (the_run (Some good.file) (Some good.second) r.s r.sent part errors said) r.clock_on r.heard_on r.sent_on)
+      whole = job_holds (λ job file second.
+          WritesOf printed_text job
+          (gone_on (the_run (Some good.file) (Some good.second) r.s r.sent part errors said) r.clock_on r.heard_on
+          r.sent_on)
           file second (part ++ rest)) good r.s r.sent part errors said sound (record {
             node = good.node;
             moments = r.moments;
@@ -227,9 +257,11 @@ module _ (words : List Text) (w : Node) (a : Around) (n : Beyond) (is : job_of_w
     }
 
   -- so it ended, behind that part
-  broken : (end : Ended) (e : SinkError) (r : Ran w a n (Broken e)) (part : List ℕ) → Appends a.output.contents a.output_after.contents part →
+  broken : (end : Ended) (e : SinkError) (r : Ran w a n (Broken e)) (part : List ℕ) →
+      Appends a.output.contents a.output_after.contents part →
       ((errors : Errors) (said : List ℕ) →
-      Ends printed_text (the_run (Some r.good.file) (Some r.good.second) r.served.s r.served.sent part errors said) end) → Reached words w a n end
+      Ends printed_text (the_run (Some r.good.file) (Some r.good.second) r.served.s r.served.sent part errors said) end)
+      → Reached words w a n end
   broken end e r part put ends = record {
     file = Some r.good.file;
     second = Some r.good.second;
@@ -252,14 +284,17 @@ module _ (words : List Text) (w : Node) (a : Around) (n : Beyond) (is : job_of_w
 
   broken_memory : Ran w a n (Broken sink.Memory) → Reached words w a n no_memory
   broken_memory r = let f = begins_part a.output a.output_after _ r.served.written in
-      broken no_memory sink.Memory r f.0 f.2 (λ e said. inr (began r.good r.sound sink.Memory r.served f.0 f.1 f.3 e said))
+      broken no_memory sink.Memory r f.0 f.2
+      (λ e said. inr (began r.good r.sound sink.Memory r.served f.0 f.1 f.3 e said))
 
   -- it ended before it ran
   module _ (untouched : Untouched n) where
-    nothing : (file second : Option (List ℕ)) (e : Errors) (said : List ℕ) → WroteNothing (the_run file second nothing_told [] [] e said)
+    nothing : (file second : Option (List ℕ)) (e : Errors) (said : List ℕ) →
+        WroteNothing (the_run file second nothing_told [] [] e said)
     nothing file second e said = record { written = refl; sent = refl; sound = untouched.faults }
 
-    abbrev not_run : (end : Ended) (file second : Option (List ℕ)) → Finds (job_of w) a.told file → Beside (job_of w) a.told second →
+    abbrev not_run : (end : Ended) (file second : Option (List ℕ)) → Finds (job_of w) a.told file →
+        Beside (job_of w) a.told second →
         a.output_after ≡ a.output →
         ((e : Errors) (said : List ℕ) → Ends printed_text (the_run file second nothing_told [] [] e said) end) →
         Reached words w a n end
@@ -278,7 +313,8 @@ module _ (words : List Text) (w : Node) (a : Around) (n : Beyond) (is : job_of_w
       ends = ends;
     }
 
-    file_before : (fault : FileFault) → Comes (job_of w) a (file_refused fault) → Reached words w a n (file_refused fault)
+    file_before : (fault : FileFault) → Comes (job_of w) a (file_refused fault) →
+        Reached words w a n (file_refused fault)
     file_before fault c = let s = next_second (job_of w) a.told in
         not_run (file_refused fault) (Some c.cause.file) s.0 c.cause.found s.1 c.untouched (λ e said. record {
           sound = c.sound;
@@ -287,11 +323,15 @@ module _ (words : List Text) (w : Node) (a : Around) (n : Beyond) (is : job_of_w
           nothing = nothing (Some c.cause.file) s.0 e said;
         })
 
-    second_before : (fault : SecondFault) → Comes (job_of w) a (second_refused fault) → Reached words w a n (second_refused fault)
+    second_before : (fault : SecondFault) → Comes (job_of w) a (second_refused fault) →
+        Reached words w a n (second_refused fault)
     second_before fault c =
-        not_run (second_refused fault) (Some c.cause.file) (Some c.cause.second) c.cause.found c.cause.beside c.untouched (λ e said. record {
+        not_run (second_refused fault) (Some c.cause.file) (Some c.cause.second) c.cause.found c.cause.beside
+        c.untouched (λ e said. record {
           stack = c.cause.stack;
-          refused = subst (λ o. IsSomeAnd o (λ job. (a.reads_after ≡ a.reads) × IsSomeAnd (second_for job (Some c.cause.second)) (λ second.
+          refused = subst (λ o.
+              IsSomeAnd o (λ job. (a.reads_after ≡ a.reads) ×
+              IsSomeAnd (second_for job (Some c.cause.second)) (λ second.
               Means c.cause.file c.cause.stack × (second_fault job c.cause.stack second ≡ Some fault)))) (sym is)
               (c.sound, (c.cause.means, c.cause.refused));
           nothing = nothing (Some c.cause.file) (Some c.cause.second) e said;
@@ -330,14 +370,16 @@ module _ (words : List Text) (w : Node) (a : Around) (n : Beyond) (is : job_of_w
   reached_so _ c = absurd c
 
 -- what was said, as this run has it
-said_as : (words : List Text) (a : Around) (n : Beyond) (e : Errors) (file second : Option (List ℕ)) (s : Surroundings) (handed : List Handed)
+said_as : (words : List Text) (a : Around) (n : Beyond) (e : Errors) (file second : Option (List ℕ)) (s : Surroundings)
+    (handed : List Handed)
     (written said : List ℕ) (end : Ended) → Says (other.run_of words a e file second None written said) end →
     Says (run_of words a n e file second s handed written said) end
 said_as words a n e file second s handed written said end (whole all is) = whole all is
 said_as words a n e file second s handed written said end (cut_off part rose is) = cut_off part rose is
 said_as words a n e file second s handed written said end (out_of_memory part is) = out_of_memory part is
 
-pub node_seen : (words : List Text) (w : Node) (a : Around) (n : Beyond) (e : Errors) (end : Ended) → job_of_words words ≡ Some (job_of w) →
+pub node_seen : (words : List Text) (w : Node) (a : Around) (n : Beyond) (e : Errors) (end : Ended) →
+    job_of_words words ≡ Some (job_of w) →
     NodeComes w a n end → Said end e → NodeSeen words w a n e
 node_seen words w a n e end is came said =
     let r = reached_so words w a n is end came in

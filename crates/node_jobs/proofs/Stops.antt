@@ -13,7 +13,8 @@ use Rattle.file_jobs.specs.Second.{StopsAt}
 use Rattle.node_jobs.specs.Comes.{Node, Beyond, Untouched, NodeComes}
 
 module _ (w : Node) (a : Around) (n : Beyond) (untouched : Untouched n) (same : a.output_after ≡ a.output) where
-  pub stopped_at_plan : (between : ℕ) (stack : List LayerTree) (end : Ended) → IsStack w.file a.told a.reads between stack →
+  pub stopped_at_plan : (between : ℕ) (stack : List LayerTree) (end : Ended) →
+      IsStack w.file a.told a.reads between stack →
       StopsAt node_plan w.plan (option_map after_read a.told) between a.reads_after end → NodeComes w a n end
   stopped_at_plan between stack (second_refused (misspelled fault)) f s = record {
     came = record {

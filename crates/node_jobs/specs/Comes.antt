@@ -1,4 +1,5 @@
--- What the job of a node comes to: what its reads found, what was written, handed to the network and heard of it, and why it ended so.
+-- What the job of a node comes to: what its reads found, what was written, handed to the network and heard of it, and
+-- why it ended so.
 use Rattle.std.specs.Prelude.{◌≡◌, ◌⊎◌, ℕ, List, Option, Some}
 use Rattle.clap.specs.Walk.{Text}
 use Rattle.outside.specs.Links.{Network}
@@ -9,15 +10,16 @@ use Rattle.outside.specs.declared.sink.SinkError.{SinkError}
 use Rattle.outside.specs.declared.sink.SinkError.TheVariants.{Failed, Memory}
 use Rattle.run_mean.specs.Mode.{Mode}
 use Rattle.job_mean.specs.Job.{Job, node}
-use Rattle.end_mean.specs.Status.{Ended, done, file_refused, second_refused, read_failed, write_failed, link_failed, no_memory}
+use Rattle.end_mean.specs.Status.{Ended, done, file_refused, second_refused, read_failed, write_failed, link_failed}
+use Rattle.end_mean.specs.Status.{no_memory}
 use Rattle.group_mean.specs.Node.{node_words}
 use Rattle.output_mean.specs.Output.{IsNode}
 use Rattle.job_ends.specs.Comes.{Around, Beside, Comes, Finds}
 use Rattle.node_loop.specs.Around as outside
 use Rattle.node_loop.specs.Serve.{BrokenOff, CouldNotListen, MadeAllTurns, Task, WentDeaf, Whereabouts, whereabouts}
 
--- A network and a clock before a job and behind it: how many listens and receives failed, how many sends, what the network tells, and the
--- moments that the clock is to tell.
+-- A network and a clock before a job and behind it: how many listens and receives failed, how many sends, what the
+-- network tells, and the moments that the clock is to tell.
 pub record Beyond : Type 0 where
   pub faults : ℕ
   pub faults_after : ℕ
@@ -28,7 +30,8 @@ pub record Beyond : Type 0 where
   pub clock : Option (List ℕ)
   pub clock_after : Option (List ℕ)
 
-abbrev pub lying_beyond : (faults faults_after sends sends_after : ℕ) → (told told_after : Option Network) → (clock clock_after : Option (List ℕ)) → Beyond
+abbrev pub lying_beyond : (faults faults_after sends sends_after : ℕ) → (told told_after : Option Network) →
+    (clock clock_after : Option (List ℕ)) → Beyond
 lying_beyond faults faults_after sends sends_after told told_after clock clock_after = record {
   faults = faults;
   faults_after = faults_after;
@@ -43,7 +46,8 @@ lying_beyond faults faults_after sends sends_after told told_after clock clock_a
 -- The same, by what links and a clock were before and after.
 abbrev pub beyond : {N C : Type 0} → networks.Ghosts N → clocks.Ghosts C → N → N → C → C → Beyond
 beyond n c links links_after clock clock_after =
-    lying_beyond (n.faults links) (n.faults links_after) (n.send_faults links) (n.send_faults links_after) (n.told links) (n.told links_after)
+    lying_beyond (n.faults links) (n.faults links_after) (n.send_faults links) (n.send_faults links_after)
+    (n.told links) (n.told links_after)
     (c.told clock) (c.told clock_after)
 
 -- A job had nothing to do with them.
@@ -75,7 +79,8 @@ pub record Good (w : Node) (told : Option Shelved) : Type 0 where
 
 -- What it is to do then, and what surrounds it.
 abbrev pub task_of : (w : Node) (told : Option Shelved) → Good w told → Task
-task_of w told good = record { stack = good.node.stack; plan = good.node.plan; words = node_words w.turns w.me w.patience w.mode }
+task_of w told good =
+    record { stack = good.node.stack; plan = good.node.plan; words = node_words w.turns w.me w.patience w.mode }
 
 abbrev pub before : Around → Beyond → Whereabouts
 before a n = whereabouts (outside.surrounding a.output n.faults n.sends n.told) n.clock

@@ -15,8 +15,8 @@ pub record IsBorne (w : Node) (n : Network) : Type 0 where
   pub listens : flags_of (length w.me) n.listens ≡ replicate (length w.me) false
   pub receives : failures_in (flags_of (w.turns * length w.me) n.recvs) ≤ w.patience
 
--- The network bore the node: so it tells; or, where it doesn't tell, its count of failed listens and receives didn't rise, nor does it stand at
--- its last value.
+-- The network bore the node: so it tells; or, where it doesn't tell, its count of failed listens and receives didn't
+-- rise, nor does it stand at its last value.
 abbrev pub LinksBear : Node → (told : Option Network) → (faults faults_after : ℕ) → Type 0
 LinksBear w (Some n) faults after = IsBorne w n
 LinksBear w None faults after = Rose faults after → ⊥
@@ -29,10 +29,13 @@ CallsFor w a n shelf (second_refused fault) = BadSecond (job_of w) (Some shelf) 
 CallsFor w a n shelf read_failed = Unfound (job_of w) (Some shelf)
 CallsFor w a n shelf _ = ⊥
 
--- Where the shelf tells, each end comes where it is called for: 1 where the file is found and refused; 3 where it is good and the plan is found
--- and refused, hasn't an own member, or has members with too many rows; 4 where one of the two isn't found; and where they are found and good,
--- no put failed and the network bore the node, 0, and all turns were made.
+-- Where the shelf tells, each end comes where it is called for: 1 where the file is found and refused; 3 where it is
+-- good and the plan is found and refused, hasn't an own member, or has members with too many rows; 4 where one of the
+-- two isn't found; and where they are found and good, no put failed and the network bore the node, 0, and all turns
+-- were made.
 pub record NodeExact (w : Node) (a : Around) (n : Beyond) (status : ℕ) : Type 0 where
-  pub due : (shelf : Shelved) (end : Ended) → a.told ≡ Some shelf → CallsFor w a n shelf end → Due (status_number end) status
-  pub complete : (shelf : Shelved) → Good w (Some shelf) → a.told ≡ Some shelf → NoPutFailed a → LinksBear w n.told n.faults n.faults_after →
+  pub due : (shelf : Shelved) (end : Ended) → a.told ≡ Some shelf → CallsFor w a n shelf end →
+      Due (status_number end) status
+  pub complete : (shelf : Shelved) → Good w (Some shelf) → a.told ≡ Some shelf → NoPutFailed a →
+      LinksBear w n.told n.faults n.faults_after →
       Ran w a n MadeAllTurns ⊎ (status ≡ 7)

@@ -45,7 +45,8 @@ abbrev pub task : List LayerTree → NodePlan → Node → Task
 task stack plan w = record { stack = stack; plan = plan; words = node_words w.turns w.me w.patience w.mode }
 
 -- It ran, and something holds of its run.
-pub record Served (stack : List LayerTree) (plan : NodePlan) (w : Node) (Holds : Task → Whereabouts → Whereabouts → Type 0) (a b : Whereabouts) : Type 0 where
+pub record Served (stack : List LayerTree) (plan : NodePlan) (w : Node) (Holds : Task → Whereabouts → Whereabouts →
+    Type 0) (a b : Whereabouts) : Type 0 where
   pub ready : IsReady stack plan w.me
   pub served : Holds (task stack plan w) a b
 

@@ -15,8 +15,10 @@ use Rattle.node_loop.specs.Around.{Told}
 use Rattle.node_loop.specs.Passing.{HandedSome}
 use Rattle.node_jobs.specs.Comes.{Beyond, Node, job_of}
 
--- A run of these words that met these files, of which a node has no third, and these surroundings, handed this to the network, wrote this and said this.
-abbrev pub run_of : List Text → Around → Beyond → Errors → (file second : Option (List ℕ)) → Surroundings → List Handed → (written said : List ℕ) → Run
+-- A run of these words that met these files, of which a node has no third, and these surroundings, handed this to the
+-- network, wrote this and said this.
+abbrev pub run_of : List Text → Around → Beyond → Errors → (file second : Option (List ℕ)) → Surroundings →
+    List Handed → (written said : List ℕ) → Run
 run_of words a n e file second surroundings sent written said = record {
   words = words;
   file = file;
@@ -34,8 +36,9 @@ run_of words a n e file second surroundings sent written said = record {
   status = e.status;
 }
 
--- What the reads of a node's files find, where the shelf tells; what its clock told; what was handed to its network and heard of it, where
--- that tells; what the sinks gained; and that this is a run of the program: it ended in one way, for the cause of its status.
+-- What the reads of a node's files find, where the shelf tells; what its clock told; what was handed to its network and
+-- heard of it, where that tells; what the sinks gained; and that this is a run of the program: it ended in one way, for
+-- the cause of its status.
 pub record NodeSeen (words : List Text) (w : Node) (a : Around) (n : Beyond) (e : Errors) : Type 0 where
   pub file : Option (List ℕ)
   pub second : Option (List ℕ)

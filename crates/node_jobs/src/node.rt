@@ -33,7 +33,8 @@ pub fn run_node<S: Shelf, O: Sink, N: Links, C: Clock>(
     clock: &mut C,
 ) -> Ending
     ensures { NodeComes (words_of node.now)
-        (around S.Shelf O.Sink shelf.old shelf.new out.old out.new) (beyond N.Links C.Clock links.old links.new clock.old clock.new) (shown result) }
+        (around S.Shelf O.Sink shelf.old shelf.new out.old out.new)
+        (beyond N.Links C.Clock links.old links.new clock.old clock.new) (shown result) }
 {
     match fetch_stack(alloc, node.file, shelf) {
         Ok(stack) => match fetch_plan(alloc, node.plan, shelf) {

@@ -1,5 +1,6 @@
 -- How many sendings an event has, and how many of them are lost.
-use Rattle.std.proofs.Common.{◌≡◌, ℕ, ◌+◌, ◌≤◌, Bool, List, [], ◌∷◌, length, take, drop, refl, sym, ap, ◌∙◌, length-append, arith, Option, None}
+use Rattle.std.proofs.Common.{◌≡◌, ℕ, ◌+◌, ◌≤◌, Bool, List, [], ◌∷◌, length, take, drop, refl, sym, ap, ◌∙◌}
+use Rattle.std.proofs.Common.{length-append, arith, Option, None}
 use Rattle.std.proofs.lemmas.List.{length-map, length-replicate, take-append-drop, length-drop}
 use Rattle.std.specs.List.{flat_map}
 use Rattle.std.specs.Prelude.{replicate}
@@ -21,7 +22,8 @@ abbrev pub fans : ℕ → List (Output × Option ℕ) → ℕ
 fans id [] = 0
 fans id (o ∷ outs) = fan id o.0 + fans id outs
 
-pub output_fan : (plans : List Plan) (id : ℕ) (o : Output) (plan : Option ℕ) → length (handed_output plans id (o, plan)) ≡ fan id o
+pub output_fan : (plans : List Plan) (id : ℕ) (o : Output) (plan : Option ℕ) →
+    length (handed_output plans id (o, plan)) ≡ fan id o
 output_fan plans id (packet p) plan = length-map (receivers id p.view p.dest) _
 output_fan plans id (deliver_cast peer body) plan = refl
 output_fan plans id (deliver_send peer body) plan = refl
@@ -31,7 +33,8 @@ output_fan plans id nowhere plan = refl
 output_fan plans id (timer a) plan = refl
 output_fan plans id (quiet dir event) plan = refl
 
-pub outputs_fan : (plans : List Plan) (id : ℕ) (outs : List (Output × Option ℕ)) → length (flat_map (handed_output plans id) outs) ≡ fans id outs
+pub outputs_fan : (plans : List Plan) (id : ℕ) (outs : List (Output × Option ℕ)) →
+    length (flat_map (handed_output plans id) outs) ≡ fans id outs
 outputs_fan plans id [] = refl
 outputs_fan plans id (o ∷ outs) =
     length-append (handed_output plans id o) (flat_map (handed_output plans id) outs)
@@ -54,19 +57,23 @@ losses_are id k (o ∷ outs) failed few =
     let f = fan id o.0 in
     let left : length (drop f failed) ≤ fans id outs = (let d = length-drop f failed in omega (arith, few, d)) in
     length-append (replicate (failures_in (take f failed)) k) (losses id (number_behind k o.0) outs (drop f failed))
-    ∙ ap (λ n. n + length (losses id (number_behind k o.0) outs (drop f failed))) (length-replicate (failures_in (take f failed)) k)
+    ∙ ap (λ n. n + length (losses id (number_behind k o.0) outs (drop f failed)))
+    (length-replicate (failures_in (take f failed)) k)
     ∙ ap (λ n. failures_in (take f failed) + n) (losses_are id (number_behind k o.0) outs (drop f failed) left)
     ∙ sym (failures_append (take f failed) (drop f failed))
     ∙ ap failures_in (take-append-drop f failed)
 
-pub event_losses_are : (mode : Mode) (stack : List LayerTree) (plans : List Plan) (w : World) (event : ScriptEvent) (failed : List Bool) →
-    length failed ≤ length (event_sends mode stack plans w event) → length (event_losses stack plans w event failed) ≡ failures_in failed
+pub event_losses_are : (mode : Mode) (stack : List LayerTree) (plans : List Plan) (w : World) (event : ScriptEvent)
+    (failed : List Bool) →
+    length failed ≤ length (event_sends mode stack plans w event) → length (event_losses stack plans w event failed) ≡
+    failures_in failed
 event_losses_are mode stack plans w event failed = go (happens stack plans w event).did where
   none : (failed : List Bool) → length failed ≤ 0 → 0 ≡ failures_in failed
   none [] few = refl
   none (x ∷ failed) few = absurd (omega (arith, few))
 
-  go : (d : Did) → length failed ≤ length (handed_in mode stack plans (member_of event) d) → length (losses_in plans w event d failed) ≡ failures_in failed
+  go : (d : Did) → length failed ≤ length (handed_in mode stack plans (member_of event) d) →
+      length (losses_in plans w event d failed) ≡ failures_in failed
   go (taken s) few =
       let n = outputs_fan plans (member_of event) (as_sent mode stack plans s) in
       let same = fans_hang_on_no_plan plans (member_of event) (short_from mode stack plans s) None s.outputs in

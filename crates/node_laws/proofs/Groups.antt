@@ -1,5 +1,6 @@
 -- Views stay within the group, and what is sent goes to members of it.
-use Rattle.std.proofs.Common.{◌≡◌, ℕ, zero, suc, ◌+◌, ◌-◌, ◌<◌, ◌≤◌, Bool, true, false, List, [], ◌∷◌, ◌++◌, map, Option, Some, None, refl, ap, subst, arith}
+use Rattle.std.proofs.Common.{◌≡◌, ℕ, zero, suc, ◌+◌, ◌-◌, ◌<◌, ◌≤◌, Bool, true, false, List, [], ◌∷◌, ◌++◌, map}
+use Rattle.std.proofs.Common.{Option, Some, None, refl, ap, subst, arith}
 use Rattle.std.specs.Prelude.{◌^◌, ◌==◌, ◌&&◌, not, nat_lt, if◌then◌else◌, option_map, option_to_list, slice_get}
 use Rattle.std.specs.Int.{bit_at}
 use Rattle.std.specs.List.{AllByRecursion, filter, filter_map, flat_map, range_with_len, sum_by}
@@ -33,17 +34,22 @@ use Rattle.member_laws.proofs.Members.{bits_le, cons_each, each_unit}
 use Rattle.run_mean.specs.Common.{plan_behind, plan_for, short_from, with_plans}
 use Rattle.run_mean.specs.Journal.{receivers, handed_output, handed_in}
 use Rattle.run_mean.specs.View.{first_view, mask_of, last_ltime}
-use Rattle.run_mean.specs.Member.{inside, out, opened, installed, Output, deliver_cast, deliver_send, block, announce, packet, nowhere, timer, quiet, packet_to, above, below, output_of, announced, packet_in, step_from, member_behind}
+use Rattle.run_mean.specs.Member.{inside, out, opened, installed, Output, deliver_cast, deliver_send, block, announce}
+use Rattle.run_mean.specs.Member.{packet, nowhere, timer, quiet, packet_to, above, below, output_of, announced}
+use Rattle.run_mean.specs.Member.{packet_in, step_from, member_behind}
 use Rattle.run_mean.specs.World.{World, member_at, Happening, here_of}
-use Rattle.node_laws.specs.Groups.{IsWithin, AreWithin, FirstViewsAreWithin, EventsKeepWithin, IsSendable, SendsAreSendable}
+use Rattle.node_laws.specs.Groups.{IsWithin, AreWithin, FirstViewsAreWithin, EventsKeepWithin, IsSendable}
+use Rattle.node_laws.specs.Groups.{SendsAreSendable}
 use Rattle.node_laws.proofs.Happenings.{each_happens}
 use Rattle.node_laws.proofs.Wires.{wires_fit}
 
 -- what passes a test and so is so is so of each that passes
-each_passing : (p : ℕ → Bool) (P : ℕ → Type 0) → ((x : ℕ) → p x ≡ true → P x) → (xs : List ℕ) → AllByRecursion P (filter p xs)
+each_passing : (p : ℕ → Bool) (P : ℕ → Type 0) → ((x : ℕ) → p x ≡ true → P x) → (xs : List ℕ) →
+    AllByRecursion P (filter p xs)
 each_passing p P so [] = tt
 each_passing p P so (x ∷ xs) = go (p x) refl (each_passing p P so xs) where
-  go : (b : Bool) → p x ≡ b → AllByRecursion P (filter p xs) → AllByRecursion P (if b then x ∷ filter p xs else filter p xs)
+  go : (b : Bool) → p x ≡ b → AllByRecursion P (filter p xs) →
+      AllByRecursion P (if b then x ∷ filter p xs else filter p xs)
   go true passes rest = (so x passes, rest)
   go false fails rest = rest
 
@@ -60,11 +66,13 @@ bit_below : (mask n id : ℕ) → mask < 2 ^ n → (bit_at mask id == 1) ≡ tru
 bit_below mask n id small set = go (nat_lt id n) refl where
   go : (b : Bool) → nat_lt id n ≡ b → id < n
   go true less = ltb-true id n less
-  go false more = absurd (omega (arith, eqb-true (bit_at mask id) 1 set, bit_at_above mask n id small (ltb-false id n more)))
+  go false more = absurd
+      (omega (arith, eqb-true (bit_at mask id) 1 set, bit_at_above mask n id small (ltb-false id n more)))
 
 ids_below : (view : View) (n : ℕ) → view.mask < 2 ^ n → AllByRecursion (λ id. id < n) (ids view)
 ids_below view n small =
-    each_passing (λ id. bit_at view.mask id == 1) (λ id. id < n) (λ id. bit_below view.mask n id small) (range_with_len 0 32)
+    each_passing (λ id. bit_at view.mask id == 1) (λ id. id < n) (λ id. bit_below view.mask n id small)
+    (range_with_len 0 32)
 
 twice : (k : ℕ) → 2 ^ (k + 1) ≡ 2 ^ k + 2 ^ k
 twice k =
@@ -84,7 +92,8 @@ one_more true n first kept h rest = omega (
 )
 one_more false n first kept h rest = omega (arith, rest h, twice first)
 
-powers_below : (p : ℕ → Bool) (n first count : ℕ) → AllByRecursion (λ id. id < n) (filter p (range_with_len first count)) →
+powers_below : (p : ℕ → Bool) (n first count : ℕ) →
+    AllByRecursion (λ id. id < n) (filter p (range_with_len first count)) →
     sum_by (λ id. 2 ^ id) (filter p (range_with_len first count)) ≤ 2 ^ n - 2 ^ first
 powers_below p n first zero h = omega arith
 powers_below p n first (suc count) h =
@@ -100,7 +109,8 @@ mask_below view ranks n h = omega (
 
 -- members
 
-opened_within : (stack : List LayerTree) (view : View) (id n : ℕ) → view.mask < 2 ^ n → IsWithin n (opened stack view id)
+opened_within : (stack : List LayerTree) (view : View) (id n : ℕ) → view.mask < 2 ^ n →
+    IsWithin n (opened stack view id)
 opened_within stack view id n small = go (rank view id) where
   go : (o : Option ℕ) → IsWithin n
       (option_map_or (λ me. inside view (map (λ layer. fresh layer me (member_count view) view.ltime) stack)) o out)
@@ -113,7 +123,8 @@ installed_within stack view id ranks n h = go (view.ltime == last_ltime) where
   go : (b : Bool) → IsWithin n (option_map_or (λ next. opened stack next id)
       (if b then None else Some record { ltime = view.ltime + 1; mask = mask_of view ranks }) out)
   go true = tt
-  go false = opened_within stack (record { ltime = view.ltime + 1; mask = mask_of view ranks }) id n (mask_below view ranks n h)
+  go false = opened_within stack (record { ltime = view.ltime + 1; mask = mask_of view ranks }) id n
+      (mask_below view ranks n h)
 
 behind_within : (stack : List LayerTree) (view : View) (id n : ℕ) (states : List State) (first : Option ℕ) →
     AllByRecursion (λ id. id < n) (ids view) →
@@ -121,26 +132,30 @@ behind_within : (stack : List LayerTree) (view : View) (id n : ℕ) (states : Li
 behind_within stack view id n states None h = h
 behind_within stack view id n states (Some ranks) h = installed_within stack view id ranks n h
 
-member_within : (w : World) (id n : ℕ) (view : View) (states : List State) → AreWithin n w → member_at w id ≡ inside view states →
+member_within : (w : World) (id n : ℕ) (view : View) (states : List State) → AreWithin n w →
+    member_at w id ≡ inside view states →
     AllByRecursion (λ id. id < n) (ids view)
 member_within w id n view states h is = subst (IsWithin n) is (each_or (IsWithin n) w.members id out h tt)
 
 pub first_views_are_within : FirstViewsAreWithin
 first_views_are_within stack group stamp n few =
     each_map (λ _. Unit {0}) (IsWithin n) (opened stack (first_view n))
-    (λ id _. opened_within stack (first_view n) id n (omega (arith, pow_pos n))) (range_with_len 0 n) (each_unit (range_with_len 0 n))
+    (λ id _. opened_within stack (first_view n) id n (omega (arith, pow_pos n))) (range_with_len 0 n)
+    (each_unit (range_with_len 0 n))
 
 pub events_keep_within : EventsKeepWithin
-events_keep_within stack plans w event n h = each_happens stack plans w event (λ (happening : Happening). AreWithin n happening.world) record {
-  refusing = λ refusal. h;
-  missing = h;
-  showing = h;
-  stepping = λ view states what is.
-      let id = member_of event in
-      let step = step_from stack (here_of w view id) id states what in
-      each_set (IsWithin n) w.members id (member_behind view step) h
-      (behind_within stack view id n step.work.states (slice_get (filter_map announced step.outputs) 0) (member_within w id n view states h is));
-}
+events_keep_within stack plans w event n h =
+    each_happens stack plans w event (λ (happening : Happening). AreWithin n happening.world) record {
+      refusing = λ refusal. h;
+      missing = h;
+      showing = h;
+      stepping = λ view states what is.
+          let id = member_of event in
+          let step = step_from stack (here_of w view id) id states what in
+          each_set (IsWithin n) w.members id (member_behind view step) h
+          (behind_within stack view id n step.work.states (slice_get (filter_map announced step.outputs) 0)
+          (member_within w id n view states h is));
+    }
 
 -- what is sent
 
@@ -182,15 +197,18 @@ view_out here n Down e h = view_below here n e.kind e h
 views_out : (here : Here) (n : ℕ) (outs : List (Dir × Event)) → AllByRecursion (λ id. id < n) (ids here.view) →
     AllByRecursion (AreBelow n) (filter_map packet_in (map (output_of here) outs))
 views_out here n [] h = tt
-views_out here n (x ∷ outs) h = cons_each (AreBelow n) (packet_in (output_of here x)) _ (view_out here n x.0 x.1 h) (views_out here n outs h)
+views_out here n (x ∷ outs) h = cons_each (AreBelow n) (packet_in (output_of here x)) _ (view_out here n x.0 x.1 h)
+    (views_out here n outs h)
 
 receivers_below : (id n : ℕ) (view : View) (to : Dest) → AllByRecursion (λ id. id < n) (ids view) →
     AllByRecursion (λ id. id < n) (receivers id view to)
 receivers_below id n view dest.All h = each_filter (λ other. not (other == id)) (λ id. id < n) (ids view) h
-receivers_below id n view (dest.Rank rank) h = each_listed (λ id. id < n) (slice_get (ids view) rank) (each_where (λ id. id < n) (ids view) rank h)
+receivers_below id n view (dest.Rank rank) h = each_listed (λ id. id < n) (slice_get (ids view) rank)
+    (each_where (λ id. id < n) (ids view) rank h)
 
 module _ (stack : List LayerTree) (plans : List Plan) (id n : ℕ) (limits : IsWithinLimits stack) where
-  sent : (p : Packet) (plan : Option ℕ) → AreBelow n p → IsSpellable stack p → AllByRecursion (IsSendable n id) (handed_output plans id (packet p, plan))
+  sent : (p : Packet) (plan : Option ℕ) → AreBelow n p → IsSpellable stack p →
+      AllByRecursion (IsSendable n id) (handed_output plans id (packet p, plan))
   sent p plan within is = each_map (λ to. to < n) (IsSendable n id) _ (λ to less. record {
     own = refl;
     peer = less;
@@ -203,7 +221,8 @@ module _ (stack : List LayerTree) (plans : List Plan) (id n : ℕ) (limits : IsW
   all_sent next [] within are = tt
   all_sent next (packet p ∷ outputs) within are =
       each_append (IsSendable n id) (handed_output plans id (packet p, plan_for plans next (packet p))) _
-      (sent p (plan_for plans next (packet p)) within.0 are.0) (all_sent (plan_behind next (packet p)) outputs within.1 are.1)
+      (sent p (plan_for plans next (packet p)) within.0 are.0)
+      (all_sent (plan_behind next (packet p)) outputs within.1 are.1)
   all_sent next (deliver_cast peer body ∷ outputs) within are = all_sent next outputs within are
   all_sent next (deliver_send peer body ∷ outputs) within are = all_sent next outputs within are
   all_sent next (block a ∷ outputs) within are = all_sent next outputs within are

@@ -10,8 +10,10 @@ use Rattle.script_mean.specs.Event.{member_of}
 use Rattle.script_mean.specs.declared.event.ScriptEvent.{ScriptEvent}
 use Rattle.script_mean.specs.declared.event.ScriptEvent.TheVariants as script
 use Rattle.stack_mean.specs.Plan.{Plan}
-use Rattle.run_mean.specs.Member.{Member, inside, out, Input, cast, send, leave, tick, datagram, Refusal, is_out, Entered, entered, step_from}
-use Rattle.run_mean.specs.World.{World, member_at, packet_number, taken, refused, absent, shown, Happening, only, here_of, world_behind, stepped_inside, stepped_of, stepped, given, happens}
+use Rattle.run_mean.specs.Member.{Member, inside, out, Input, cast, send, leave, tick, datagram, Refusal, is_out}
+use Rattle.run_mean.specs.Member.{Entered, entered, step_from}
+use Rattle.run_mean.specs.World.{World, member_at, packet_number, taken, refused, absent, shown, Happening, only}
+use Rattle.run_mean.specs.World.{here_of, world_behind, stepped_inside, stepped_of, stepped, given, happens}
 
 -- it holds where the world stays as it is, and behind each step of a member that is in a view
 pub record Each (stack : List LayerTree) (w : World) (id : ℕ) (Holds : Happening → Type 0) : Type 0 where
@@ -19,9 +21,11 @@ pub record Each (stack : List LayerTree) (w : World) (id : ℕ) (Holds : Happeni
   pub missing : Holds (only w absent)
   pub showing : Holds (only w shown)
   pub stepping : (view : View) (states : List State) (what : Entered) → member_at w id ≡ inside view states →
-      let s = step_from stack (here_of w view id) id states what in Holds (record { world = world_behind w view id s; did = taken s })
+      let s = step_from stack (here_of w view id) id states what in
+      Holds (record { world = world_behind w view id s; did = taken s })
 
-module _ (stack : List LayerTree) (plans : List Plan) (w : World) (id : ℕ) (Holds : Happening → Type 0) (each : Each stack w id Holds) where
+module _ (stack : List LayerTree) (plans : List Plan) (w : World) (id : ℕ) (Holds : Happening → Type 0)
+    (each : Each stack w id Holds) where
   of_entered : (view : View) (states : List State) (r : Result Entered Refusal) → member_at w id ≡ inside view states →
       Holds (stepped_inside stack w id view states r)
   of_entered view states (Err refusal) is = each.refusing refusal
@@ -38,7 +42,8 @@ module _ (stack : List LayerTree) (plans : List Plan) (w : World) (id : ℕ) (Ho
   of_given None = each.missing
   of_given (Some p) = of_stepped (datagram (full_bytes p))
 
-pub each_happens : (stack : List LayerTree) (plans : List Plan) (w : World) (event : ScriptEvent) (Holds : Happening → Type 0) →
+pub each_happens : (stack : List LayerTree) (plans : List Plan) (w : World) (event : ScriptEvent)
+    (Holds : Happening → Type 0) →
     Each stack w (member_of event) Holds → Holds (happens stack plans w event)
 unfolding happens
 each_happens stack plans w (script.Cast id body) Holds each = of_stepped stack plans w id Holds each (cast body)

@@ -1,5 +1,7 @@
 -- The lines of losses stand behind those of their packets: the numbers of a packet's losses are its own.
-use Rattle.std.proofs.Common.{◌≡◌, ◌∙◌, ℕ, zero, suc, ◌+◌, ◌<◌, ◌≤◌, Bool, true, false, List, [], ◌∷◌, ◌++◌, length, take, drop, map, replicate, Option, None, refl, ap, subst, arith, append_assoc, length-append}
+use Rattle.std.proofs.Common.{◌≡◌, ◌∙◌, ℕ, zero, suc, ◌+◌, ◌<◌, ◌≤◌, Bool, true, false, List, [], ◌∷◌, ◌++◌, length}
+use Rattle.std.proofs.Common.{take, drop, map, replicate, Option, None, refl, ap, subst, arith, append_assoc}
+use Rattle.std.proofs.Common.{length-append}
 use Rattle.std.specs.Prelude.{◌==◌, cond, count_by, option_to_list}
 use Rattle.std.specs.List.{AllByRecursion, cons_option, filter_map}
 use Rattle.std.proofs.lemmas.Bool.{eq-eqb, ne_eqb}
@@ -12,11 +14,14 @@ use Rattle.script_mean.specs.declared.event.ScriptEvent.{ScriptEvent}
 use Rattle.stack_mean.specs.Plan.{Plan}
 use Rattle.run_mean.specs.Common.{plan_behind, with_plans}
 use Rattle.run_mean.specs.Journal.{lost_annex, node_moment_lines, note_lines}
-use Rattle.run_mean.specs.Member.{Output, deliver_cast, deliver_send, block, announce, packet, nowhere, timer, quiet, packet_in, step_from}
+use Rattle.run_mean.specs.Member.{Output, deliver_cast, deliver_send, block, announce, packet, nowhere, timer, quiet}
+use Rattle.run_mean.specs.Member.{packet_in, step_from}
 use Rattle.run_mean.specs.Report.{number_behind, output_lines, lines_of_outputs, installed_line, lines_of, Moment}
 use Rattle.run_mean.specs.World.{World, Did, taken, refused, absent, shown, Happening, here_of, happens}
 use Rattle.node_laws.specs.Doings.{Doing, does, asks, bears, note_in}
-use Rattle.node_laws.specs.Losses.{fan, failures_in, lost_line, deaf_line, journal_line, lossy_lines, losses, moment_at, first_in, event_lines, losses_in, event_losses, event_sends, first_of, written_of, lost_of, moments_of, WrittenIsOfNotes, SendsAreHanded}
+use Rattle.node_laws.specs.Losses.{fan, failures_in, lost_line, deaf_line, journal_line, lossy_lines, losses, moment_at}
+use Rattle.node_laws.specs.Losses.{first_in, event_lines, losses_in, event_losses, event_sends, first_of, written_of}
+use Rattle.node_laws.specs.Losses.{lost_of, moments_of, WrittenIsOfNotes, SendsAreHanded}
 use Rattle.node_laws.proofs.Happenings.{each_happens}
 
 -- how often a number is among some
@@ -38,15 +43,19 @@ always zero k = refl
 always (suc n) k = omega (arith, often_cons k (replicate n k) k true (eq-eqb k k refl), always n k)
 
 never_below : (low k : ℕ) (xs : List ℕ) → AllByRecursion (λ x. low ≤ x) xs → k < low → often xs k ≡ 0
-never_below low k xs h less = never xs k (each_so (λ x. low ≤ x) (λ x. x ≡ k → ⊥) (λ x more same. omega (arith, more, same, less)) xs h)
+never_below low k xs h less =
+    never xs k (each_so (λ x. low ≤ x) (λ x. x ≡ k → ⊥) (λ x more same. omega (arith, more, same, less)) xs h)
 
 never_above : (high k : ℕ) (xs : List ℕ) → AllByRecursion (λ x. x < high) xs → high ≤ k → often xs k ≡ 0
-never_above high k xs h more = never xs k (each_so (λ x. x < high) (λ x. x ≡ k → ⊥) (λ x less same. omega (arith, less, same, more)) xs h)
+never_above high k xs h more =
+    never xs k (each_so (λ x. x < high) (λ x. x ≡ k → ⊥) (λ x less same. omega (arith, less, same, more)) xs h)
 
-each_at_least : (low high : ℕ) (xs : List ℕ) → low ≤ high → AllByRecursion (λ x. high ≤ x) xs → AllByRecursion (λ x. low ≤ x) xs
+each_at_least : (low high : ℕ) (xs : List ℕ) → low ≤ high → AllByRecursion (λ x. high ≤ x) xs →
+    AllByRecursion (λ x. low ≤ x) xs
 each_at_least low high xs less h = each_so (λ x. high ≤ x) (λ x. low ≤ x) (λ x more. omega (arith, more, less)) xs h
 
-each_less : (low high : ℕ) (xs : List ℕ) → low ≤ high → AllByRecursion (λ x. x < low) xs → AllByRecursion (λ x. x < high) xs
+each_less : (low high : ℕ) (xs : List ℕ) → low ≤ high → AllByRecursion (λ x. x < low) xs →
+    AllByRecursion (λ x. x < high) xs
 each_less low high xs less h = each_so (λ x. x < low) (λ x. x < high) (λ x below. omega (arith, below, less)) xs h
 
 -- an output that is no packet goes to nobody and takes no number
@@ -57,15 +66,23 @@ record IsSilent (o : Output) : Type 0 where
   none : packet_in o ≡ None
   bare : (failed : ℕ → ℕ) (k : ℕ) (plan : Option ℕ) → lost_annex failed k (o, plan) ≡ []
 
-by_packet : (P : Output → Type 0) → ((p : Packet) → P (packet p)) → ((o : Output) → IsSilent o → P o) → (o : Output) → P o
+by_packet : (P : Output → Type 0) → ((p : Packet) → P (packet p)) → ((o : Output) → IsSilent o → P o) → (o : Output) →
+    P o
 by_packet P sends other (packet p) = sends p
-by_packet P sends other (deliver_cast peer body) = other _ (record { number = λ k. refl; nobody = λ id. refl; none = refl; bare = λ failed k plan. refl })
-by_packet P sends other (deliver_send peer body) = other _ (record { number = λ k. refl; nobody = λ id. refl; none = refl; bare = λ failed k plan. refl })
-by_packet P sends other (block a) = other _ (record { number = λ k. refl; nobody = λ id. refl; none = refl; bare = λ failed k plan. refl })
-by_packet P sends other (announce a) = other _ (record { number = λ k. refl; nobody = λ id. refl; none = refl; bare = λ failed k plan. refl })
-by_packet P sends other nowhere = other _ (record { number = λ k. refl; nobody = λ id. refl; none = refl; bare = λ failed k plan. refl })
-by_packet P sends other (timer a) = other _ (record { number = λ k. refl; nobody = λ id. refl; none = refl; bare = λ failed k plan. refl })
-by_packet P sends other (quiet dir event) = other _ (record { number = λ k. refl; nobody = λ id. refl; none = refl; bare = λ failed k plan. refl })
+by_packet P sends other (deliver_cast peer body) =
+    other _ (record { number = λ k. refl; nobody = λ id. refl; none = refl; bare = λ failed k plan. refl })
+by_packet P sends other (deliver_send peer body) =
+    other _ (record { number = λ k. refl; nobody = λ id. refl; none = refl; bare = λ failed k plan. refl })
+by_packet P sends other (block a) =
+    other _ (record { number = λ k. refl; nobody = λ id. refl; none = refl; bare = λ failed k plan. refl })
+by_packet P sends other (announce a) =
+    other _ (record { number = λ k. refl; nobody = λ id. refl; none = refl; bare = λ failed k plan. refl })
+by_packet P sends other nowhere =
+    other _ (record { number = λ k. refl; nobody = λ id. refl; none = refl; bare = λ failed k plan. refl })
+by_packet P sends other (timer a) =
+    other _ (record { number = λ k. refl; nobody = λ id. refl; none = refl; bare = λ failed k plan. refl })
+by_packet P sends other (quiet dir event) =
+    other _ (record { number = λ k. refl; nobody = λ id. refl; none = refl; bare = λ failed k plan. refl })
 
 -- the number behind outputs, and behind what an event came to
 
@@ -84,8 +101,10 @@ numbers_grow : (k : ℕ) (outs : List (Output × Option ℕ)) → k ≤ number_a
 numbers_grow k [] = omega arith
 numbers_grow k (o ∷ outs) = omega (arith, number_grows k o.0, numbers_grow (number_behind k o.0) outs)
 
-one_counted : (k : ℕ) (packets : List Packet) (o : Output) → number_behind k o + length packets ≡ k + length (cons_option (packet_in o) packets)
-one_counted k packets = by_packet (λ o. number_behind k o + length packets ≡ k + length (cons_option (packet_in o) packets))
+one_counted : (k : ℕ) (packets : List Packet) (o : Output) → number_behind k o + length packets ≡
+    k + length (cons_option (packet_in o) packets)
+one_counted k packets =
+    by_packet (λ o. number_behind k o + length packets ≡ k + length (cons_option (packet_in o) packets))
     (λ p. omega arith) (λ o silent. rw (silent.number k, silent.none) refl)
 
 all_counted : (plans : List Plan) (k : ℕ) (next : Option ℕ) (outputs : List Output) →
@@ -107,11 +126,13 @@ module _ (id : ℕ) where
       (λ p less. each_same (λ x. x < high) (failing (packet p) failed) k (omega (arith, less)))
       (λ o silent less. rw (silent.nobody id) tt)
 
-  losses_from : (k : ℕ) (outs : List (Output × Option ℕ)) (failed : List Bool) → AllByRecursion (λ x. k ≤ x) (losses id k outs failed)
+  losses_from : (k : ℕ) (outs : List (Output × Option ℕ)) (failed : List Bool) →
+      AllByRecursion (λ x. k ≤ x) (losses id k outs failed)
   losses_from k [] failed = tt
   losses_from k (o ∷ outs) failed = each_append (λ x. k ≤ x) (replicate (failing o.0 failed) k) _
       (each_same (λ x. k ≤ x) (failing o.0 failed) k (omega arith))
-      (each_at_least k (number_behind k o.0) _ (number_grows k o.0) (losses_from (number_behind k o.0) outs (drop (fan id o.0) failed)))
+      (each_at_least k (number_behind k o.0) _ (number_grows k o.0)
+      (losses_from (number_behind k o.0) outs (drop (fan id o.0) failed)))
 
   losses_below : (k : ℕ) (outs : List (Output × Option ℕ)) (failed : List Bool) →
       AllByRecursion (λ x. x < number_after k outs) (losses id k outs failed)
@@ -125,13 +146,16 @@ module _ (id : ℕ) where
   -- where losses are counted as they are told, the lines are those that are told
 
   own_lines : (told : ℕ → ℕ) (k : ℕ) (plan : Option ℕ) (failed : List Bool) (o : Output) →
-      (k < number_behind k o → told k ≡ failing o failed) → lost_annex told k (o, plan) ≡ replicate (failing o failed) (lost_line k)
+      (k < number_behind k o → told k ≡ failing o failed) → lost_annex told k (o, plan) ≡
+      replicate (failing o failed) (lost_line k)
   own_lines told k plan failed = by_packet
-      (λ o. (k < number_behind k o → told k ≡ failing o failed) → lost_annex told k (o, plan) ≡ replicate (failing o failed) (lost_line k))
+      (λ o. (k < number_behind k o → told k ≡ failing o failed) → lost_annex told k (o, plan) ≡
+      replicate (failing o failed) (lost_line k))
       (λ p same. ap (λ n. replicate n (lost_line k)) (same (omega arith)))
       (λ o silent same. silent.bare told k plan ∙ rw (silent.nobody id) refl)
 
-  lines_as_told : (stack : List LayerTree) (told : ℕ → ℕ) (k : ℕ) (outs : List (Output × Option ℕ)) (failed : List Bool) →
+  lines_as_told : (stack : List LayerTree) (told : ℕ → ℕ) (k : ℕ) (outs : List (Output × Option ℕ))
+      (failed : List Bool) →
       ((j : ℕ) → k ≤ j → j < number_after k outs → told j ≡ often (losses id k outs failed) j) →
       lines_of_outputs stack (lost_annex told) id k outs ≡ lossy_lines stack id k outs failed
   lines_as_told stack told k [] failed same = refl
@@ -146,7 +170,8 @@ module _ (id : ℕ) where
         always own k,
         never_below next k (losses id next outs left) (losses_from next outs left) less,
       ) in
-      let others : (j : ℕ) → next ≤ j → j < number_after next outs → told j ≡ often (losses id next outs left) j = λ j more less. omega (
+      let others : (j : ℕ) → next ≤ j → j < number_after next outs → told j ≡ often (losses id next outs left) j =
+      λ j more less. omega (
         arith,
         same j (omega (arith, more, number_grows k o.0)) less,
         often_append (replicate own k) (losses id next outs left) j,
@@ -181,7 +206,8 @@ module _ (stack : List LayerTree) (plans : List Plan) (w : World) (event : Scrip
             );
       }
 
-  left_below : (d : Did) (failed : List Bool) → AllByRecursion (λ x. x < number_left plans (first_in w) d) (losses_in plans w event d failed)
+  left_below : (d : Did) (failed : List Bool) →
+      AllByRecursion (λ x. x < number_left plans (first_in w) d) (losses_in plans w event d failed)
   left_below (taken s) failed = losses_below (member_of event) (first_in w) (with_plans plans None s.outputs) failed
   left_below (refused refusal) failed = tt
   left_below absent failed = tt
@@ -202,15 +228,21 @@ module _ (stack : List LayerTree) (plans : List Plan) (w : World) (event : Scrip
   goes_up : first_in w ≤ first_in behind
   goes_up = omega (arith, numbered_on, left_grows did)
 
-  here_below : (failed : List Bool) → AllByRecursion (λ x. x < first_in behind) (event_losses stack plans w event failed)
-  here_below failed = each_less (number_left plans (first_in w) did) (first_in behind) _ (omega (arith, numbered_on)) (left_below did failed)
+  here_below : (failed : List Bool) →
+      AllByRecursion (λ x. x < first_in behind) (event_losses stack plans w event failed)
+  here_below failed = each_less (number_left plans (first_in w) did) (first_in behind) _ (omega (arith, numbered_on))
+      (left_below did failed)
 
   did_lines : (told : ℕ → ℕ) (m : Moment) (d : Did) (failed : List Bool) →
-      ((k : ℕ) → first_in w ≤ k → k < number_left plans (first_in w) d → told k ≡ often (losses_in plans w event d failed) k) →
+      ((k : ℕ) → first_in w ≤ k → k < number_left plans (first_in w) d →
+      told k ≡ often (losses_in plans w event d failed) k) →
       lines_of stack
-      (λ s. lines_of_outputs stack (lost_annex told) (member_of event) (first_in w) (with_plans plans None s.outputs)) m d
-      ≡ lines_of stack (λ s. lossy_lines stack (member_of event) (first_in w) (with_plans plans None s.outputs) failed) m d
-  did_lines told m (taken s) failed same = ap (λ lines. lines ++ map (installed_line (member_of m.event)) (option_to_list s.installs))
+      (λ s. lines_of_outputs stack (lost_annex told) (member_of event) (first_in w) (with_plans plans None s.outputs)) m
+      d
+      ≡ lines_of stack (λ s. lossy_lines stack (member_of event) (first_in w) (with_plans plans None s.outputs) failed)
+      m d
+  did_lines told m (taken s) failed same =
+      ap (λ lines. lines ++ map (installed_line (member_of m.event)) (option_to_list s.installs))
       (lines_as_told (member_of event) stack told (first_in w) (with_plans plans None s.outputs) failed same)
   did_lines told m (refused refusal) failed same = refl
   did_lines told m absent failed same = refl
@@ -220,7 +252,8 @@ module _ (stack : List LayerTree) (plans : List Plan) (w : World) (event : Scrip
       ((k : ℕ) → first_in w ≤ k → k < first_in behind → told k ≡ often (event_losses stack plans w event failed) k) →
       node_moment_lines stack plans told (moment_at stack plans w event) ≡ event_lines stack plans w event failed
   moment_lines told failed same = ap (λ lines. journal_line event ∷ lines)
-      (did_lines told (moment_at stack plans w event) did failed (λ k more less. same k more (omega (arith, less, numbered_on))))
+      (did_lines told (moment_at stack plans w event) did failed
+      (λ k more less. same k more (omega (arith, less, numbered_on))))
 
 -- what a node does from a world on
 
@@ -239,7 +272,8 @@ module _ (stack : List LayerTree) (plans : List Plan) where
   -- what is written behind losses of earlier packets
   written_behind : (front : List ℕ) (w : World) (doings : List Doing) (failed : List (List Bool)) →
       AllByRecursion (λ x. x < first_in w) front →
-      note_lines stack plans (often (front ++ lost_of stack plans w doings failed)) (filter_map note_in doings) (moments_of stack plans w doings)
+      note_lines stack plans (often (front ++ lost_of stack plans w doings failed)) (filter_map note_in doings)
+      (moments_of stack plans w doings)
       ≡ written_of stack plans w doings failed
   written_behind front w [] failed earlier = refl
   written_behind front w (does event ∷ doings) failed earlier =
@@ -256,14 +290,16 @@ module _ (stack : List LayerTree) (plans : List Plan) where
       ) in
       let first = moment_lines stack plans w event (often all) (first_of failed) own in
       let both = each_append (λ x. x < first_in next) front here
-      (each_less (first_in w) (first_in next) front (goes_up stack plans w event) earlier) (here_below stack plans w event (first_of failed)) in
+      (each_less (first_in w) (first_in next) front (goes_up stack plans w event) earlier)
+      (here_below stack plans w event (first_of failed)) in
       let rest = subst (λ lost.
       note_lines stack plans (often lost) (filter_map note_in doings) (moments_of stack plans next doings)
       ≡ written_of stack plans next doings (drop 1 failed)) (append_assoc front here later)
       (written_behind (front ++ here) next doings (drop 1 failed) both) in
       λ i. first i ++ rest i
   written_behind front w (asks id heard ∷ doings) failed earlier = written_behind front w doings failed earlier
-  written_behind front w (bears id ∷ doings) failed earlier = ap (λ lines. deaf_line id ∷ lines) (written_behind front w doings failed earlier)
+  written_behind front w (bears id ∷ doings) failed earlier =
+      ap (λ lines. deaf_line id ∷ lines) (written_behind front w doings failed earlier)
 
 pub written_is_of_notes : WrittenIsOfNotes
 written_is_of_notes stack plans w doings failed = written_behind stack plans [] w doings failed tt
@@ -271,6 +307,7 @@ written_is_of_notes stack plans w doings failed = written_behind stack plans [] 
 pub sends_are_handed : SendsAreHanded
 sends_are_handed mode stack plans w [] = refl
 sends_are_handed mode stack plans w (does event ∷ doings) =
-    ap (λ sends. event_sends mode stack plans w event ++ sends) (sends_are_handed mode stack plans (behind stack plans w event) doings)
+    ap (λ sends. event_sends mode stack plans w event ++ sends)
+    (sends_are_handed mode stack plans (behind stack plans w event) doings)
 sends_are_handed mode stack plans w (asks id heard ∷ doings) = sends_are_handed mode stack plans w doings
 sends_are_handed mode stack plans w (bears id ∷ doings) = sends_are_handed mode stack plans w doings

@@ -1,5 +1,6 @@
 -- Sendings, one behind the other: how many failed, and networks that tell.
-use Rattle.std.proofs.Common.{◌≡◌, ℕ, zero, suc, ◌+◌, Bool, true, false, List, [], ◌∷◌, ◌++◌, length, map, take, drop, refl, sym, ap, cond, ◌∙◌, arith, append_assoc, append-nil, Option, Some, None}
+use Rattle.std.proofs.Common.{◌≡◌, ℕ, zero, suc, ◌+◌, Bool, true, false, List, [], ◌∷◌, ◌++◌, length, map, take, drop}
+use Rattle.std.proofs.Common.{refl, sym, ap, cond, ◌∙◌, arith, append_assoc, append-nil, Option, Some, None}
 use Rattle.std.proofs.lemmas.List.{drop-drop}
 use Rattle.std.proofs.lemmas.List.Recursion.{is_count_by}
 use Rattle.outside.specs.Links.{Network, next_fate, is_failure, after_send}
@@ -25,7 +26,8 @@ failures_by_append (true ∷ xs) ys = let e = failures_by_append xs ys in omega 
 failures_by_append (false ∷ xs) ys = failures_by_append xs ys
 
 pub failures_append : (xs ys : List Bool) → failures_in (xs ++ ys) ≡ failures_in xs + failures_in ys
-failures_append xs ys = sym (failures_are (xs ++ ys)) ∙ failures_by_append xs ys ∙ ap (λ n. n + failures_by ys) (failures_are xs)
+failures_append xs ys = sym (failures_are (xs ++ ys)) ∙ failures_by_append xs ys ∙
+    ap (λ n. n + failures_by ys) (failures_are xs)
     ∙ ap (λ n. failures_in xs + n) (failures_are ys)
 
 pub failures_none : (n : ℕ) → failures_in (take n []) ≡ 0
@@ -43,7 +45,8 @@ tells_then None (Some n') c r s f = absurd r
 tells_then (Some n) None c r s f = absurd r
 tells_then (Some n) (Some n') None r s f = absurd s
 
-pub tells_as : {R S : Network → Network → Type 0} (a b : Option Network) → Tells R a b → ((n n' : Network) → R n n' → S n n') → Tells S a b
+pub tells_as : {R S : Network → Network → Type 0} (a b : Option Network) → Tells R a b →
+    ((n n' : Network) → R n n' → S n n') → Tells S a b
 tells_as None None r f = tt
 tells_as (Some n) (Some n') r f = f n n' r
 tells_as None (Some n') r f = absurd r
@@ -68,7 +71,8 @@ fates_behind (x ∷ xs) n = fates_behind xs (after_send (sent_as x) n) ∙ drop_
 
 pub handed_behind : (xs : List Handed) (n : Network) → (after_sends xs n).handed ≡ n.handed ++ map sent_as xs
 handed_behind [] n = sym (append-nil n.handed)
-handed_behind (x ∷ xs) n = handed_behind xs (after_send (sent_as x) n) ∙ append_assoc n.handed (sent_as x ∷ []) (map sent_as xs)
+handed_behind (x ∷ xs) n = handed_behind xs (after_send (sent_as x) n) ∙
+    append_assoc n.handed (sent_as x ∷ []) (map sent_as xs)
 
 pub met_behind : (xs : List Handed) (n : Network) → (after_sends xs n).met ≡ n.met
 met_behind [] n = refl
@@ -83,4 +87,5 @@ fates_add zero n fates = ap (λ k. fates_of k fates) (omega arith)
 fates_add (suc m) n fates =
     let next : suc m + n ≡ suc (m + n) = omega arith in
     ap (λ k. fates_of k fates) next
-    ∙ ap (λ fs. is_failure (next_fate fates) ∷ fs) (fates_add m n (drop 1 fates) ∙ ap (λ f. fates_of m (drop 1 fates) ++ fates_of n f) (drop_next m fates))
+    ∙ ap (λ fs. is_failure (next_fate fates) ∷ fs)
+    (fates_add m n (drop 1 fates) ∙ ap (λ f. fates_of m (drop 1 fates) ++ fates_of n f) (drop_next m fates))

@@ -27,7 +27,8 @@ variable_few (Some constant ∷ planned) (n ∷ numbers) = let more = variable_f
 variable_few (None ∷ planned) (n ∷ numbers) = let more = variable_few planned numbers in omega arith
 
 -- Headers in full have their fields in them, each behind its tag.
-headers_long : (hs : List Header) → length hs + 4 * length (flat_map (λ h. h.fields) hs) ≤ length (flat_map header_bytes hs)
+headers_long : (hs : List Header) →
+    length hs + 4 * length (flat_map (λ h. h.fields) hs) ≤ length (flat_map header_bytes hs)
 headers_long [] = omega arith
 headers_long (h ∷ hs) =
     let more = headers_long hs in
@@ -37,12 +38,14 @@ headers_long (h ∷ hs) =
     omega (arith, more, bytes, numbers, count)
 
 -- The number of a plan takes no more than the tag of a header.
-fields_fit : (hs : List Header) (body : ℕ) → body ≤ 8192 → 19 + (length (flat_map header_bytes hs) + body) ≤ longest_packet →
+fields_fit : (hs : List Header) (body : ℕ) → body ≤ 8192 →
+    19 + (length (flat_map header_bytes hs) + body) ≤ longest_packet →
     20 + (4 * length (flat_map (λ h. h.fields) hs) + body) ≤ longest_packet
 fields_fit [] body few fit = omega (arith, few)
 fields_fit (h ∷ hs) body few fit = let more = headers_long (h ∷ hs) in omega (arith, fit, more)
 
-short_fits : (plan : Plan) (k : ℕ) (p : Packet) → length p.message.body ≤ 8192 → length (full_bytes p) ≤ longest_packet →
+short_fits : (plan : Plan) (k : ℕ) (p : Packet) → length p.message.body ≤ 8192 →
+    length (full_bytes p) ≤ longest_packet →
     length (short_bytes k plan p) ≤ longest_packet
 short_fits plan k p few fit =
     let full = length-append (flat_map header_bytes p.message.headers) p.message.body in
@@ -53,13 +56,15 @@ short_fits plan k p few fit =
     omega (arith, short, numbers, some, all)
 
 -- A packet that can be spelled is short enough, under whatever plan it is sent.
-pub wires_fit : (stack : List LayerTree) (plans : List Plan) (p : Packet) (plan : Option ℕ) → IsWithinLimits stack → IsSpellable stack p →
+pub wires_fit : (stack : List LayerTree) (plans : List Plan) (p : Packet) (plan : Option ℕ) → IsWithinLimits stack →
+    IsSpellable stack p →
     length (wire plans p plan) ≤ longest_packet
 wires_fit stack plans p plan limits is = go plan where
   full : length (full_bytes p) ≤ longest_packet
   full = datagrams_fit stack plans (full_bytes p) p limits (record { spellable = is; spelled = inl refl })
 
-  planned : (k : ℕ) (found : Option Plan) → length (option_map_or (λ plan. short_bytes k plan p) found (full_bytes p)) ≤ longest_packet
+  planned : (k : ℕ) (found : Option Plan) →
+      length (option_map_or (λ plan. short_bytes k plan p) found (full_bytes p)) ≤ longest_packet
   planned k None = full
   planned k (Some plan) = short_fits plan k p is.chained.body full
 

@@ -1,6 +1,7 @@
--- What a node does to its output and to its links, act by act and in order: a line is put, or a datagram handed on. Each packet is handed on
--- just behind its line, and a sending that failed is told just behind it.
-use Rattle.std.specs.Prelude.{◌≡◌, ℕ, Bool, true, false, List, [], ◌∷◌, ◌++◌, map, take, drop, Option, Some, None, option_to_list}
+-- What a node does to its output and to its links, act by act and in order: a line is put, or a datagram handed on.
+-- Each packet is handed on just behind its line, and a sending that failed is told just behind it.
+use Rattle.std.specs.Prelude.{◌≡◌, ℕ, Bool, true, false, List, [], ◌∷◌, ◌++◌, map, take, drop, Option, Some, None}
+use Rattle.std.specs.Prelude.{option_to_list}
 use Rattle.std.specs.List.{filter_map}
 use Rattle.layer_mean.specs.Tree.{LayerTree}
 use Rattle.script_mean.specs.Event.{member_of}
@@ -14,7 +15,8 @@ use Rattle.run_mean.specs.Member.{Output}
 use Rattle.run_mean.specs.Report.{installed_line, member_lines, number_behind, output_lines, packet_given}
 use Rattle.run_mean.specs.World.{World, Did, taken, refused, absent, shown, happens, member_at}
 use Rattle.node_laws.specs.Doings.{Doing, does, asks, bears}
-use Rattle.node_laws.specs.Losses.{deaf_line, event_lines, event_sends, fan, first_in, first_of, journal_line, lost_line, sends_of, written_of}
+use Rattle.node_laws.specs.Losses.{deaf_line, event_lines, event_sends, fan, first_in, first_of, journal_line}
+use Rattle.node_laws.specs.Losses.{lost_line, sends_of, written_of}
 
 pub data Act : Type 0 where
   puts : (line : List ℕ) → Act
@@ -48,7 +50,8 @@ sending_acts k (h ∷ handed) failed = sends h ∷ (lost_acts k failed ++ sendin
 
 -- Outputs whose packets are numbered from k on.
 abbrev pub output_acts : List LayerTree → List Plan → (id k : ℕ) → Output × Option ℕ → List Bool → List Act
-output_acts stack plans id k o failed = map puts (output_lines stack id k o.0) ++ sending_acts k (handed_output plans id o) failed
+output_acts stack plans id k o failed = map puts (output_lines stack id k o.0) ++
+    sending_acts k (handed_output plans id o) failed
 
 abbrev pub outputs_acts : List LayerTree → List Plan → (id k : ℕ) → List (Output × Option ℕ) → List Bool → List Act
 outputs_acts stack plans id k [] failed = []
@@ -63,7 +66,8 @@ did_acts mode stack plans w event (taken s) failed =
     ++ map puts (map (installed_line (member_of event)) (option_to_list s.installs))
 did_acts mode stack plans w event (refused refusal) failed = puts (refused_line (member_of event) refusal) ∷ []
 did_acts mode stack plans w event absent failed = puts (absent_line (member_of event) (packet_given event)) ∷ []
-did_acts mode stack plans w event shown failed = map puts (member_lines stack (member_of event) (member_at w (member_of event)))
+did_acts mode stack plans w event shown failed =
+    map puts (member_lines stack (member_of event) (member_at w (member_of event)))
 
 abbrev pub event_acts : Mode → List LayerTree → List Plan → World → ScriptEvent → List Bool → List Act
 event_acts mode stack plans w event failed =
@@ -73,18 +77,21 @@ event_acts mode stack plans w event failed =
 abbrev pub acts_of : Mode → List LayerTree → List Plan → World → List Doing → List (List Bool) → List Act
 acts_of mode stack plans w [] failed = []
 acts_of mode stack plans w (does event ∷ doings) failed =
-    event_acts mode stack plans w event (first_of failed) ++ acts_of mode stack plans (happens stack plans w event).world doings (drop 1 failed)
+    event_acts mode stack plans w event (first_of failed) ++
+    acts_of mode stack plans (happens stack plans w event).world doings (drop 1 failed)
 acts_of mode stack plans w (asks id heard ∷ doings) failed = acts_of mode stack plans w doings failed
 acts_of mode stack plans w (bears id ∷ doings) failed = puts (deaf_line id) ∷ acts_of mode stack plans w doings failed
 
--- What is written and handed on in these acts is what is written and handed on of events, and of all that a node does. What is written hangs on
--- no mode: a line doesn't show how a packet is sent.
+-- What is written and handed on in these acts is what is written and handed on of events, and of all that a node does.
+-- What is written hangs on no mode: a line doesn't show how a packet is sent.
 abbrev pub EventActs : Type 0
-EventActs = (mode : Mode) (stack : List LayerTree) (plans : List Plan) (w : World) (event : ScriptEvent) (failed : List Bool) →
+EventActs = (mode : Mode) (stack : List LayerTree) (plans : List Plan) (w : World) (event : ScriptEvent)
+    (failed : List Bool) →
     (lines_in (event_acts mode stack plans w event failed) ≡ event_lines stack plans w event failed)
     × (sends_in (event_acts mode stack plans w event failed) ≡ event_sends mode stack plans w event)
 
 abbrev pub ActsAreOfDoings : Type 0
-ActsAreOfDoings = (mode : Mode) (stack : List LayerTree) (plans : List Plan) (w : World) (doings : List Doing) (failed : List (List Bool)) →
+ActsAreOfDoings = (mode : Mode) (stack : List LayerTree) (plans : List Plan) (w : World) (doings : List Doing)
+    (failed : List (List Bool)) →
     (lines_in (acts_of mode stack plans w doings failed) ≡ written_of stack plans w doings failed)
     × (sends_in (acts_of mode stack plans w doings failed) ≡ sends_of mode stack plans w doings)

@@ -1,11 +1,13 @@
--- What a node does, call by call: its members' events, what they ask the network, and the failures that it bears. Its notes are what is
--- written of these.
-use Rattle.std.specs.Prelude.{◌≡◌, ℕ, zero, suc, ◌+◌, List, [], ◌∷◌, ◌++◌, map, length, take, drop, zip, Option, Some, None}
+-- What a node does, call by call: its members' events, what they ask the network, and the failures that it bears. Its
+-- notes are what is written of these.
+use Rattle.std.specs.Prelude.{◌≡◌, ℕ, zero, suc, ◌+◌, List, [], ◌∷◌, ◌++◌, map, length, take, drop, zip, Option, Some}
+use Rattle.std.specs.Prelude.{None}
 use Rattle.std.specs.List.{filter_map}
 use Rattle.script_mean.specs.declared.event.ScriptEvent.{ScriptEvent}
 use Rattle.script_mean.specs.declared.event.ScriptEvent.TheVariants.{Tick, Raw}
 use Rattle.script_mean.specs.declared.plan.NodePlan.{NodePlan}
-use Rattle.run_mean.specs.Journal.{Heard, datagram, silence, failure, Note, fed, deaf, journal, planned_events, notes_from}
+use Rattle.run_mean.specs.Journal.{Heard, datagram, silence, failure, Note, fed, deaf, journal, planned_events}
+use Rattle.run_mean.specs.Journal.{notes_from}
 
 -- A member takes an event; a member asks the network, and hears something; that it couldn't hear is borne.
 pub data Doing : Type 0 where
@@ -13,8 +15,8 @@ pub data Doing : Type 0 where
   asks : (id : ℕ) → Heard → Doing
   bears : (id : ℕ) → Doing
 
--- What is done as members ask in a turn, and how many failures may still be borne; none where one more came than may be, behind which
--- nothing is done.
+-- What is done as members ask in a turn, and how many failures may still be borne; none where one more came than may
+-- be, behind which nothing is done.
 pub record Asking : Type 0 where
   pub doings : List Doing
   pub patience : Option ℕ
@@ -24,7 +26,8 @@ doing more a = record a { doings = more ++ a.doings }
 
 abbrev pub asking : ℕ → List (ℕ × Heard) → Asking
 asking patience [] = record { doings = []; patience = Some patience }
-asking patience ((id, datagram bytes) ∷ rest) = doing (asks id (datagram bytes) ∷ does (Raw id bytes) ∷ []) (asking patience rest)
+asking patience ((id, datagram bytes) ∷ rest) = doing (asks id (datagram bytes) ∷ does (Raw id bytes) ∷ [])
+    (asking patience rest)
 asking patience ((id, silence) ∷ rest) = doing (asks id silence ∷ []) (asking patience rest)
 asking zero ((id, failure) ∷ rest) = record { doings = asks id failure ∷ []; patience = None }
 asking (suc patience) ((id, failure) ∷ rest) = doing (asks id failure ∷ bears id ∷ []) (asking patience rest)
@@ -66,4 +69,5 @@ heard_in (bears id ∷ doings) = heard_in doings
 -- The notes of what a node does are its notes.
 abbrev pub NotesAreOfDoings : Type 0
 NotesAreOfDoings = (plan : NodePlan) (me : List ℕ) (t turns patience : ℕ) (clock : List ℕ) (heard : List Heard) →
-    filter_map note_in (doings_from plan me t turns patience clock heard) ≡ notes_from plan me t turns patience clock heard
+    filter_map note_in (doings_from plan me t turns patience clock heard) ≡
+    notes_from plan me t turns patience clock heard

@@ -1,4 +1,5 @@
--- The views of a group stay within it, so what its members send goes to members of it; and what they send is short enough for a datagram.
+-- The views of a group stay within it, so what its members send goes to members of it; and what they send is short
+-- enough for a datagram.
 use Rattle.std.specs.Prelude.{◌≡◌, ℕ, ◌<◌, ◌≤◌, List, length}
 use Rattle.std.specs.List.{AllByRecursion}
 use Rattle.msg_core.specs.View.{ids, most_members}
@@ -24,7 +25,8 @@ AreWithin n w = AllByRecursion (IsWithin n) w.members
 
 -- The first view of a group has its members alone, and an event leaves it so.
 abbrev pub FirstViewsAreWithin : Type 0
-FirstViewsAreWithin = (stack : List LayerTree) (group stamp n : ℕ) → n ≤ most_members → AreWithin n (first_world stack group stamp n)
+FirstViewsAreWithin = (stack : List LayerTree) (group stamp n : ℕ) → n ≤ most_members →
+    AreWithin n (first_world stack group stamp n)
 
 abbrev pub EventsKeepWithin : Type 0
 EventsKeepWithin = (stack : List LayerTree) (plans : List Plan) (w : World) (event : ScriptEvent) (n : ℕ) →
@@ -34,13 +36,15 @@ EventsKeepWithin = (stack : List LayerTree) (plans : List Plan) (w : World) (eve
 abbrev pub longest_packet : ℕ
 longest_packet = 8619
 
--- A datagram that a member may hand on to a group of so many: it is the sender's own, it goes to one of the group, and it is short.
+-- A datagram that a member may hand on to a group of so many: it is the sender's own, it goes to one of the group, and
+-- it is short.
 pub record IsSendable (n from : ℕ) (h : Handed) : Type 0 where
   pub own : h.from ≡ from
   pub peer : h.to < n
   pub short : length h.bytes ≤ longest_packet
 
 abbrev pub SendsAreSendable : Type 0
-SendsAreSendable = (mode : Mode) (stack : List LayerTree) (plans : List Plan) (w : World) (event : ScriptEvent) (n : ℕ) → IsWithinLimits stack →
+SendsAreSendable = (mode : Mode) (stack : List LayerTree) (plans : List Plan) (w : World) (event : ScriptEvent)
+    (n : ℕ) → IsWithinLimits stack →
     IsChainedWorld stack (happens stack plans w event).world → AreWithin n w →
     AllByRecursion (IsSendable n (member_of event)) (event_sends mode stack plans w event)

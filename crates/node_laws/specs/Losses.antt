@@ -1,5 +1,6 @@
 -- What a node writes and hands on, event by event, where of each sending it is told whether it failed.
-use Rattle.std.specs.Prelude.{◌≡◌, ℕ, ◌+◌, ◌==◌, Bool, List, [], ◌∷◌, ◌++◌, length, take, drop, replicate, count_by, codes, Option, None}
+use Rattle.std.specs.Prelude.{◌≡◌, ℕ, ◌+◌, ◌==◌, Bool, List, [], ◌∷◌, ◌++◌, length, take, drop, replicate, count_by}
+use Rattle.std.specs.Prelude.{codes, Option, None}
 use Rattle.std.specs.List.{filter_map}
 use Rattle.std.specs.Fmt.{decimal}
 use Rattle.layer_mean.specs.Tree.{LayerTree}
@@ -34,8 +35,8 @@ deaf_line id = line (codes "deaf" ∷ decimal id ∷ [])
 abbrev pub journal_line : ScriptEvent → List ℕ
 journal_line event = line (codes ">" ∷ event_text event ∷ [])
 
--- The lines of outputs whose packets are numbered from k on: behind each packet's line one for each sending of it that failed. Which sendings
--- failed is told one by one; where less is told than was sent, the rest didn't.
+-- The lines of outputs whose packets are numbered from k on: behind each packet's line one for each sending of it that
+-- failed. Which sendings failed is told one by one; where less is told than was sent, the rest didn't.
 abbrev pub lossy_lines : List LayerTree → (id k : ℕ) → List (Output × Option ℕ) → List Bool → List (List ℕ)
 lossy_lines stack id k [] failed = []
 lossy_lines stack id k (o ∷ outs) failed =
@@ -46,7 +47,8 @@ lossy_lines stack id k (o ∷ outs) failed =
 abbrev pub losses : (id k : ℕ) → List (Output × Option ℕ) → List Bool → List ℕ
 losses id k [] failed = []
 losses id k (o ∷ outs) failed =
-    replicate (failures_in (take (fan id o.0) failed)) k ++ losses id (number_behind k o.0) outs (drop (fan id o.0) failed)
+    replicate (failures_in (take (fan id o.0) failed)) k ++
+    losses id (number_behind k o.0) outs (drop (fan id o.0) failed)
 
 -- An event in a world.
 abbrev pub moment_at : List LayerTree → List Plan → World → ScriptEvent → Moment
@@ -63,7 +65,8 @@ event_lines stack plans w event failed =
     (moment_at stack plans w event) (happens stack plans w event).did
 
 abbrev pub losses_in : List Plan → World → ScriptEvent → Did → List Bool → List ℕ
-losses_in plans w event (taken s) failed = losses (member_of event) (first_in w) (with_plans plans None s.outputs) failed
+losses_in plans w event (taken s) failed = losses (member_of event) (first_in w) (with_plans plans None s.outputs)
+    failed
 losses_in plans w event _ failed = []
 
 abbrev pub event_losses : List LayerTree → List Plan → World → ScriptEvent → List Bool → List ℕ
@@ -85,7 +88,8 @@ behind stack plans w (does event ∷ doings) = behind stack plans (happens stack
 behind stack plans w (asks id heard ∷ doings) = behind stack plans w doings
 behind stack plans w (bears id ∷ doings) = behind stack plans w doings
 
--- What is written, lost and, in a mode, handed on of what a node does from a world on; which sendings failed is told event by event.
+-- What is written, lost and, in a mode, handed on of what a node does from a world on; which sendings failed is told
+-- event by event.
 abbrev pub written_of : List LayerTree → List Plan → World → List Doing → List (List Bool) → List (List ℕ)
 written_of stack plans w [] failed = []
 written_of stack plans w (does event ∷ doings) failed =
@@ -97,7 +101,8 @@ written_of stack plans w (bears id ∷ doings) failed = deaf_line id ∷ written
 abbrev pub lost_of : List LayerTree → List Plan → World → List Doing → List (List Bool) → List ℕ
 lost_of stack plans w [] failed = []
 lost_of stack plans w (does event ∷ doings) failed =
-    event_losses stack plans w event (first_of failed) ++ lost_of stack plans (happens stack plans w event).world doings (drop 1 failed)
+    event_losses stack plans w event (first_of failed) ++ lost_of stack plans (happens stack plans w event).world doings
+    (drop 1 failed)
 lost_of stack plans w (asks id heard ∷ doings) failed = lost_of stack plans w doings failed
 lost_of stack plans w (bears id ∷ doings) failed = lost_of stack plans w doings failed
 
@@ -114,7 +119,8 @@ moments_of stack plans w doings = moments stack plans w (journal (filter_map not
 
 -- It writes the lines of its notes, with those of the sendings that failed, by the numbers of their packets.
 abbrev pub WrittenIsOfNotes : Type 0
-WrittenIsOfNotes = (stack : List LayerTree) (plans : List Plan) (w : World) (doings : List Doing) (failed : List (List Bool)) →
+WrittenIsOfNotes = (stack : List LayerTree) (plans : List Plan) (w : World) (doings : List Doing)
+    (failed : List (List Bool)) →
     note_lines stack plans (λ k. count_by (λ lost. lost == k) (lost_of stack plans w doings failed))
     (filter_map note_in doings) (moments_of stack plans w doings)
     ≡ written_of stack plans w doings failed

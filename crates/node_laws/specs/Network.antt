@@ -1,6 +1,7 @@
 -- How a network that tells goes on as a node runs.
 use Rattle.std.specs.Prelude.{◌≡◌, ℕ, zero, suc, Bool, List, [], ◌∷◌, length, drop, Option, Some, None}
-use Rattle.outside.specs.Links.{Network, Sent, Met, Came, Quiet, Broke, next_fate, is_failure, next_met, after_send, after_recv}
+use Rattle.outside.specs.Links.{Network, Sent, Met, Came, Quiet, Broke, next_fate, is_failure, next_met, after_send}
+use Rattle.outside.specs.Links.{after_recv}
 use Rattle.outside.specs.declared.links.Fate.{Fate}
 use Rattle.layer_mean.specs.Tree.{LayerTree}
 use Rattle.stack_mean.specs.Plan.{Plan}
@@ -29,13 +30,14 @@ abbrev pub after_sends : List Handed → Network → Network
 after_sends [] n = n
 after_sends (h ∷ handed) n = after_sends handed (after_send (sent_as h) n)
 
--- A network goes on as a node does this in a mode from a world on: each member hears what the network has for it then, each packet is handed on in
--- its place, and those sendings fail that are to fail.
+-- A network goes on as a node does this in a mode from a world on: each member hears what the network has for it then,
+-- each packet is handed on in its place, and those sendings fail that are to fail.
 abbrev pub Goes : Mode → List LayerTree → List Plan → World → List Doing → List (List Bool) → Network → Network → Type 0
 Goes mode stack plans w [] failed n n' = n' ≡ n
 Goes mode stack plans w (does event ∷ doings) failed n n' =
     (first_of failed ≡ fates_of (length (event_sends mode stack plans w event)) n.fates)
-    × Goes mode stack plans (happens stack plans w event).world doings (drop 1 failed) (after_sends (event_sends mode stack plans w event) n) n'
+    × Goes mode stack plans (happens stack plans w event).world doings (drop 1 failed)
+    (after_sends (event_sends mode stack plans w event) n) n'
 Goes mode stack plans w (asks id heard ∷ doings) failed n n' =
     (next_met id n ≡ met_as heard) × Goes mode stack plans w doings failed (after_recv id n) n'
 Goes mode stack plans w (bears id ∷ doings) failed n n' = Goes mode stack plans w doings failed n n'

@@ -1,5 +1,7 @@
--- What is left of a turn, at each stage of it, as the clock and the network go on to tell; and that a node which stops could have gone on.
-use Rattle.std.specs.Prelude.{◌≡◌, ℕ, ◌+◌, ◌*◌, ◌-◌, ◌<◌, ◌≤◌, ◌==◌, ◌&&◌, Bool, true, List, [], ◌∷◌, ◌++◌, map, length, take, drop, zip, replicate, if◌then◌else◌, Ok}
+-- What is left of a turn, at each stage of it, as the clock and the network go on to tell; and that a node which stops
+-- could have gone on.
+use Rattle.std.specs.Prelude.{◌≡◌, ℕ, ◌+◌, ◌*◌, ◌-◌, ◌<◌, ◌≤◌, ◌==◌, ◌&&◌, Bool, true, List, [], ◌∷◌, ◌++◌, map, length}
+use Rattle.std.specs.Prelude.{take, drop, zip, replicate, if◌then◌else◌, Ok}
 use Rattle.std.specs.List.{AllByRecursion, filter, list_any}
 use Rattle.script_mean.specs.Event.{member_of}
 use Rattle.script_mean.specs.NodePlan.{node_plan}
@@ -29,7 +31,8 @@ from_planned c t patience events clock heard = map does events ++ from_turn c (t
 abbrev pub from_asking : Course → (t patience : ℕ) → List ℕ → List ℕ → List Heard → List Doing
 from_asking c t patience ids clock heard =
     let a = asking patience (zip ids (take (length ids) heard)) in
-    a.doings ++ while_patient a.patience (λ left. from_planned c t left (planned_events c.plan c.me t) clock (drop (length ids) heard))
+    a.doings ++ while_patient a.patience
+    (λ left. from_planned c t left (planned_events c.plan c.me t) clock (drop (length ids) heard))
 
 -- In turn t of this moment, where these members have to take a tick yet.
 abbrev pub from_ticks : Course → (t patience moment : ℕ) → List ℕ → List ℕ → List Heard → List Doing
@@ -57,8 +60,10 @@ IsBorne patience failure = 1 ≤ patience
 IsBorne patience _ = Unit {0}
 
 abbrev pub AskingGoesOn : Type 0
-AskingGoesOn = (c : Course) (t patience id : ℕ) (ids clock : List ℕ) (x : Heard) (heard : List Heard) → IsBorne patience x →
-    from_asking c t patience (id ∷ ids) clock (x ∷ heard) ≡ heard_doings id x ++ from_asking c t (left_behind patience x) ids clock heard
+AskingGoesOn = (c : Course) (t patience id : ℕ) (ids clock : List ℕ) (x : Heard) (heard : List Heard) →
+    IsBorne patience x →
+    from_asking c t patience (id ∷ ids) clock (x ∷ heard) ≡ heard_doings id x ++
+    from_asking c t (left_behind patience x) ids clock heard
 
 -- A failure that isn't borne is the last.
 abbrev pub AskingEnds : Type 0
@@ -92,7 +97,8 @@ PlansAreOrdered = (text : List ℕ) (plan : NodePlan) → node_plan text ≡ Ok 
 
 -- Each of them is what an application asks for.
 abbrev pub PlansAsk : Type 0
-PlansAsk = (text : List ℕ) (plan : NodePlan) → node_plan text ≡ Ok plan → AllByRecursion (λ entry. is_request entry.1 ≡ true) plan.turns
+PlansAsk = (text : List ℕ) (plan : NodePlan) → node_plan text ≡ Ok plan →
+    AllByRecursion (λ entry. is_request entry.1 ≡ true) plan.turns
 
 -- The events of own members in a turn, among some of the plan's lines.
 abbrev pub is_planned : List ℕ → ℕ → ℕ × ScriptEvent → Bool
@@ -101,13 +107,15 @@ is_planned me t entry = (entry.0 == t) && list_any (λ id. member_of entry.1 == 
 abbrev pub planned_in : List ℕ → ℕ → List (ℕ × ScriptEvent) → List ScriptEvent
 planned_in me t entries = map (λ entry. entry.1) (filter (is_planned me t) entries)
 
--- Those of the whole plan are those of the lines behind the ones of earlier turns; and from a line of a later turn on there are none.
+-- Those of the whole plan are those of the lines behind the ones of earlier turns; and from a line of a later turn on
+-- there are none.
 abbrev pub PlannedIsLeft : Type 0
 PlannedIsLeft = (plan : NodePlan) (me : List ℕ) (t k : ℕ) → AllByRecursion (λ entry. entry.0 < t) (take k plan.turns) →
     planned_events plan me t ≡ planned_in me t (drop k plan.turns)
 
 abbrev pub PlannedIsOver : Type 0
-PlannedIsOver = (me : List ℕ) (t : ℕ) (entry : ℕ × ScriptEvent) (entries : List (ℕ × ScriptEvent)) → t < entry.0 → AreOrdered entry.0 entries →
+PlannedIsOver = (me : List ℕ) (t : ℕ) (entry : ℕ × ScriptEvent) (entries : List (ℕ × ScriptEvent)) → t < entry.0 →
+    AreOrdered entry.0 entries →
     planned_in me t (entry ∷ entries) ≡ []
 
 -- An event of the plan, if it is of an own member.

@@ -1,12 +1,13 @@
-//! Laws of nodes, each the contract of a function that does nothing: what a node does call by call, what it writes and hands on of that, and
-//! that what its members send is for members of the group.
+//! Laws of nodes, each the contract of a function that does nothing: what a node does call by call, what it writes and
+//! hands on of that, and that what its members send is for members of the group.
 #![tactic(auto)]
 
 ghost use Rattle.node_laws.specs.Acts.{ActsAreOfDoings, EventActs};
 ghost use Rattle.node_laws.specs.Doings.{NotesAreOfDoings};
 ghost use Rattle.node_laws.specs.Groups.{EventsKeepWithin, FirstViewsAreWithin, SendsAreSendable};
 ghost use Rattle.node_laws.specs.Losses.{SendsAreHanded, WrittenIsOfNotes};
-ghost use Rattle.node_laws.specs.Stages.{AskingEnds, AskingGoesOn, PlannedIsLeft, PlannedIsOver, PlansAreOrdered, PlansAsk, StoppedGoesOn, TurnsBeginWithTicks};
+ghost use Rattle.node_laws.specs.Stages.{AskingEnds, AskingGoesOn, PlannedIsLeft, PlannedIsOver, PlansAreOrdered};
+ghost use Rattle.node_laws.specs.Stages.{PlansAsk, StoppedGoesOn, TurnsBeginWithTicks};
 
 /// The notes of what a node does are its notes.
 pub fn notes_are_of_doings()

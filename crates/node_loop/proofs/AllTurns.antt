@@ -1,5 +1,6 @@
 -- Turns, one by one.
-use Rattle.std.proofs.Common.{◌≡◌, ℕ, ◌+◌, ◌*◌, ◌-◌, ◌<◌, ◌≤◌, List, [], ◌∷◌, length, take, drop, refl, sym, ap, subst, ◌∙◌, arith, Option}
+use Rattle.std.proofs.Common.{◌≡◌, ℕ, ◌+◌, ◌*◌, ◌-◌, ◌<◌, ◌≤◌, List, [], ◌∷◌, length, take, drop, refl, sym, ap, subst}
+use Rattle.std.proofs.Common.{◌∙◌, arith, Option}
 use Rattle.std.specs.List.{AllByRecursion}
 use Rattle.std.specs.Prelude.{Result, Ok, Err}
 use Rattle.layer_mean.specs.Tree.{LayerTree}
@@ -22,7 +23,8 @@ due_at_first (entry ∷ entries) = (omega arith, due_at_first entries)
 
 module _ (stack : List LayerTree) (plans : List Plan) (c : Course) where
   -- So many turns were made.
-  pub record TurnsSo (patience : ℕ) (start : Now) (listening : ℕ → Option ℕ) (t : ℕ) (p : Progress) (at : Now) (listening_now : ℕ → Option ℕ)
+  pub record TurnsSo (patience : ℕ) (start : Now) (listening : ℕ → Option ℕ) (t : ℕ) (p : Progress) (at : Now)
+      (listening_now : ℕ → Option ℕ)
       : Type 0 where
     pub up : IsUp stack plans at.group at.desk listening_now c.me
     pub still : (m : ℕ) → listening_now m ≡ listening m
@@ -33,8 +35,10 @@ module _ (stack : List LayerTree) (plans : List Plan) (c : Course) where
     pub told : (b : Begun) → b.patience ≡ patience → SoFar stack plans c b 0 0 (from_turn c 0 patience) 0 start →
         Asked stack plans c b t (t * length c.me) (from_turn c t) p.patience at
 
-  pub none_so : (patience : ℕ) (start : Now) (listening : ℕ → Option ℕ) (p : Progress) → p.patience ≡ patience → p.next ≡ 0 →
-      IsUp stack plans start.group start.desk listening c.me → start.desk.events ≡ 0 → TurnsSo patience start listening 0 p start listening
+  pub none_so : (patience : ℕ) (start : Now) (listening : ℕ → Option ℕ) (p : Progress) → p.patience ≡ patience →
+      p.next ≡ 0 →
+      IsUp stack plans start.group start.desk listening c.me → start.desk.events ≡ 0 →
+      TurnsSo patience start listening 0 p start listening
   none_so patience start listening p left next up none = record {
     up = up;
     still = λ m. refl;
@@ -46,11 +50,13 @@ module _ (stack : List LayerTree) (plans : List Plan) (c : Course) where
       borne = 0;
       sum = omega (arith, left, same);
       so = subst (λ left. SoFar stack plans c b 0 (0 * length c.me) (from_turn c 0 left) 0 start) (sym left)
-          (subst (λ n. SoFar stack plans c b 0 n (from_turn c 0 patience) 0 start) (let e : 0 ≡ 0 * length c.me = omega arith in e) so);
+          (subst (λ n. SoFar stack plans c b 0 n (from_turn c 0 patience) 0 start)
+          (let e : 0 ≡ 0 * length c.me = omega arith in e) so);
     };
   }
 
-  module _ (patience : ℕ) (start : Now) (listening : ℕ → Option ℕ) (t : ℕ) (p p' : Progress) (at at' : Now) (now_listen then_listen : ℕ → Option ℕ)
+  module _ (patience : ℕ) (start : Now) (listening : ℕ → Option ℕ) (t : ℕ) (p p' : Progress) (at at' : Now)
+      (now_listen then_listen : ℕ → Option ℕ)
       (so : TurnsSo patience start listening t p at now_listen) where
     abbrev Turns : (r : Result (Unit {0}) NodeError) → Type 0
     Turns r = (b : Begun) (borne : ℕ) → borne + p.patience ≡ b.patience →
@@ -59,7 +65,8 @@ module _ (stack : List LayerTree) (plans : List Plan) (c : Course) where
 
     -- One more was.
     pub turn_so : Turns (Ok tt) → RestsAgain stack plans at.group at.desk at'.group at'.desk →
-        AllByRecursion (λ entry. entry.0 < t + 1) (take p'.next c.plan.turns) → AllByRecursion (λ entry. t + 1 ≤ entry.0) (drop p'.next c.plan.turns) →
+        AllByRecursion (λ entry. entry.0 < t + 1) (take p'.next c.plan.turns) →
+        AllByRecursion (λ entry. t + 1 ≤ entry.0) (drop p'.next c.plan.turns) →
         p'.next ≤ length c.plan.turns →
         at'.desk.events ≤ 64 * (t + 1) + p'.next → ((m : ℕ) → then_listen m ≡ now_listen m) →
         TurnsSo patience start listening (t + 1) p' at' then_listen
@@ -91,7 +98,8 @@ module _ (stack : List LayerTree) (plans : List Plan) (c : Course) where
     turn_not Memory lt hears b same begun = let asked = so.told b same begun in hears b asked.borne asked.sum asked.so
 
   -- All were.
-  pub turns_made : (patience : ℕ) (start : Now) (listening : ℕ → Option ℕ) (t : ℕ) (p : Progress) (at : Now) (listening_now : ℕ → Option ℕ) →
+  pub turns_made : (patience : ℕ) (start : Now) (listening : ℕ → Option ℕ) (t : ℕ) (p : Progress) (at : Now)
+      (listening_now : ℕ → Option ℕ) →
       t ≡ c.turns → TurnsSo patience start listening t p at listening_now → (b : Begun) → b.patience ≡ patience →
       SoFar stack plans c b 0 0 (from_turn c 0 patience) 0 start → MadeAll stack plans c b at
   turns_made patience start listening t p at listening_now all so b same begun =

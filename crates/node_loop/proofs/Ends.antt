@@ -1,5 +1,6 @@
 -- How a node begins, and how it ends.
-use Rattle.std.proofs.Common.{◌≡◌, inl, inr, ℕ, ◌-◌, ◌<◌, ◌≤◌, List, [], ◌∷◌, length, refl, sym, ap, subst, ◌∙◌, arith, Option, Some}
+use Rattle.std.proofs.Common.{◌≡◌, inl, inr, ℕ, ◌-◌, ◌<◌, ◌≤◌, List, [], ◌∷◌, length, refl, sym, ap, subst, ◌∙◌, arith}
+use Rattle.std.proofs.Common.{Option, Some}
 use Rattle.std.proofs.lemmas.List.{length-map}
 use Rattle.std.proofs.Math.Seq.{take-length}
 use Rattle.std.proofs.lemmas.List.FromFn.{length-range_with_len}
@@ -41,7 +42,8 @@ use Rattle.node_loop.specs.Serve.{Serves, Task, after_listens, Whereabouts, firs
 use Rattle.node_loop.specs.declared.desk.Desk.{Desk}
 use Rattle.node_loop.specs.declared.error.NodeError.{NodeError}
 use Rattle.node_loop.specs.declared.error.NodeError.TheVariants.{Link, Write, Memory}
-use Rattle.node_loop.proofs.Served.{IsUntouched, Reaches, begun, broken, last_cut, listens_untouched, made_all, no_moments, not_listened, nothing_done, untouched, went_deaf}
+use Rattle.node_loop.proofs.Served.{IsUntouched, Reaches, begun, broken, last_cut, listens_untouched, made_all}
+use Rattle.node_loop.proofs.Served.{no_moments, not_listened, nothing_done, untouched, went_deaf}
 
 -- Members are of the group, and listen.
 all_listen : (listening : ℕ → Option ℕ) (n : ℕ) (ids : List ℕ) → AllByRecursion (λ id. id < n) ids →
@@ -50,7 +52,8 @@ all_listen listening n [] few listen = tt
 all_listen listening n (id ∷ ids) few listen = ((few.0, listen.0), all_listen listening n ids few.1 listen.1)
 
 -- All members listened.
-pub reached : (out : output.Tells) (peers : List Peer) (me : List ℕ) (faults after sends sends_after : ℕ) (told told_after : Option Network) →
+pub reached : (out : output.Tells) (peers : List Peer) (me : List ℕ) (faults after sends sends_after : ℕ)
+    (told told_after : Option Network) →
     (after ≡ faults) × Tells (Listened peers me) told told_after → sends_after ≡ sends →
     Reaches (Listened peers me) (surrounding out faults sends told) (surrounding out after sends_after told_after)
 reached out peers me faults after sends sends_after told told_after listened sent =
@@ -64,15 +67,18 @@ module _ (stack : List LayerTree) (plan : NodePlan) (me : List ℕ) (turns patie
   task = record { stack = stack; plan = plan; words = node_words turns me patience mode }
 
   -- A group rests at its first world, with a desk at which nothing was done.
-  pub rests_first : (plans : List Plan) (c : Peopled) (d : Desk) → TypedStack stack → IsNumber plan.group → IsNumber plan.stamp → length plan.peers ≤ 32 →
-      c.mode ≡ mode → c.stack ≡ stack → c.plans ≡ plans → Stands c (first_of_plan stack plan) → d.outputs.places ≡ largest_weight stack →
+  pub rests_first : (plans : List Plan) (c : Peopled) (d : Desk) → TypedStack stack → IsNumber plan.group →
+      IsNumber plan.stamp → length plan.peers ≤ 32 →
+      c.mode ≡ mode → c.stack ≡ stack → c.plans ≡ plans → Stands c (first_of_plan stack plan) →
+      d.outputs.places ≡ largest_weight stack →
       Rests mode stack plans (length plan.peers) c d (first_of_plan stack plan)
   rests_first plans c d typed group stamp few mode_is stack_is plans_are stands places = record {
     somewhere = record {
       mode_is = mode_is;
       stack_is = stack_is;
       plans_are = plans_are;
-      count = ap length (sym stands.members) ∙ length-map (range_with_len 0 (length plan.peers)) (opened stack (first_view (length plan.peers)))
+      count = ap length (sym stands.members) ∙
+          length-map (range_with_len 0 (length plan.peers)) (opened stack (first_view (length plan.peers)))
           ∙ length-range_with_len 0 (length plan.peers);
       stands = stands;
       chained = first_world_is_chained stack plan.group plan.stamp (length plan.peers) typed group stamp few;
@@ -81,9 +87,11 @@ module _ (stack : List LayerTree) (plan : NodePlan) (me : List ℕ) (turns patie
     places = places;
   }
 
-  pub up_first : (plans : List Plan) (c : Peopled) (d : Desk) (listening : ℕ → Option ℕ) → TypedStack stack → AreNumbered plans →
+  pub up_first : (plans : List Plan) (c : Peopled) (d : Desk) (listening : ℕ → Option ℕ) → TypedStack stack →
+      AreNumbered plans →
       Rests mode stack plans (length plan.peers) c d (first_of_plan stack plan) →
-      AllByRecursion (λ id. id < length plan.peers) me → AllByRecursion (λ id. listening id ≡ Some (length plan.peers)) me → IsUp stack plans c d listening me
+      AllByRecursion (λ id. id < length plan.peers) me →
+      AllByRecursion (λ id. listening id ≡ Some (length plan.peers)) me → IsUp stack plans c d listening me
   up_first plans c d listening typed numbered rests few listen = record {
     typed = typed;
     numbered = numbered;
@@ -94,16 +102,19 @@ module _ (stack : List LayerTree) (plan : NodePlan) (me : List ℕ) (turns patie
     listen = all_listen listening (length plan.peers) me few listen;
   }
 
-  so_first : (plans : List Plan) (c : Peopled) (d : Desk) → Rests mode stack plans (length plan.peers) c d (first_of_plan stack plan) → d.events ≡ 0 →
+  so_first : (plans : List Plan) (c : Peopled) (d : Desk) →
+      Rests mode stack plans (length plan.peers) c d (first_of_plan stack plan) → d.events ≡ 0 →
       (from : Around) (clock : Option (List ℕ)) →
-      SoFar stack plans course (begun stack plan me turns patience mode from clock) 0 0 (from_turn course 0 patience) 0 (now c d from clock)
+      SoFar stack plans course (begun stack plan me turns patience mode from clock) 0 0 (from_turn course 0 patience) 0
+      (now c d from clock)
   so_first plans c d rests none from clock = record {
     clock = [];
     heard = [];
     done = [];
     failed = [];
     world = first_of_plan stack plan;
-    goes = λ later more. let all : turns ≡ turns - 0 = omega arith in ap (λ n. doings_from plan me 0 n patience later more) all;
+    goes = λ later more. let all : turns ≡ turns - 0 = omega arith in
+        ap (λ n. doings_from plan me 0 n patience later more) all;
     moments_are = refl;
     answers_are = refl;
     asked = refl;
@@ -120,10 +131,13 @@ module _ (stack : List LayerTree) (plan : NodePlan) (me : List ℕ) (turns patie
   }
 
   -- What the turns of a node come to that begins.
-  pub made_first : (plans : List Plan) (c : Peopled) (d : Desk) → Rests mode stack plans (length plan.peers) c d (first_of_plan stack plan) → d.events ≡ 0 →
+  pub made_first : (plans : List Plan) (c : Peopled) (d : Desk) →
+      Rests mode stack plans (length plan.peers) c d (first_of_plan stack plan) → d.events ≡ 0 →
       plans ≡ plans_of stack → (from : Around) (clock : Option (List ℕ)) (at : Now) (r : Result (Unit {0}) NodeError) →
-      ((b : Begun) → b.patience ≡ patience → SoFar stack plans course b 0 0 (from_turn course 0 patience) 0 (now c d from clock) →
-      Made stack plans course b at r) → Made stack (plans_of stack) course (begun stack plan me turns patience mode from clock) at r
+      ((b : Begun) → b.patience ≡ patience →
+      SoFar stack plans course b 0 0 (from_turn course 0 patience) 0 (now c d from clock) →
+      Made stack plans course b at r) →
+      Made stack (plans_of stack) course (begun stack plan me turns patience mode from clock) at r
   made_first plans c d rests none is from clock at r told =
       subst (λ plans. Made stack plans course (begun stack plan me turns patience mode from clock) at r) is
       (told (begun stack plan me turns patience mode from clock) refl (so_first plans c d rests none from clock))
@@ -134,12 +148,15 @@ module _ (stack : List LayerTree) (plan : NodePlan) (me : List ℕ) (turns patie
     not_begun a =
         let nothing = nothing_done stack plan me turns patience mode a.around a.clock in
         broken stack plan me turns patience mode goes_on a a.around sink.Memory a.around a.clock nothing.0
-        (subst (λ clock. Reaches (IsUntouched plan.peers me clock) a.around a.around) (sym nothing.1) (untouched plan.peers me a.around))
+        (subst (λ clock. Reaches (IsUntouched plan.peers me clock) a.around a.around) (sym nothing.1)
+        (untouched plan.peers me a.around))
 
     -- They didn't all listen.
-    pub not_all_listen : (out : output.Tells) (clock : Option (List ℕ)) (faults after sends sends_after : ℕ) (told told_after : Option Network)
+    pub not_all_listen : (out : output.Tells) (clock : Option (List ℕ)) (faults after sends sends_after : ℕ)
+        (told told_after : Option Network)
         (e : NodeError) → ListensAll plan.peers me faults after told told_after (Err e) → sends_after ≡ sends →
-        Serves task (whereabouts (surrounding out faults sends told) clock) (whereabouts (surrounding out after sends_after told_after) clock) (Err e)
+        Serves task (whereabouts (surrounding out faults sends told) clock)
+        (whereabouts (surrounding out after sends_after told_after) clock) (Err e)
     not_all_listen out clock faults after sends sends_after told told_after Link listened sent =
         inl (not_listened stack plan me turns patience mode (whereabouts (surrounding out faults sends told) clock)
         (whereabouts (surrounding out after sends_after told_after) clock) refl listened.0 sent refl listened.1)
@@ -147,9 +164,12 @@ module _ (stack : List LayerTree) (plan : NodePlan) (me : List ℕ) (turns patie
     not_all_listen out clock faults after sends sends_after told told_after Memory listened sent =
         let b = surrounding out after sends_after told_after in
         let nothing = nothing_done stack plan me turns patience mode b clock in
-        broken stack plan me turns patience mode goes_on (whereabouts (surrounding out faults sends told) clock) b sink.Memory b clock nothing.0
-        (listens_untouched plan.peers me nothing.0.clock (ListenedSome plan.peers me) (surrounding out faults sends told) b
-        record { output = refl; faults = listened.0; sends = sent; told = listened.1 } (λ n n' l. (l.some, inr nothing.1, l.is)))
+        broken stack plan me turns patience mode goes_on (whereabouts (surrounding out faults sends told) clock) b
+        sink.Memory b clock nothing.0
+        (listens_untouched plan.peers me nothing.0.clock (ListenedSome plan.peers me)
+        (surrounding out faults sends told) b
+        record { output = refl; faults = listened.0; sends = sent; told = listened.1 }
+        (λ n n' l. (l.some, inr nothing.1, l.is)))
 
     module _ (a : Whereabouts) (from : Around) (listened : Reaches (Listened plan.peers me) a.around from) where
       still : (clock : List ℕ) → Reaches (IsUntouched plan.peers me clock) a.around from
@@ -157,17 +177,24 @@ module _ (stack : List LayerTree) (plan : NodePlan) (me : List ℕ) (turns patie
           (λ n n' l. (length me, inl refl, l.is ∙ ap (λ ids. after_listens plan.peers ids n) (sym (take-length me))))
 
       -- Not all turns were made.
-      pub not_all_made : (at : Now) (e : NodeError) → Made stack (plans_of stack) course (begun stack plan me turns patience mode from a.clock) at (Err e) →
+      pub not_all_made : (at : Now) (e : NodeError) →
+          Made stack (plans_of stack) course (begun stack plan me turns patience mode from a.clock) at (Err e) →
           Serves task a (whereabouts at.around at.clock) (Err e)
       not_all_made at Link made = inr (went_deaf stack plan me turns patience mode a from listened at made)
-      not_all_made at Write made = broken stack plan me turns patience mode goes_on a from sink.Failed at.around at.clock made (still made.clock)
-      not_all_made at Memory made = broken stack plan me turns patience mode goes_on a from sink.Memory at.around at.clock made (still made.clock)
+      not_all_made at Write made = broken stack plan me turns patience mode goes_on a from sink.Failed at.around
+          at.clock made (still made.clock)
+      not_all_made at Memory made = broken stack plan me turns patience mode goes_on a from sink.Memory at.around
+          at.clock made (still made.clock)
 
       -- All were, and the last line was put, or that was cut short.
-      pub all_served : (at : Now) → MadeAll stack (plans_of stack) course (begun stack plan me turns patience mode from a.clock) at →
-          (out : output.Tells) (r : Result (Unit {0}) SinkError) → Wrote (end_line at.desk.events ∷ []) at.around.output out r →
-          Serves task a (whereabouts (surrounding out at.around.faults at.around.sends at.around.told) at.clock) (cut_short r)
-      all_served at made out (Ok done) wrote = made_all stack plan me turns patience mode a from listened at made out wrote
+      pub all_served : (at : Now) →
+          MadeAll stack (plans_of stack) course (begun stack plan me turns patience mode from a.clock) at →
+          (out : output.Tells) (r : Result (Unit {0}) SinkError) →
+          Wrote (end_line at.desk.events ∷ []) at.around.output out r →
+          Serves task a (whereabouts (surrounding out at.around.faults at.around.sends at.around.told) at.clock)
+          (cut_short r)
+      all_served at made out (Ok done) wrote = made_all stack plan me turns patience mode a from listened at made out
+          wrote
       all_served at made out (Err sink.Failed) wrote =
           let cut = last_cut stack plan me turns patience mode from a.clock at out sink.Failed made wrote in
           broken stack plan me turns patience mode goes_on a from sink.Failed

@@ -1,5 +1,6 @@
 -- What an event comes to that a node feeds.
-use Rattle.std.proofs.Common.{◌≡◌, ℕ, ◌+◌, Bool, List, [], ◌∷◌, ◌++◌, length, map, refl, sym, ap, subst, ◌∙◌, append-nil, Option, Some}
+use Rattle.std.proofs.Common.{◌≡◌, ℕ, ◌+◌, Bool, List, [], ◌∷◌, ◌++◌, length, map, refl, sym, ap, subst, ◌∙◌}
+use Rattle.std.proofs.Common.{append-nil, Option, Some}
 use Rattle.std.proofs.lemmas.List.{length-map}
 use Rattle.std.specs.List.{AllByRecursion, flat_map}
 use Rattle.std.specs.Prelude.{IsSomeAnd, Result, Ok, Err, option_to_list}
@@ -20,7 +21,8 @@ use Rattle.stack_mean.specs.Plan.{Plan}
 use Rattle.run_mean.specs.Journal.{handed_in, handed_output}
 use Rattle.run_mean.specs.Lines.{refused_line}
 use Rattle.run_mean.specs.Member as member
-use Rattle.run_mean.specs.Member.{Input, Member, Output, inside, out, cast, send, leave, tick, datagram, Entered, entered}
+use Rattle.run_mean.specs.Member.{Input, Member, Output, inside, out, cast, send, leave, tick, datagram, Entered}
+use Rattle.run_mean.specs.Member.{entered}
 use Rattle.run_mean.specs.Report.{installed_line}
 use Rattle.run_mean.specs.World as world
 use Rattle.run_mean.specs.World.{World, here_of, happens, member_at, stepped_inside, stepped_of}
@@ -46,19 +48,25 @@ use Rattle.node_loop.specs.declared.desk.Desk.{Desk}
 use Rattle.node_loop.proofs.Passing.{breaks_first, breaks_then, memory_stops, passes_lines, passes_then}
 
 -- An event happened in a mode: the world behind it, and what is told of it.
-pub record Happened (mode : Mode) (stack : List LayerTree) (plans : List Plan) (w : World) (event : ScriptEvent) (c : Peopled)
+pub record Happened (mode : Mode) (stack : List LayerTree) (plans : List Plan) (w : World) (event : ScriptEvent)
+    (c : Peopled)
     (outs : List (Output × Option ℕ)) (before after : ℕ) (d : Did) : Type 0 where
   pub world : Stands c (happens stack plans w event).world
   pub told : DidIs mode stack plans (happens stack plans w event).did outs before after d
 
-pub happened : (mode : Mode) (stack : List LayerTree) (plans : List Plan) (w : World) (event : ScriptEvent) (c c' : Peopled) (outs : List (Output × Option ℕ))
+pub happened : (mode : Mode) (stack : List LayerTree) (plans : List Plan) (w : World) (event : ScriptEvent)
+    (c c' : Peopled) (outs : List (Output × Option ℕ))
     (before after : ℕ) (d d' : Did) → c.mode ≡ mode → c.stack ≡ stack → c.plans ≡ plans → d ≡ d' →
-    IsFed c (happens c.stack c.plans w event) c' outs before after d → Happened mode stack plans w event c' outs before after d'
-happened mode stack plans w event c c' outs before after d d' mode_is stack_is plans_are d_is f = subst (Happened mode stack plans w event c' outs before after) d_is
-    (subst {A = List LayerTree × List Plan} (λ x. Happened mode x.0 x.1 w event c' outs before after d) (λ k. (stack_is k, plans_are k))
+    IsFed c (happens c.stack c.plans w event) c' outs before after d →
+    Happened mode stack plans w event c' outs before after d'
+happened mode stack plans w event c c' outs before after d d' mode_is stack_is plans_are d_is f =
+    subst (Happened mode stack plans w event c' outs before after) d_is
+    (subst {A = List LayerTree × List Plan} (λ x. Happened mode x.0 x.1 w event c' outs before after d)
+    (λ k. (stack_is k, plans_are k))
     (record {
       world = f.world;
-      told = subst (λ mode. DidIs mode c.stack c.plans (happens c.stack c.plans w event).did outs before after d) mode_is f.told;
+      told = subst (λ mode. DidIs mode c.stack c.plans (happens c.stack c.plans w event).did outs before after d)
+          mode_is f.told;
     }))
 
 -- An event of a node's own is a step.
@@ -86,33 +94,42 @@ module _ (mode : Mode) (stack : List LayerTree) (plans : List Plan) (w : World) 
   own_is_step (script.Give k id) own = absurd own
   own_is_step (script.Show id) own = absurd own
 
-  never_absent : (d : world.Did) (outs : List (Output × Option ℕ)) (before after : ℕ) → IsStep d → DidIs mode stack plans d outs before after did.Absent → ⊥
+  never_absent : (d : world.Did) (outs : List (Output × Option ℕ)) (before after : ℕ) → IsStep d →
+      DidIs mode stack plans d outs before after did.Absent → ⊥
   never_absent (world.taken s) outs before after step is = is
   never_absent (world.refused r) outs before after step is = is
   never_absent world.absent outs before after step is = step
   never_absent world.shown outs before after step is = step
 
-  never_shown : (d : world.Did) (outs : List (Output × Option ℕ)) (before after : ℕ) → IsStep d → DidIs mode stack plans d outs before after did.Shown → ⊥
+  never_shown : (d : world.Did) (outs : List (Output × Option ℕ)) (before after : ℕ) → IsStep d →
+      DidIs mode stack plans d outs before after did.Shown → ⊥
   never_shown (world.taken s) outs before after step is = is
   never_shown (world.refused r) outs before after step is = is
   never_shown world.absent outs before after step is = step
   never_shown world.shown outs before after step is = step
 
-  pub own_never_absent : (event : ScriptEvent) (c : Peopled) (outs : List (Output × Option ℕ)) (before after : ℕ) → IsOwn event →
+  pub own_never_absent : (event : ScriptEvent) (c : Peopled) (outs : List (Output × Option ℕ)) (before after : ℕ) →
+      IsOwn event →
       Happened mode stack plans w event c outs before after did.Absent → ⊥
-  own_never_absent event c outs before after own h = never_absent (happens stack plans w event).did outs before after (own_is_step event own) h.told
+  own_never_absent event c outs before after own h = never_absent (happens stack plans w event).did outs before after
+      (own_is_step event own) h.told
 
-  pub own_never_shown : (event : ScriptEvent) (c : Peopled) (outs : List (Output × Option ℕ)) (before after : ℕ) → IsOwn event →
+  pub own_never_shown : (event : ScriptEvent) (c : Peopled) (outs : List (Output × Option ℕ)) (before after : ℕ) →
+      IsOwn event →
       Happened mode stack plans w event c outs before after did.Shown → ⊥
-  own_never_shown event c outs before after own h = never_shown (happens stack plans w event).did outs before after (own_is_step event own) h.told
+  own_never_shown event c outs before after own h = never_shown (happens stack plans w event).did outs before after
+      (own_is_step event own) h.told
 
   -- The acts of a step as it is told are those of what happened.
-  did_acts_are : (event : ScriptEvent) (d : world.Did) (outs : List (Output × Option ℕ)) (before after : ℕ) (stepped : Stepped) (failed : List Bool) →
+  did_acts_are : (event : ScriptEvent) (d : world.Did) (outs : List (Output × Option ℕ)) (before after : ℕ)
+      (stepped : Stepped) (failed : List Bool) →
       DidIs mode stack plans d outs before after (did.Stepped stepped) →
-      did_acts mode stack plans w event d failed ≡ stepped_acts stack plans (member_of event) (first_in w) outs stepped failed
+      did_acts mode stack plans w event d failed ≡ stepped_acts stack plans (member_of event) (first_in w) outs stepped
+      failed
   did_acts_are event (world.taken s) outs before after (Taken common change) failed is =
       let id = member_of event in
-      ap (λ o. outputs_acts stack plans id (first_in w) o failed ++ map puts (map (installed_line id) (option_to_list s.installs))) (sym is.outs_are)
+      ap (λ o. outputs_acts stack plans id (first_in w) o failed ++
+      map puts (map (installed_line id) (option_to_list s.installs))) (sym is.outs_are)
       ∙ ap (λ ls. outputs_acts stack plans id (first_in w) outs failed ++ map puts ls)
       (sym (changes_told id s.installs) ∙ ap (change_lines id) (sym is.change_is))
   did_acts_are event (world.refused r) outs before after (Refused told) failed is =
@@ -124,9 +141,12 @@ module _ (mode : Mode) (stack : List LayerTree) (plans : List Plan) (w : World) 
   did_acts_are event world.shown outs before after (Taken common change) failed is = absurd is
   did_acts_are event world.shown outs before after (Refused told) failed is = absurd is
 
-  pub event_acts_are : (event : ScriptEvent) (c : Peopled) (outs : List (Output × Option ℕ)) (before after : ℕ) (stepped : Stepped) (id first : ℕ)
-      (failed : List Bool) → Happened mode stack plans w event c outs before after (did.Stepped stepped) → id ≡ member_of event → first ≡ first_in w →
-      event_acts mode stack plans w event failed ≡ puts (journal_line event) ∷ stepped_acts stack plans id first outs stepped failed
+  pub event_acts_are : (event : ScriptEvent) (c : Peopled) (outs : List (Output × Option ℕ)) (before after : ℕ)
+      (stepped : Stepped) (id first : ℕ)
+      (failed : List Bool) → Happened mode stack plans w event c outs before after (did.Stepped stepped) →
+      id ≡ member_of event → first ≡ first_in w →
+      event_acts mode stack plans w event failed ≡ puts (journal_line event) ∷
+      stepped_acts stack plans id first outs stepped failed
   event_acts_are event c outs before after stepped id first failed h id_is first_is =
       ap (λ acts. puts (journal_line event) ∷ acts)
       (did_acts_are event (happens stack plans w event).did outs before after stepped failed h.told
@@ -135,7 +155,8 @@ module _ (mode : Mode) (stack : List LayerTree) (plans : List Plan) (w : World) 
 
   -- What a step hands on may be handed on.
   did_sendable : (id n : ℕ) (d : world.Did) (outs : List (Output × Option ℕ)) (before after : ℕ) (stepped : Stepped) →
-      DidIs mode stack plans d outs before after (did.Stepped stepped) → AllByRecursion (IsSendable n id) (handed_in mode stack plans id d) →
+      DidIs mode stack plans d outs before after (did.Stepped stepped) →
+      AllByRecursion (IsSendable n id) (handed_in mode stack plans id d) →
       AllByRecursion (IsSendable n id) (sends_of_outputs plans id outs)
   did_sendable id n (world.taken s) outs before after (Taken common change) is all =
       subst (λ o. AllByRecursion (IsSendable n id) (flat_map (handed_output plans id) o)) (sym is.outs_are) all
@@ -148,21 +169,31 @@ module _ (mode : Mode) (stack : List LayerTree) (plans : List Plan) (w : World) 
   did_sendable id n world.shown outs before after (Taken common change) is all = absurd is
   did_sendable id n world.shown outs before after (Refused told) is all = absurd is
 
-  pub own_sendable : (event : ScriptEvent) (n : ℕ) (c : Peopled) (outs : List (Output × Option ℕ)) (before after : ℕ) (stepped : Stepped) (id : ℕ)
-      (listening : ℕ → Option ℕ) → IsWithinLimits stack → TypedStack stack → AreNumbered plans → IsGivenEvent event → IsChainedWorld stack w →
-      AreWithin n w → Happened mode stack plans w event c outs before after (did.Stepped stepped) → id ≡ member_of event →
+  pub own_sendable : (event : ScriptEvent) (n : ℕ) (c : Peopled) (outs : List (Output × Option ℕ)) (before after : ℕ)
+      (stepped : Stepped) (id : ℕ)
+      (listening : ℕ → Option ℕ) → IsWithinLimits stack → TypedStack stack → AreNumbered plans → IsGivenEvent event →
+      IsChainedWorld stack w →
+      AreWithin n w → Happened mode stack plans w event c outs before after (did.Stepped stepped) →
+      id ≡ member_of event →
       listening (member_of event) ≡ Some n →
       IsSomeAnd (listening id) (λ peers. AllByRecursion (IsSendable peers id) (sends_of_outputs plans id outs))
-  own_sendable event n c outs before after stepped id listening limits typed numbered given chained within h id_is listens =
-      subst (λ i. IsSomeAnd (listening i) (λ peers. AllByRecursion (IsSendable peers i) (sends_of_outputs plans i outs))) (sym id_is)
-      (subst (λ o. IsSomeAnd o (λ peers. AllByRecursion (IsSendable peers (member_of event)) (sends_of_outputs plans (member_of event) outs))) (sym listens)
+  own_sendable event n c outs before after stepped id listening limits typed numbered given chained within
+      h id_is listens =
+      subst (λ i. IsSomeAnd (listening i)
+      (λ peers. AllByRecursion (IsSendable peers i) (sends_of_outputs plans i outs))) (sym id_is)
+      (subst (λ o. IsSomeAnd o
+      (λ peers. AllByRecursion (IsSendable peers (member_of event))
+      (sends_of_outputs plans (member_of event) outs))) (sym listens)
       (did_sendable (member_of event) n (happens stack plans w event).did outs before after stepped h.told
-      (sends_are_sendable mode stack plans w event n limits (events_keep_chains stack plans w event typed numbered given chained) within)))
+      (sends_are_sendable mode stack plans w event n limits
+      (events_keep_chains stack plans w event typed numbered given chained) within)))
 
   -- Where a group stands behind an event.
-  pub rests_again : (event : ScriptEvent) (n : ℕ) (c c' : Peopled) (d d' : Desk) (outs : List (Output × Option ℕ)) (before after : ℕ) (told : Did) →
+  pub rests_again : (event : ScriptEvent) (n : ℕ) (c c' : Peopled) (d d' : Desk) (outs : List (Output × Option ℕ))
+      (before after : ℕ) (told : Did) →
       TypedStack stack → AreNumbered plans → IsGivenEvent event → Rests mode stack plans n c d w → Stays c c' →
-      Happened mode stack plans w event c' outs before after told → d'.outputs.places ≡ d.outputs.places → Rests mode stack plans n c' d' (happens stack plans w event).world
+      Happened mode stack plans w event c' outs before after told → d'.outputs.places ≡ d.outputs.places →
+      Rests mode stack plans n c' d' (happens stack plans w event).world
   rests_again event n c c' d d' outs before after told typed numbered given r stays h places = record {
     somewhere = record {
       mode_is = stays.mode ∙ r.somewhere.mode_is;
@@ -177,41 +208,55 @@ module _ (mode : Mode) (stack : List LayerTree) (plans : List Plan) (w : World) 
   }
 
   -- The number of the next packet, where a group stands.
-  pub first_is : (c : Peopled) (n number : ℕ) → Somewhere mode stack plans n c w → number ≡ length c.spelled + 1 → number ≡ first_in w
+  pub first_is : (c : Peopled) (n number : ℕ) → Somewhere mode stack plans n c w → number ≡ length c.spelled + 1 →
+      number ≡ first_in w
   first_is c n number at is = is ∙ ap (λ k. k + 1) (sym (ap length at.stands.spelled) ∙ length-map w.packets full_bytes)
 
   -- The line of an event, and then what it came to.
-  pub journal_then : (event : ScriptEvent) (c : Peopled) (outs : List (Output × Option ℕ)) (before after : ℕ) (stepped : Stepped) (id first : ℕ)
-      (a m b : Around) → Happened mode stack plans w event c outs before after (did.Stepped stepped) → id ≡ member_of event → first ≡ first_in w →
+  pub journal_then : (event : ScriptEvent) (c : Peopled) (outs : List (Output × Option ℕ)) (before after : ℕ)
+      (stepped : Stepped) (id first : ℕ)
+      (a m b : Around) → Happened mode stack plans w event c outs before after (did.Stepped stepped) →
+      id ≡ member_of event → first ≡ first_in w →
       Gains a.output m.output (journal_line event ∷ []) → m.faults ≡ a.faults → m.sends ≡ a.sends → m.told ≡ a.told →
-      PassesAll (stepped_acts stack plans id first outs stepped) m b → PassesAll (event_acts mode stack plans w event) a b
+      PassesAll (stepped_acts stack plans id first outs stepped) m b →
+      PassesAll (event_acts mode stack plans w event) a b
   journal_then event c outs before after stepped id first a m b h id_is first_is gained faults sends told p = record {
     failed = p.failed;
-    passed = passes_then a m b (puts (journal_line event) ∷ []) (stepped_acts stack plans id first outs stepped p.failed)
-        (event_acts mode stack plans w event p.failed) [] p.failed (passes_lines a m (journal_line event ∷ []) gained faults sends told) p.passed
+    passed = passes_then a m b (puts (journal_line event) ∷ [])
+        (stepped_acts stack plans id first outs stepped p.failed)
+        (event_acts mode stack plans w event p.failed) [] p.failed
+        (passes_lines a m (journal_line event ∷ []) gained faults sends told) p.passed
         (event_acts_are event c outs before after stepped id first p.failed h id_is first_is);
   }
 
-  pub journal_cut : (event : ScriptEvent) (c : Peopled) (outs : List (Output × Option ℕ)) (before after : ℕ) (stepped : Stepped) (id first : ℕ)
-      (a m b : Around) (e : SinkError) → Happened mode stack plans w event c outs before after (did.Stepped stepped) → id ≡ member_of event → first ≡ first_in w →
+  pub journal_cut : (event : ScriptEvent) (c : Peopled) (outs : List (Output × Option ℕ)) (before after : ℕ)
+      (stepped : Stepped) (id first : ℕ)
+      (a m b : Around) (e : SinkError) → Happened mode stack plans w event c outs before after (did.Stepped stepped) →
+      id ≡ member_of event → first ≡ first_in w →
       Gains a.output m.output (journal_line event ∷ []) → m.faults ≡ a.faults → m.sends ≡ a.sends → m.told ≡ a.told →
       Breaks (stepped_acts stack plans id first outs stepped) e m b → Breaks (event_acts mode stack plans w event) e a b
   journal_cut event c outs before after stepped id first a m b e h id_is first_is gained faults sends told q =
-      breaks_then a m b (puts (journal_line event) ∷ []) (stepped_acts stack plans id first outs stepped) (event_acts mode stack plans w event) [] e
+      breaks_then a m b (puts (journal_line event) ∷ []) (stepped_acts stack plans id first outs stepped)
+      (event_acts mode stack plans w event) [] e
       (passes_lines a m (journal_line event ∷ []) gained faults sends told) q
       (record {
         more = λ g. [];
         are = λ g few. event_acts_are event c outs before after stepped id first g h id_is first_is
-            ∙ ap (λ acts. puts (journal_line event) ∷ acts) (sym (append-nil (stepped_acts stack plans id first outs stepped g)));
+            ∙ ap (λ acts. puts (journal_line event) ∷ acts)
+            (sym (append-nil (stepped_acts stack plans id first outs stepped g)));
       })
 
   -- The line of an event, and then want of memory.
-  pub journal_none : (event : ScriptEvent) (a m : Around) → Gains a.output m.output (journal_line event ∷ []) → m.faults ≡ a.faults →
+  pub journal_none : (event : ScriptEvent) (a m : Around) → Gains a.output m.output (journal_line event ∷ []) →
+      m.faults ≡ a.faults →
       m.sends ≡ a.sends → m.told ≡ a.told → Breaks (event_acts mode stack plans w event) sink.Memory a m
   journal_none event a m gained faults sends told =
       breaks_then a m m (puts (journal_line event) ∷ []) rest (event_acts mode stack plans w event) [] sink.Memory
       (passes_lines a m (journal_line event ∷ []) gained faults sends told)
       (breaks_first m m rest sink.Memory (memory_stops m.output (rest [])) refl refl refl)
-      (record { more = λ g. []; are = λ g few. ap (λ acts. puts (journal_line event) ∷ acts) (sym (append-nil (rest g))) }) where
+      (record {
+        more = λ g. [];
+        are = λ g few. ap (λ acts. puts (journal_line event) ∷ acts) (sym (append-nil (rest g)));
+      }) where
         rest : List Bool → List Act
         rest failed = did_acts mode stack plans w event (happens stack plans w event).did failed

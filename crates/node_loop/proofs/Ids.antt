@@ -1,5 +1,6 @@
 -- The ids of a view, and those to whom a cast goes, from a place of the mask on.
-use Rattle.std.proofs.Common.{◌≡◌, ℕ, suc, ◌+◌, ◌<◌, ◌≤◌, ◌≢◌, Bool, true, false, List, [], ◌∷◌, ap, ◌∙◌, arith, Option, Some, None, inl, inr}
+use Rattle.std.proofs.Common.{◌≡◌, ℕ, suc, ◌+◌, ◌<◌, ◌≤◌, ◌≢◌, Bool, true, false, List, [], ◌∷◌, ap, ◌∙◌, arith, Option}
+use Rattle.std.proofs.Common.{Some, None, inl, inr}
 use Rattle.std.proofs.lemmas.Bool.Decides.{eqb_tells}
 use Rattle.std.specs.Prelude.{◌==◌, cond, not, slice_get}
 use Rattle.std.specs.Int.{bit_at}
@@ -22,7 +23,8 @@ pub ranked_ends : (view : View) (rank at : ℕ) → 32 ≤ at → ranked_from vi
 unfolding ranked_from
 ranked_ends view rank at past = ap (λ ids. slice_get ids rank) (ids_end view at past)
 
-pub ranked_here : (view : View) (rank at : ℕ) → at < 32 → (bit_at view.mask at == 1) ≡ true → rank ≡ 0 → ranked_from view rank at ≡ Some at
+pub ranked_here : (view : View) (rank at : ℕ) → at < 32 → (bit_at view.mask at == 1) ≡ true → rank ≡ 0 →
+    ranked_from view rank at ≡ Some at
 unfolding ranked_from
 ranked_here view rank at small set first = ap (λ ids. slice_get ids rank) (ids_next view at true small set)
     ∙ ap (slice_get (at ∷ ids_from view (at + 1))) first
@@ -34,7 +36,8 @@ ranked_past view rank left at small set more =
     let one : rank ≡ suc left = omega (arith, more) in
     ap (λ ids. slice_get ids rank) (ids_next view at true small set) ∙ ap (slice_get (at ∷ ids_from view (at + 1))) one
 
-pub ranked_without : (view : View) (rank at : ℕ) → at < 32 → (bit_at view.mask at == 1) ≡ false → ranked_from view rank at ≡ ranked_from view rank (at + 1)
+pub ranked_without : (view : View) (rank at : ℕ) → at < 32 → (bit_at view.mask at == 1) ≡ false →
+    ranked_from view rank at ≡ ranked_from view rank (at + 1)
 unfolding ranked_from
 ranked_without view rank at small lacks = ap (λ ids. slice_get ids rank) (ids_next view at false small lacks)
 
@@ -50,11 +53,14 @@ pub others_end : (view : View) (from at : ℕ) → 32 ≤ at → others_from vie
 unfolding others_from
 others_end view from at past = ap (filter (λ other. not (other == from))) (ids_end view at past)
 
-pub others_without : (view : View) (from at : ℕ) → at < 32 → (bit_at view.mask at == 1) ≡ false → others_from view from at ≡ others_from view from (at + 1)
+pub others_without : (view : View) (from at : ℕ) → at < 32 → (bit_at view.mask at == 1) ≡ false →
+    others_from view from at ≡ others_from view from (at + 1)
 unfolding others_from
-others_without view from at small lacks = ap (filter (λ other. not (other == from))) (ids_next view at false small lacks)
+others_without view from at small lacks =
+    ap (filter (λ other. not (other == from))) (ids_next view at false small lacks)
 
-others_with : (view : View) (from at : ℕ) (same : Bool) → at < 32 → (bit_at view.mask at == 1) ≡ true → (at == from) ≡ same →
+others_with : (view : View) (from at : ℕ) (same : Bool) → at < 32 → (bit_at view.mask at == 1) ≡ true →
+    (at == from) ≡ same →
     others_from view from at ≡ cond (not same) (at ∷ others_from view from (at + 1)) (others_from view from (at + 1))
 unfolding others_from
 others_with view from at same small set is =

@@ -1,5 +1,7 @@
 -- The listens of a node's members, one by one.
-use Rattle.std.proofs.Common.{◌≡◌, ◌≢◌, ℕ, zero, suc, ◌+◌, ◌<◌, Bool, true, false, List, [], ◌∷◌, ◌++◌, length, map, take, drop, get_or, append_assoc, append-nil, refl, sym, ap, ap₂, subst, ◌∙◌, arith, Option, Some, None}
+use Rattle.std.proofs.Common.{◌≡◌, ◌≢◌, ℕ, zero, suc, ◌+◌, ◌<◌, Bool, true, false, List, [], ◌∷◌, ◌++◌, length, map}
+use Rattle.std.proofs.Common.{take, drop, get_or, append_assoc, append-nil, refl, sym, ap, ap₂, subst, ◌∙◌, arith}
+use Rattle.std.proofs.Common.{Option, Some, None}
 use Rattle.std.proofs.lemmas.Bool.{eqb-true, eqb-false}
 use Rattle.std.proofs.lemmas.List.{length-take-le, map-append, take_more}
 use Rattle.std.specs.List.{AllByRecursion}
@@ -22,12 +24,14 @@ drop_next (suc k) [] = refl
 drop_next (suc k) (flag ∷ flags) = drop_next k flags
 
 -- one flag more
-flags_more : (k : ℕ) (flags : List Bool) → flags_of (suc k) flags ≡ flags_of k flags ++ is_next_to_fail (drop k flags) ∷ []
+flags_more : (k : ℕ) (flags : List Bool) → flags_of (suc k) flags ≡ flags_of k flags ++ is_next_to_fail (drop k flags) ∷
+    []
 flags_more zero flags = refl
-flags_more (suc k) [] = ap (λ fs. false ∷ fs) (flags_more k [] ∙ ap (λ fs. flags_of k [] ++ is_next_to_fail fs ∷ []) (drop_none k)) where
-  drop_none : (k : ℕ) → drop {A = Bool} k [] ≡ []
-  drop_none zero = refl
-  drop_none (suc k) = refl
+flags_more (suc k) [] =
+    ap (λ fs. false ∷ fs) (flags_more k [] ∙ ap (λ fs. flags_of k [] ++ is_next_to_fail fs ∷ []) (drop_none k)) where
+      drop_none : (k : ℕ) → drop {A = Bool} k [] ≡ []
+      drop_none zero = refl
+      drop_none (suc k) = refl
 flags_more (suc k) (flag ∷ flags) = ap (λ fs. flag ∷ fs) (flags_more k flags)
 
 replicate_more : (k : ℕ) → replicate k false ++ false ∷ [] ≡ replicate (suc k) false
@@ -47,10 +51,12 @@ record ListenedOnce (listen : Listen) (flag : Bool) (n n' : Network) : Type 0 wh
   pub met : is_next_to_fail n.listens ≡ flag
   pub is : n' ≡ after_listen listen n
 
-listened_once : (listen : Listen) (flag : Bool) (old new : Option Network) → IfSome old (λ n. is_next_to_fail n.listens ≡ flag) →
+listened_once : (listen : Listen) (flag : Bool) (old new : Option Network) →
+    IfSome old (λ n. is_next_to_fail n.listens ≡ flag) →
     new ≡ option_map (after_listen listen) old → Tells (ListenedOnce listen flag) old new
 listened_once listen flag None new holds is = subst (Tells (ListenedOnce listen flag) None) (sym is) tt
-listened_once listen flag (Some n) new holds is = subst (Tells (ListenedOnce listen flag) (Some n)) (sym is) record { met = holds; is = refl }
+listened_once listen flag (Some n) new holds is = subst (Tells (ListenedOnce listen flag) (Some n)) (sym is) record
+    { met = holds; is = refl }
 
 module _ (peers : List Peer) (ids : List ℕ) (k : ℕ) (lt : k < length ids) where
   abbrev listen : Listen
@@ -59,49 +65,61 @@ module _ (peers : List Peer) (ids : List ℕ) (k : ℕ) (lt : k < length ids) wh
   count_is : length (take k ids) ≡ k
   count_is = length-take-le k ids (omega (arith, lt))
 
-  flags_behind : (flag : Bool) (n n' n'' : Network) → Listened peers (take k ids) n n' → ListenedOnce listen flag n' n'' →
+  flags_behind : (flag : Bool) (n n' n'' : Network) → Listened peers (take k ids) n n' →
+      ListenedOnce listen flag n' n'' →
       flags_of (k + 1) n.listens ≡ replicate k false ++ flag ∷ []
   flags_behind flag n n' n'' l one =
-      let flags : flags_of k n.listens ≡ replicate k false = subst (λ i. flags_of i n.listens ≡ replicate i false) count_is l.flags in
+      let flags : flags_of k n.listens ≡ replicate k false = subst (λ i. flags_of i n.listens ≡ replicate i false)
+      count_is l.flags in
       let next : is_next_to_fail (drop k n.listens) ≡ flag =
-      ap (λ i. is_next_to_fail (drop i n.listens)) (sym count_is) ∙ sym (ap (λ (m : Network). is_next_to_fail m.listens) l.is) ∙ one.met in
+      ap (λ i. is_next_to_fail (drop i n.listens)) (sym count_is) ∙
+      sym (ap (λ (m : Network). is_next_to_fail m.listens) l.is) ∙ one.met in
       ap (λ i. flags_of i n.listens) (sym (one_more k)) ∙ flags_more k n.listens
       ∙ ap (λ f. flags_of k n.listens ++ f ∷ []) next ∙ ap (λ fs. fs ++ flag ∷ []) flags
 
   listens_behind : listens_of peers (take k ids) ++ listen ∷ [] ≡ listens_of peers (take (k + 1) ids)
-  listens_behind = sym (map-append (listen_of peers) (take k ids) (get_or ids k 0 ∷ [])) ∙ ap (map (listen_of peers)) (sym (take_more ids k 0 lt))
+  listens_behind = sym (map-append (listen_of peers) (take k ids) (get_or ids k 0 ∷ [])) ∙
+      ap (map (listen_of peers)) (sym (take_more ids k 0 lt))
 
   count_more : suc (length (take k ids)) ≡ length (take (k + 1) ids)
   count_more = ap suc count_is ∙ one_more k ∙ sym (length-take-le (k + 1) ids (omega (arith, lt)))
 
-  network_behind : (flag : Bool) (n n' n'' : Network) → Listened peers (take k ids) n n' → ListenedOnce listen flag n' n'' →
+  network_behind : (flag : Bool) (n n' n'' : Network) → Listened peers (take k ids) n n' →
+      ListenedOnce listen flag n' n'' →
       n'' ≡ after_listens peers (take (k + 1) ids) n
   network_behind flag n n' n'' l one = one.is ∙ ap (after_listen listen) l.is
       ∙ ap₂ (λ listened flags. record n { listened = listened; listens = flags })
-      (append_assoc n.listened (listens_of peers (take k ids)) (listen ∷ []) ∙ ap (λ ls. n.listened ++ ls) listens_behind)
+      (append_assoc n.listened (listens_of peers (take k ids)) (listen ∷ []) ∙
+      ap (λ ls. n.listened ++ ls) listens_behind)
       (drop_next (length (take k ids)) n.listens ∙ ap (λ i. drop i n.listens) count_more)
 
   -- One more did.
-  pub listened_more : (a b c : Option Network) → Tells (Listened peers (take k ids)) a b → IfSome b (λ n. is_next_to_fail n.listens ≡ false) →
+  pub listened_more : (a b c : Option Network) → Tells (Listened peers (take k ids)) a b →
+      IfSome b (λ n. is_next_to_fail n.listens ≡ false) →
       c ≡ option_map (after_listen listen) b → Tells (Listened peers (take (k + 1) ids)) a c
-  listened_more a b c so holds is = tells_then a b c so (listened_once listen false b c holds is) (λ n n' n'' l one. record {
-    flags = subst (λ i. flags_of i n.listens ≡ replicate i false) (one_more k ∙ sym (length-take-le (k + 1) ids (omega (arith, lt))))
-        (ap (λ i. flags_of i n.listens) (one_more k) ∙ flags_behind false n n' n'' l one ∙ replicate_more k);
-    is = network_behind false n n' n'' l one;
-  })
+  listened_more a b c so holds is = tells_then a b c so (listened_once listen false b c holds is)
+      (λ n n' n'' l one. record {
+        flags = subst (λ i. flags_of i n.listens ≡ replicate i false)
+            (one_more k ∙ sym (length-take-le (k + 1) ids (omega (arith, lt))))
+            (ap (λ i. flags_of i n.listens) (one_more k) ∙ flags_behind false n n' n'' l one ∙ replicate_more k);
+        is = network_behind false n n' n'' l one;
+      })
 
   -- The next failed.
-  pub listened_not : (a b c : Option Network) → Tells (Listened peers (take k ids)) a b → IfSome b (λ n. is_next_to_fail n.listens ≡ true) →
+  pub listened_not : (a b c : Option Network) → Tells (Listened peers (take k ids)) a b →
+      IfSome b (λ n. is_next_to_fail n.listens ≡ true) →
       c ≡ option_map (after_listen listen) b → Tells (ListenedNot peers ids) a c
-  listened_not a b c so holds is = tells_then a b c so (listened_once listen true b c holds is) (λ n n' n'' l one. record {
-    some = k;
-    within = lt;
-    flags = flags_behind true n n' n'' l one;
-    is = network_behind true n n' n'' l one;
-  })
+  listened_not a b c so holds is = tells_then a b c so (listened_once listen true b c holds is)
+      (λ n n' n'' l one. record {
+        some = k;
+        within = lt;
+        flags = flags_behind true n n' n'' l one;
+        is = network_behind true n n' n'' l one;
+      })
 
 -- Memory ran out.
-pub listened_some : (peers : List Peer) (ids : List ℕ) (k : ℕ) (a b c : Option Network) → Tells (Listened peers (take k ids)) a b → c ≡ b →
+pub listened_some : (peers : List Peer) (ids : List ℕ) (k : ℕ) (a b c : Option Network) →
+    Tells (Listened peers (take k ids)) a b → c ≡ b →
     Tells (ListenedSome peers ids) a c
 listened_some peers ids k a b c so is =
     subst (Tells (ListenedSome peers ids) a) (sym is) (tells_as a b so (λ n n' l. record { some = k; is = l.is }))
@@ -111,7 +129,8 @@ abbrev pub AllListen : (ℕ → Option ℕ) → (peers : ℕ) → List ℕ → T
 AllListen listening peers ids = AllByRecursion (λ id. listening id ≡ Some peers) ids
 
 -- So many members listened, and no other call was made.
-pub record ListensSo (listening : ℕ → Option ℕ) (peers : List Peer) (faults faults_after sends sends_after : ℕ) (told told_after : Option Network) (k : ℕ)
+pub record ListensSo (listening : ℕ → Option ℕ) (peers : List Peer) (faults faults_after sends sends_after : ℕ)
+    (told told_after : Option Network) (k : ℕ)
     (ids : List ℕ) : Type 0 where
   pub faults_are : faults_after ≡ faults
   pub sends_are : sends_after ≡ sends
@@ -119,30 +138,40 @@ pub record ListensSo (listening : ℕ → Option ℕ) (peers : List Peer) (fault
   pub listen : AllListen listening (length peers) (take k ids)
 
 -- A member more listens, and those that did still do.
-pub listen_more : (old new : ℕ → Option ℕ) (peers id : ℕ) (ids : List ℕ) → ((m : ℕ) → m ≢ id → new m ≡ old m) → new id ≡ Some peers →
+pub listen_more : (old new : ℕ → Option ℕ) (peers id : ℕ) (ids : List ℕ) → ((m : ℕ) → m ≢ id → new m ≡ old m) →
+    new id ≡ Some peers →
     AllListen old peers ids → AllListen new peers (ids ++ id ∷ [])
 listen_more old new peers id [] others is h = (is, tt)
-listen_more old new peers id (m ∷ ids) others is h = (one (m == id) refl, listen_more old new peers id ids others is h.1) where
-  one : (b : Bool) → (m == id) ≡ b → new m ≡ Some peers
-  one true same = ap new (eqb-true m id same) ∙ is
-  one false other = others m (eqb-false m id other) ∙ h.0
+listen_more old new peers id (m ∷ ids) others is h =
+    (one (m == id) refl, listen_more old new peers id ids others is h.1) where
+      one : (b : Bool) → (m == id) ≡ b → new m ≡ Some peers
+      one true same = ap new (eqb-true m id same) ∙ is
+      one false other = others m (eqb-false m id other) ∙ h.0
 
-pub listens_more : (old new : ℕ → Option ℕ) (peers : List Peer) (faults f f' sends s s' : ℕ) (a b c : Option Network) (k : ℕ) (ids : List ℕ) →
+pub listens_more : (old new : ℕ → Option ℕ) (peers : List Peer) (faults f f' sends s s' : ℕ) (a b c : Option Network)
+    (k : ℕ) (ids : List ℕ) →
     k < length ids → ListensSo old peers faults f sends s a b k ids → f' ≡ f → s' ≡ s →
-    ((m : ℕ) → m ≢ get_or ids k 0 → new m ≡ old m) → new (get_or ids k 0) ≡ Some (length peers) → IfSome b (λ n. is_next_to_fail n.listens ≡ false) →
-    c ≡ option_map (after_listen (listen_of peers (get_or ids k 0))) b → ListensSo new peers faults f' sends s' a c (k + 1) ids
+    ((m : ℕ) → m ≢ get_or ids k 0 → new m ≡ old m) → new (get_or ids k 0) ≡ Some (length peers) →
+    IfSome b (λ n. is_next_to_fail n.listens ≡ false) →
+    c ≡ option_map (after_listen (listen_of peers (get_or ids k 0))) b →
+    ListensSo new peers faults f' sends s' a c (k + 1) ids
 listens_more old new peers faults f f' sends s s' a b c k ids lt so f_is s_is others listen holds is = record {
   faults_are = f_is ∙ so.faults_are;
   sends_are = s_is ∙ so.sends_are;
   so = listened_more peers ids k lt a b c so.so holds is;
-  listen = subst (AllListen new (length peers)) (sym (take_more ids k 0 lt)) (listen_more old new (length peers) (get_or ids k 0) (take k ids) others listen so.listen);
+  listen = subst (AllListen new (length peers)) (sym (take_more ids k 0 lt))
+      (listen_more old new (length peers) (get_or ids k 0) (take k ids) others listen so.listen);
 }
 
-pub listens_not : (old : ℕ → Option ℕ) (peers : List Peer) (faults f f' sends s : ℕ) (a b c : Option Network) (k : ℕ) (ids : List ℕ)
-    (r : Result (Unit {0}) LinkError) (e : LinkError) → k < length ids → ListensSo old peers faults f sends s a b k ids → r ≡ Err e → e ≡ Failed →
+pub listens_not : (old : ℕ → Option ℕ) (peers : List Peer) (faults f f' sends s : ℕ) (a b c : Option Network) (k : ℕ)
+    (ids : List ℕ)
+    (r : Result (Unit {0}) LinkError) (e : LinkError) → k < length ids →
+    ListensSo old peers faults f sends s a b k ids → r ≡ Err e → e ≡ Failed →
     f' ≡ faults_after_call f r → Listens (listen_of peers (get_or ids k 0)) b c r →
     (f' ≡ next_count faults) × Tells (ListenedNot peers ids) a c
 listens_not old peers faults f f' sends s a b c k ids r e lt so is failed f_is listens =
     let all = is ∙ ap (λ e. Err e) failed in
-    let met = subst (Listens (listen_of peers (get_or ids k 0)) b c) all listens in
-    (f_is ∙ ap (faults_after_call f) all ∙ ap next_count so.faults_are, listened_not peers ids k lt a b c so.so met.0 met.1)
+    let met = subst (Listens (listen_of peers (get_or ids k 0)) b c) all listens in (
+      f_is ∙ ap (faults_after_call f) all ∙ ap next_count so.faults_are,
+      listened_not peers ids k lt a b c so.so met.0 met.1,
+    )

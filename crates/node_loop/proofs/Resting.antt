@@ -12,8 +12,12 @@ use Rattle.node_loop.specs.Around.{Around}
 use Rattle.node_loop.specs.Feeding.{Feeds, Rests, RestsAgain}
 use Rattle.node_loop.specs.declared.desk.Desk.{Desk}
 
-pub rests_on : (stack : List LayerTree) (plans : List Plan) (event : ScriptEvent) (c c' : Peopled) (d d' : Desk) (a a' : Around)
-    (r : Result (Unit {0}) SinkError) → ((mode : Mode) (n : ℕ) (w : World) → Rests mode stack plans n c d w → Feeds mode stack plans n w event c' d d' a a' r) →
+pub rests_on : (stack : List LayerTree) (plans : List Plan) (event : ScriptEvent) (c c' : Peopled) (d d' : Desk)
+    (a a' : Around)
+    (r : Result (Unit {0}) SinkError) →
+    ((mode : Mode) (n : ℕ) (w : World) → Rests mode stack plans n c d w →
+    Feeds mode stack plans n w event c' d d' a a' r) →
     OnOk r (RestsAgain stack plans c d c' d')
-rests_on stack plans event c c' d d' a a' (Ok done) fed = λ mode n w r. ((happens stack plans w event).world, (fed mode n w r).rests)
+rests_on stack plans event c c' d d' a a' (Ok done) fed = λ mode n w r.
+    ((happens stack plans w event).world, (fed mode n w r).rests)
 rests_on stack plans event c c' d d' a a' (Err e) fed = tt

@@ -1,5 +1,6 @@
 -- A turn: its moment, its ticks, what its members hear, and what is planned.
-use Rattle.std.proofs.Common.{◌≡◌, ℕ, zero, suc, ◌+◌, ◌*◌, ◌-◌, ◌<◌, ◌≤◌, List, [], ◌∷◌, ◌++◌, length, map, take, drop, refl, sym, ap, ap₂, subst, ◌∙◌, append_assoc, length-append, arith, Option, Some, None}
+use Rattle.std.proofs.Common.{◌≡◌, ℕ, zero, suc, ◌+◌, ◌*◌, ◌-◌, ◌<◌, ◌≤◌, List, [], ◌∷◌, ◌++◌, length, map, take, drop}
+use Rattle.std.proofs.Common.{refl, sym, ap, ap₂, subst, ◌∙◌, append_assoc, length-append, arith, Option, Some, None}
 use Rattle.std.proofs.lemmas.List.{drop-drop}
 use native.Mathlib.Nat.{mul-le-mul_right}
 use Rattle.std.specs.List.{AllByRecursion}
@@ -30,23 +31,29 @@ use Rattle.node_loop.proofs.Turning.{again_then}
 drop_next : {A : Type 0} (k : ℕ) (xs : List A) → drop k (drop 1 xs) ≡ drop (suc k) xs
 drop_next k xs = let next : 1 + k ≡ suc k = omega arith in drop-drop k 1 xs ∙ ap (λ n. drop n xs) next
 
-given_more : (n : ℕ) (moments : List ℕ) → moments_given (suc n) moments ≡ moments_given n moments ++ next_moment (drop n moments) ∷ []
+given_more : (n : ℕ) (moments : List ℕ) → moments_given (suc n) moments ≡ moments_given n moments ++
+    next_moment (drop n moments) ∷ []
 given_more zero moments = refl
 given_more (suc n) moments =
     ap (λ ms. next_moment moments ∷ ms) (given_more n (drop 1 moments)
     ∙ ap (λ ms. moments_given n (drop 1 moments) ++ next_moment ms ∷ []) (drop_next n moments))
 
-told_more : (before at after : Option (List ℕ)) (clock : List ℕ) (moment : ℕ) → Told before at clock → IfSome at (λ moments. moment ≡ next_moment moments) →
+told_more : (before at after : Option (List ℕ)) (clock : List ℕ) (moment : ℕ) → Told before at clock →
+    IfSome at (λ moments. moment ≡ next_moment moments) →
     after ≡ option_map (drop 1) at → Told before after (clock ++ moment ∷ [])
-told_more None at after clock moment told is kept = record { moments = tt; kept = kept ∙ ap (option_map (drop 1)) told.kept }
+told_more None at after clock moment told is kept =
+    record { moments = tt; kept = kept ∙ ap (option_map (drop 1)) told.kept }
 told_more (Some moments) at after clock moment told is kept =
     let n = length clock in
     let next : length (clock ++ moment ∷ []) ≡ suc n = length-append clock (moment ∷ []) ∙ omega arith in
-    let now : moment ≡ next_moment (drop n moments) = subst (λ at. IfSome at (λ moments. moment ≡ next_moment moments)) told.kept is in
+    let now : moment ≡ next_moment (drop n moments) = subst (λ at. IfSome at (λ moments. moment ≡ next_moment moments))
+    told.kept is in
     let one : 1 + n ≡ suc n = omega arith in
     let more : n + 1 ≡ suc n = omega arith in record {
-      moments = ap₂ (λ clock m. clock ++ m ∷ []) told.moments now ∙ sym (given_more n moments) ∙ ap (λ n. moments_given n moments) (sym next);
-      kept = kept ∙ ap (option_map (drop 1)) told.kept ∙ ap Some (drop-drop 1 n moments ∙ ap (λ n. drop n moments) (more ∙ sym next));
+      moments = ap₂ (λ clock m. clock ++ m ∷ []) told.moments now ∙ sym (given_more n moments) ∙
+          ap (λ n. moments_given n moments) (sym next);
+      kept = kept ∙ ap (option_map (drop 1)) told.kept ∙
+          ap Some (drop-drop 1 n moments ∙ ap (λ n. drop n moments) (more ∙ sym next));
     }
 
 -- What went well, by what it came to as a node's end.
@@ -68,17 +75,21 @@ one_more n t = omega arith
 
 module _ (stack : List LayerTree) (plans : List Plan) (c : Course) (b : Begun) where
   -- one moment more was told
-  pub moment_so : (m k borne : ℕ) (rest other : List ℕ → List Heard → List Doing) (moment : ℕ) (g : Peopled) (d : Desk) (a : Around)
-      (clock clock' : Option (List ℕ)) → ((later : List ℕ) (more : List Heard) → rest (moment ∷ later) more ≡ other later more) →
+  pub moment_so : (m k borne : ℕ) (rest other : List ℕ → List Heard → List Doing) (moment : ℕ) (g : Peopled) (d : Desk)
+      (a : Around)
+      (clock clock' : Option (List ℕ)) →
+      ((later : List ℕ) (more : List Heard) → rest (moment ∷ later) more ≡ other later more) →
       IfSome clock (λ moments. moment ≡ next_moment moments) → clock' ≡ option_map (drop 1) clock →
-      SoFar stack plans c b m k rest borne (now g d a clock) → SoFar stack plans c b (m + 1) k other borne (now g d a clock')
+      SoFar stack plans c b m k rest borne (now g d a clock) →
+      SoFar stack plans c b (m + 1) k other borne (now g d a clock')
   moment_so m k borne rest other moment g d a clock clock' is moment_is kept so = record {
     clock = so.clock ++ moment ∷ [];
     heard = so.heard;
     done = so.done;
     failed = so.failed;
     world = so.world;
-    goes = λ later more. ap (λ told. doings_of c.plan c.me c.turns b.patience told (so.heard ++ more)) (append_assoc so.clock (moment ∷ []) later)
+    goes = λ later more. ap (λ told. doings_of c.plan c.me c.turns b.patience told (so.heard ++ more))
+        (append_assoc so.clock (moment ∷ []) later)
         ∙ so.goes (moment ∷ later) more ∙ ap (λ ds. so.done ++ ds) (is later more);
     moments_are = length-append so.clock (moment ∷ []) ∙ ap (λ n. n + 1) so.moments_are;
     answers_are = so.answers_are;
@@ -96,19 +107,25 @@ module _ (stack : List LayerTree) (plans : List Plan) (c : Course) (b : Begun) w
   }
 
   -- What was cut short ends the turn.
-  pub ends_short : (m k borne least most left : ℕ) (rest : List ℕ → List Heard → List Doing) (next : ℕ → List ℕ → List Heard → List Doing) (at : Now)
-      (r : Result (Unit {0}) SinkError) (e : NodeError) → cut_short r ≡ Err e → Advances stack plans c b m k rest borne at r →
+  pub ends_short : (m k borne least most left : ℕ) (rest : List ℕ → List Heard → List Doing)
+      (next : ℕ → List ℕ → List Heard → List Doing) (at : Now)
+      (r : Result (Unit {0}) SinkError) (e : NodeError) → cut_short r ≡ Err e →
+      Advances stack plans c b m k rest borne at r →
       Hears stack plans c b m least most next left at (Err e)
   ends_short m k borne least most left rest next at (Ok done) e is so = absurd (cc is)
-  ends_short m k borne least most left rest next at (Err sink.Failed) e is cut = subst (Hears stack plans c b m least most next left at) is cut
-  ends_short m k borne least most left rest next at (Err sink.Memory) e is cut = subst (Hears stack plans c b m least most next left at) is cut
+  ends_short m k borne least most left rest next at (Err sink.Failed) e is cut =
+      subst (Hears stack plans c b m least most next left at) is cut
+  ends_short m k borne least most left rest next at (Err sink.Memory) e is cut =
+      subst (Hears stack plans c b m least most next left at) is cut
 
   module _ (t : ℕ) (lt : t < c.turns) where
-    begins : (patience moment : ℕ) (later : List ℕ) (more : List Heard) → from_turn c t patience (moment ∷ later) more ≡ from_ticks c t patience moment c.me later more
+    begins : (patience moment : ℕ) (later : List ℕ) (more : List Heard) → from_turn c t patience (moment ∷ later) more ≡
+        from_ticks c t patience moment c.me later more
     begins patience moment later more =
         let one : c.turns - t ≡ suc (c.turns - (t + 1)) = omega (arith, lt) in
         ap (λ k. doings_from c.plan c.me t k patience (moment ∷ later) more) one
-        ∙ append_assoc (map (λ id. does (Tick id moment)) c.me) (asking patience (zip c.me (take (length c.me) more))).doings
+        ∙ append_assoc (map (λ id. does (Tick id moment)) c.me)
+        (asking patience (zip c.me (take (length c.me) more))).doings
         (while_patient (asking patience (zip c.me (take (length c.me) more))).patience
         (λ left. from_planned c t left (planned_events c.plan c.me t) later (drop (length c.me) more)))
 
@@ -119,64 +136,87 @@ module _ (stack : List LayerTree) (plans : List Plan) (c : Course) (b : Begun) w
       patient = omega (arith, sum);
     }
 
-    within_asks : (borne patience : ℕ) → borne + patience ≡ b.patience → Within c b (t + 1) (t * length c.me + length c.me) borne
+    within_asks : (borne patience : ℕ) → borne + patience ≡ b.patience →
+        Within c b (t + 1) (t * length c.me + length c.me) borne
     within_asks borne patience sum = record {
       turns = omega (arith, lt);
-      all = subst (λ n. n ≤ c.turns * length c.me) (sym (one_more (length c.me) t)) (fewer (length c.me) (t + 1) c.turns (omega (arith, lt)));
+      all = subst (λ n. n ≤ c.turns * length c.me) (sym (one_more (length c.me) t))
+          (fewer (length c.me) (t + 1) c.turns (omega (arith, lt)));
       patient = omega (arith, sum);
     }
 
     -- What is told of a turn's ticks, and of its planned events.
-    abbrev pub TickedOn : (moment patience : ℕ) → Peopled → Peopled → Desk → Desk → Around → Around → Result (Unit {0}) SinkError → Type 0
-    TickedOn moment patience g g' d d' a a' r = (moments answers borne : ℕ) (clock : Option (List ℕ)) → Within c b moments answers borne →
+    abbrev pub TickedOn : (moment patience : ℕ) → Peopled → Peopled → Desk → Desk → Around → Around →
+        Result (Unit {0}) SinkError → Type 0
+    TickedOn moment patience g g' d d' a a' r = (moments answers borne : ℕ) (clock : Option (List ℕ)) →
+        Within c b moments answers borne →
         SoFar stack plans c b moments answers (from_ticks c t patience moment c.me) borne (now g d a clock) →
         Advances stack plans c b moments answers (from_ticks c t patience moment []) borne (now g' d' a' clock) r
 
-    module _ (patience borne moment : ℕ) (sum : borne + patience ≡ b.patience) (g g' : Peopled) (d d' : Desk) (a a' : Around) (clock clock' : Option (List ℕ))
+    module _ (patience borne moment : ℕ) (sum : borne + patience ≡ b.patience) (g g' : Peopled) (d d' : Desk)
+        (a a' : Around) (clock clock' : Option (List ℕ))
         (moment_is : IfSome clock (λ moments. moment ≡ next_moment moments)) (kept : clock' ≡ option_map (drop 1) clock)
         (so : SoFar stack plans c b t (t * length c.me) (from_turn c t patience) borne (now g d a clock)) where
       ticks : (r : Result (Unit {0}) SinkError) → TickedOn moment patience g g' d d' a a' r →
-          Advances stack plans c b (t + 1) (t * length c.me) (from_ticks c t patience moment []) borne (now g' d' a' clock') r
+          Advances stack plans c b (t + 1) (t * length c.me) (from_ticks c t patience moment []) borne
+          (now g' d' a' clock') r
       ticks r told =
           told (t + 1) (t * length c.me) borne clock' (within_ticks borne patience sum)
-          (moment_so t (t * length c.me) borne (from_turn c t patience) (from_ticks c t patience moment c.me) moment g d a clock clock'
+          (moment_so t (t * length c.me) borne (from_turn c t patience) (from_ticks c t patience moment c.me) moment g d
+          a clock clock'
           (begins patience moment) moment_is kept so)
 
-      pub ticks_end : (left : ℕ) (r : Result (Unit {0}) SinkError) (e : NodeError) → cut_short r ≡ Err e → TickedOn moment patience g g' d d' a a' r →
-          Hears stack plans c b (t + 1) (t * length c.me) ((t + 1) * length c.me) (from_turn c (t + 1)) left (now g' d' a' clock') (Err e)
+      pub ticks_end : (left : ℕ) (r : Result (Unit {0}) SinkError) (e : NodeError) → cut_short r ≡ Err e →
+          TickedOn moment patience g g' d d' a a' r →
+          Hears stack plans c b (t + 1) (t * length c.me) ((t + 1) * length c.me) (from_turn c (t + 1)) left
+          (now g' d' a' clock') (Err e)
       ticks_end left r e is told =
-          ends_short (t + 1) (t * length c.me) borne (t * length c.me) ((t + 1) * length c.me) left (from_ticks c t patience moment []) (from_turn c (t + 1))
+          ends_short (t + 1) (t * length c.me) borne (t * length c.me) ((t + 1) * length c.me) left
+          (from_ticks c t patience moment []) (from_turn c (t + 1))
           (now g' d' a' clock') r e is (ticks r told)
 
-      module _ (ticked : TickedOn moment patience g g' d d' a a' (Ok tt)) (left : ℕ) (g'' : Peopled) (d'' : Desk) (a'' : Around) where
+      module _ (ticked : TickedOn moment patience g g' d d' a a' (Ok tt)) (left : ℕ) (g'' : Peopled) (d'' : Desk)
+          (a'' : Around) where
         asks : (r : Result (Unit {0}) NodeError) → AskedAll stack plans c.me patience left g' g'' d' d'' a' a'' r →
-            Hears stack plans c b (t + 1) (t * length c.me) (t * length c.me + length c.me) (λ left. from_asking c t left []) left (now g'' d'' a'' clock') r
-        asks r told = told c b (t + 1) (t * length c.me) t borne clock' sum (within_asks borne patience sum) (ticks (Ok tt) ticked)
+            Hears stack plans c b (t + 1) (t * length c.me) (t * length c.me + length c.me)
+            (λ left. from_asking c t left []) left (now g'' d'' a'' clock') r
+        asks r told = told c b (t + 1) (t * length c.me) t borne clock' sum (within_asks borne patience sum)
+            (ticks (Ok tt) ticked)
 
         pub asks_end : (e : NodeError) → AskedAll stack plans c.me patience left g' g'' d' d'' a' a'' (Err e) →
-            Hears stack plans c b (t + 1) (t * length c.me) ((t + 1) * length c.me) (from_turn c (t + 1)) left (now g'' d'' a'' clock') (Err e)
+            Hears stack plans c b (t + 1) (t * length c.me) ((t + 1) * length c.me) (from_turn c (t + 1)) left
+            (now g'' d'' a'' clock') (Err e)
         asks_end e told =
             let same = one_more (length c.me) t in
-            wider stack plans c b (t + 1) (t * length c.me) (t * length c.me + length c.me) (t * length c.me) ((t + 1) * length c.me) left left
-            (λ left. from_asking c t left []) (from_turn c (t + 1)) (now g'' d'' a'' clock') e (omega arith) (omega (arith, same)) (asks (Err e) told)
+            wider stack plans c b (t + 1) (t * length c.me) (t * length c.me + length c.me) (t * length c.me)
+            ((t + 1) * length c.me) left left
+            (λ left. from_asking c t left []) (from_turn c (t + 1)) (now g'' d'' a'' clock') e (omega arith)
+            (omega (arith, same)) (asks (Err e) told)
 
-        pub turn_end : (next : ℕ) → AllByRecursion (λ entry. entry.0 < t) (take next c.plan.turns) → AskedAll stack plans c.me patience left g' g'' d' d'' a' a'' (Ok tt) →
+        pub turn_end : (next : ℕ) → AllByRecursion (λ entry. entry.0 < t) (take next c.plan.turns) →
+            AskedAll stack plans c.me patience left g' g'' d' d'' a' a'' (Ok tt) →
             (g3 : Peopled) (d3 : Desk) (a3 : Around) (r : Result (Unit {0}) SinkError) →
             ((moments answers borne : ℕ) (clock : Option (List ℕ)) → Within c b moments answers borne →
-            SoFar stack plans c b moments answers (from_planned c t left (planned_in c.me t (drop next c.plan.turns))) borne (now g'' d'' a'' clock) →
+            SoFar stack plans c b moments answers (from_planned c t left (planned_in c.me t (drop next c.plan.turns)))
+            borne (now g'' d'' a'' clock) →
             Advances stack plans c b moments answers (from_turn c (t + 1) left) borne (now g3 d3 a3 clock) r) →
-            Hears stack plans c b (t + 1) (t * length c.me) ((t + 1) * length c.me) (from_turn c (t + 1)) left (now g3 d3 a3 clock') (cut_short r)
+            Hears stack plans c b (t + 1) (t * length c.me) ((t + 1) * length c.me) (from_turn c (t + 1)) left
+            (now g3 d3 a3 clock') (cut_short r)
         turn_end next passed asked g3 d3 a3 r planned =
             let here = asks (Ok tt) asked in
-            asked_on stack plans c b (t + 1) (t * length c.me + length c.me) here.borne left (from_turn c (t + 1)) (t * length c.me) ((t + 1) * length c.me)
+            asked_on stack plans c b (t + 1) (t * length c.me + length c.me) here.borne left (from_turn c (t + 1))
+            (t * length c.me) ((t + 1) * length c.me)
             g3 d3 a3 clock' r (one_more (length c.me) t) here.sum
             (planned (t + 1) (t * length c.me + length c.me) here.borne clock' (within_asks here.borne left here.sum)
-            (subst (λ events. SoFar stack plans c b (t + 1) (t * length c.me + length c.me) (from_planned c t left events) here.borne (now g'' d'' a'' clock'))
+            (subst (λ events. SoFar stack plans c b (t + 1) (t * length c.me + length c.me)
+            (from_planned c t left events) here.borne (now g'' d'' a'' clock'))
             (planned_is_left c.plan c.me t next passed) here.so))
 
 -- A group rests again behind a whole turn.
-pub rests_end : (stack : List LayerTree) (plans : List Plan) (g g' g'' g3 : Peopled) (d d' d'' d3 : Desk) (r : Result (Unit {0}) SinkError) →
-    RestsAgain stack plans g d g' d' → RestsAgain stack plans g' d' g'' d'' → OnOk r (RestsAgain stack plans g'' d'' g3 d3) →
+pub rests_end : (stack : List LayerTree) (plans : List Plan) (g g' g'' g3 : Peopled) (d d' d'' d3 : Desk)
+    (r : Result (Unit {0}) SinkError) →
+    RestsAgain stack plans g d g' d' → RestsAgain stack plans g' d' g'' d'' →
+    OnOk r (RestsAgain stack plans g'' d'' g3 d3) →
     OnOk (cut_short r) (RestsAgain stack plans g d g3 d3)
 rests_end stack plans g g' g'' g3 d d' d'' d3 (Ok done) first second third =
     again_then stack plans g g'' g3 d d'' d3 (again_then stack plans g g' g'' d d' d'' first second) third

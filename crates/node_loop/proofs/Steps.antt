@@ -1,5 +1,6 @@
 -- What a node has done so far goes on by one thing at a time.
-use Rattle.std.proofs.Common.{◌≡◌, ℕ, ◌+◌, ◌*◌, ◌≤◌, Bool, List, [], ◌∷◌, ◌++◌, length, map, refl, sym, ap, subst, ◌∙◌, append_assoc, append-nil, length-append, arith, Option}
+use Rattle.std.proofs.Common.{◌≡◌, ℕ, ◌+◌, ◌*◌, ◌≤◌, Bool, List, [], ◌∷◌, ◌++◌, length, map, refl, sym, ap, subst, ◌∙◌}
+use Rattle.std.proofs.Common.{append_assoc, append-nil, length-append, arith, Option}
 use Rattle.std.proofs.lemmas.List.{map-append}
 use Rattle.std.proofs.lemmas.List.Sums.{sum_by-append}
 use Rattle.std.specs.Prelude.{Result, Ok, Err}
@@ -17,13 +18,16 @@ use Rattle.outside.specs.Lines.{Gains, Wrote}
 use Rattle.outside.proofs.Gaining.{gains_then}
 use Rattle.group_feed.specs.Standing.{Peopled}
 use Rattle.node_laws.specs.Doings.{Doing, does, asks, bears, doings_of, events_of, heard_in}
-use Rattle.node_laws.specs.Losses.{behind, deaf_line, event_lines, event_losses, event_sends, failures_in, lost_of, sends_of, written_of}
+use Rattle.node_laws.specs.Losses.{behind, deaf_line, event_lines, event_losses, event_sends, failures_in, lost_of}
+use Rattle.node_laws.specs.Losses.{sends_of, written_of}
 use Rattle.node_laws.specs.Network.{Goes, Tells, after_sends, fates_of, met_as, sent_as}
 use Rattle.node_laws.specs.Stages.{Course, clock_on, heard_on}
 use Rattle.node_laws.specs.Acts.{Act, puts, acts_of, event_acts, sends_in}
-use Rattle.node_laws.proofs.Acts.{acts_append, acts_lines_are, acts_sends_are, event_lines_are, event_sends_are, sends_append}
+use Rattle.node_laws.proofs.Acts.{acts_append, acts_lines_are, acts_sends_are, event_lines_are, event_sends_are}
+use Rattle.node_laws.proofs.Acts.{sends_append}
 use Rattle.node_laws.proofs.Fans.{event_losses_are}
-use Rattle.node_laws.proofs.Parts.{behind_append, events_append, goes_append, goes_handed, goes_listened, goes_met, heard_append, lost_append, lost_none, written_append}
+use Rattle.node_laws.proofs.Parts.{behind_append, events_append, goes_append, goes_handed, goes_listened, goes_met}
+use Rattle.node_laws.proofs.Parts.{heard_append, lost_append, lost_none, written_append}
 use Rattle.node_laws.proofs.Sendings.{tells_as, tells_same, tells_then}
 use Rattle.node_loop.specs.Around.{Around, count_on}
 use Rattle.node_loop.specs.Passing.{Breaks, Stops, Takes, WentOn}
@@ -41,7 +45,8 @@ module _ (stack : List LayerTree) (plans : List Plan) (c : Course) (b : Begun) w
 
   -- what is left may be said otherwise
   pub otherwise : (m k borne : ℕ) (rest other : List ℕ → List Heard → List Doing) (at : Now) →
-      ((later : List ℕ) (more : List Heard) → rest later more ≡ other later more) → So m k rest borne at → So m k other borne at
+      ((later : List ℕ) (more : List Heard) → rest later more ≡ other later more) → So m k rest borne at →
+      So m k other borne at
   otherwise m k borne rest other at same so = record {
     clock = so.clock;
     heard = so.heard;
@@ -65,7 +70,8 @@ module _ (stack : List LayerTree) (plans : List Plan) (c : Course) (b : Begun) w
   }
 
   -- an event was fed
-  pub fed_so : (m k borne : ℕ) (rest : List ℕ → List Heard → List Doing) (event : ScriptEvent) (g g' : Peopled) (d d' : Desk) (a a' : Around)
+  pub fed_so : (m k borne : ℕ) (rest : List ℕ → List Heard → List Doing) (event : ScriptEvent) (g g' : Peopled)
+      (d d' : Desk) (a a' : Around)
       (clk : Option (List ℕ)) → (so : So m k (λ later more. does event ∷ rest later more) borne (now g d a clk)) →
       IsFed b.mode stack plans b.members so.world event g' d d' a a' → So m k rest borne (now g' d' a' clk)
   fed_so m k borne rest event g g' d d' a a' clk so fed =
@@ -86,15 +92,18 @@ module _ (stack : List LayerTree) (plans : List Plan) (c : Course) (b : Begun) w
         borne_are = so.borne_are;
         world_is = ap (λ v. (happens stack plans v event).world) at ∙ sym (behind_append stack plans w so.done one);
         rests = fed.rests;
-        each = length-append so.failed (f ∷ []) ∙ ap (λ n. n + 1) so.each ∙ sym (length-append (events_of so.done) (event ∷ []))
+        each = length-append so.failed (f ∷ []) ∙ ap (λ n. n + 1) so.each ∙
+            sym (length-append (events_of so.done) (event ∷ []))
             ∙ sym (ap length (events_append so.done one));
         counted = fed.counted ∙ ap (λ n. n + 1) so.counted ∙ sym (length-append (events_of so.done) (event ∷ []))
             ∙ sym (ap length (events_append so.done one));
-        gained = gains_then b.around.output a.output a'.output (written_of stack plans w so.done so.failed) (event_lines stack plans so.world event f)
+        gained = gains_then b.around.output a.output a'.output (written_of stack plans w so.done so.failed)
+            (event_lines stack plans so.world event f)
             (written_of stack plans w (so.done ++ one) (so.failed ++ f ∷ [])) so.gained
             (subst (Gains a.output a'.output) (event_lines_are b.mode stack plans so.world event f) p.gained)
             (written_append stack plans w so.done one so.failed (f ∷ []) so.each
-            ∙ ap (λ ls. written_of stack plans w so.done so.failed ++ ls) (append-nil (event_lines stack plans (behind stack plans w so.done) event f))
+            ∙ ap (λ ls. written_of stack plans w so.done so.failed ++ ls)
+            (append-nil (event_lines stack plans (behind stack plans w so.done) event f))
             ∙ ap (λ v. written_of stack plans w so.done so.failed ++ event_lines stack plans v event f) (sym at));
         faults = p.faults ∙ so.faults;
         sends =
@@ -103,10 +112,12 @@ module _ (stack : List LayerTree) (plans : List Plan) (c : Course) (b : Begun) w
             let lost : length (lost_of stack plans w (so.done ++ one) (so.failed ++ f ∷ []))
             ≡ length (lost_of stack plans w so.done so.failed) + failures_in f =
             ap length (lost_append stack plans w so.done one so.failed (f ∷ []) so.each
-            ∙ ap (λ ls. lost_of stack plans w so.done so.failed ++ ls) (append-nil (event_losses stack plans (behind stack plans w so.done) event f))
+            ∙ ap (λ ls. lost_of stack plans w so.done so.failed ++ ls)
+            (append-nil (event_losses stack plans (behind stack plans w so.done) event f))
             ∙ ap (λ v. lost_of stack plans w so.done so.failed ++ event_losses stack plans v event f) (sym at))
             ∙ length-append (lost_of stack plans w so.done so.failed) (event_losses stack plans so.world event f)
-            ∙ ap (λ n. length (lost_of stack plans w so.done so.failed) + n) (event_losses_are b.mode stack plans so.world event f few) in
+            ∙ ap (λ n. length (lost_of stack plans w so.done so.failed) + n)
+            (event_losses_are b.mode stack plans so.world event f few) in
             p.sendings ∙ ap (λ n. count_on n (failures_in f)) so.sends
             ∙ sym (count_on_add b.around.sends (length (lost_of stack plans w so.done so.failed)) (failures_in f))
             ∙ ap (count_on b.around.sends) (sym lost);
@@ -115,17 +126,22 @@ module _ (stack : List LayerTree) (plans : List Plan) (c : Course) (b : Begun) w
             (subst (λ v. Goes b.mode stack plans v one (f ∷ []) n' n'') at (went n' n'' takes)));
         clock_told = so.clock_told;
       } where
-        went : (n n' : Network) → Takes (sends_in (event_acts b.mode stack plans so.world event fed.passed.failed)) fed.passed.failed n n' →
+        went : (n n' : Network) → Takes (sends_in (event_acts b.mode stack plans so.world event fed.passed.failed))
+            fed.passed.failed n n' →
             Goes b.mode stack plans so.world (does event ∷ []) (fed.passed.failed ∷ []) n n'
         went n n' takes = subst (λ h. (fed.passed.failed ≡ fates_of (length h) n.fates) × (n' ≡ after_sends h n))
             (event_sends_are b.mode stack plans so.world event fed.passed.failed) (takes.failed_are, takes.is)
 
   -- a member asked and heard
-  pub asked_so : (m k borne borne' : ℕ) (rest other : List ℕ → List Heard → List Doing) (id : ℕ) (x : Heard) (g : Peopled) (d d' : Desk) (a a' : Around)
-      (clk : Option (List ℕ)) → ((later : List ℕ) (more : List Heard) → rest later (x ∷ more) ≡ asks id x ∷ other later more) →
-      So m k rest borne (now g d a clk) → borne' ≡ borne + failures (x ∷ []) → d'.outputs ≡ d.outputs → d'.events ≡ d.events →
+  pub asked_so : (m k borne borne' : ℕ) (rest other : List ℕ → List Heard → List Doing) (id : ℕ) (x : Heard)
+      (g : Peopled) (d d' : Desk) (a a' : Around)
+      (clk : Option (List ℕ)) →
+      ((later : List ℕ) (more : List Heard) → rest later (x ∷ more) ≡ asks id x ∷ other later more) →
+      So m k rest borne (now g d a clk) → borne' ≡ borne + failures (x ∷ []) → d'.outputs ≡ d.outputs →
+      d'.events ≡ d.events →
       a'.output ≡ a.output → a'.sends ≡ a.sends → a'.faults ≡ count_on a.faults (failures (x ∷ [])) →
-      Tells (λ n n'. (next_met id n ≡ met_as x) × (n' ≡ after_recv id n)) a.told a'.told → So m (k + 1) other borne' (now g d' a' clk)
+      Tells (λ n n'. (next_met id n ≡ met_as x) × (n' ≡ after_recv id n)) a.told a'.told →
+      So m (k + 1) other borne' (now g d' a' clk)
   asked_so m k borne borne' rest other id x g d d' a a' clk is so more outputs events output sends faults told =
       let w = b.first in
       let one = asks id x ∷ [] in record {
@@ -134,8 +150,10 @@ module _ (stack : List LayerTree) (plans : List Plan) (c : Course) (b : Begun) w
         done = so.done ++ one;
         failed = so.failed;
         world = so.world;
-        goes = λ later next. ap (doings_of c.plan c.me c.turns b.patience (so.clock ++ later)) (append_assoc so.heard (x ∷ []) next)
-            ∙ so.goes later (x ∷ next) ∙ ap (λ ds. so.done ++ ds) (is later next) ∙ sym (append_assoc so.done one (other later next));
+        goes = λ later next. ap (doings_of c.plan c.me c.turns b.patience (so.clock ++ later))
+            (append_assoc so.heard (x ∷ []) next)
+            ∙ so.goes later (x ∷ next) ∙ ap (λ ds. so.done ++ ds) (is later next) ∙
+            sym (append_assoc so.done one (other later next));
         moments_are = so.moments_are;
         answers_are = length-append so.heard (x ∷ []) ∙ ap (λ n. n + 1) so.answers_are;
         asked = heard_append so.done one ∙ ap (λ hs. hs ++ x ∷ []) so.asked;
@@ -146,7 +164,8 @@ module _ (stack : List LayerTree) (plans : List Plan) (c : Course) (b : Begun) w
         counted = events ∙ so.counted ∙ sym (ap length (events_append so.done one ∙ append-nil (events_of so.done)));
         gained = subst (λ o. Gains b.around.output o (written_of stack plans w (so.done ++ one) so.failed)) (sym output)
             (subst (Gains b.around.output a.output) (sym (same_written one so refl)) so.gained);
-        faults = faults ∙ ap (λ n. count_on n (failures (x ∷ []))) so.faults ∙ sym (count_on_add b.around.faults borne (failures (x ∷ [])))
+        faults = faults ∙ ap (λ n. count_on n (failures (x ∷ []))) so.faults ∙
+            sym (count_on_add b.around.faults borne (failures (x ∷ [])))
             ∙ ap (count_on b.around.faults) (sym more);
         sends = sends ∙ so.sends ∙ ap (λ ls. count_on b.around.sends (length ls)) (sym (same_lost one so refl));
         told = tells_then b.around.told a.told a'.told so.told told (λ n n' n'' goes heard.
@@ -156,39 +175,53 @@ module _ (stack : List LayerTree) (plans : List Plan) (c : Course) (b : Begun) w
       } where
         same_written : (one : List Doing) (so : So m k rest borne (now g d a clk)) → one ≡ asks id x ∷ [] →
             written_of stack plans b.first (so.done ++ one) so.failed ≡ written_of stack plans b.first so.done so.failed
-        same_written one so is = ap (λ f. written_of stack plans b.first (so.done ++ one) f) (sym (append-nil so.failed))
+        same_written one so is = ap (λ f. written_of stack plans b.first (so.done ++ one) f)
+            (sym (append-nil so.failed))
             ∙ written_append stack plans b.first so.done one so.failed [] so.each
-            ∙ ap (λ o. written_of stack plans b.first so.done so.failed ++ written_of stack plans (behind stack plans b.first so.done) o []) is
+            ∙ ap (λ o. written_of stack plans b.first so.done so.failed ++
+            written_of stack plans (behind stack plans b.first so.done) o []) is
             ∙ append-nil (written_of stack plans b.first so.done so.failed)
 
         same_lost : (one : List Doing) (so : So m k rest borne (now g d a clk)) → one ≡ asks id x ∷ [] →
             lost_of stack plans b.first (so.done ++ one) so.failed ≡ lost_of stack plans b.first so.done so.failed
         same_lost one so is = ap (λ f. lost_of stack plans b.first (so.done ++ one) f) (sym (append-nil so.failed))
             ∙ lost_append stack plans b.first so.done one so.failed [] so.each
-            ∙ ap (λ o. lost_of stack plans b.first so.done so.failed ++ lost_of stack plans (behind stack plans b.first so.done) o []) is
+            ∙ ap (λ o. lost_of stack plans b.first so.done so.failed ++
+            lost_of stack plans (behind stack plans b.first so.done) o []) is
             ∙ append-nil (lost_of stack plans b.first so.done so.failed)
 
   -- what it then heard
-  pub asked_heard : (m k borne borne' : ℕ) (rest other : List ℕ → List Heard → List Doing) (id : ℕ) (x : Heard) (g : Peopled) (d d' : Desk) (a a' : Around)
-      (clk : Option (List ℕ)) (is : (later : List ℕ) (more : List Heard) → rest later (x ∷ more) ≡ asks id x ∷ other later more)
-      (so : So m k rest borne (now g d a clk)) (more : borne' ≡ borne + failures (x ∷ [])) (outputs : d'.outputs ≡ d.outputs)
-      (events : d'.events ≡ d.events) (output : a'.output ≡ a.output) (sends : a'.sends ≡ a.sends) (faults : a'.faults ≡ count_on a.faults (failures (x ∷ [])))
+  pub asked_heard : (m k borne borne' : ℕ) (rest other : List ℕ → List Heard → List Doing) (id : ℕ) (x : Heard)
+      (g : Peopled) (d d' : Desk) (a a' : Around)
+      (clk : Option (List ℕ)) (is : (later : List ℕ) (more : List Heard) → rest later (x ∷ more) ≡ asks id x ∷
+      other later more)
+      (so : So m k rest borne (now g d a clk)) (more : borne' ≡ borne + failures (x ∷ []))
+      (outputs : d'.outputs ≡ d.outputs)
+      (events : d'.events ≡ d.events) (output : a'.output ≡ a.output) (sends : a'.sends ≡ a.sends)
+      (faults : a'.faults ≡ count_on a.faults (failures (x ∷ [])))
       (told : Tells (λ n n'. (next_met id n ≡ met_as x) × (n' ≡ after_recv id n)) a.told a'.told) →
-      (asked_so m k borne borne' rest other id x g d d' a a' clk is so more outputs events output sends faults told).heard ≡ so.heard ++ x ∷ []
+      (asked_so m k borne borne' rest other id x g d d' a a' clk is so more outputs events output sends faults
+      told).heard ≡ so.heard ++ x ∷ []
   unfolding asked_so
   asked_heard m k borne borne' rest other id x g d d' a a' clk is so more outputs events output sends faults told = refl
 
   -- a failure was borne, and its line put
-  pub borne_so : (m k borne : ℕ) (rest : List ℕ → List Heard → List Doing) (id : ℕ) (g : Peopled) (d d' : Desk) (a a' : Around) (clk : Option (List ℕ)) →
-      So m k (λ later more. bears id ∷ rest later more) borne (now g d a clk) → d'.outputs ≡ d.outputs → d'.events ≡ d.events →
-      Gains a.output a'.output (deaf_line id ∷ []) → a'.faults ≡ a.faults → a'.sends ≡ a.sends → a'.told ≡ a.told → So m k rest borne (now g d' a' clk)
+  pub borne_so : (m k borne : ℕ) (rest : List ℕ → List Heard → List Doing) (id : ℕ) (g : Peopled) (d d' : Desk)
+      (a a' : Around) (clk : Option (List ℕ)) →
+      So m k (λ later more. bears id ∷ rest later more) borne (now g d a clk) → d'.outputs ≡ d.outputs →
+      d'.events ≡ d.events →
+      Gains a.output a'.output (deaf_line id ∷ []) → a'.faults ≡ a.faults → a'.sends ≡ a.sends → a'.told ≡ a.told →
+      So m k rest borne (now g d' a' clk)
   borne_so m k borne rest id g d d' a a' clk so outputs events gained faults sends told =
       let w = b.first in
       let one = bears id ∷ [] in
-      let written : written_of stack plans w (so.done ++ one) so.failed ≡ written_of stack plans w so.done so.failed ++ deaf_line id ∷ [] =
-      ap (λ f. written_of stack plans w (so.done ++ one) f) (sym (append-nil so.failed)) ∙ written_append stack plans w so.done one so.failed [] so.each in
+      let written : written_of stack plans w (so.done ++ one) so.failed ≡ written_of stack plans w so.done so.failed ++
+      deaf_line id ∷ [] =
+      ap (λ f. written_of stack plans w (so.done ++ one) f) (sym (append-nil so.failed)) ∙
+      written_append stack plans w so.done one so.failed [] so.each in
       let lost : lost_of stack plans w (so.done ++ one) so.failed ≡ lost_of stack plans w so.done so.failed =
-      ap (λ f. lost_of stack plans w (so.done ++ one) f) (sym (append-nil so.failed)) ∙ lost_append stack plans w so.done one so.failed [] so.each
+      ap (λ f. lost_of stack plans w (so.done ++ one) f) (sym (append-nil so.failed)) ∙
+      lost_append stack plans w so.done one so.failed [] so.each
       ∙ append-nil (lost_of stack plans w so.done so.failed) in record {
         clock = so.clock;
         heard = so.heard;
@@ -208,13 +241,15 @@ module _ (stack : List LayerTree) (plans : List Plan) (c : Course) (b : Begun) w
         faults = faults ∙ so.faults;
         sends = sends ∙ so.sends ∙ ap (λ ls. count_on b.around.sends (length ls)) (sym lost);
         told = subst (Tells (Goes b.mode stack plans w (so.done ++ one) so.failed) b.around.told) (sym told)
-            (tells_as b.around.told a.told so.told (λ n n' goes. subst (λ f. Goes b.mode stack plans w (so.done ++ one) f n n') (append-nil so.failed)
+            (tells_as b.around.told a.told so.told
+            (λ n n' goes. subst (λ f. Goes b.mode stack plans w (so.done ++ one) f n n') (append-nil so.failed)
             (goes_append b.mode stack plans w so.done one so.failed [] n n' n' so.each goes refl)));
         clock_told = so.clock_told;
       }
 
   -- A node that stops here could have gone on: behind what was done come the first of some acts of what is left.
-  module _ (m k borne : ℕ) (rest : List ℕ → List Heard → List Doing) (at : Now) (within : Within c b m k borne) (so : So m k rest borne at) where
+  module _ (m k borne : ℕ) (rest : List ℕ → List Heard → List Doing) (at : Now) (within : Within c b m k borne)
+      (so : So m k rest borne at) where
     abbrev left : List Doing
     left = rest (clock_on c so.clock) (heard_on c so.heard)
 
@@ -229,23 +264,28 @@ module _ (stack : List LayerTree) (plans : List Plan) (c : Course) (b : Begun) w
 
     -- The acts of what is left begin so, where it is told which of their sendings failed, in a number of events.
     pub cut : (flags : List (List Bool)) (done behind_them : List Act) (a' : Around) (e : SinkError) →
-        acts_of b.mode stack plans so.world left flags ≡ done ++ behind_them → Stops e done behind_them at.around.output a'.output →
-        a'.faults ≡ at.around.faults → a'.sends ≡ count_on at.around.sends (length (lost_of stack plans so.world left flags)) →
+        acts_of b.mode stack plans so.world left flags ≡ done ++ behind_them →
+        Stops e done behind_them at.around.output a'.output →
+        a'.faults ≡ at.around.faults →
+        a'.sends ≡ count_on at.around.sends (length (lost_of stack plans so.world left flags)) →
         Tells (WentOn [] (sends_in done) []) at.around.told a'.told → CutOff stack plans c b e a' at.clock
     cut flags done behind_them a' e are stopped faults sendings told =
         let w = b.first in
         let f = so.failed ++ flags in
         let acts : acts_of b.mode stack plans w all f ≡ front ++ (done ++ behind_them) =
         acts_append b.mode stack plans w so.done left so.failed flags so.each
-        ∙ ap (λ v. front ++ acts_of b.mode stack plans v left flags) (sym so.world_is) ∙ ap (λ acts. front ++ acts) are in
+        ∙ ap (λ v. front ++ acts_of b.mode stack plans v left flags) (sym so.world_is) ∙
+        ap (λ acts. front ++ acts) are in
         let lost : length (lost_of stack plans w all f)
         ≡ length (lost_of stack plans w so.done so.failed) + length (lost_of stack plans so.world left flags) =
         ap length (lost_append stack plans w so.done left so.failed flags so.each
         ∙ ap (λ v. lost_of stack plans w so.done so.failed ++ lost_of stack plans v left flags) (sym so.world_is))
         ∙ length-append (lost_of stack plans w so.done so.failed) (lost_of stack plans so.world left flags) in
-        let gained = subst (Gains b.around.output at.around.output) (sym (acts_lines_are b.mode stack plans w so.done so.failed)) so.gained in
+        let gained = subst (Gains b.around.output at.around.output)
+        (sym (acts_lines_are b.mode stack plans w so.done so.failed)) so.gained in
         let handed : sends_in (front ++ done) ≡ sends_of b.mode stack plans w so.done ++ sends_in done =
-        sends_append front done ∙ ap (λ hs. hs ++ sends_in done) (acts_sends_are b.mode stack plans w so.done so.failed) in record {
+        sends_append front done ∙ ap (λ hs. hs ++ sends_in done) (acts_sends_are b.mode stack plans w so.done so.failed)
+        in record {
           clock = so.clock;
           heard = so.heard;
           failed = f;
@@ -257,20 +297,29 @@ module _ (stack : List LayerTree) (plans : List Plan) (c : Course) (b : Begun) w
           doings = all;
           doings_are = sym (so.goes (clock_on c so.clock) (heard_on c so.heard));
           are = ap (λ acts. acts ++ last) acts ∙ append_assoc front (done ++ behind_them) last
-              ∙ ap (λ acts. front ++ acts) (append_assoc done behind_them last) ∙ sym (append_assoc front done (behind_them ++ last));
+              ∙ ap (λ acts. front ++ acts) (append_assoc done behind_them last) ∙
+              sym (append_assoc front done (behind_them ++ last));
           stopped = stops_longer b.around.output a'.output (front ++ done) behind_them last e
               (stops_then b.around.output at.around.output a'.output front done behind_them e gained stopped);
           faults = faults ∙ so.faults ∙ ap (count_on b.around.faults) (sym so.borne_are);
           sends = sendings ∙ ap (λ n. count_on n (length (lost_of stack plans so.world left flags))) so.sends
-              ∙ sym (count_on_add b.around.sends (length (lost_of stack plans w so.done so.failed)) (length (lost_of stack plans so.world left flags)))
+              ∙ sym (count_on_add b.around.sends (length (lost_of stack plans w so.done so.failed))
+              (length (lost_of stack plans so.world left flags)))
               ∙ ap (count_on b.around.sends) (sym lost);
           told = tells_then b.around.told at.around.told a'.told so.told told (λ n n' n'' goes some. record {
-            listened = some.listened ∙ append-nil n'.listened ∙ goes_listened b.mode stack plans w so.done so.failed n n' goes ∙ sym (append-nil n.listened);
+            listened = some.listened ∙ append-nil n'.listened ∙ goes_listened b.mode stack plans w so.done so.failed n
+                n' goes ∙ sym (append-nil n.listened);
             some = record {
-              handed = some.some.handed ∙ ap (λ h. h ++ map sent_as (sends_in done)) (goes_handed b.mode stack plans w so.done so.failed n n' goes)
-                  ∙ append_assoc n.handed (map sent_as (sends_of b.mode stack plans w so.done)) (map sent_as (sends_in done))
-                  ∙ ap (λ h. n.handed ++ h) (sym (map-append sent_as (sends_of b.mode stack plans w so.done) (sends_in done)) ∙ ap (map sent_as) (sym handed));
-              met = some.some.met ∙ append-nil n'.met ∙ goes_met b.mode stack plans w so.done so.failed n n' goes ∙ ap (λ hs. n.met ++ map met_as hs) so.asked;
+              handed = some.some.handed ∙
+                  ap (λ h. h ++ map sent_as (sends_in done))
+                  (goes_handed b.mode stack plans w so.done so.failed n n' goes)
+                  ∙ append_assoc n.handed (map sent_as (sends_of b.mode stack plans w so.done))
+                  (map sent_as (sends_in done))
+                  ∙ ap (λ h. n.handed ++ h)
+                  (sym (map-append sent_as (sends_of b.mode stack plans w so.done) (sends_in done)) ∙
+                  ap (map sent_as) (sym handed));
+              met = some.some.met ∙ append-nil n'.met ∙ goes_met b.mode stack plans w so.done so.failed n n' goes ∙
+                  ap (λ hs. n.met ++ map met_as hs) so.asked;
             };
           });
           clock_told = so.clock_told;
@@ -285,41 +334,54 @@ module _ (stack : List LayerTree) (plans : List Plan) (c : Course) (b : Begun) w
         (tells_same (WentOn [] [] []) at.around.told asked_nothing))
 
   -- Where an event was broken off.
-  pub cut_so : (m k borne : ℕ) (rest : List ℕ → List Heard → List Doing) (g : Peopled) (d : Desk) (a a' : Around) (clk : Option (List ℕ)) (e : SinkError)
-      (event : ScriptEvent) → Within c b m k borne → (so : So m k (λ later more. does event ∷ rest later more) borne (now g d a clk)) →
+  pub cut_so : (m k borne : ℕ) (rest : List ℕ → List Heard → List Doing) (g : Peopled) (d : Desk) (a a' : Around)
+      (clk : Option (List ℕ)) (e : SinkError)
+      (event : ScriptEvent) → Within c b m k borne →
+      (so : So m k (λ later more. does event ∷ rest later more) borne (now g d a clk)) →
       Breaks (event_acts b.mode stack plans so.world event) e a a' → CutOff stack plans c b e a' clk
   cut_so m k borne rest g d a a' clk e event within so q =
       let behind_it = rest (clock_on c so.clock) (heard_on c so.heard) in
       let on = (happens stack plans so.world event).world in
       let later = acts_of b.mode stack plans on behind_it [] in
       let few : length q.failed ≤ length (event_sends b.mode stack plans so.world event) =
-      (let n = ap (λ acts. length (sends_in acts)) q.are in let i = ap length (event_sends_are b.mode stack plans so.world event q.failed) in
+      (let n = ap (λ acts. length (sends_in acts)) q.are in let i =
+      ap length (event_sends_are b.mode stack plans so.world event q.failed) in
       let s = ap length (sends_append q.done q.rest) in let l = length-append (sends_in q.done) (sends_in q.rest) in
       let x = q.few in omega (arith, n, i, s, l, x)) in
-      cut m k borne (λ later more. does event ∷ rest later more) (now g d a clk) within so (q.failed ∷ []) q.done (q.rest ++ later) a' e
+      cut m k borne (λ later more. does event ∷ rest later more) (now g d a clk) within
+      so (q.failed ∷ []) q.done (q.rest ++ later) a' e
       (ap (λ acts. acts ++ later) q.are ∙ append_assoc q.done q.rest later)
       (stops_longer a.output a'.output q.done q.rest later e q.stopped) q.faults
-      (q.sendings ∙ ap (count_on a.sends) (sym (ap length (ap (λ ls. event_losses stack plans so.world event q.failed ++ ls)
+      (q.sendings ∙ ap (count_on a.sends)
+      (sym (ap length (ap (λ ls. event_losses stack plans so.world event q.failed ++ ls)
       (lost_none stack plans on behind_it) ∙ append-nil (event_losses stack plans so.world event q.failed))
       ∙ event_losses_are b.mode stack plans so.world event q.failed few)))
       q.told
 
   -- Where the line of a failure that is borne was cut short.
-  pub cut_line : (m k borne : ℕ) (rest : List ℕ → List Heard → List Doing) (id : ℕ) (g : Peopled) (d : Desk) (a a' : Around) (clk : Option (List ℕ))
-      (e : SinkError) → Within c b m k borne → (so : So m k (λ later more. bears id ∷ rest later more) borne (now g d a clk)) →
-      Wrote (deaf_line id ∷ []) a.output a'.output (Err e) → a'.faults ≡ a.faults → a'.sends ≡ a.sends → a'.told ≡ a.told → CutOff stack plans c b e a' clk
+  pub cut_line : (m k borne : ℕ) (rest : List ℕ → List Heard → List Doing) (id : ℕ) (g : Peopled) (d : Desk)
+      (a a' : Around) (clk : Option (List ℕ))
+      (e : SinkError) → Within c b m k borne →
+      (so : So m k (λ later more. bears id ∷ rest later more) borne (now g d a clk)) →
+      Wrote (deaf_line id ∷ []) a.output a'.output (Err e) → a'.faults ≡ a.faults → a'.sends ≡ a.sends →
+      a'.told ≡ a.told → CutOff stack plans c b e a' clk
   cut_line m k borne rest id g d a a' clk e within so wrote faults sendings told =
       let behind_it = rest (clock_on c so.clock) (heard_on c so.heard) in
       let later = acts_of b.mode stack plans so.world behind_it [] in
-      cut m k borne (λ later more. bears id ∷ rest later more) (now g d a clk) within so [] [] (puts (deaf_line id) ∷ later) a' e refl
+      cut m k borne (λ later more. bears id ∷ rest later more) (now g d a clk) within
+      so [] [] (puts (deaf_line id) ∷ later) a' e refl
       (line_stops a.output a'.output (deaf_line id) later e wrote) faults
       (sendings ∙ ap (λ ls. count_on a.sends (length ls)) (sym (lost_none stack plans so.world behind_it)))
       (subst (Tells (WentOn [] [] []) a.told) (sym told) (tells_same (WentOn [] [] []) a.told asked_nothing))
 
   -- What a fed event comes to.
-  pub feeds_so : (m k borne : ℕ) (rest : List ℕ → List Heard → List Doing) (event : ScriptEvent) (g g' : Peopled) (d d' : Desk) (a a' : Around)
+  pub feeds_so : (m k borne : ℕ) (rest : List ℕ → List Heard → List Doing) (event : ScriptEvent) (g g' : Peopled)
+      (d d' : Desk) (a a' : Around)
       (clk : Option (List ℕ)) (r : Result (Unit {0}) SinkError) → Within c b m k borne →
       (so : So m k (λ later more. does event ∷ rest later more) borne (now g d a clk)) →
-      Feeds b.mode stack plans b.members so.world event g' d d' a a' r → Advances stack plans c b m k rest borne (now g' d' a' clk) r
-  feeds_so m k borne rest event g g' d d' a a' clk (Ok done) within so fed = fed_so m k borne rest event g g' d d' a a' clk so fed
-  feeds_so m k borne rest event g g' d d' a a' clk (Err e) within so q = cut_so m k borne rest g d a a' clk e event within so q
+      Feeds b.mode stack plans b.members so.world event g' d d' a a' r →
+      Advances stack plans c b m k rest borne (now g' d' a' clk) r
+  feeds_so m k borne rest event g g' d d' a a' clk (Ok done) within so fed =
+      fed_so m k borne rest event g g' d d' a a' clk so fed
+  feeds_so m k borne rest event g g' d d' a a' clk (Err e) within so q =
+      cut_so m k borne rest g d a a' clk e event within so q

@@ -27,8 +27,8 @@ use Rattle.node_loop.specs.declared.desk.Desk.{Desk}
 use Rattle.node_loop.specs.declared.error.NodeError.{NodeError}
 use Rattle.node_loop.specs.declared.error.NodeError.TheVariants.{Link, Write, Memory}
 
--- What a node began with: the mode of its group and its world, of so many members, how many failures it bears, and what surrounded it when all its
--- members listened.
+-- What a node began with: the mode of its group and its world, of so many members, how many failures it bears, and what
+-- surrounded it when all its members listened.
 pub record Begun : Type 0 where
   pub mode : Mode
   pub first : World
@@ -47,8 +47,8 @@ pub record Now : Type 0 where
 abbrev pub now : Peopled → Desk → Around → Option (List ℕ) → Now
 now group desk around clock = record { group = group; desk = desk; around = around; clock = clock }
 
--- So far a node was told so many moments and answers; it did what they call for, wrote the lines of that and handed on its packets, and
--- what is left to do hangs on what it will be told. So many of the answers are failures.
+-- So far a node was told so many moments and answers; it did what they call for, wrote the lines of that and handed on
+-- its packets, and what is left to do hangs on what it will be told. So many of the answers are failures.
 pub record SoFar (stack : List LayerTree) (plans : List Plan) (c : Course) (b : Begun) (moments answers : ℕ)
     (rest : List ℕ → List Heard → List Doing) (borne : ℕ) (at : Now) : Type 0 where
   pub clock : List ℕ
@@ -72,15 +72,17 @@ pub record SoFar (stack : List LayerTree) (plans : List Plan) (c : Course) (b : 
   pub told : Tells (Goes b.mode stack plans b.first done failed) b.around.told at.around.told
   pub clock_told : Told b.clock at.clock clock
 
--- So many moments and answers, of which so many are failures, are those of no more than all turns, and all failures are borne.
+-- So many moments and answers, of which so many are failures, are those of no more than all turns, and all failures are
+-- borne.
 pub record Within (c : Course) (b : Begun) (moments answers borne : ℕ) : Type 0 where
   pub turns : moments ≤ c.turns
   pub all : answers ≤ c.turns * length c.me
   pub patient : borne ≤ b.patience
 
--- A node was broken off: it was told these moments and answers, and the acts that it did are the first of those that it does where it goes on
--- to be told moments and silence.
-pub record CutOff (stack : List LayerTree) (plans : List Plan) (c : Course) (b : Begun) (e : SinkError) (at : Around) (clock_now : Option (List ℕ))
+-- A node was broken off: it was told these moments and answers, and the acts that it did are the first of those that it
+-- does where it goes on to be told moments and silence.
+pub record CutOff (stack : List LayerTree) (plans : List Plan) (c : Course) (b : Begun) (e : SinkError) (at : Around)
+    (clock_now : Option (List ℕ))
     : Type 0 where
   pub clock : List ℕ
   pub heard : List Heard
@@ -91,8 +93,10 @@ pub record CutOff (stack : List LayerTree) (plans : List Plan) (c : Course) (b :
   pub answers : length heard ≤ c.turns * length c.me
   pub borne : failures heard ≤ b.patience
   pub doings : List Doing
-  pub doings_are : doings ≡ doings_of c.plan c.me c.turns b.patience (clock ++ clock_on c clock) (heard ++ heard_on c heard)
-  pub are : acts_of b.mode stack plans b.first doings failed ++ puts (end_line (length (events_of doings))) ∷ [] ≡ done ++ rest
+  pub doings_are : doings ≡ doings_of c.plan c.me c.turns b.patience (clock ++ clock_on c clock)
+      (heard ++ heard_on c heard)
+  pub are : acts_of b.mode stack plans b.first doings failed ++ puts (end_line (length (events_of doings))) ∷ [] ≡
+      done ++ rest
   pub stopped : Stops e done rest b.around.output at.output
   pub faults : at.faults ≡ count_on b.around.faults (failures heard)
   pub sends : at.sends ≡ count_on b.around.sends (length (lost_of stack plans b.first doings failed))
@@ -100,16 +104,20 @@ pub record CutOff (stack : List LayerTree) (plans : List Plan) (c : Course) (b :
   pub clock_told : Told b.clock clock_now clock
 
 -- A node went on to what is left behind a stage, or was broken off.
-abbrev pub Advances : List LayerTree → List Plan → Course → Begun → (moments answers : ℕ) → (List ℕ → List Heard → List Doing) → (borne : ℕ) → Now →
+abbrev pub Advances : List LayerTree → List Plan → Course → Begun → (moments answers : ℕ) →
+    (List ℕ → List Heard → List Doing) → (borne : ℕ) → Now →
     Result (Unit {0}) SinkError → Type 0
 Advances stack plans c b moments answers rest borne at (Ok done) = SoFar stack plans c b moments answers rest borne at
 Advances stack plans c b moments answers rest borne at (Err e) = CutOff stack plans c b e at.around at.clock
 
 -- What it comes to that an event is fed which is the next thing to do.
-abbrev pub FedOn : List LayerTree → List Plan → ScriptEvent → Peopled → Peopled → Desk → Desk → Around → Around → Result (Unit {0}) SinkError → Type 0
+abbrev pub FedOn : List LayerTree → List Plan → ScriptEvent → Peopled → Peopled → Desk → Desk → Around → Around →
+    Result (Unit {0}) SinkError → Type 0
 FedOn stack plans event g g' d d' a a' r =
-    (c : Course) (b : Begun) (moments answers borne : ℕ) (rest : List ℕ → List Heard → List Doing) (clock : Option (List ℕ)) →
-    Within c b moments answers borne → SoFar stack plans c b moments answers (λ later more. does event ∷ rest later more) borne (now g d a clock) →
+    (c : Course) (b : Begun) (moments answers borne : ℕ) (rest : List ℕ → List Heard → List Doing)
+    (clock : Option (List ℕ)) →
+    Within c b moments answers borne →
+    SoFar stack plans c b moments answers (λ later more. does event ∷ rest later more) borne (now g d a clock) →
     Advances stack plans c b moments answers rest borne (now g' d' a' clock) r
 
 -- Nothing is left to do.
@@ -117,7 +125,8 @@ abbrev pub nothing_left : List ℕ → List Heard → List Doing
 nothing_left clock heard = []
 
 -- One more receive failed than is borne, as the last answer.
-pub record DeafAt (stack : List LayerTree) (plans : List Plan) (c : Course) (b : Begun) (moments answers : ℕ) (at : Now) : Type 0 where
+pub record DeafAt (stack : List LayerTree) (plans : List Plan) (c : Course) (b : Begun) (moments answers : ℕ) (at : Now)
+    : Type 0 where
   pub so : SoFar stack plans c b moments answers nothing_left (b.patience + 1) at
   pub before : List Heard
   pub last : so.heard ≡ before ++ failure ∷ []
@@ -130,19 +139,23 @@ pub record Asked (stack : List LayerTree) (plans : List Plan) (c : Course) (b : 
   pub so : SoFar stack plans c b moments answers (rest left) borne at
 
 -- A node went deaf within so many answers.
-pub record Deafened (stack : List LayerTree) (plans : List Plan) (c : Course) (b : Begun) (moments least most : ℕ) (at : Now) : Type 0 where
+pub record Deafened (stack : List LayerTree) (plans : List Plan) (c : Course) (b : Begun) (moments least most : ℕ)
+    (at : Now) : Type 0 where
   pub answers : ℕ
   pub begun : least < answers
   pub within : answers ≤ most
   pub deaf : DeafAt stack plans c b moments answers at
 
 -- A node went on, went deaf, or was broken off.
-abbrev pub Hears : List LayerTree → List Plan → Course → Begun → (moments least most : ℕ) → (ℕ → List ℕ → List Heard → List Doing) → (left : ℕ) → Now →
+abbrev pub Hears : List LayerTree → List Plan → Course → Begun → (moments least most : ℕ) →
+    (ℕ → List ℕ → List Heard → List Doing) → (left : ℕ) → Now →
     Result (Unit {0}) NodeError → Type 0
 Hears stack plans c b moments least most rest left at (Ok done) = Asked stack plans c b moments most rest left at
 Hears stack plans c b moments least most rest left at (Err Link) = Deafened stack plans c b moments least most at
-Hears stack plans c b moments least most rest left at (Err Write) = CutOff stack plans c b sink.Failed at.around at.clock
-Hears stack plans c b moments least most rest left at (Err Memory) = CutOff stack plans c b sink.Memory at.around at.clock
+Hears stack plans c b moments least most rest left at (Err Write) =
+    CutOff stack plans c b sink.Failed at.around at.clock
+Hears stack plans c b moments least most rest left at (Err Memory) =
+    CutOff stack plans c b sink.Memory at.around at.clock
 
 -- The stack of a course, its plans of packets, and the rest of it.
 abbrev pub stack_in : code.Course → List LayerTree

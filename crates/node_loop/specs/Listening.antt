@@ -1,5 +1,6 @@
 -- What the listens of a node's members come to.
-use Rattle.std.specs.Prelude.{◌≡◌, ℕ, ◌+◌, ◌<◌, true, false, List, [], ◌∷◌, ◌++◌, length, take, replicate, Option, Result, Ok, Err}
+use Rattle.std.specs.Prelude.{◌≡◌, ℕ, ◌+◌, ◌<◌, true, false, List, [], ◌∷◌, ◌++◌, length, take, replicate, Option}
+use Rattle.std.specs.Prelude.{Result, Ok, Err}
 use Rattle.outside.specs.Count.{next_count}
 use Rattle.outside.specs.Links.{Network}
 use Rattle.outside.specs.declared.links.Peer.{Peer}
@@ -25,8 +26,12 @@ pub record ListenedNot (peers : List Peer) (me : List ℕ) (n n' : Network) : Ty
   pub flags : flags_of (some + 1) n.listens ≡ replicate some false ++ true ∷ []
   pub is : n' ≡ after_listens peers (take (some + 1) me) n
 
-abbrev pub ListensAll : List Peer → (me : List ℕ) → (faults faults_after : ℕ) → (told told_after : Option Network) → Result (Unit {0}) NodeError → Type 0
-ListensAll peers me faults after told told_after (Ok done) = (after ≡ faults) × Tells (Listened peers me) told told_after
-ListensAll peers me faults after told told_after (Err Link) = (after ≡ next_count faults) × Tells (ListenedNot peers me) told told_after
-ListensAll peers me faults after told told_after (Err Memory) = (after ≡ faults) × Tells (ListenedSome peers me) told told_after
+abbrev pub ListensAll : List Peer → (me : List ℕ) → (faults faults_after : ℕ) → (told told_after : Option Network) →
+    Result (Unit {0}) NodeError → Type 0
+ListensAll peers me faults after told told_after (Ok done) = (after ≡ faults) ×
+    Tells (Listened peers me) told told_after
+ListensAll peers me faults after told told_after (Err Link) = (after ≡ next_count faults) ×
+    Tells (ListenedNot peers me) told told_after
+ListensAll peers me faults after told told_after (Err Memory) = (after ≡ faults) ×
+    Tells (ListenedSome peers me) told told_after
 ListensAll peers me faults after told told_after (Err Write) = ⊥

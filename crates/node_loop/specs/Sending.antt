@@ -34,7 +34,8 @@ abbrev pub sends_of_outputs : List Plan → ℕ → List (Output × Option ℕ) 
 sends_of_outputs plans id outs = flat_map (handed_output plans id) outs
 
 -- The acts of a step that was taken or refused.
-abbrev pub stepped_acts : List LayerTree → List Plan → (id first : ℕ) → List (Output × Option ℕ) → Stepped → List Bool → List Act
+abbrev pub stepped_acts : List LayerTree → List Plan → (id first : ℕ) → List (Output × Option ℕ) → Stepped → List Bool →
+    List Act
 stepped_acts stack plans id first outs (Taken common change) failed =
     outputs_acts stack plans id first outs failed ++ map puts (change_lines id change)
 stepped_acts stack plans id first outs (Refused refusal) failed = puts (refused_line id (refusal_meant refusal)) ∷ []

@@ -1,5 +1,6 @@
 -- What a node comes to.
-use Rattle.std.specs.Prelude.{◌≡◌, ◌⊎◌, ℕ, zero, suc, ◌+◌, ◌*◌, ◌<◌, ◌≤◌, Bool, true, false, List, [], ◌∷◌, ◌++◌, length, map, take, drop, replicate, Option, Result, Ok, Err}
+use Rattle.std.specs.Prelude.{◌≡◌, ◌⊎◌, ℕ, zero, suc, ◌+◌, ◌*◌, ◌<◌, ◌≤◌, Bool, true, false, List, [], ◌∷◌, ◌++◌}
+use Rattle.std.specs.Prelude.{length, map, take, drop, replicate, Option, Result, Ok, Err}
 use Rattle.outside.specs.Links.{Listen, Network, listen_of}
 use Rattle.outside.specs.declared.links.Peer.{Peer}
 use Rattle.outside.specs.Shelf.{is_next_to_fail}
@@ -47,7 +48,8 @@ listens_of peers me = map (listen_of peers) me
 
 -- A network after them.
 abbrev pub after_listens : List Peer → List ℕ → Network → Network
-after_listens peers me n = record n { listened = n.listened ++ listens_of peers me; listens = drop (length me) n.listens }
+after_listens peers me n =
+    record n { listened = n.listened ++ listens_of peers me; listens = drop (length me) n.listens }
 
 -- Whether the next so many calls of a kind are to fail, of which it is told which are.
 abbrev pub flags_of : ℕ → List Bool → List Bool
@@ -58,31 +60,36 @@ flags_of (suc count) flags = is_next_to_fail flags ∷ flags_of count (drop 1 fl
 abbrev pub doings_in : Task → Surroundings → List Doing
 doings_in task s = doings_of task.plan task.words.me task.words.turns task.words.patience s.clock s.heard
 
--- A network that tells heard all members listen in their order, each at its own place of the plan, and went on as the node ran: each member heard what there was for it then, each packet was
--- handed on in its place, and those sendings failed that were to fail.
+-- A network that tells heard all members listen in their order, each at its own place of the plan, and went on as the
+-- node ran: each member heard what there was for it then, each packet was handed on in its place, and those sendings
+-- failed that were to fail.
 pub record RanOver (task : Task) (s : Surroundings) (n n' : Network) : Type 0 where
   pub listens : flags_of (length task.words.me) n.listens ≡ replicate (length task.words.me) false
   pub flags : List (List Bool)
-  pub lost : s.lost ≡ lost_of task.stack (plans_of task.stack) (first_of_plan task.stack task.plan) (doings_in task s) flags
-  pub goes : Goes task.words.mode task.stack (plans_of task.stack) (first_of_plan task.stack task.plan) (doings_in task s) flags
+  pub lost : s.lost ≡ lost_of task.stack (plans_of task.stack) (first_of_plan task.stack task.plan) (doings_in task s)
+      flags
+  pub goes : Goes task.words.mode task.stack (plans_of task.stack) (first_of_plan task.stack task.plan)
+      (doings_in task s) flags
       (after_listens task.plan.peers task.words.me n) n'
 
 -- What was told of a node's run: its counts of failures, its clock and its network.
-pub record IsTold (task : Task) (s : Surroundings) (a b : Whereabouts) (OverNetwork : Network → Network → Type 0) : Type 0 where
+pub record IsTold (task : Task) (s : Surroundings) (a b : Whereabouts) (OverNetwork : Network → Network → Type 0) : Type
+    0 where
   pub faults : RoseBy a.around.faults b.around.faults (failures s.heard)
   pub sends : RoseBy a.around.sends b.around.sends (length s.lost)
   pub clock : Told a.clock b.clock s.clock
   pub network : Tells OverNetwork a.around.told b.around.told
 
--- All turns were made: each had a moment, and an answer for each own member, of which no more failed than are borne. What was written and
--- what was handed to the network are those of the journal.
+-- All turns were made: each had a moment, and an answer for each own member, of which no more failed than are borne.
+-- What was written and what was handed to the network are those of the journal.
 pub record MadeAllTurns (task : Task) (a b : Whereabouts) : Type 0 where
   pub s : Surroundings
   pub moments : length s.clock ≡ task.words.turns
   pub answers : length s.heard ≡ task.words.turns * length task.words.me
   pub borne : failures s.heard ≤ task.words.patience
   pub written : Gains a.around.output b.around.output
-      (node_lines task.stack (plans_of task.stack) (failed s) (noted task.plan task.words s) (played task.stack task.plan task.words s))
+      (node_lines task.stack (plans_of task.stack) (failed s) (noted task.plan task.words s)
+      (played task.stack task.plan task.words s))
   pub told : IsTold task s a b (RanOver task s)
 
 -- A member couldn't listen: of the listens, which come by ascending id, the one after so many failed.
@@ -100,7 +107,8 @@ pub record CouldNotListen (task : Task) (a b : Whereabouts) : Type 0 where
   pub clock : b.clock ≡ a.clock
   pub network : Tells (ListenFailed task) a.around.told b.around.told
 
--- One more receive failed than is borne: the last answer, in the turn of the last moment. What was written before is the whole journal's.
+-- One more receive failed than is borne: the last answer, in the turn of the last moment. What was written before is
+-- the whole journal's.
 pub record WentDeaf (task : Task) (a b : Whereabouts) : Type 0 where
   pub s : Surroundings
   pub before : List Heard
@@ -110,32 +118,38 @@ pub record WentDeaf (task : Task) (a b : Whereabouts) : Type 0 where
   pub within : length s.heard ≤ length s.clock * length task.words.me
   pub begun : length s.clock * length task.words.me < length s.heard + length task.words.me
   pub written : Gains a.around.output b.around.output
-      (note_lines task.stack (plans_of task.stack) (failed s) (noted task.plan task.words s) (played task.stack task.plan task.words s))
+      (note_lines task.stack (plans_of task.stack) (failed s) (noted task.plan task.words s)
+      (played task.stack task.plan task.words s))
   pub told : IsTold task s a b (RanOver task s)
 
 -- Surroundings that told more.
 abbrev pub told_on : Surroundings → List ℕ → List Heard → Surroundings
 told_on s clock heard = record s { clock = s.clock ++ clock; heard = s.heard ++ heard }
 
--- The acts that were done are the first of all acts of a node in these surroundings; which sendings failed is told event by event.
-pub record Performed (task : Task) (e : SinkError) (s on : Surroundings) (sent : List Handed) (a b : sink_lines.Tells) : Type 0 where
+-- The acts that were done are the first of all acts of a node in these surroundings; which sendings failed is told
+-- event by event.
+pub record Performed (task : Task) (e : SinkError) (s on : Surroundings) (sent : List Handed) (a b : sink_lines.Tells) :
+    Type 0 where
   pub flags : List (List Bool)
-  pub lost : s.lost ≡ lost_of task.stack (plans_of task.stack) (first_of_plan task.stack task.plan) (doings_in task on) flags
+  pub lost : s.lost ≡ lost_of task.stack (plans_of task.stack) (first_of_plan task.stack task.plan) (doings_in task on)
+      flags
   pub done : List Act
   pub rest : List Act
-  pub are : acts_of task.words.mode task.stack (plans_of task.stack) (first_of_plan task.stack task.plan) (doings_in task on) flags
+  pub are : acts_of task.words.mode task.stack (plans_of task.stack) (first_of_plan task.stack task.plan)
+      (doings_in task on) flags
       ++ puts (end_line (length (events_of (doings_in task on)))) ∷ [] ≡ done ++ rest
   pub stopped : Stops e done rest a b
   pub sent_are : sent ≡ sends_in done
 
--- What a network that tells was asked before a node was broken off. Where not all members were to listen, no turn was begun.
+-- What a network that tells was asked before a node was broken off. Where not all members were to listen, no turn was
+-- begun.
 pub record LeftOff (task : Task) (s : Surroundings) (sent : List Handed) (n n' : Network) : Type 0 where
   pub count : ℕ
   pub all : (count ≡ length task.words.me) ⊎ (s.clock ≡ [])
   pub some : WentOn (listens_of task.plan.peers (take count task.words.me)) sent s.heard n n'
 
--- The node was broken off: what was written is a part of a whole output, and what was handed to the network the first of what is handed on
--- then, where the clock and the network, had they been asked further, told this.
+-- The node was broken off: what was written is a part of a whole output, and what was handed to the network the first
+-- of what is handed on then, where the clock and the network, had they been asked further, told this.
 pub record BrokenOff (task : Task) (e : SinkError) (a b : Whereabouts) : Type 0 where
   pub s : Surroundings
   pub sent : List Handed

@@ -23,4 +23,5 @@ acts_of_step s = stepped_acts (stack_tree s.stack.now) (plans_tree s.plans.now) 
 -- Its outputs may be passed on: their packets have numbers, and what they hand on may be sent to those that it is for.
 pub record MayPass (s : Source) (outs : List (Output × Option ℕ)) (listening : ℕ → Option ℕ) : Type 0 where
   pub few : s.number + length outs < 2 ^ 64
-  pub sendable : IsSomeAnd (listening s.id) (λ peers. AllByRecursion (IsSendable peers s.id) (sends_of_outputs (plans_tree s.plans.now) s.id outs))
+  pub sendable : IsSomeAnd (listening s.id)
+      (λ peers. AllByRecursion (IsSendable peers s.id) (sends_of_outputs (plans_tree s.plans.now) s.id outs))

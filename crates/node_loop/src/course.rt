@@ -6,7 +6,8 @@ use report_lines::NamedStack;
 use script_mean::NodePlan;
 use stack_shapes::Plans;
 
-/// The stack that a node runs, with the plans of its packets; the plan of its group, its own members by ascending id, and how many turns it makes.
+/// The stack that a node runs, with the plans of its packets; the plan of its group, its own members by ascending id,
+/// and how many turns it makes.
 #[derive(Clone, Copy)]
 pub struct Course<'a> {
     pub stack: &'a NamedStack,

@@ -7,8 +7,8 @@ use crate::tools::Tools;
 use std::alloc::Global;
 use step_outputs::Outputs;
 
-/// The outputs of the last event, what lines and datagrams are built in, where a datagram is received, and how many events there were; and
-/// where memory is taken from.
+/// The outputs of the last event, what lines and datagrams are built in, where a datagram is received, and how many
+/// events there were; and where memory is taken from.
 #[derive(Drop)]
 pub struct Desk {
     pub alloc: Global,

@@ -67,7 +67,8 @@ pub(crate) fn is_given(event: &ScriptEvent)
     }
 }
 
-/// Feeds an event to a member of this node's own: puts its line, and then the lines of what it came to, with its packets handed on.
+/// Feeds an event to a member of this node's own: puts its line, and then the lines of what it came to, with its
+/// packets handed on.
 pub(crate) fn feed_event<F: Feed, O: Sink, N: Links>(
     feed: &mut F,
     course: Course<'_>,
@@ -76,10 +77,12 @@ pub(crate) fn feed_event<F: Feed, O: Sink, N: Links>(
     out: &mut O,
     links: &mut N,
 ) -> Result<(), SinkError>
-    requires up { IsUp (stack_in course) (plans_in course) (F.group feed.old) desk.old (N.listening links.old) (member_of event.now ∷ []) }
+    requires up { IsUp (stack_in course) (plans_in course) (F.group feed.old) desk.old (N.listening links.old)
+        (member_of event.now ∷ []) }
     requires own { IsOwn event.now }
     requires few { desk.old.events + 1 < 2 ^ 64 }
-    ensures fed { (mode : Mode) (n : ℕ) (w : World) → Rests mode (stack_in course.entry) (plans_in course.entry) n (F.group feed.old) desk.old w →
+    ensures fed { (mode : Mode) (n : ℕ) (w : World) →
+        Rests mode (stack_in course.entry) (plans_in course.entry) n (F.group feed.old) desk.old w →
         Feeds mode (stack_in course.entry) (plans_in course.entry) n w event.now (F.group feed.new) desk.old desk.new
         (around O.Sink N.Links out.old links.old) (around O.Sink N.Links out.new links.new) result }
     ensures counted { OnOk result (desk.new.events ≡ desk.old.events + 1) }
@@ -119,12 +122,16 @@ pub(crate) fn feed_on<F: Feed, O: Sink, N: Links>(
     out: &mut O,
     links: &mut N,
 ) -> Result<(), SinkError>
-    requires up { IsUp (stack_in course) (plans_in course) (F.group feed.old) desk.old (N.listening links.old) (member_of event.now ∷ []) }
+    requires up { IsUp (stack_in course) (plans_in course) (F.group feed.old) desk.old (N.listening links.old)
+        (member_of event.now ∷ []) }
     requires own { IsOwn event.now }
     requires few { desk.old.events + 1 < 2 ^ 64 }
-    ensures told { FedOn (stack_in course.entry) (plans_in course.entry) event.now (F.group feed.old) (F.group feed.new) desk.old desk.new
+    ensures told { FedOn (stack_in course.entry) (plans_in course.entry) event.now (F.group feed.old) (F.group feed.new)
+        desk.old desk.new
         (around O.Sink N.Links out.old links.old) (around O.Sink N.Links out.new links.new) result }
-    ensures rests { OnOk result (RestsAgain (stack_in course.entry) (plans_in course.entry) (F.group feed.old) desk.old (F.group feed.new) desk.new) }
+    ensures rests { OnOk result
+        (RestsAgain (stack_in course.entry) (plans_in course.entry) (F.group feed.old) desk.old (F.group feed.new)
+        desk.new) }
     ensures counted { OnOk result (desk.new.events ≡ desk.old.events + 1) }
     ensures listening { (m : ℕ) → N.listening links.new m ≡ N.listening links.old m }
 {

@@ -30,7 +30,8 @@ fn pass_output<O: Sink, N: Links>(
     links: &mut N,
 ) -> Result<(), SinkError>
     requires sendable { IsSomeAnd (N.listening links.old source.id) (λ peers.
-        AllByRecursion (IsSendable peers source.id) (handed_output (plans_tree source.plans.now) source.id (output_meant here.now output.now))) }
+        AllByRecursion (IsSendable peers source.id)
+        (handed_output (plans_tree source.plans.now) source.id (output_meant here.now output.now))) }
     ensures handed { Handles (acts_of_output source.entry (output_meant here.now output.now))
         (around O.Sink N.Links out.old links.old) (around O.Sink N.Links out.new links.new) result }
     ensures listening { (m : ℕ) → N.listening links.new m ≡ N.listening links.old m }

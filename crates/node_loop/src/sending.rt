@@ -52,7 +52,8 @@ fn send_to<O: Sink, N: Links>(
 ) -> Result<(), SinkError>
     requires peer { IsSomeAnd (N.listening links.old sending.from) (λ peers. to < peers) }
     requires size { length sending.bytes.now ≤ LONGEST_DATAGRAM }
-    ensures handed { Handles (sending_acts sending.entry.number (sent_to sending.entry.from sending.entry.bytes.now to ∷ []))
+    ensures handed { Handles
+        (sending_acts sending.entry.number (sent_to sending.entry.from sending.entry.bytes.now to ∷ []))
         (around O.Sink N.Links out.old links.old) (around O.Sink N.Links out.new links.new) result }
     ensures listening { (m : ℕ) → N.listening links.new m ≡ N.listening links.old m }
 {
@@ -71,8 +72,11 @@ fn send_to_others<O: Sink, N: Links>(
     out: &mut O,
     links: &mut N,
 ) -> Result<(), SinkError>
-    requires peers { IsSomeAnd (N.listening links.old sending.from) (λ peers. AllByRecursion (MayTake sending.bytes.now peers) (receivers sending.from view All)) }
-    ensures handed { Handles (sending_acts sending.entry.number (map (sent_to sending.entry.from sending.entry.bytes.now) (receivers sending.entry.from view All)))
+    requires peers { IsSomeAnd (N.listening links.old sending.from)
+        (λ peers. AllByRecursion (MayTake sending.bytes.now peers) (receivers sending.from view All)) }
+    ensures handed { Handles
+        (sending_acts sending.entry.number
+        (map (sent_to sending.entry.from sending.entry.bytes.now) (receivers sending.entry.from view All)))
         (around O.Sink N.Links out.old links.old) (around O.Sink N.Links out.new links.new) result }
     ensures listening { (m : ℕ) → N.listening links.new m ≡ N.listening links.old m }
 {
@@ -93,8 +97,11 @@ fn send_to_all_of<O: Sink, N: Links>(
     out: &mut O,
     links: &mut N,
 ) -> Result<(), SinkError>
-    requires peers { IsSomeAnd (N.listening links.old sending.from) (λ peers. AllByRecursion (MayTake sending.bytes.now peers) (receivers sending.from view dest)) }
-    ensures handed { Handles (sending_acts sending.entry.number (map (sent_to sending.entry.from sending.entry.bytes.now) (receivers sending.entry.from view dest)))
+    requires peers { IsSomeAnd (N.listening links.old sending.from)
+        (λ peers. AllByRecursion (MayTake sending.bytes.now peers) (receivers sending.from view dest)) }
+    ensures handed { Handles
+        (sending_acts sending.entry.number
+        (map (sent_to sending.entry.from sending.entry.bytes.now) (receivers sending.entry.from view dest)))
         (around O.Sink N.Links out.old links.old) (around O.Sink N.Links out.new links.new) result }
     ensures listening { (m : ℕ) → N.listening links.new m ≡ N.listening links.old m }
 {
@@ -117,7 +124,8 @@ pub(crate) fn hand_on<O: Sink, N: Links>(
     links: &mut N,
 ) -> Result<(), SinkError>
     requires peers { IsSomeAnd (N.listening links.old source.id) (λ peers. AllByRecursion
-        (MayTake (datagram_of (plans_tree source.plans.now) here.now packet.now) peers) (receivers source.id here.now.view packet.now.dest)) }
+        (MayTake (datagram_of (plans_tree source.plans.now) here.now packet.now) peers)
+        (receivers source.id here.now.view packet.now.dest)) }
     ensures handed { Handles (sending_acts source.entry.number
         (map (sent_to source.entry.id (datagram_of (plans_tree source.entry.plans.now) here.now packet.now))
         (receivers source.entry.id here.now.view packet.now.dest)))

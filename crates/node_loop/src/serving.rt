@@ -62,7 +62,8 @@ fn desk(alloc: Global, stack: &Stack) -> Result<Desk, Memory>
 fn listen_all<N: Links>(peers: &[Peer], me: &[u8], links: &mut N) -> Result<(), NodeError>
     requires members { AllByRecursion (λ id. id < length peers.now) me.now }
     requires few { length peers.now ≤ most_members }
-    ensures told { ListensAll peers.now me.now (N.faults links.old) (N.faults links.new) (N.told links.old) (N.told links.new) result }
+    ensures told { ListensAll peers.now me.now (N.faults links.old) (N.faults links.new) (N.told links.old)
+        (N.told links.new) result }
     ensures sends { N.send_faults links.new ≡ N.send_faults links.old }
     ensures listening { OnOk result (AllByRecursion (λ id. N.listening links.new id ≡ Some (length peers.now)) me.now) }
 {
@@ -86,13 +87,15 @@ fn make_turns<F: Feed, O: Sink, N: Links, C: Clock>(
     links: &mut N,
     clock: &mut C,
 ) -> Result<(), NodeError>
-    requires up { IsUp (stack_in course) (plans_in course) (F.group feed.old) desk.old (N.listening links.old) course.me.now }
+    requires up { IsUp (stack_in course) (plans_in course) (F.group feed.old) desk.old (N.listening links.old)
+        course.me.now }
     requires own { AllByRecursion (λ entry. IsOwn entry.1) course.plan.now.turns }
     requires ordered { AreOrdered 0 course.plan.now.turns }
     requires members { length course.me.now ≤ most_members }
     requires none { desk.old.events ≡ 0 }
     ensures told { (b : Begun) → b.patience ≡ patience →
-        SoFar (stack_in course.entry) (plans_in course.entry) (course_of course.entry) b 0 0 (from_turn (course_of course.entry) 0 patience) 0
+        SoFar (stack_in course.entry) (plans_in course.entry) (course_of course.entry) b 0 0
+        (from_turn (course_of course.entry) 0 patience) 0
         (now (F.group feed.old) desk.old (around O.Sink N.Links out.old links.old) (C.told clock.old)) →
         Made (stack_in course.entry) (plans_in course.entry) (course_of course.entry) b
         (now (F.group feed.new) desk.new (around O.Sink N.Links out.new links.new) (C.told clock.new)) result }
@@ -110,13 +113,13 @@ fn make_turns<F: Feed, O: Sink, N: Links, C: Clock>(
     Ok(())
 }
 
-/// Runs the members `me` of a plan's group, in its mode, over links, through so many turns, and puts what they do and what it comes to line by
-/// line: behind `> ` each event, and then the lines of its report. Each packet is handed on just behind its line, as it is sent; a sending that
-/// fails is told by `lost` and the packet's number, and not made again. A receive that fails is told by `deaf` and the member; of these so many
-/// are borne as `patience` says.
+/// Runs the members `me` of a plan's group, in its mode, over links, through so many turns, and puts what they do and
+/// what it comes to line by line: behind `> ` each event, and then the lines of its report. Each packet is handed on
+/// just behind its line, as it is sent; a sending that fails is told by `lost` and the packet's number, and not made
+/// again. A receive that fails is told by `deaf` and the member; of these so many are borne as `patience` says.
 ///
-/// Each turn is a tick of the clock's moment at each own member, one receive of each, whose datagram is an event of that member, and then the
-/// plan's events of this turn for own members. The last line says how many events there were.
+/// Each turn is a tick of the clock's moment at each own member, one receive of each, whose datagram is an event of
+/// that member, and then the plan's events of this turn for own members. The last line says how many events there were.
 pub fn serve<F: Feed, O: Sink, N: Links, C: Clock>(
     alloc: Global,
     feed: &mut F,

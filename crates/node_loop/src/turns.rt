@@ -1,6 +1,7 @@
 //! The turns of a node: ticks, receives, and what is planned.
 
-ghost use Rattle.std.specs.Prelude.{◌≡◌, ◌+◌, ◌++◌, ◌*◌, ◌^◌, ◌<◌, ◌≤◌, ◌∷◌, [], ℕ, List, Option, OnOk, length, take, drop};
+ghost use Rattle.std.specs.Prelude.{◌≡◌, ◌+◌, ◌++◌, ◌*◌, ◌^◌, ◌<◌, ◌≤◌, ◌∷◌, [], ℕ, List, Option, OnOk, length, take};
+ghost use Rattle.std.specs.Prelude.{drop};
 ghost use Rattle.std.specs.List.{AllByRecursion};
 ghost use Rattle.script_mean.specs.declared.event.ScriptEvent.TheVariants.{Raw};
 ghost use Rattle.run_mean.specs.Journal.{Heard};
@@ -9,10 +10,12 @@ ghost use Rattle.outside.specs.Lines.{Wrote};
 ghost use Rattle.outside.specs.Tells.{tells_of};
 ghost use Rattle.node_laws.specs.Losses as losses;
 ghost use Rattle.node_laws.specs.Stages as stages;
-ghost use Rattle.node_laws.specs.Stages.{AreOrdered, own_doing, from_asking, from_planned, from_ticks, from_turn, planned_in};
+ghost use Rattle.node_laws.specs.Stages.{AreOrdered, own_doing, from_asking, from_planned, from_ticks, from_turn};
+ghost use Rattle.node_laws.specs.Stages.{planned_in};
 ghost use Rattle.node_loop.specs.Around.{around};
 ghost use Rattle.node_loop.specs.Bearing.{Bears};
-ghost use Rattle.node_loop.specs.Course.{Advances, Begun, FedOn, Hears, SoFar, Within, course_of, now, plans_in, stack_in};
+ghost use Rattle.node_loop.specs.Course.{Advances, Begun, FedOn, Hears, SoFar, Within, course_of, now, plans_in};
+ghost use Rattle.node_loop.specs.Course.{stack_in};
 ghost use Rattle.node_loop.specs.Feeding.{IsOwn, IsUp, RestsAgain};
 ghost use Rattle.msg_core.specs.View.{most_members};
 
@@ -35,15 +38,20 @@ fn tick_all<F: Feed, O: Sink, N: Links>(
     out: &mut O,
     links: &mut N,
 ) -> Result<(), SinkError>
-    requires up { IsUp (stack_in course) (plans_in course) (F.group feed.old) desk.old (N.listening links.old) course.me.now }
+    requires up { IsUp (stack_in course) (plans_in course) (F.group feed.old) desk.old (N.listening links.old)
+        course.me.now }
     requires few { desk.old.events + length course.me.now < 2 ^ 64 }
     ensures told { (c : stages.Course) (b : Begun) (moments answers t left borne : ℕ) (clock : Option (List ℕ)) →
         Within c b moments answers borne →
-        SoFar (stack_in course.entry) (plans_in course.entry) c b moments answers (from_ticks c t left moment course.entry.me.now) borne
+        SoFar (stack_in course.entry) (plans_in course.entry) c b moments answers
+        (from_ticks c t left moment course.entry.me.now) borne
         (now (F.group feed.old) desk.old (around O.Sink N.Links out.old links.old) clock) →
-        Advances (stack_in course.entry) (plans_in course.entry) c b moments answers (from_ticks c t left moment []) borne
+        Advances (stack_in course.entry) (plans_in course.entry) c b moments answers (from_ticks c t left moment [])
+        borne
         (now (F.group feed.new) desk.new (around O.Sink N.Links out.new links.new) clock) result }
-    ensures rests { OnOk result (RestsAgain (stack_in course.entry) (plans_in course.entry) (F.group feed.old) desk.old (F.group feed.new) desk.new) }
+    ensures rests { OnOk result
+        (RestsAgain (stack_in course.entry) (plans_in course.entry) (F.group feed.old) desk.old (F.group feed.new)
+        desk.new) }
     ensures counted { OnOk result (desk.new.events ≡ desk.old.events + length course.entry.me.now) }
     ensures listening { (m : ℕ) → N.listening links.new m ≡ N.listening links.old m }
 {
@@ -67,7 +75,8 @@ fn write_deaf<O: Sink>(line: &mut Line, id: u8, out: &mut O) -> Result<(), SinkE
 
 /// Bears a failed receive, and puts a line that says so; where no more may be borne, that is the end.
 fn bear<O: Sink>(line: &mut Line, id: u8, patience: &mut u32, out: &mut O) -> Result<(), NodeError>
-    ensures { Bears (losses.deaf_line id) patience.old patience.new (tells_of O.Sink out.old) (tells_of O.Sink out.new) result }
+    ensures { Bears (losses.deaf_line id) patience.old patience.new (tells_of O.Sink out.old) (tells_of O.Sink out.new)
+        result }
 {
     if *patience == 0 {
         return Err(NodeError::Link);
@@ -89,9 +98,12 @@ fn feed_datagram<F: Feed, O: Sink, N: Links>(
     requires up { IsUp (stack_in course) (plans_in course) (F.group feed.old) desk.old (N.listening links.old) (id ∷ []) }
     requires few { desk.old.events + 1 < 2 ^ 64 }
     requires count { count ≤ LONGEST_DATAGRAM }
-    ensures told { FedOn (stack_in course.entry) (plans_in course.entry) (Raw id (take count desk.old.room.items)) (F.group feed.old) (F.group feed.new) desk.old desk.new
+    ensures told { FedOn (stack_in course.entry) (plans_in course.entry) (Raw id (take count desk.old.room.items))
+        (F.group feed.old) (F.group feed.new) desk.old desk.new
         (around O.Sink N.Links out.old links.old) (around O.Sink N.Links out.new links.new) result }
-    ensures rests { OnOk result (RestsAgain (stack_in course.entry) (plans_in course.entry) (F.group feed.old) desk.old (F.group feed.new) desk.new) }
+    ensures rests { OnOk result
+        (RestsAgain (stack_in course.entry) (plans_in course.entry) (F.group feed.old) desk.old (F.group feed.new)
+        desk.new) }
     ensures counted { OnOk result (desk.new.events ≡ desk.old.events + 1) }
     ensures listening { (m : ℕ) → N.listening links.new m ≡ N.listening links.old m }
 {
@@ -115,14 +127,19 @@ fn ask<F: Feed, O: Sink, N: Links>(
 ) -> Result<(), NodeError>
     requires up { IsUp (stack_in course) (plans_in course) (F.group feed.old) desk.old (N.listening links.old) (id ∷ []) }
     requires few { desk.old.events + 1 < 2 ^ 64 }
-    ensures told { (c : stages.Course) (b : Begun) (moments answers t borne : ℕ) (ids : List ℕ) (clock : Option (List ℕ)) →
+    ensures told { (c : stages.Course) (b : Begun) (moments answers t borne : ℕ) (ids : List ℕ)
+        (clock : Option (List ℕ)) →
         borne + patience.old ≡ b.patience →
         Within c b moments (answers + 1) borne →
-        SoFar (stack_in course.entry) (plans_in course.entry) c b moments answers (from_asking c t patience.old (id ∷ ids)) borne
+        SoFar (stack_in course.entry) (plans_in course.entry) c b moments answers
+        (from_asking c t patience.old (id ∷ ids)) borne
         (now (F.group feed.old) desk.old (around O.Sink N.Links out.old links.old) clock) →
-        Hears (stack_in course.entry) (plans_in course.entry) c b moments answers (answers + 1) (λ left. from_asking c t left ids) patience.new
+        Hears (stack_in course.entry) (plans_in course.entry) c b moments answers (answers + 1)
+        (λ left. from_asking c t left ids) patience.new
         (now (F.group feed.new) desk.new (around O.Sink N.Links out.new links.new) clock) result }
-    ensures rests { OnOk result (RestsAgain (stack_in course.entry) (plans_in course.entry) (F.group feed.old) desk.old (F.group feed.new) desk.new) }
+    ensures rests { OnOk result
+        (RestsAgain (stack_in course.entry) (plans_in course.entry) (F.group feed.old) desk.old (F.group feed.new)
+        desk.new) }
     ensures counted { OnOk result (desk.new.events ≤ desk.old.events + 1) }
     ensures listening { (m : ℕ) → N.listening links.new m ≡ N.listening links.old m }
 {
@@ -143,16 +160,21 @@ fn ask_all<F: Feed, O: Sink, N: Links>(
     out: &mut O,
     links: &mut N,
 ) -> Result<(), NodeError>
-    requires up { IsUp (stack_in course) (plans_in course) (F.group feed.old) desk.old (N.listening links.old) course.me.now }
+    requires up { IsUp (stack_in course) (plans_in course) (F.group feed.old) desk.old (N.listening links.old)
+        course.me.now }
     requires few { desk.old.events + length course.me.now < 2 ^ 64 }
     ensures told { (c : stages.Course) (b : Begun) (moments answers t borne : ℕ) (clock : Option (List ℕ)) →
         borne + patience.old ≡ b.patience →
         Within c b moments (answers + length course.entry.me.now) borne →
-        SoFar (stack_in course.entry) (plans_in course.entry) c b moments answers (from_asking c t patience.old course.entry.me.now) borne
+        SoFar (stack_in course.entry) (plans_in course.entry) c b moments answers
+        (from_asking c t patience.old course.entry.me.now) borne
         (now (F.group feed.old) desk.old (around O.Sink N.Links out.old links.old) clock) →
-        Hears (stack_in course.entry) (plans_in course.entry) c b moments answers (answers + length course.entry.me.now) (λ left. from_asking c t left []) patience.new
+        Hears (stack_in course.entry) (plans_in course.entry) c b moments answers (answers + length course.entry.me.now)
+        (λ left. from_asking c t left []) patience.new
         (now (F.group feed.new) desk.new (around O.Sink N.Links out.new links.new) clock) result }
-    ensures rests { OnOk result (RestsAgain (stack_in course.entry) (plans_in course.entry) (F.group feed.old) desk.old (F.group feed.new) desk.new) }
+    ensures rests { OnOk result
+        (RestsAgain (stack_in course.entry) (plans_in course.entry) (F.group feed.old) desk.old (F.group feed.new)
+        desk.new) }
     ensures counted { OnOk result (desk.new.events ≤ desk.old.events + length course.entry.me.now) }
     ensures listening { (m : ℕ) → N.listening links.new m ≡ N.listening links.old m }
 {
@@ -171,16 +193,21 @@ fn feed_if_own<F: Feed, O: Sink, N: Links>(
     out: &mut O,
     links: &mut N,
 ) -> Result<(), SinkError>
-    requires up { IsUp (stack_in course) (plans_in course) (F.group feed.old) desk.old (N.listening links.old) course.me.now }
+    requires up { IsUp (stack_in course) (plans_in course) (F.group feed.old) desk.old (N.listening links.old)
+        course.me.now }
     requires own { IsOwn event.now }
     requires few { desk.old.events + 1 < 2 ^ 64 }
-    ensures told { (c : stages.Course) (b : Begun) (moments answers borne : ℕ) (rest : List ℕ → List Heard → List Doing) (clock : Option (List ℕ)) →
+    ensures told { (c : stages.Course) (b : Begun) (moments answers borne : ℕ) (rest : List ℕ → List Heard → List Doing)
+        (clock : Option (List ℕ)) →
         Within c b moments answers borne →
-        SoFar (stack_in course.entry) (plans_in course.entry) c b moments answers (λ later more. own_doing course.entry.me.now event.now ++ rest later more) borne
+        SoFar (stack_in course.entry) (plans_in course.entry) c b moments answers
+        (λ later more. own_doing course.entry.me.now event.now ++ rest later more) borne
         (now (F.group feed.old) desk.old (around O.Sink N.Links out.old links.old) clock) →
         Advances (stack_in course.entry) (plans_in course.entry) c b moments answers rest borne
         (now (F.group feed.new) desk.new (around O.Sink N.Links out.new links.new) clock) result }
-    ensures rests { OnOk result (RestsAgain (stack_in course.entry) (plans_in course.entry) (F.group feed.old) desk.old (F.group feed.new) desk.new) }
+    ensures rests { OnOk result
+        (RestsAgain (stack_in course.entry) (plans_in course.entry) (F.group feed.old) desk.old (F.group feed.new)
+        desk.new) }
     ensures counted { OnOk result (desk.new.events ≤ desk.old.events + 1) }
     ensures listening { (m : ℕ) → N.listening links.new m ≡ N.listening links.old m }
 {
@@ -201,7 +228,8 @@ fn feed_planned<F: Feed, O: Sink, N: Links>(
     out: &mut O,
     links: &mut N,
 ) -> Result<(), SinkError>
-    requires up { IsUp (stack_in course) (plans_in course) (F.group feed.old) desk.old (N.listening links.old) course.me.now }
+    requires up { IsUp (stack_in course) (plans_in course) (F.group feed.old) desk.old (N.listening links.old)
+        course.me.now }
     requires own { AllByRecursion (λ entry. IsOwn entry.1) course.plan.now.turns }
     requires ordered { AreOrdered 0 course.plan.now.turns }
     requires passed { AllByRecursion (λ entry. entry.0 < t) (take next.old course.plan.now.turns) }
@@ -210,11 +238,14 @@ fn feed_planned<F: Feed, O: Sink, N: Links>(
     requires few { desk.old.events + length course.plan.now.turns < 2 ^ 64 + next.old }
     ensures told { (c : stages.Course) (b : Begun) (moments answers left borne : ℕ) (clock : Option (List ℕ)) →
         Within c b moments answers borne →
-        SoFar (stack_in course.entry) (plans_in course.entry) c b moments answers (from_planned c t left (planned_in course.entry.me.now t (drop next.old course.entry.plan.now.turns))) borne
+        SoFar (stack_in course.entry) (plans_in course.entry) c b moments answers
+        (from_planned c t left (planned_in course.entry.me.now t (drop next.old course.entry.plan.now.turns))) borne
         (now (F.group feed.old) desk.old (around O.Sink N.Links out.old links.old) clock) →
         Advances (stack_in course.entry) (plans_in course.entry) c b moments answers (from_turn c (t + 1) left) borne
         (now (F.group feed.new) desk.new (around O.Sink N.Links out.new links.new) clock) result }
-    ensures rests { OnOk result (RestsAgain (stack_in course.entry) (plans_in course.entry) (F.group feed.old) desk.old (F.group feed.new) desk.new) }
+    ensures rests { OnOk result
+        (RestsAgain (stack_in course.entry) (plans_in course.entry) (F.group feed.old) desk.old (F.group feed.new)
+        desk.new) }
     ensures passed { OnOk result (AllByRecursion (λ entry. entry.0 < t + 1) (take next.new course.entry.plan.now.turns)) }
     ensures within { OnOk result (next.new ≤ length course.entry.plan.now.turns) }
     ensures due { OnOk result (AllByRecursion (λ entry. t + 1 ≤ entry.0) (drop next.new course.entry.plan.now.turns)) }
@@ -239,26 +270,35 @@ pub(crate) fn turn<F: Feed, O: Sink, N: Links, C: Clock>(
     links: &mut N,
     clock: &mut C,
 ) -> Result<(), NodeError>
-    requires up { IsUp (stack_in course) (plans_in course) (F.group feed.old) desk.old (N.listening links.old) course.me.now }
+    requires up { IsUp (stack_in course) (plans_in course) (F.group feed.old) desk.old (N.listening links.old)
+        course.me.now }
     requires turns { progress.old.turn < course.turns }
     requires own { AllByRecursion (λ entry. IsOwn entry.1) course.plan.now.turns }
     requires ordered { AreOrdered 0 course.plan.now.turns }
-    requires passed { AllByRecursion (λ entry. entry.0 < progress.old.turn) (take progress.old.next course.plan.now.turns) }
+    requires passed { AllByRecursion (λ entry. entry.0 < progress.old.turn)
+        (take progress.old.next course.plan.now.turns) }
     requires within { progress.old.next ≤ length course.plan.now.turns }
     requires due { AllByRecursion (λ entry. progress.old.turn ≤ entry.0) (drop progress.old.next course.plan.now.turns) }
     requires members { length course.me.now ≤ most_members }
     requires few { desk.old.events ≤ 64 * progress.old.turn + progress.old.next }
     ensures told { (b : Begun) (borne : ℕ) →
         borne + progress.old.patience ≡ b.patience →
-        SoFar (stack_in course.entry) (plans_in course.entry) (course_of course.entry) b progress.old.turn (progress.old.turn * length course.entry.me.now) (from_turn (course_of course.entry) progress.old.turn progress.old.patience) borne
+        SoFar (stack_in course.entry) (plans_in course.entry) (course_of course.entry) b progress.old.turn
+        (progress.old.turn * length course.entry.me.now)
+        (from_turn (course_of course.entry) progress.old.turn progress.old.patience) borne
         (now (F.group feed.old) desk.old (around O.Sink N.Links out.old links.old) (C.told clock.old)) →
-        Hears (stack_in course.entry) (plans_in course.entry) (course_of course.entry) b (progress.old.turn + 1) (progress.old.turn * length course.entry.me.now) ((progress.old.turn + 1) * length course.entry.me.now)
+        Hears (stack_in course.entry) (plans_in course.entry) (course_of course.entry) b (progress.old.turn + 1)
+        (progress.old.turn * length course.entry.me.now) ((progress.old.turn + 1) * length course.entry.me.now)
         (from_turn (course_of course.entry) (progress.old.turn + 1)) progress.new.patience
         (now (F.group feed.new) desk.new (around O.Sink N.Links out.new links.new) (C.told clock.new)) result }
-    ensures rests { OnOk result (RestsAgain (stack_in course.entry) (plans_in course.entry) (F.group feed.old) desk.old (F.group feed.new) desk.new) }
-    ensures passed { OnOk result (AllByRecursion (λ entry. entry.0 < progress.old.turn + 1) (take progress.new.next course.entry.plan.now.turns)) }
+    ensures rests { OnOk result
+        (RestsAgain (stack_in course.entry) (plans_in course.entry) (F.group feed.old) desk.old (F.group feed.new)
+        desk.new) }
+    ensures passed { OnOk result
+        (AllByRecursion (λ entry. entry.0 < progress.old.turn + 1) (take progress.new.next course.entry.plan.now.turns)) }
     ensures within { OnOk result (progress.new.next ≤ length course.entry.plan.now.turns) }
-    ensures due { OnOk result (AllByRecursion (λ entry. progress.old.turn + 1 ≤ entry.0) (drop progress.new.next course.entry.plan.now.turns)) }
+    ensures due { OnOk result
+        (AllByRecursion (λ entry. progress.old.turn + 1 ≤ entry.0) (drop progress.new.next course.entry.plan.now.turns)) }
     ensures few { OnOk result (desk.new.events ≤ 64 * (progress.old.turn + 1) + progress.new.next) }
     ensures listening { (m : ℕ) → N.listening links.new m ≡ N.listening links.old m }
 {

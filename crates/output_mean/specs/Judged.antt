@@ -10,7 +10,8 @@ use Rattle.file_mean.specs.Library.{IsFile}
 use Rattle.file_mean.specs.Stack.{stack_of}
 use Rattle.stack_mean.specs.Acceptance as acceptance
 use Rattle.stack_mean.specs.Acceptance.{accepted}
-use Rattle.end_mean.specs.Status.{FileFault, too_large, bad_token, unexpected, unknown, twice, over_limit, wrong_kind, arity, direction, header, initial, cycle, too_many, too_many_joins}
+use Rattle.end_mean.specs.Status.{FileFault, too_large, bad_token, unexpected, unknown, twice, over_limit, wrong_kind}
+use Rattle.end_mean.specs.Status.{arity, direction, header, initial, cycle, too_many, too_many_joins}
 
 -- A fault of names or types, and a refusal of the stack, as the program says them.
 abbrev pub said_name : faults.NameFault → FileFault
@@ -67,8 +68,8 @@ pub record Condemns (text : List ℕ) (fault : FileFault) : Type 0 where
   pub is_file : IsFile text file
   pub refused : judged file ≡ Err fault
 
--- Why the bytes of a file are refused: there are too many; or they stop being the beginning of a file, at a bad token, at a token that no
--- file goes on with or at their end; or the file that they spell is refused.
+-- Why the bytes of a file are refused: there are too many; or they stop being the beginning of a file, at a bad token,
+-- at a token that no file goes on with or at their end; or the file that they spell is refused.
 abbrev pub Refuses : List ℕ → FileFault → Type 0
 Refuses text too_large = longest_file < length text
 Refuses text (bad_token at) = (length text ≤ longest_file) × StopsBad text at

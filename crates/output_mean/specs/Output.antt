@@ -28,8 +28,10 @@ pub record Checks (file out : List ℕ) : Type 0 where
   pub means : Means file stack
   pub written : out ≡ concat (accepted_lines stack)
 
--- `replay`: whatever stack the file means and whatever script the other bytes spell, what is written is the output of the layered
--- meaning, in either mode. Without the packets' bytes and the number of visits it is the report, which knows of no mode.
+-- `replay`: whatever stack the file means and whatever script the other bytes spell, what is written is the output of
+-- the layered
+-- meaning, in either mode. Without the packets' bytes and the number of visits it is the report, which knows of no
+-- mode.
 pub record Replays (file script_text : List ℕ) (mode : Mode) (wire count : Bool) (out : List ℕ) : Type 0 where
   pub stack : List LayerTree
   pub means : Means file stack
@@ -38,7 +40,8 @@ pub record Replays (file script_text : List ℕ) (mode : Mode) (wire count : Boo
   pub room : HasRoom stack script.members
   pub written : out ≡ concat (output_in stack (plans_of stack) script mode wire count)
 
--- `explain`: whatever stack the file means and whatever script the other bytes spell, it is told of each step that was taken and wasn't common
+-- `explain`: whatever stack the file means and whatever script the other bytes spell, it is told of each step that was
+-- taken and wasn't common
 -- what it lacked, with the lines of that file.
 pub record Explains (file script_text out : List ℕ) : Type 0 where
   pub stack : List LayerTree
@@ -64,28 +67,33 @@ pub record IsNode (file plan_text : List ℕ) (me : List ℕ) : Type 0 where
   pub members : All (λ id. id < length plan.peers) me
   pub room : HasRoom stack (length plan.peers)
 
--- `node`: own members of the plan's group run over a network through all turns, each with a moment and an answer for each own member, of
+-- `node`: own members of the plan's group run over a network through all turns, each with a moment and an answer for
+-- each own member, of
 -- which no more failed than are borne. What is written and what is handed to the network are those of the journal.
-pub record Serves (file plan_text : List ℕ) (words : NodeWords) (s : Surroundings) (out : List ℕ) (sent : List Handed) : Type 0 where
+pub record Serves (file plan_text : List ℕ) (words : NodeWords) (s : Surroundings) (out : List ℕ) (sent : List Handed) :
+    Type 0 where
   pub node : IsNode file plan_text words.me
   pub moments : length s.clock ≡ words.turns
   pub answers : length s.heard ≡ words.turns * length words.me
   pub borne : failures s.heard ≤ words.patience
   pub written :
-      out ≡ concat (node_lines node.stack (plans_of node.stack) (failed s) (noted node.plan words s) (played node.stack node.plan words s))
+      out ≡ concat (node_lines node.stack (plans_of node.stack) (failed s) (noted node.plan words s)
+      (played node.stack node.plan words s))
   pub handed_on : sent ≡ handed_by node.stack node.plan words s
 
 -- A node that couldn't listen made no turn.
-pub record CannotListen (file plan_text : List ℕ) (words : NodeWords) (s : Surroundings) (out : List ℕ) (sent : List Handed) : Type 0 where
+pub record CannotListen (file plan_text : List ℕ) (words : NodeWords) (s : Surroundings) (out : List ℕ)
+    (sent : List Handed) : Type 0 where
   pub node : IsNode file plan_text words.me
   pub moments : s.clock ≡ []
   pub answers : s.heard ≡ []
   pub written : out ≡ []
   pub handed_on : sent ≡ []
 
--- A node that ended at a failed receive, one more than it bears: the last answer, in the turn of the last moment. What was written before
--- is the whole journal's.
-pub record GoesDeaf (file plan_text : List ℕ) (words : NodeWords) (s : Surroundings) (out : List ℕ) (sent : List Handed) : Type 0 where
+-- A node that ended at a failed receive, one more than it bears: the last answer, in the turn of the last moment. What
+-- was written before is the whole journal's.
+pub record GoesDeaf (file plan_text : List ℕ) (words : NodeWords) (s : Surroundings) (out : List ℕ) (sent : List Handed)
+    : Type 0 where
   pub node : IsNode file plan_text words.me
   pub before : List Heard
   pub last : s.heard ≡ before ++ failure ∷ []
@@ -94,7 +102,8 @@ pub record GoesDeaf (file plan_text : List ℕ) (words : NodeWords) (s : Surroun
   pub within : length s.heard ≤ length s.clock * length words.me
   pub begun : length s.clock * length words.me < length s.heard + length words.me
   pub written :
-      out ≡ concat (note_lines node.stack (plans_of node.stack) (failed s) (noted node.plan words s) (played node.stack node.plan words s))
+      out ≡ concat (note_lines node.stack (plans_of node.stack) (failed s) (noted node.plan words s)
+      (played node.stack node.plan words s))
   pub handed_on : sent ≡ handed_by node.stack node.plan words s
 
 -- The line of an audit's finding.

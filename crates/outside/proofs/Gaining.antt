@@ -1,5 +1,6 @@
 -- What a sink gained in turns.
-use Rattle.std.proofs.Common.{◌≡◌, ℕ, ◌+◌, ◌<◌, List, [], ◌∷◌, ◌++◌, length, take, drop, get_or, refl, sym, ap, subst, ◌∙◌, append_assoc, append-nil, length-append, arith, Option, Some, None, ⊎_elim}
+use Rattle.std.proofs.Common.{◌≡◌, ℕ, ◌+◌, ◌<◌, List, [], ◌∷◌, ◌++◌, length, take, drop, get_or, refl, sym, ap, subst}
+use Rattle.std.proofs.Common.{◌∙◌, append_assoc, append-nil, length-append, arith, Option, Some, None, ⊎_elim}
 use Rattle.std.proofs.lemmas.List.{take_more, take_all, take-append-le, take-append-drop, drop-drop}
 use Rattle.std.proofs.lemmas.List.Folds.{concat-append}
 use Rattle.std.proofs.lemmas.Bool.{cases_lt}
@@ -28,7 +29,8 @@ pub gains_none : (a : Tells) → Gains a a []
 gains_none a = record { gained = appends_none a.contents; puts = drops_none a.failures; sound = refl }
 
 -- what is left of a list behind some, and then behind some more
-drops_then : {A : Type 0} (m n : ℕ) (o : Option (List A)) → option_map (drop n) (option_map (drop m) o) ≡ option_map (drop (m + n)) o
+drops_then : {A : Type 0} (m n : ℕ) (o : Option (List A)) → option_map (drop n) (option_map (drop m) o) ≡
+    option_map (drop (m + n)) o
 drops_then m n None = refl
 drops_then m n (Some xs) = ap Some (drop-drop n m xs)
 
@@ -36,7 +38,8 @@ drops_as : {A : Type 0} (m n : ℕ) (o : Option (List A)) → m ≡ n → option
 drops_as m n o is = ap (λ k. option_map (drop k) o) is
 
 -- one line that was put whole
-pub line_gains : (a b : Tells) (line : List ℕ) → Appends a.contents b.contents line → b.failures ≡ option_map (drop 1) a.failures →
+pub line_gains : (a b : Tells) (line : List ℕ) → Appends a.contents b.contents line →
+    b.failures ≡ option_map (drop 1) a.failures →
     b.faults ≡ a.faults → Gains a b (line ∷ [])
 line_gains a b line gained puts sound = record {
   gained = subst (Appends a.contents b.contents) (sym (append-nil line)) gained;
@@ -45,7 +48,8 @@ line_gains a b line gained puts sound = record {
 }
 
 -- one line whose put failed
-pub line_fails : (a b : Tells) (line : List ℕ) (part : ℕ) → Appends a.contents b.contents (take part line) → Meets a.failures (Some part) →
+pub line_fails : (a b : Tells) (line : List ℕ) (part : ℕ) → Appends a.contents b.contents (take part line) →
+    Meets a.failures (Some part) →
     b.failures ≡ option_map (drop 1) a.failures → b.faults ≡ next_count a.faults → Fails a b (line ∷ [])
 line_fails a b line part gained met puts rose = record {
   front = [];
@@ -60,14 +64,16 @@ line_fails a b line part gained met puts rose = record {
 }
 
 -- one line in whose put memory ran out
-pub line_begins : (a b : Tells) (line : List ℕ) → AppendsPrefix a.contents b.contents line → Begins a b (concat (line ∷ []))
+pub line_begins : (a b : Tells) (line : List ℕ) → AppendsPrefix a.contents b.contents line →
+    Begins a b (concat (line ∷ []))
 line_begins a b line begun = record {
   count = begun.0;
   gained = subst (λ bytes. Appends a.contents b.contents (take begun.0 bytes)) (sym (append-nil line)) begun.1;
 }
 
 -- what one put does to a line
-pub one_put : (a b : Tells) (line : List ℕ) (r : Result (Unit {0}) SinkError) → Puts a.failures a.contents b.contents line r →
+pub one_put : (a b : Tells) (line : List ℕ) (r : Result (Unit {0}) SinkError) →
+    Puts a.failures a.contents b.contents line r →
     b.failures ≡ option_map (drop 1) a.failures → b.faults ≡ faults_after_put a.faults r → Wrote (line ∷ []) a b r
 one_put a b line (Ok done) put kept counted = line_gains a b line put.0 kept counted
 one_put a b line (Err sink.Failed) put kept counted = line_fails a b line put.0 put.1 put.2 kept counted
@@ -90,10 +96,12 @@ pub begins_part : (a b : Tells) (bytes : List ℕ) → Begins a b bytes →
     (part : List ℕ) × (rest : List ℕ) × Appends a.contents b.contents part × (bytes ≡ part ++ rest)
 begins_part a b bytes k = (take k.count bytes, drop k.count bytes, k.gained, sym (take-append-drop k.count bytes))
 
-pub begins_after : (a b c : Tells) (xs ys zs : List ℕ) → Appends a.contents b.contents xs → Begins b c ys → zs ≡ xs ++ ys → Begins a c zs
+pub begins_after : (a b c : Tells) (xs ys zs : List ℕ) → Appends a.contents b.contents xs → Begins b c ys →
+    zs ≡ xs ++ ys → Begins a c zs
 begins_after a b c xs ys zs h k is = record {
   count = length xs + k.count;
-  gained = subst (Appends a.contents c.contents) (sym (ap (take (length xs + k.count)) is ∙ take-append-add xs ys k.count))
+  gained = subst (Appends a.contents c.contents)
+      (sym (ap (take (length xs + k.count)) is ∙ take-append-add xs ys k.count))
       (appends_then a.contents b.contents c.contents xs (take k.count ys) h k.gained);
 }
 
@@ -118,7 +126,8 @@ gains_then a b c xs ys zs h k is = record {
   sound = k.sound ∙ h.sound;
 }
 
-pub fails_after : (a b c : Tells) (xs ys zs more : List (List ℕ)) → Gains a b xs → Fails b c ys → zs ≡ xs ++ ys ++ more → Fails a c zs
+pub fails_after : (a b c : Tells) (xs ys zs more : List (List ℕ)) → Gains a b xs → Fails b c ys →
+    zs ≡ xs ++ ys ++ more → Fails a c zs
 fails_after a b c xs ys zs more h k is = record {
   front = xs ++ k.front;
   line = k.line;
@@ -127,13 +136,16 @@ fails_after a b c xs ys zs more h k is = record {
       append_assoc (xs ++ k.front) (k.line ∷ k.behind) more;
   part = k.part;
   gained = subst (Appends a.contents c.contents)
-      (sym (ap (λ l. l ++ take k.part k.line) (concat-append xs k.front) ∙ append_assoc (concat xs) (concat k.front) (take k.part k.line)))
-      (appends_then a.contents b.contents c.contents (concat xs) (concat k.front ++ take k.part k.line) h.gained k.gained);
+      (sym (ap (λ l. l ++ take k.part k.line) (concat-append xs k.front) ∙
+      append_assoc (concat xs) (concat k.front) (take k.part k.line)))
+      (appends_then a.contents b.contents c.contents (concat xs) (concat k.front ++ take k.part k.line) h.gained
+      k.gained);
   met = subst (λ o. Meets o (Some k.part))
       (ap (option_map (drop (length k.front))) h.puts ∙ drops_then (length xs) (length k.front) a.failures ∙
       drops_as _ _ a.failures (sym (length-append xs k.front)))
       k.met;
-  puts = k.puts ∙ ap (option_map (drop (length k.front + 1))) h.puts ∙ drops_then (length xs) (length k.front + 1) a.failures ∙
+  puts = k.puts ∙ ap (option_map (drop (length k.front + 1))) h.puts ∙
+      drops_then (length xs) (length k.front + 1) a.failures ∙
       drops_as _ _ a.failures (omega (arith, length-append xs k.front));
   rose = subst (λ n. Rose n c.faults) h.sound k.rose;
 }
@@ -143,7 +155,8 @@ pub cut_short : (a b c : Tells) (xs ys zs more : List (List ℕ)) (e : SinkError
     Gains a b xs → Wrote ys b c (Err e) → zs ≡ xs ++ ys ++ more → Wrote zs a c (Err e)
 cut_short a b c xs ys zs more sink.Failed h k is = fails_after a b c xs ys zs more h k is
 cut_short a b c xs ys zs more sink.Memory h k is =
-    begins_longer a c (concat xs ++ concat ys) (concat zs) (concat more) (begins_after a b c (concat xs) (concat ys) (concat xs ++ concat ys) h.gained k refl)
+    begins_longer a c (concat xs ++ concat ys) (concat zs) (concat more)
+    (begins_after a b c (concat xs) (concat ys) (concat xs ++ concat ys) h.gained k refl)
     (ap concat is ∙ concat-append (xs ++ ys) more ∙ ap (λ l. l ++ concat more) (concat-append xs ys))
 
 -- the lines up to and with one

@@ -1,5 +1,6 @@
 -- What a sink gained of lines in parts: of two parts, and of the items of a list with their numbers.
-use Rattle.std.proofs.Common.{◌≡◌, ℕ, ◌+◌, ◌<◌, ◌≤◌, List, [], ◌∷◌, ◌++◌, length, take, drop, get_or, refl, sym, ap, subst, ◌∙◌, append-nil, arith}
+use Rattle.std.proofs.Common.{◌≡◌, ℕ, ◌+◌, ◌<◌, ◌≤◌, List, [], ◌∷◌, ◌++◌, length, take, drop, get_or, refl, sym, ap}
+use Rattle.std.proofs.Common.{subst, ◌∙◌, append-nil, arith}
 use Rattle.std.proofs.lemmas.Grind.{flat_map-append}
 use Rattle.std.proofs.lemmas.List.{take_more, take_all, take-append-drop}
 use Rattle.std.proofs.lemmas.List.FromFn.{length-enumerate_from, get_or-enumerate_from}
@@ -10,19 +11,23 @@ use Rattle.outside.specs.Tells.{Tells}
 use Rattle.outside.specs.Lines.{Gains, Wrote}
 use Rattle.outside.proofs.Gaining.{gains_none, gains_then, cut_short}
 
-pub wrote_as : (a b : Tells) (xs ys : List (List ℕ)) (r : Result (Unit {0}) SinkError) → xs ≡ ys → Wrote xs a b r → Wrote ys a b r
+pub wrote_as : (a b : Tells) (xs ys : List (List ℕ)) (r : Result (Unit {0}) SinkError) → xs ≡ ys → Wrote xs a b r →
+    Wrote ys a b r
 wrote_as a b xs ys r same h = subst (λ lines. Wrote lines a b r) same h
 
 -- lines in front, and whatever came of those behind
-pub wrote_both : (a b c : Tells) (xs ys : List (List ℕ)) (r : Result (Unit {0}) SinkError) → Gains a b xs → Wrote ys b c r → Wrote (xs ++ ys) a c r
+pub wrote_both : (a b c : Tells) (xs ys : List (List ℕ)) (r : Result (Unit {0}) SinkError) → Gains a b xs →
+    Wrote ys b c r → Wrote (xs ++ ys) a c r
 wrote_both a b c xs ys (Ok done) h k = gains_then a b c xs ys (xs ++ ys) h k refl
 wrote_both a b c xs ys (Err e) h k = cut_short a b c xs ys (xs ++ ys) [] e h k (sym (append-nil (xs ++ ys)))
 
 -- lines in front that were cut short
-pub wrote_part : (a b : Tells) (xs ys : List (List ℕ)) (e : SinkError) → Wrote xs a b (Err e) → Wrote (xs ++ ys) a b (Err e)
+pub wrote_part : (a b : Tells) (xs ys : List (List ℕ)) (e : SinkError) → Wrote xs a b (Err e) →
+    Wrote (xs ++ ys) a b (Err e)
 wrote_part a b xs ys e h = cut_short a a b [] xs (xs ++ ys) ys e (gains_none a) h refl
 
-pub part_of : (a b : Tells) (xs ys zs : List (List ℕ)) (e : SinkError) → zs ≡ xs ++ ys → Wrote xs a b (Err e) → Wrote zs a b (Err e)
+pub part_of : (a b : Tells) (xs ys zs : List (List ℕ)) (e : SinkError) → zs ≡ xs ++ ys → Wrote xs a b (Err e) →
+    Wrote zs a b (Err e)
 part_of a b xs ys zs e is h = cut_short a a b [] xs zs ys e (gains_none a) h is
 
 -- the numbered items up to and with number k
@@ -35,7 +40,8 @@ numbered_more xs k x d lt is =
     ap (λ y. take k (enumerate_from 0 xs) ++ y ∷ [])
     (get_or-enumerate_from 0 xs k (0, d) lt ∙ ap (λ n. (n, get_or xs k d)) at ∙ ap (λ y. (k, y)) (sym is))
 
-front_more : {X : Type 0} (f : ℕ × X → List (List ℕ)) (xs : List X) (k : ℕ) (x d : X) → k < length xs → x ≡ get_or xs k d →
+front_more : {X : Type 0} (f : ℕ × X → List (List ℕ)) (xs : List X) (k : ℕ) (x d : X) → k < length xs →
+    x ≡ get_or xs k d →
     flat_map f (take (k + 1) (enumerate_from 0 xs)) ≡ flat_map f (take k (enumerate_from 0 xs)) ++ f (k, x)
 front_more f xs k x d lt is =
     ap (flat_map f) (numbered_more xs k x d lt is)
@@ -49,8 +55,10 @@ pub turns_more : {X : Type 0} (f : ℕ × X → List (List ℕ)) (xs : List X) (
 turns_more f xs k x d a b c h now lt is = gains_then a b c _ _ _ h now (front_more f xs k x d lt is)
 
 -- an item that was cut short cuts all short
-pub turns_cut : {X : Type 0} (f : ℕ × X → List (List ℕ)) (xs : List X) (k : ℕ) (x d : X) (a b c : Tells) (e : SinkError) →
-    Gains a b (flat_map f (take k (enumerate_from 0 xs))) → Wrote (f (k, x)) b c (Err e) → k < length xs → x ≡ get_or xs k d →
+pub turns_cut : {X : Type 0} (f : ℕ × X → List (List ℕ)) (xs : List X) (k : ℕ) (x d : X) (a b c : Tells)
+    (e : SinkError) →
+    Gains a b (flat_map f (take k (enumerate_from 0 xs))) → Wrote (f (k, x)) b c (Err e) → k < length xs →
+    x ≡ get_or xs k d →
     Wrote (flat_map f (enumerate_from 0 xs)) a c (Err e)
 turns_cut f xs k x d a b c e h now lt is =
     let items = enumerate_from 0 xs in

@@ -1,5 +1,6 @@
 -- What links between members tell, and what each call on them does.
-use Rattle.std.specs.Prelude.{◌≡◌, ℕ, ◌==◌, Bool, true, false, List, [], ◌∷◌, ◌++◌, take, drop, Option, None, Some, Result, Ok, Err, IfSome, if◌then◌else◌}
+use Rattle.std.specs.Prelude.{◌≡◌, ℕ, ◌==◌, Bool, true, false, List, [], ◌∷◌, ◌++◌, take, drop, Option, None, Some}
+use Rattle.std.specs.Prelude.{Result, Ok, Err, IfSome, if◌then◌else◌}
 use Rattle.std.specs.Option.{option_map}
 use Rattle.outside.specs.declared.links.LinkError.{LinkError}
 use Rattle.outside.specs.declared.links.LinkError.TheVariants.{Failed, Memory}
@@ -29,10 +30,10 @@ pub data Met : Type 0 where
   Quiet : Met
   Broke : Met
 
--- What links tell. So far: who was to listen and where, and what was handed to send, both with the calls that failed, and
--- what the calls of recv met, each in order. Now: what waits to be received. For the calls to come, in order: what becomes
--- of each send, and which calls of listen and of recv are to fail; past the end of a list a send arrives once, and no call
--- is to fail
+-- What links tell. So far: who was to listen and where, and what was handed to send, both with the calls that failed,
+-- and what the calls of recv met, each in order. Now: what waits to be received. For the calls to come, in order: what
+-- becomes of each send, and which calls of listen and of recv are to fail; past the end of a list a send arrives once,
+-- and no call is to fail
 pub record Network : Type 0 where
   pub listened : List Listen
   pub handed : List Sent
@@ -85,33 +86,52 @@ after_listen listen n = record n { listened = n.listened ++ listen ∷ []; liste
 
 -- a network after a send
 abbrev pub after_send : Sent → Network → Network
-after_send sent n = record n { handed = n.handed ++ sent ∷ []; waiting = waiting_after (next_fate n.fates) sent n.waiting; fates = drop 1 n.fates }
+after_send sent n = record n {
+  handed = n.handed ++ sent ∷ [];
+  waiting = waiting_after (next_fate n.fates) sent n.waiting;
+  fates =
+      drop 1 n.fates;
+}
 
 -- what the next recv of a member meets
 abbrev pub next_met : ℕ → Network → Met
-next_met member n = if is_next_to_fail n.recvs then Broke else elim (first_for member n.waiting) [ None ↦ Quiet | Some bytes ↦ Came bytes ]
+next_met member n = if is_next_to_fail n.recvs then Broke else elim (first_for member n.waiting)
+    [ None ↦ Quiet | Some bytes ↦ Came bytes ]
 
 -- a network after a recv of a member
 abbrev pub after_recv : ℕ → Network → Network
-after_recv member n = record n { met = n.met ++ next_met member n ∷ []; waiting = if is_next_to_fail n.recvs then n.waiting else without_first member n.waiting; recvs = drop 1 n.recvs }
+after_recv member n =
+    record n {
+      met = n.met ++ next_met member n ∷ [];
+      waiting =
+          if is_next_to_fail n.recvs then n.waiting else without_first member n.waiting;
+      recvs = drop 1 n.recvs;
+    }
 
 -- what a listen does where the links tell: it fails exactly where it is to fail; where memory ends, nothing changes
 abbrev pub Listens : {T : Type 0} → Listen → Option Network → Option Network → Result T LinkError → Type 0
-Listens listen old new (Ok done) = IfSome old (λ n. is_next_to_fail n.listens ≡ false) × (new ≡ option_map (after_listen listen) old)
-Listens listen old new (Err Failed) = IfSome old (λ n. is_next_to_fail n.listens ≡ true) × (new ≡ option_map (after_listen listen) old)
+Listens listen old new (Ok done) = IfSome old (λ n. is_next_to_fail n.listens ≡ false) ×
+    (new ≡ option_map (after_listen listen) old)
+Listens listen old new (Err Failed) = IfSome old (λ n. is_next_to_fail n.listens ≡ true) ×
+    (new ≡ option_map (after_listen listen) old)
 Listens listen old new (Err Memory) = new ≡ old
 
 -- what a send does where the links tell: it fails exactly where it is to fail; where memory ends, nothing changes
 abbrev pub Sends : {T : Type 0} → Sent → Option Network → Option Network → Result T LinkError → Type 0
-Sends sent old new (Ok done) = IfSome old (λ n. is_failure (next_fate n.fates) ≡ false) × (new ≡ option_map (after_send sent) old)
-Sends sent old new (Err Failed) = IfSome old (λ n. is_failure (next_fate n.fates) ≡ true) × (new ≡ option_map (after_send sent) old)
+Sends sent old new (Ok done) = IfSome old (λ n. is_failure (next_fate n.fates) ≡ false) ×
+    (new ≡ option_map (after_send sent) old)
+Sends sent old new (Err Failed) = IfSome old (λ n. is_failure (next_fate n.fates) ≡ true) ×
+    (new ≡ option_map (after_send sent) old)
 Sends sent old new (Err Memory) = new ≡ old
 
 -- what a recv does where the links tell: it answers what it meets; where memory ends, nothing changes
 abbrev pub Receives : ℕ → List ℕ → Option Network → Option Network → Result (Option ℕ) LinkError → Type 0
-Receives member into old new (Ok (Some k)) = IfSome old (λ n. next_met member n ≡ Came (take k into)) × (new ≡ option_map (after_recv member) old)
-Receives member into old new (Ok None) = IfSome old (λ n. next_met member n ≡ Quiet) × (new ≡ option_map (after_recv member) old)
-Receives member into old new (Err Failed) = IfSome old (λ n. next_met member n ≡ Broke) × (new ≡ option_map (after_recv member) old)
+Receives member into old new (Ok (Some k)) = IfSome old (λ n. next_met member n ≡ Came (take k into)) ×
+    (new ≡ option_map (after_recv member) old)
+Receives member into old new (Ok None) = IfSome old (λ n. next_met member n ≡ Quiet) ×
+    (new ≡ option_map (after_recv member) old)
+Receives member into old new (Err Failed) = IfSome old (λ n. next_met member n ≡ Broke) ×
+    (new ≡ option_map (after_recv member) old)
 Receives member into old new (Err Memory) = new ≡ old
 
 -- which bytes of the buffer a recv writes: those in front that the datagram took, and none where there was no datagram

@@ -8,7 +8,8 @@ use Rattle.outside.specs.Shelf.{Shelved}
 
 -- the bytes of the first file of this name
 abbrev pub file_named : List NamedFile → List ℕ → Option (List ℕ)
-file_named files name = option_map (λ file. file.bytes.items) (find (λ file. bytes_eq (string_bytes file.name) name) files)
+file_named files name =
+    option_map (λ file. file.bytes.items) (find (λ file. bytes_eq (string_bytes file.name) name) files)
 
 -- a shelf of these files, with the reads that are to fail
 abbrev pub shelf_of : List NamedFile → List Bool → Shelved

@@ -1,5 +1,6 @@
 -- What a shelf of files tells, and what a read of it answers.
-use Rattle.std.specs.Prelude.{◌≡◌, ℕ, ◌<◌, ◌≤◌, Bool, false, List, [], ◌∷◌, length, drop, Option, None, Some, Result, Ok, Err, IsSomeAnd, if◌then◌else◌, ⊤}
+use Rattle.std.specs.Prelude.{◌≡◌, ℕ, ◌<◌, ◌≤◌, Bool, false, List, [], ◌∷◌, length, drop, Option, None, Some, Result}
+use Rattle.std.specs.Prelude.{Ok, Err, IsSomeAnd, if◌then◌else◌, ⊤}
 use Rattle.outside.specs.declared.shelf.Got.{Got}
 use Rattle.outside.specs.declared.shelf.Got.TheVariants.{Whole, TooLong}
 use Rattle.outside.specs.declared.shelf.ShelfError.{ShelfError}

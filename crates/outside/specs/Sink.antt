@@ -30,7 +30,8 @@ abbrev pub AppendsPart : Option (List ℕ) → Option (List ℕ) → List ℕ �
 AppendsPart old new bytes = (n : ℕ) × Appends old new (take n bytes) × (n < length bytes)
 
 -- what a put of these bytes does: all are appended, or as many as its failure says, or where memory ends not all
-abbrev pub Puts : {T : Type 0} → Option (List (Option ℕ)) → Option (List ℕ) → Option (List ℕ) → List ℕ → Result T SinkError → Type 0
+abbrev pub Puts : {T : Type 0} → Option (List (Option ℕ)) → Option (List ℕ) → Option (List ℕ) → List ℕ →
+    Result T SinkError → Type 0
 Puts failures old new bytes (Ok done) = Appends old new bytes × Meets failures None
 Puts failures old new bytes (Err Failed) = (n : ℕ) × Appends old new (take n bytes) × Meets failures (Some n)
 Puts failures old new bytes (Err Memory) = AppendsPart old new bytes

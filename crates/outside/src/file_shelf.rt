@@ -61,7 +61,8 @@ fn error_of(error: &Error) -> ShelfError {
     }
 }
 
-/// Reads a stream to its end into an empty buffer, or up to the byte that is one too many; then the buffer is left empty.
+/// Reads a stream to its end into an empty buffer, or up to the byte that is one too many; then the buffer is left
+/// empty.
 pub fn read_stream<S: Read>(
     stream: &mut S,
     into: &mut Vec<u8>,

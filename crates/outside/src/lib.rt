@@ -1,13 +1,13 @@
-//! The outside of a program, as traits: files to read, streams to write to, links between members and a clock, each held
-//! in memory or real.
+//! The outside of a program, as traits: files to read, streams to write to, links between members and a clock, each
+//! held in memory or real.
 //!
-//! A caller is generic, as `run<S: Shelf, O: Sink, N: Links, C: Clock>(shelf: &mut S, out: &mut O, ..)`, and its contract
-//! cites the traits' ghost members:
+//! A caller is generic, as `run<S: Shelf, O: Sink, N: Links, C: Clock>(shelf: &mut S, out: &mut O, ..)`, and its
+//! contract cites the traits' ghost members:
 //!
 //! - `S.faults` and `O.faults` count the calls that answered `Failed`. A call raises the count by one where it answers
 //!   `Failed`, up to the last value of a `u64`, and else leaves it. So `Rose (O.faults out.old) (O.faults out.new)`
 //!   holds after a run in which a put failed: `rose_next` of the proofs starts it, and `rose_then` and `then_rose`
-//!   carry it over the other calls. `N.faults` counts the failed calls of `listen` and `recv`, and `N.send_faults` those
+//! carry it over the other calls. `N.faults` counts the failed calls of `listen` and `recv`, and `N.send_faults` those
 //!   of `send`.
 //! - `S.told` is `Some` of the shelf's files and of the list of reads that are to fail, or `None` for a real shelf.
 //!   A read answers by `found_in`; `found_in-none` of the proofs says why there was nothing to be found.

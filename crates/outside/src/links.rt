@@ -1,5 +1,6 @@
 // Links between the members of a group, which carry datagrams.
-ghost use Rattle.std.specs.Prelude.{◌≡◌, ◌≢◌, ℕ, ◌<◌, ◌≤◌, Option, Some, OnOk, OnErr, IfOk, IfSome, IsSome, IsSomeAnd, length};
+ghost use Rattle.std.specs.Prelude.{◌≡◌, ◌≢◌, ℕ, ◌<◌, ◌≤◌, Option, Some, OnOk, OnErr, IfOk, IfSome, IsSome, IsSomeAnd};
+ghost use Rattle.std.specs.Prelude.{length};
 ghost use Rattle.outside.specs.declared.links.LinkError.TheVariants.{Memory};
 ghost use Rattle.outside.specs.Links.{Network, Listens, listen_of, Sends, Receives, WritesFront, faults_after_call};
 
@@ -93,8 +94,8 @@ pub trait Links {
         ensures listening { (m : ℕ) → listening self.new m ≡ listening self.old m }
         ensures told { Sends (record { from = from; to = to; bytes = bytes.now }) (told self.old) (told self.new) result };
 
-    /// Takes a datagram that waits for a member that listens: its bytes are the first of `into`, of which all others stay
-    /// as they were. None waits where the answer is None; then, and on an error, `into` is as before.
+    /// Takes a datagram that waits for a member that listens: its bytes are the first of `into`, of which all others
+    /// stay as they were. None waits where the answer is None; then, and on an error, `into` is as before.
     fn recv(&mut self, member: u8, into: &mut [u8]) -> Result<Option<usize>, LinkError>
         requires listens { IsSome (listening self.old member) }
         requires room { length into.old ≡ LONGEST_DATAGRAM }

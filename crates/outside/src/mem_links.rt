@@ -1,5 +1,6 @@
 // Links that are held in memory.
-ghost use Rattle.std.specs.Prelude.{◌≡◌, ◌≤◌, ◌==◌, ℕ, None, Some, [], map, position, length, IfSome, IfOk, OnOk, OnErr};
+ghost use Rattle.std.specs.Prelude.{◌≡◌, ◌≤◌, ◌==◌, ℕ, None, Some, [], map, position, length, IfSome, IfOk, OnOk};
+ghost use Rattle.std.specs.Prelude.{OnErr};
 ghost use Rattle.std.specs.Option.{option_map};
 ghost use Rattle.outside.specs.Links.{waiting_after, first_for, without_first};
 ghost use Rattle.outside.specs.MemLinks.{listening_in, listened_of, sent_of, met_of};
@@ -46,7 +47,17 @@ impl MemLinks {
     /// and which calls of `listen` and of `recv` are to fail; behind their ends a datagram arrives once and no call is
     /// to fail.
     pub fn of(alloc: Global, fates: Vec<Fate>, listens: Vec<bool>, recvs: Vec<bool>) -> Self
-        ensures told { ⟦<MemLinks as Links>⟧.told result ≡ Some (record { listened = []; handed = []; met = []; waiting = []; fates = fates.items; listens = listens.items; recvs = recvs.items }) }
+        ensures told { ⟦<MemLinks as Links>⟧.told result ≡
+            Some (record {
+              listened = [];
+              handed = [];
+              met = [];
+              waiting = [];
+              fates = fates.items;
+              listens =
+                  listens.items;
+              recvs = recvs.items;
+            }) }
         ensures nobody { (m : ℕ) → ⟦<MemLinks as Links>⟧.listening result m ≡ None }
         ensures faults { ⟦<MemLinks as Links>⟧.faults result ≡ 0 }
         ensures send_faults { ⟦<MemLinks as Links>⟧.send_faults result ≡ 0 }
@@ -172,7 +183,8 @@ fn carry(
     sent: &Datagram,
     waiting: &mut Vec<Datagram>,
 ) -> Result<(), AllocError>
-    ensures ok { OnOk result (map sent_of waiting.new.items ≡ waiting_after fate (sent_of sent.now) (map sent_of waiting.old.items)) }
+    ensures ok { OnOk result
+        (map sent_of waiting.new.items ≡ waiting_after fate (sent_of sent.now) (map sent_of waiting.old.items)) }
     ensures err { OnErr result (waiting.new.items ≡ waiting.old.items) }
 {
     match fate {

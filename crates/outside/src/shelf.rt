@@ -44,6 +44,7 @@ pub trait Shelf {
     fn read(&mut self, name: &str, into: &mut Vec<u8>, most: u64) -> Result<Got, ShelfError>
         ensures counted { faults self.new ≡ faults_after_read (faults self.old) result }
         ensures filled { Fills most into.new.items result }
-        ensures answered { IfSome (told self.old) (λ shelf. Answers (found_in shelf name.now) most into.new.items result) }
+        ensures answered { IfSome (told self.old)
+            (λ shelf. Answers (found_in shelf name.now) most into.new.items result) }
         ensures kept { told self.new ≡ option_map after_read (told self.old) };
 }

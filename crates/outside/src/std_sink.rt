@@ -1,5 +1,6 @@
 // The standard output and the standard error.
-ghost use Rattle.std.specs.Prelude.{◌≡◌, ◌≢◌, ◌≤◌, ◌+◌, ◌↔◌, IsTrue, None, Err, IfOk, OnOk, length, [], drop, vec_capacity};
+ghost use Rattle.std.specs.Prelude.{◌≡◌, ◌≢◌, ◌≤◌, ◌+◌, ◌↔◌, IsTrue, None, Err, IfOk, OnOk, length, [], drop};
+ghost use Rattle.std.specs.Prelude.{vec_capacity};
 ghost use Rattle.std.specs.Bool.{OnTrue};
 ghost use Rattle.std.specs.Option.{option_map};
 ghost use Rattle.std.specs.Io.KnownBytes.{Keeps};
@@ -46,9 +47,11 @@ impl<W: Write + Drop> StdSink<W> {
 
     /// Hands on what is gathered. Where that fails the count rises as after a failed put.
     pub fn finish(&mut self) -> Result<(), SinkError>
-        ensures counted { ⟦<StdSink<W> as Sink>⟧.faults self.new ≡ faults_after_put (⟦<StdSink<W> as Sink>⟧.faults self.old) result }
+        ensures counted { ⟦<StdSink<W> as Sink>⟧.faults self.new ≡
+            faults_after_put (⟦<StdSink<W> as Sink>⟧.faults self.old) result }
         ensures kept { Keeps (⟦<StdSink<W> as Sink>⟧.contents self.old) (⟦<StdSink<W> as Sink>⟧.contents self.new) }
-        ensures written { OnOk result (Keeps (⟦<StdSink<W> as Sink>⟧.contents self.old) (W.contents (stream_of self.new))) }
+        ensures written { OnOk result
+            (Keeps (⟦<StdSink<W> as Sink>⟧.contents self.old) (W.contents (stream_of self.new))) }
         ensures memory { result ≢ Err Memory }
     {
         if self.hand_on() && self.stream.flush().is_ok() {

@@ -1,5 +1,7 @@
 -- The line of an operation is written as it was read.
-use Rattle.std.proofs.Common.{◌≡◌, ℕ, zero, suc, ◌+◌, Bool, true, false, ◌==◌, List, [], ◌∷◌, ◌++◌, map, flat_map, length, Option, Some, None, option_map, option_to_list, codes, decimal, bytes_eq, replicate, refl, sym, ap, ◌∙◌, subst, append_assoc, append-nil, eqb-true}
+use Rattle.std.proofs.Common.{◌≡◌, ℕ, zero, suc, ◌+◌, Bool, true, false, ◌==◌, List, [], ◌∷◌, ◌++◌, map, flat_map}
+use Rattle.std.proofs.Common.{length, Option, Some, None, option_map, option_to_list, codes, decimal, bytes_eq}
+use Rattle.std.proofs.Common.{replicate, refl, sym, ap, ◌∙◌, subst, append_assoc, append-nil, eqb-true}
 use Rattle.std.specs.Prelude.{if◌then◌else◌, take}
 use Rattle.std.specs.Option.{option_map_or}
 use Rattle.std.proofs.lemmas.List.{length-map}
@@ -8,16 +10,24 @@ use Rattle.layer_ast.specs.Spelling.{beside, kind_word}
 use Rattle.layer_mean.specs.Tree.{Carried, ItemsTree, LayerTree}
 use Rattle.msg_core.specs.Headers.{most_fields}
 use Rattle.trace_mean.specs.Trace as trace
-use Rattle.trace_mean.specs.Trace.{Atom, Core, TraceNumber, element, square, TraceMessage, Link, Chained, Operation, bind, note, check, set, set_square, push, output}
+use Rattle.trace_mean.specs.Trace.{Atom, Core, TraceNumber, element, square, TraceMessage, Link, Chained, Operation}
+use Rattle.trace_mean.specs.Trace.{bind, note, check, set, set_square, push, output}
 use Rattle.trace_mean.specs.Fuse.{fields_of}
-use Rattle.bypass_mean.specs.Text.{layer_of, sign_text, listed, atom_text, core_text, number_text, message_text, link_text, behind, pushed_text}
+use Rattle.bypass_mean.specs.Text.{layer_of, sign_text, listed, atom_text, core_text, number_text, message_text}
+use Rattle.bypass_mean.specs.Text.{link_text, behind, pushed_text}
 use Rattle.pack_mean.specs.Reader.{Reader, ◌>>=◌, yields, the_text, a_word, each_of, more_of}
 use Rattle.pack_mean.specs.Named.{Named, items_at, atom_named, core_named, kind_named}
 use Rattle.pack_mean.specs.Expression.{inside, most_brackets, a_number, a_message, a_queue}
-use Rattle.pack_mean.specs.Operation.{an_atom, a_core, tag_named, a_link, links_behind, some_links, a_chain, a_chained, row_message, Sent, nothing_sent, a_last, or_no_more, sent_by, sent_within, what_is_sent, chained_behind, directions, setting, a_bind, a_note, a_check, a_set, a_push, a_take, an_output, operation_by}
+use Rattle.pack_mean.specs.Operation.{an_atom, a_core, tag_named, a_link, links_behind, some_links, a_chain, a_chained}
+use Rattle.pack_mean.specs.Operation.{row_message, Sent, nothing_sent, a_last, or_no_more, sent_by, sent_within}
+use Rattle.pack_mean.specs.Operation.{what_is_sent, chained_behind, directions, setting, a_bind, a_note, a_check, a_set}
+use Rattle.pack_mean.specs.Operation.{a_push, a_take, an_output, operation_by}
 use Rattle.pack_laws.specs.Written.{written_with, line_with, WhatIsReadIsWrittenSo}
 use Rattle.pack_laws.proofs.Readers.{some_same, Gives, gives_value, gives_past}
-use Rattle.pack_laws.proofs.Writing.{Writes, writes_value, writes_given, writes_nowhere, writes_then, writes_such, writes_also, writes_known, text_is, writes_text, name_text, writes_name, writes_word, writes_case, writes_either, writes_whole, parted, behind_commas, writes_each, in_brackets, parted_more, pushed_ends, sent_ends}
+use Rattle.pack_laws.proofs.Writing.{Writes, writes_value, writes_given, writes_nowhere, writes_then, writes_such}
+use Rattle.pack_laws.proofs.Writing.{writes_also, writes_known, text_is, writes_text, name_text, writes_name}
+use Rattle.pack_laws.proofs.Writing.{writes_word, writes_case, writes_either, writes_whole, parted, behind_commas}
+use Rattle.pack_laws.proofs.Writing.{writes_each, in_brackets, parted_more, pushed_ends, sent_ends}
 use Rattle.pack_laws.proofs.Words.{tag_written, kind_written, direction_written, atom_written, core_written}
 use Rattle.pack_laws.proofs.Said.{QueueText, InnerWrites, cell_is, queue_is, number_is, message_is, inside_is}
 
@@ -71,8 +81,10 @@ module _ (stack : List LayerTree) (before : List (List ℕ)) (s : Named) where
       (writes_each AtomText (an_atom s) atom_is (replicate (fields_of (layer_of stack place) tag) place)) (λ fields.
       writes_text (codes ")") _ _ _ (λ v. writes_value _ _ _
       (ends name tag fields is)))))) where
-        ends : (name : List (List ℕ)) (tag : ℕ) (fields : List Atom) → tag_named (layer_of stack place) name ≡ Some tag →
-            name_text name ++ codes "(" ++ parted (map AtomText fields) ++ codes ")" ≡ LinkText (record { place = place; tag = tag; fields = fields })
+        ends : (name : List (List ℕ)) (tag : ℕ) (fields : List Atom) → tag_named (layer_of stack place) name ≡
+            Some tag →
+            name_text name ++ codes "(" ++ parted (map AtomText fields) ++ codes ")" ≡
+            LinkText (record { place = place; tag = tag; fields = fields })
         ends name tag fields is = in_brackets (name_text name) (parted (map AtomText fields)) ∙
             ap (λ l. l ++ listed (map AtomText fields)) (tag_written (layer_of stack place) name tag is)
 
@@ -80,21 +92,29 @@ module _ (stack : List LayerTree) (before : List (List ℕ)) (s : Named) where
   LinksText chain = flat_map (λ l. codes "/" ++ LinkText l) chain
 
   inner_links : (left place : ℕ) → Writes [] LinksText (links_behind stack s (place + 1) left) →
-      Writes (codes "/") LinksText (a_link stack s place >>= λ first. links_behind stack s (place + 1) left >>= λ more. yields (first ∷ more))
+      Writes (codes "/") LinksText (a_link stack s place >>= λ first. links_behind stack s (place + 1) left >>= λ more.
+      yields (first ∷ more))
   inner_links left place h = writes_then LinkText (codes "/") LinksText (a_link stack s place) _ (link_is place) (λ l.
-      writes_then LinksText _ LinksText (links_behind stack s (place + 1) left) _ h (λ ls. writes_value _ LinksText (l ∷ ls) refl))
+      writes_then LinksText _ LinksText (links_behind stack s (place + 1) left) _ h
+      (λ ls. writes_value _ LinksText (l ∷ ls) refl))
 
-  more_links : (left place : ℕ) → Writes [] LinksText (links_behind stack s (place + 1) left) → (byte : ℕ) (bytes : List ℕ) (b : Bool) →
+  more_links : (left place : ℕ) → Writes [] LinksText (links_behind stack s (place + 1) left) →
+      (byte : ℕ) (bytes : List ℕ) (b : Bool) →
       (byte == 47) ≡ b → (chain : List Link) (rest : List ℕ) →
-      (if b then (a_link stack s place >>= λ first. links_behind stack s (place + 1) left >>= λ more. yields (first ∷ more)) bytes
+      (if b then (a_link stack s place >>= λ first. links_behind stack s (place + 1) left >>= λ more.
+      yields (first ∷ more)) bytes
       else Some ([], byte ∷ bytes)) ≡ Some (chain, rest) → byte ∷ bytes ≡ LinksText chain ++ rest
-  more_links left place h byte bytes true e chain rest is = ap (λ x. x ∷ bytes) (eqb-true byte 47 e) ∙ (inner_links left place h).said bytes chain rest is
-  more_links left place h byte bytes false e chain rest is = (writes_value [] LinksText [] refl).said (byte ∷ bytes) chain rest is
+  more_links left place h byte bytes true e chain rest is = ap (λ x. x ∷ bytes) (eqb-true byte 47 e) ∙
+      (inner_links left place h).said bytes chain rest is
+  more_links left place h byte bytes false e chain rest is = (writes_value [] LinksText [] refl).said (byte ∷ bytes)
+      chain rest is
 
-  links_from : (left place : ℕ) → Writes [] LinksText (links_behind stack s (place + 1) left) → (text : List ℕ) (chain : List Link) (rest : List ℕ) →
+  links_from : (left place : ℕ) → Writes [] LinksText (links_behind stack s (place + 1) left) →
+      (text : List ℕ) (chain : List Link) (rest : List ℕ) →
       links_behind stack s place (suc left) text ≡ Some (chain, rest) → text ≡ LinksText chain ++ rest
   links_from left place h [] chain rest is = (writes_value [] LinksText [] refl).said [] chain rest is
-  links_from left place h (byte ∷ bytes) chain rest is = more_links left place h byte bytes (byte == 47) refl chain rest is
+  links_from left place h (byte ∷ bytes) chain rest is = more_links left place h byte bytes (byte == 47) refl chain
+      rest is
 
   links_are : (left place : ℕ) → Writes [] LinksText (links_behind stack s place left)
   links_are zero place = record { said = λ text. (writes_value [] LinksText [] refl).said text }
@@ -110,11 +130,14 @@ module _ (stack : List LayerTree) (before : List (List ℕ)) (s : Named) where
   chain_is : (place : ℕ) → Writes [] BehindText (a_chain stack s place)
   chain_is place = record { said = go } where
     more : (byte : ℕ) (bytes : List ℕ) (b : Bool) → (byte == 32) ≡ b → (chain : List Link) (rest : List ℕ) →
-        (if b then some_links stack s place bytes else Some ([], byte ∷ bytes)) ≡ Some (chain, rest) → byte ∷ bytes ≡ BehindText chain ++ rest
-    more byte bytes true e chain rest is = ap (λ x. x ∷ bytes) (eqb-true byte 32 e) ∙ (some_links_are place).said bytes chain rest is
+        (if b then some_links stack s place bytes else Some ([], byte ∷ bytes)) ≡ Some (chain, rest) →
+        byte ∷ bytes ≡ BehindText chain ++ rest
+    more byte bytes true e chain rest is = ap (λ x. x ∷ bytes) (eqb-true byte 32 e) ∙
+        (some_links_are place).said bytes chain rest is
     more byte bytes false e chain rest is = (writes_value [] BehindText [] refl).said (byte ∷ bytes) chain rest is
 
-    go : (text : List ℕ) (chain : List Link) (rest : List ℕ) → a_chain stack s place text ≡ Some (chain, rest) → text ≡ BehindText chain ++ rest
+    go : (text : List ℕ) (chain : List Link) (rest : List ℕ) → a_chain stack s place text ≡ Some (chain, rest) →
+        text ≡ BehindText chain ++ rest
     go [] chain rest is = (writes_value [] BehindText [] refl).said [] chain rest is
     go (byte ∷ bytes) chain rest is = more byte bytes (byte == 32) refl chain rest is
 
@@ -122,25 +145,33 @@ module _ (stack : List LayerTree) (before : List (List ℕ)) (s : Named) where
   PushedText m = pushed_text stack (written_with before s) m
 
   chained_is : (place : ℕ) → Writes [] PushedText (a_chained stack s place)
-  chained_is place = writes_then CoreText [] _ _ _ core_is (λ c. writes_then BehindText _ _ _ _ (chain_is place) (λ chain. writes_value _ _ _ refl))
+  chained_is place = writes_then CoreText [] _ _ _ core_is
+      (λ c. writes_then BehindText _ _ _ _ (chain_is place) (λ chain. writes_value _ _ _ refl))
 
   -- what stands behind the numbers of a row
   abbrev RowText : List (List ℕ) → Option Chained → List ℕ
   RowText [] message = parted (map PushedText (option_to_list message))
   RowText (name ∷ names) message = behind_commas (map PushedText (option_to_list message))
 
-  row_is : (place : ℕ) (names : List (List ℕ)) (message : Option (List ℕ × Carried)) → Writes [] (RowText names) (row_message stack s place names message)
+  row_is : (place : ℕ) (names : List (List ℕ)) (message : Option (List ℕ × Carried)) →
+      Writes [] (RowText names) (row_message stack s place names message)
   row_is place [] None = writes_value [] _ None refl
   row_is place (name ∷ names) None = writes_value [] _ None refl
-  row_is place [] (Some carried) = writes_then (λ (u : Unit {0}). []) [] _ (yields (tt {0})) _ (writes_value [] (λ (u : Unit {0}). []) (tt {0}) refl) (λ u.
-      writes_then PushedText _ _ _ _ (chained_is place) (λ m. writes_value _ _ (Some m) (sym (append-nil (PushedText m)))))
-  row_is place (name ∷ names) (Some carried) = writes_then (λ u. codes ",") [] _ (the_text (codes ",")) _ (text_is (codes ",")) (λ u.
-      writes_then PushedText _ _ _ _ (chained_is place) (λ m. writes_value _ _ (Some m) (sym (append-nil (codes "," ++ PushedText m)))))
+  row_is place [] (Some carried) = writes_then (λ (u : Unit {0}). []) [] _ (yields (tt {0})) _
+      (writes_value [] (λ (u : Unit {0}). []) (tt {0}) refl) (λ u.
+      writes_then PushedText _ _ _ _ (chained_is place)
+      (λ m. writes_value _ _ (Some m) (sym (append-nil (PushedText m)))))
+  row_is place (name ∷ names) (Some carried) = writes_then (λ u. codes ",") [] _ (the_text (codes ",")) _
+      (text_is (codes ",")) (λ u.
+      writes_then PushedText _ _ _ _ (chained_is place)
+      (λ m. writes_value _ _ (Some m) (sym (append-nil (codes "," ++ PushedText m)))))
 
   row_text : (names : List (List ℕ)) (xs : List TraceNumber) (message : Option Chained) → Alike xs names →
-      parted (map NumberText xs) ++ RowText names message ≡ parted (map NumberText xs ++ map PushedText (option_to_list message))
+      parted (map NumberText xs) ++ RowText names message ≡
+      parted (map NumberText xs ++ map PushedText (option_to_list message))
   row_text [] [] message alike = refl
-  row_text (name ∷ names) (x ∷ xs) message alike = parted_more (NumberText x) (map NumberText xs) (map PushedText (option_to_list message))
+  row_text (name ∷ names) (x ∷ xs) message alike =
+      parted_more (NumberText x) (map NumberText xs) (map PushedText (option_to_list message))
   row_text [] (x ∷ xs) message alike = absurd alike
   row_text (name ∷ names) [] message alike = absurd alike
 
@@ -152,17 +183,22 @@ module _ (stack : List LayerTree) (before : List (List ℕ)) (s : Named) where
       (joins : (x : List ℕ) (xs : List (List ℕ)) → front ++ x ++ behind_commas xs ≡ joined (x ∷ xs)) where
     last_is : (name : List (List ℕ)) → Writes (front ++ name_text name) (λ sent. joined (Parts sent)) (a_last s name)
     last_is name = writes_known _ _ (core_named s name) _ (λ c is. writes_value _ _ _
-        (ap (λ l. front ++ l) (core_written before s name c is) ∙ sym (append-nil (front ++ CoreText c)) ∙ joins (CoreText c) []))
+        (ap (λ l. front ++ l) (core_written before s name c is) ∙ sym (append-nil (front ++ CoreText c)) ∙
+        joins (CoreText c) []))
 
-    by_is : (more : Reader Sent) → Writes [] (λ sent. behind_commas (Parts sent)) (or_no_more more) → (name : List (List ℕ)) (o : Option Atom) →
+    by_is : (more : Reader Sent) → Writes [] (λ sent. behind_commas (Parts sent)) (or_no_more more) →
+        (name : List (List ℕ)) (o : Option Atom) →
         atom_named s name ≡ o → Writes (front ++ name_text name) (λ sent. joined (Parts sent)) (sent_by s more name o)
     by_is more h name None is = last_is name
-    by_is more h name (Some a) is = writes_then (λ sent. behind_commas (Parts sent)) _ _ _ _ h (λ sent. writes_value _ _ _
-        (ap (λ l. front ++ l ++ behind_commas (Parts sent)) (atom_written before s name a is) ∙ joins (AtomText a) (Parts sent)))
+    by_is more h name (Some a) is = writes_then (λ sent. behind_commas (Parts sent)) _ _ _ _ h
+        (λ sent. writes_value _ _ _
+        (ap (λ l. front ++ l ++ behind_commas (Parts sent)) (atom_written before s name a is) ∙
+        joins (AtomText a) (Parts sent)))
 
   no_more_is : (more : Reader Sent) → Writes (codes ",") (λ sent. behind_commas (Parts sent)) more →
       Writes [] (λ sent. behind_commas (Parts sent)) (or_no_more more)
-  no_more_is more h = writes_either [] _ (λ text. bytes_eq (take 1 text) (codes ",")) (the_text (codes ",") >>= λ _. more) (yields nothing_sent)
+  no_more_is more h = writes_either [] _ (λ text. bytes_eq (take 1 text) (codes ","))
+      (the_text (codes ",") >>= λ _. more) (yields nothing_sent)
       (writes_text (codes ",") [] _ _ (λ u. h)) (writes_value [] _ nothing_sent refl)
 
   within_is : (front : List ℕ) (joined : List (List ℕ) → List ℕ) →
@@ -170,10 +206,12 @@ module _ (stack : List LayerTree) (before : List (List ℕ)) (s : Named) where
       Writes front (λ sent. joined (Parts sent)) (sent_within s left)
   within_is front joined joins zero = writes_name front _ _ (λ name. last_is front joined joins name)
   within_is front joined joins (suc left) = writes_name front _ _ (λ name. by_is front joined joins (sent_within s left)
-      (no_more_is (sent_within s left) (within_is (codes ",") behind_commas (λ x xs. refl) left)) name (atom_named s name) refl)
+      (no_more_is (sent_within s left) (within_is (codes ",") behind_commas (λ x xs. refl) left)) name
+      (atom_named s name) refl)
 
   sent_is : Writes [] (λ sent. parted (Parts sent)) (what_is_sent s)
-  sent_is = writes_either [] _ (λ text. bytes_eq (take 1 text) (codes ")")) (yields nothing_sent) (sent_within s most_fields)
+  sent_is = writes_either [] _ (λ text. bytes_eq (take 1 text) (codes ")")) (yields nothing_sent)
+      (sent_within s most_fields)
       (writes_value [] _ nothing_sent refl) (within_is [] parted (λ x xs. refl) most_fields)
 
   abbrev HasCore : Option Core → Option Chained → Type 0
@@ -183,18 +221,22 @@ module _ (stack : List LayerTree) (before : List (List ℕ)) (s : Named) where
   behind_gives None = gives_value _ None refl
   behind_gives (Some c) = gives_past _ _ _ (λ chain. gives_value _ _ refl)
 
-  behind_is : (o : Option Core) → Writes [] (λ message. option_map_or (λ (m : Chained). BehindText m.chain) message []) (chained_behind stack s o)
+  behind_is : (o : Option Core) → Writes [] (λ message. option_map_or (λ (m : Chained). BehindText m.chain) message [])
+      (chained_behind stack s o)
   behind_is None = writes_value [] _ None refl
   behind_is (Some c) = writes_then BehindText [] _ _ _ (chain_is 0) (λ chain. writes_value _ _ _ refl)
 
   cores_are : (o : Option Core) (message : Option Chained) → HasCore o message →
-      map CoreText (option_to_list o) ≡ map (λ (m : Chained). core_text (written_with before s) m.core) (option_to_list message)
+      map CoreText (option_to_list o) ≡ map (λ (m : Chained). core_text (written_with before s) m.core)
+      (option_to_list message)
   cores_are o None is = subst (λ x. map CoreText (option_to_list x) ≡ []) is refl
-  cores_are o (Some m) is = subst (λ x. map CoreText (option_to_list x) ≡ core_text (written_with before s) m.core ∷ []) is refl
+  cores_are o (Some m) is = subst (λ x. map CoreText (option_to_list x) ≡ core_text (written_with before s) m.core ∷ [])
+      is refl
 
   bind_is : Writes (codes "bind") LineText (a_bind stack s)
   bind_is = writes_text (codes " t." ++ decimal s.binds ++ codes " = ") (codes "bind") LineText _ (λ u.
-      writes_then NumberText _ LineText (a_number stack s) (λ e. yields (bind e)) any_number (λ e. writes_value _ LineText (bind e) refl))
+      writes_then NumberText _ LineText (a_number stack s) (λ e. yields (bind e)) any_number
+      (λ e. writes_value _ LineText (bind e) refl))
 
   note_is : Writes (codes "note") LineText (a_note stack s)
   note_is = writes_text (codes " m." ++ decimal s.notes ++ codes " = ") (codes "note") LineText _ (λ u.
@@ -203,12 +245,16 @@ module _ (stack : List LayerTree) (before : List (List ℕ)) (s : Named) where
 
   check_is : Writes (codes "check") LineText (a_check stack s)
   check_is = writes_text (codes " ") (codes "check") LineText _ (λ u.
-      writes_then NumberText _ LineText (a_number stack s) (λ e. yields (check e)) any_number (λ e. writes_value _ LineText (check e) refl))
+      writes_then NumberText _ LineText (a_number stack s) (λ e. yields (check e)) any_number
+      (λ e. writes_value _ LineText (check e) refl))
 
-  setting_is : (t x : TraceNumber) (o : Operation) → setting t x ≡ Some o → codes "set " ++ NumberText t ++ codes " = " ++ NumberText x ≡ LineText o
-  setting_is (element p c e) x o is = some_same (λ y. codes "set " ++ NumberText (element p c e) ++ codes " = " ++ NumberText x ≡ LineText y) is refl
+  setting_is : (t x : TraceNumber) (o : Operation) → setting t x ≡ Some o → codes "set " ++ NumberText t ++
+      codes " = " ++ NumberText x ≡ LineText o
+  setting_is (element p c e) x o is =
+      some_same (λ y. codes "set " ++ NumberText (element p c e) ++ codes " = " ++ NumberText x ≡ LineText y) is refl
   setting_is (square p c row column) x o is =
-      some_same (λ y. codes "set " ++ NumberText (square p c row column) ++ codes " = " ++ NumberText x ≡ LineText y) is refl
+      some_same (λ y. codes "set " ++ NumberText (square p c row column) ++ codes " = " ++ NumberText x ≡ LineText y) is
+      refl
   setting_is _ x o is = absurd (cc is)
 
   set_is : Writes (codes "set") LineText (a_set stack s)
@@ -219,7 +265,8 @@ module _ (stack : List LayerTree) (before : List (List ℕ)) (s : Named) where
       writes_given _ _ (setting target x) (setting_is target x))))))
 
   push_is : Writes (codes "push") LineText (a_push stack s)
-  push_is = writes_text (codes " ") _ _ _ (λ u. writes_then (QueueText stack before s) _ _ _ _ any_queue (λ q. writes_text (codes " (") _ _ _ (λ v.
+  push_is = writes_text (codes " ") _ _ _
+      (λ u. writes_then (QueueText stack before s) _ _ _ _ any_queue (λ q. writes_text (codes " (") _ _ _ (λ v.
       writes_also (λ xs. Alike xs (items_at stack q.place q.cell).numbers) (λ xs. parted (map NumberText xs)) _ _ _ _
       (each_alike (a_number stack s) (items_at stack q.place q.cell).numbers)
       (writes_each NumberText (a_number stack s) any_number (items_at stack q.place q.cell).numbers) (λ xs alike.
@@ -227,7 +274,8 @@ module _ (stack : List LayerTree) (before : List (List ℕ)) (s : Named) where
       (row_is (q.place + 1) (items_at stack q.place q.cell).numbers (items_at stack q.place q.cell).message) (λ message.
       writes_text (codes ")") _ _ _ (λ w. writes_value _ LineText (push q.place q.cell q.index xs message)
       (pushed_ends (codes "push " ++ QueueText stack before s q) (parted (map NumberText xs))
-      (RowText (items_at stack q.place q.cell).numbers message) (parted (map NumberText xs ++ map PushedText (option_to_list message)))
+      (RowText (items_at stack q.place q.cell).numbers message)
+      (parted (map NumberText xs ++ map PushedText (option_to_list message)))
       (row_text (items_at stack q.place q.cell).numbers xs message alike))))))))
 
   take_is : Writes (codes "take") LineText (a_take stack s)
@@ -235,25 +283,36 @@ module _ (stack : List LayerTree) (before : List (List ℕ)) (s : Named) where
       writes_text (codes " row." ++ decimal (length s.rows)) _ _ _ (λ v.
       writes_value _ LineText (trace.take q.place q.cell q.index)
       (sym (append_assoc (codes "take " ++ QueueText stack before s q) (codes " row.") (decimal (length s.rows))) ∙
-      ap (λ n. codes "take " ++ QueueText stack before s q ++ codes " row." ++ decimal n) (sym (length-map s.rows (λ (items : ItemsTree). items.numbers)))))))
+      ap (λ n. codes "take " ++ QueueText stack before s q ++ codes " row." ++ decimal n)
+      (sym (length-map s.rows (λ (items : ItemsTree). items.numbers)))))))
 
   output_is : Writes (codes "out") LineText (an_output stack s)
-  output_is = writes_text (codes " ") _ _ _ (λ u. writes_word _ _ _ (λ word. writes_known _ _ (beside directions word) _ (λ dir dir_is.
-      writes_text (codes " ") _ _ _ (λ v. writes_name _ _ _ (λ name. writes_known _ _ (kind_named name) _ (λ kind kind_is.
-      writes_text (codes "(") _ _ _ (λ w. writes_then (λ sent. parted (Parts sent)) _ _ _ _ sent_is (λ sent. writes_text (codes ")") _ _ _ (λ x.
-      writes_also (HasCore sent.message) (λ message. option_map_or (λ (m : Chained). BehindText m.chain) message []) _ LineText
+  output_is = writes_text (codes " ") _ _ _
+      (λ u. writes_word _ _ _ (λ word. writes_known _ _ (beside directions word) _ (λ dir dir_is.
+      writes_text (codes " ") _ _ _
+      (λ v. writes_name _ _ _ (λ name. writes_known _ _ (kind_named name) _ (λ kind kind_is.
+      writes_text (codes "(") _ _ _
+      (λ w. writes_then (λ sent. parted (Parts sent)) _ _ _ _ sent_is (λ sent. writes_text (codes ")") _ _ _ (λ x.
+      writes_also (HasCore sent.message) (λ message. option_map_or (λ (m : Chained). BehindText m.chain) message []) _
+      LineText
       (chained_behind stack s sent.message) (λ message. yields (output dir kind sent.numbers message))
-      (behind_gives sent.message) (behind_is sent.message) (λ message has. writes_value _ LineText (output dir kind sent.numbers message)
+      (behind_gives sent.message) (behind_is sent.message)
+      (λ message has. writes_value _ LineText (output dir kind sent.numbers message)
       (sent_ends word (sign_text (direction_sign dir)) (name_text name) (kind_word kind) (parted (Parts sent))
-      (parted (map AtomText sent.numbers ++ map (λ (m : Chained). core_text (written_with before s) m.core) (option_to_list message)))
-      (option_map_or (λ (m : Chained). BehindText m.chain) message []) (direction_written word dir dir_is) (kind_written name kind kind_is)
+      (parted (map AtomText sent.numbers ++ map (λ (m : Chained). core_text (written_with before s) m.core)
+      (option_to_list message)))
+      (option_map_or (λ (m : Chained). BehindText m.chain) message []) (direction_written word dir dir_is)
+      (kind_written name kind kind_is)
       (ap (λ cs. parted (map AtomText sent.numbers ++ cs)) (cores_are sent.message message has)))))))))))))
 
   by_word : (word : List ℕ) → Writes word LineText (operation_by stack s word)
   by_word word = writes_case word (codes "bind") _ _ _ bind_is (writes_case word (codes "note") _ _ _ note_is
-      (writes_case word (codes "check") _ _ _ check_is (writes_case word (codes "set") _ _ _ set_is (writes_case word (codes "push") _ _ _ push_is
-      (writes_case word (codes "take") _ _ _ take_is (writes_case word (codes "out") _ _ _ output_is (writes_nowhere _ _)))))))
+      (writes_case word (codes "check") _ _ _ check_is
+      (writes_case word (codes "set") _ _ _ set_is (writes_case word (codes "push") _ _ _ push_is
+      (writes_case word (codes "take") _ _ _ take_is
+      (writes_case word (codes "out") _ _ _ output_is (writes_nowhere _ _)))))))
 
 pub what_is_read_is_written_so : WhatIsReadIsWrittenSo
 what_is_read_is_written_so stack before s line o is =
-    writes_whole (line_with stack before s) (a_word >>= operation_by stack s) line o (writes_word [] _ _ (λ word. by_word stack before s word)) is
+    writes_whole (line_with stack before s) (a_word >>= operation_by stack s) line o
+    (writes_word [] _ _ (λ word. by_word stack before s word)) is

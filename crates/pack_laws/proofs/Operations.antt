@@ -1,21 +1,30 @@
 -- What an operation's line says names only what may be named.
-use Rattle.std.proofs.Common.{◌≡◌, ℕ, zero, suc, ◌+◌, Bool, true, false, ◌==◌, List, [], ◌∷◌, ◌++◌, length, Option, Some, None, codes, decimal, bytes_eq, replicate, refl}
+use Rattle.std.proofs.Common.{◌≡◌, ℕ, zero, suc, ◌+◌, Bool, true, false, ◌==◌, List, [], ◌∷◌, ◌++◌, length, Option}
+use Rattle.std.proofs.Common.{Some, None, codes, decimal, bytes_eq, replicate, refl}
 use Rattle.std.specs.Prelude.{if◌then◌else◌, take}
 use Rattle.std.specs.List.{AllByRecursion}
 use Rattle.layer_ast.specs.Spelling.{beside}
 use Rattle.layer_mean.specs.Tree.{Carried, LayerTree}
 use Rattle.msg_core.specs.Headers.{most_fields}
 use Rattle.trace_mean.specs.Trace as trace
-use Rattle.trace_mean.specs.Trace.{Atom, Core, TraceNumber, atom, me, count, ltime, element, square, rows, item, size, binary, apply, pick, Link, Chained, Operation, bind, note, check, set, set_square, push, output}
+use Rattle.trace_mean.specs.Trace.{Atom, Core, TraceNumber, atom, me, count, ltime, element, square, rows, item, size}
+use Rattle.trace_mean.specs.Trace.{binary, apply, pick, Link, Chained, Operation, bind, note, check, set, set_square}
+use Rattle.trace_mean.specs.Trace.{push, output}
 use Rattle.trace_mean.specs.Fuse.{fields_of}
 use Rattle.trace_form_laws.specs.Names as names
-use Rattle.trace_form_laws.specs.Names.{Name, NumberNames, MessageNames, AtomNames, LinkNames, ChainedNames, SentNames, OperationNames}
+use Rattle.trace_form_laws.specs.Names.{Name, NumberNames, MessageNames, AtomNames, LinkNames, ChainedNames, SentNames}
+use Rattle.trace_form_laws.specs.Names.{OperationNames}
 use Rattle.bypass_mean.specs.Text.{layer_of}
 use Rattle.pack_mean.specs.Reader.{Reader, ◌>>=◌, yields, given, the_text, a_word, each_of}
 use Rattle.pack_mean.specs.Named.{Named, items_at, atom_named, core_named, kind_named}
 use Rattle.pack_mean.specs.Expression.{inside, most_brackets, a_cell, a_number, a_message, a_queue}
-use Rattle.pack_mean.specs.Operation.{an_atom, tag_named, a_link, links_behind, some_links, a_chain, a_chained, comma_behind, row_message, Sent, nothing_sent, a_last, or_no_more, sent_by, sent_within, what_is_sent, chained_behind, directions, setting, a_bind, a_note, a_check, a_set, a_push, a_take, an_output, operation_by, operation_said}
-use Rattle.pack_laws.proofs.Readers.{some_same, Gives, gives_value, gives_given, gives_nowhere, gives_then, gives_past, gives_name, gives_word, gives_known, gives_text, gives_case, gives_either, gives_whole, gives_each}
+use Rattle.pack_mean.specs.Operation.{an_atom, tag_named, a_link, links_behind, some_links, a_chain, a_chained}
+use Rattle.pack_mean.specs.Operation.{comma_behind, row_message, Sent, nothing_sent, a_last, or_no_more, sent_by}
+use Rattle.pack_mean.specs.Operation.{sent_within, what_is_sent, chained_behind, directions, setting, a_bind, a_note}
+use Rattle.pack_mean.specs.Operation.{a_check, a_set, a_push, a_take, an_output, operation_by, operation_said}
+use Rattle.pack_laws.proofs.Readers.{some_same, Gives, gives_value, gives_given, gives_nowhere, gives_then, gives_past}
+use Rattle.pack_laws.proofs.Readers.{gives_name, gives_word, gives_known, gives_text, gives_case, gives_either}
+use Rattle.pack_laws.proofs.Readers.{gives_whole, gives_each}
 use Rattle.pack_laws.proofs.Form.{Spelled, QueueSo, InnerSo, cell_is, queue_is, number_is, message_is, inside_is}
 
 module _ (stack : List LayerTree) (s : Named) (So : Name → Type 0) (spelled : Spelled stack s So) where
@@ -35,24 +44,32 @@ module _ (stack : List LayerTree) (s : Named) (So : Name → Type 0) (spelled : 
   atom_is = gives_name _ _ (λ name. gives_given _ (atom_named s name) (spelled.atom_is name))
 
   link_is : (place : ℕ) → Gives (LinkNames So) (a_link stack s place)
-  link_is place = gives_name _ _ (λ name. gives_known _ (tag_named (layer_of stack place) name) _ (λ tag. gives_text _ (codes "(") _ (λ _.
-      gives_then (AllByRecursion (AtomNames So)) _ (each_of (an_atom s) (replicate (fields_of (layer_of stack place) tag) place))
+  link_is place = gives_name _ _
+      (λ name. gives_known _ (tag_named (layer_of stack place) name) _ (λ tag. gives_text _ (codes "(") _ (λ _.
+      gives_then (AllByRecursion (AtomNames So)) _
+      (each_of (an_atom s) (replicate (fields_of (layer_of stack place) tag) place))
       (λ fields. the_text (codes ")") >>= λ _. yields (record { place = place; tag = tag; fields = fields }))
-      (gives_each (AtomNames So) (an_atom s) atom_is (replicate (fields_of (layer_of stack place) tag) place)) (λ fields fields_are.
-      gives_text _ (codes ")") _ (λ _. gives_value (LinkNames So) (record { place = place; tag = tag; fields = fields }) fields_are)))))
+      (gives_each (AtomNames So) (an_atom s) atom_is (replicate (fields_of (layer_of stack place) tag) place))
+      (λ fields fields_are.
+      gives_text _ (codes ")") _
+      (λ _. gives_value (LinkNames So) (record { place = place; tag = tag; fields = fields }) fields_are)))))
 
   abbrev ChainSo : List Link → Type 0
   ChainSo chain = AllByRecursion (LinkNames So) chain
 
-  more_links : (left place : ℕ) → Gives ChainSo (links_behind stack s (place + 1) left) → (byte : ℕ) (bytes : List ℕ) (b : Bool) (chain : List Link)
-      (rest : List ℕ) → (if b then (a_link stack s place >>= λ first. links_behind stack s (place + 1) left >>= λ more. yields (first ∷ more)) bytes
+  more_links : (left place : ℕ) → Gives ChainSo (links_behind stack s (place + 1) left) →
+      (byte : ℕ) (bytes : List ℕ) (b : Bool) (chain : List Link)
+      (rest : List ℕ) → (if b then (a_link stack s place >>= λ first. links_behind stack s (place + 1) left >>= λ more.
+      yields (first ∷ more)) bytes
       else Some ([], byte ∷ bytes)) ≡ Some (chain, rest) → ChainSo chain
-  more_links left place h byte bytes true chain rest is = (gives_then (LinkNames So) ChainSo (a_link stack s place) _ (link_is place) (λ l l_is.
+  more_links left place h byte bytes true chain rest is =
+      (gives_then (LinkNames So) ChainSo (a_link stack s place) _ (link_is place) (λ l l_is.
       gives_then ChainSo ChainSo (links_behind stack s (place + 1) left) _ h (λ ls ls_are.
       gives_value ChainSo (l ∷ ls) (l_is, ls_are)))).said bytes chain rest is
   more_links left place h byte bytes false chain rest is = (gives_value ChainSo [] tt).said (byte ∷ bytes) chain rest is
 
-  links_from : (left place : ℕ) → Gives ChainSo (links_behind stack s (place + 1) left) → (text : List ℕ) (chain : List Link) (rest : List ℕ) →
+  links_from : (left place : ℕ) → Gives ChainSo (links_behind stack s (place + 1) left) →
+      (text : List ℕ) (chain : List Link) (rest : List ℕ) →
       links_behind stack s place (suc left) text ≡ Some (chain, rest) → ChainSo chain
   links_from left place h [] chain rest is = (gives_value ChainSo [] tt).said [] chain rest is
   links_from left place h (byte ∷ bytes) chain rest is = more_links left place h byte bytes (byte == 47) chain rest is
@@ -72,19 +89,23 @@ module _ (stack : List LayerTree) (s : Named) (So : Name → Type 0) (spelled : 
     more byte bytes true chain rest is = (some_links_are place).said bytes chain rest is
     more byte bytes false chain rest is = (gives_value ChainSo [] tt).said (byte ∷ bytes) chain rest is
 
-    go : (text : List ℕ) (chain : List Link) (rest : List ℕ) → a_chain stack s place text ≡ Some (chain, rest) → ChainSo chain
+    go : (text : List ℕ) (chain : List Link) (rest : List ℕ) → a_chain stack s place text ≡ Some (chain, rest) →
+        ChainSo chain
     go [] chain rest is = (gives_value ChainSo [] tt).said [] chain rest is
     go (byte ∷ bytes) chain rest is = more byte bytes (byte == 32) chain rest is
 
   chained_is : (place : ℕ) → Gives (ChainedNames So) (a_chained stack s place)
-  chained_is place = gives_then (λ c. So (names.a_message c)) _ _ _ (gives_name _ _ (λ name. gives_given _ (core_named s name) (spelled.core_is name)))
-      (λ c c_is. gives_then ChainSo _ _ _ (chain_is place) (λ chain chain_are. gives_value _ _ record { chain_is = chain_are; core_is = c_is }))
+  chained_is place = gives_then (λ c. So (names.a_message c)) _ _ _
+      (gives_name _ _ (λ name. gives_given _ (core_named s name) (spelled.core_is name)))
+      (λ c c_is. gives_then ChainSo _ _ _ (chain_is place)
+      (λ chain chain_are. gives_value _ _ record { chain_is = chain_are; core_is = c_is }))
 
   row_message_is : (place : ℕ) (names : List (List ℕ)) (message : Option (List ℕ × Carried)) →
       Gives (SentNames So) (row_message stack s place names message)
   row_message_is place names None = gives_value _ _ tt
   row_message_is place names (Some carried) =
-      gives_past (SentNames So) (comma_behind names) _ (λ _. gives_then (ChainedNames So) (SentNames So) (a_chained stack s place) (λ m. yields (Some m))
+      gives_past (SentNames So) (comma_behind names) _
+      (λ _. gives_then (ChainedNames So) (SentNames So) (a_chained stack s place) (λ m. yields (Some m))
       (chained_is place) (λ m m_is. gives_value (SentNames So) (Some m) m_is))
 
   abbrev CoreSo : Option Core → Type 0
@@ -99,11 +120,13 @@ module _ (stack : List LayerTree) (s : Named) (So : Name → Type 0) (spelled : 
   nothing_sent_is = record { numbers = tt; message = tt }
 
   last_is : (name : List (List ℕ)) → Gives SentSo (a_last s name)
-  last_is name = gives_then (λ c. So (names.a_message c)) _ _ _ (gives_given _ (core_named s name) (spelled.core_is name))
+  last_is name = gives_then (λ c. So (names.a_message c)) _ _ _
+      (gives_given _ (core_named s name) (spelled.core_is name))
       (λ c c_is. gives_value _ _ record { numbers = tt; message = c_is })
 
   no_more_is : (more : Reader Sent) → Gives SentSo more → Gives SentSo (or_no_more more)
-  no_more_is more h = gives_either SentSo (λ text. bytes_eq (take 1 text) (codes ",")) (the_text (codes ",") >>= λ _. more) (yields nothing_sent)
+  no_more_is more h = gives_either SentSo (λ text. bytes_eq (take 1 text) (codes ","))
+      (the_text (codes ",") >>= λ _. more) (yields nothing_sent)
       (gives_past _ _ _ (λ _. h)) (gives_value _ _ nothing_sent_is)
 
   sent_by_is : (more : Reader Sent) → Gives SentSo more → (name : List (List ℕ)) (o : Option Atom) →
@@ -115,28 +138,34 @@ module _ (stack : List LayerTree) (s : Named) (So : Name → Type 0) (spelled : 
   sent_within_is : (left : ℕ) → Gives SentSo (sent_within s left)
   sent_within_is zero = gives_name _ _ (λ name. last_is name)
   sent_within_is (suc left) =
-      gives_name _ _ (λ name. sent_by_is (sent_within s left) (sent_within_is left) name (atom_named s name) (spelled.atom_is name))
+      gives_name _ _ (λ name. sent_by_is (sent_within s left) (sent_within_is left) name (atom_named s name)
+      (spelled.atom_is name))
 
   sent_is : Gives SentSo (what_is_sent s)
-  sent_is = gives_either SentSo (λ text. bytes_eq (take 1 text) (codes ")")) (yields nothing_sent) (sent_within s most_fields)
+  sent_is = gives_either SentSo (λ text. bytes_eq (take 1 text) (codes ")")) (yields nothing_sent)
+      (sent_within s most_fields)
       (gives_value _ _ nothing_sent_is) (sent_within_is most_fields)
 
   behind_is : (o : Option Core) → CoreSo o → Gives (SentNames So) (chained_behind stack s o)
   behind_is None h = gives_value (SentNames So) None tt
   behind_is (Some c) h =
-      gives_then ChainSo _ _ _ (chain_is 0) (λ chain chain_are. gives_value (SentNames So) _ record { chain_is = chain_are; core_is = h })
+      gives_then ChainSo _ _ _ (chain_is 0)
+      (λ chain chain_are. gives_value (SentNames So) _ record { chain_is = chain_are; core_is = h })
 
-  setting_is : (t : TraceNumber) → NumberNames So t → (x : TraceNumber) → NumberNames So x → (o : Operation) → setting t x ≡ Some o → OperationNames So o
+  setting_is : (t : TraceNumber) → NumberNames So t → (x : TraceNumber) → NumberNames So x → (o : Operation) →
+      setting t x ≡ Some o → OperationNames So o
   setting_is (element p c e) t_is x x_is o is = some_same (OperationNames So) is (t_is.0, t_is.1, x_is)
   setting_is (square p c row column) t_is x x_is o is = some_same (OperationNames So) is (t_is.0, t_is.1, t_is.2, x_is)
   setting_is _ t_is x x_is o is = absurd (cc is)
 
   bind_is : Gives (OperationNames So) (a_bind stack s)
-  bind_is = gives_text _ (codes " t." ++ decimal s.binds ++ codes " = ") _ (λ _. gives_then (NumberNames So) _ (a_number stack s) (λ e. yields (bind e))
+  bind_is = gives_text _ (codes " t." ++ decimal s.binds ++ codes " = ") _
+      (λ _. gives_then (NumberNames So) _ (a_number stack s) (λ e. yields (bind e))
       any_number (λ e e_is. gives_value (OperationNames So) (bind e) e_is))
 
   note_is : Gives (OperationNames So) (a_note stack s)
-  note_is = gives_text _ (codes " m." ++ decimal s.notes ++ codes " = ") _ (λ _. gives_then (MessageNames So) _ (a_message stack s) (λ m. yields (note m))
+  note_is = gives_text _ (codes " m." ++ decimal s.notes ++ codes " = ") _
+      (λ _. gives_then (MessageNames So) _ (a_message stack s) (λ m. yields (note m))
       any_message (λ m m_is. gives_value (OperationNames So) (note m) m_is))
 
   check_is : Gives (OperationNames So) (a_check stack s)
@@ -147,32 +176,43 @@ module _ (stack : List LayerTree) (s : Named) (So : Name → Type 0) (spelled : 
   set_is = gives_text _ (codes " ") _ (λ _. gives_name _ _ (λ name.
       gives_then (NumberNames So) _ (a_cell stack (inside stack s most_brackets) name)
       (λ target. the_text (codes " = ") >>= λ _. a_number stack s >>= λ x. given (setting target x))
-      (cell_is stack s So spelled (inside stack s most_brackets) deepest_is name) (λ target target_is. gives_text _ (codes " = ") _ (λ _.
+      (cell_is stack s So spelled (inside stack s most_brackets) deepest_is name)
+      (λ target target_is. gives_text _ (codes " = ") _ (λ _.
       gives_then (NumberNames So) _ (a_number stack s) (λ x. given (setting target x)) any_number (λ x x_is.
       gives_given (OperationNames So) (setting target x) (setting_is target target_is x x_is))))))
 
   push_is : Gives (OperationNames So) (a_push stack s)
-  push_is = gives_text _ (codes " ") _ (λ _. gives_then (QueueSo stack s So spelled) _ (a_queue stack s) _ any_queue (λ q q_is.
+  push_is = gives_text _ (codes " ") _
+      (λ _. gives_then (QueueSo stack s So spelled) _ (a_queue stack s) _ any_queue (λ q q_is.
       gives_text _ (codes " (") _ (λ _.
-      gives_then (AllByRecursion (NumberNames So)) _ (each_of (a_number stack s) (items_at stack q.place q.cell).numbers) _
-      (gives_each (NumberNames So) (a_number stack s) any_number (items_at stack q.place q.cell).numbers) (λ numbers numbers_are.
-      gives_then (SentNames So) _ (row_message stack s (q.place + 1) (items_at stack q.place q.cell).numbers (items_at stack q.place q.cell).message)
+      gives_then (AllByRecursion (NumberNames So)) _
+      (each_of (a_number stack s) (items_at stack q.place q.cell).numbers) _
+      (gives_each (NumberNames So) (a_number stack s) any_number (items_at stack q.place q.cell).numbers)
+      (λ numbers numbers_are.
+      gives_then (SentNames So) _
+      (row_message stack s (q.place + 1) (items_at stack q.place q.cell).numbers
+      (items_at stack q.place q.cell).message)
       (λ message. the_text (codes ")") >>= λ _. yields (push q.place q.cell q.index numbers message))
-      (row_message_is (q.place + 1) (items_at stack q.place q.cell).numbers (items_at stack q.place q.cell).message) (λ message message_is.
+      (row_message_is (q.place + 1) (items_at stack q.place q.cell).numbers (items_at stack q.place q.cell).message)
+      (λ message message_is.
       gives_text _ (codes ")") _ (λ _. gives_value (OperationNames So) (push q.place q.cell q.index numbers message)
       (q_is.queue, q_is.index, numbers_are, message_is)))))))
 
   take_is : Gives (OperationNames So) (a_take stack s)
   take_is = gives_text _ (codes " ") _ (λ _. gives_then (QueueSo stack s So spelled) _ (a_queue stack s)
-      (λ q. the_text (codes " row." ++ decimal (length s.rows)) >>= λ _. yields (trace.take q.place q.cell q.index)) any_queue (λ q q_is.
+      (λ q. the_text (codes " row." ++ decimal (length s.rows)) >>= λ _. yields (trace.take q.place q.cell q.index))
+      any_queue (λ q q_is.
       gives_text _ (codes " row." ++ decimal (length s.rows)) _ (λ _.
       gives_value (OperationNames So) (trace.take q.place q.cell q.index) (q_is.queue, q_is.index))))
 
   output_is : Gives (OperationNames So) (an_output stack s)
-  output_is = gives_text _ (codes " ") _ (λ _. gives_word _ _ (λ direction. gives_known _ (beside directions direction) _ (λ dir.
-      gives_text _ (codes " ") _ (λ _. gives_name _ _ (λ name. gives_known _ (kind_named name) _ (λ kind. gives_text _ (codes "(") _ (λ _.
+  output_is = gives_text _ (codes " ") _
+      (λ _. gives_word _ _ (λ direction. gives_known _ (beside directions direction) _ (λ dir.
+      gives_text _ (codes " ") _
+      (λ _. gives_name _ _ (λ name. gives_known _ (kind_named name) _ (λ kind. gives_text _ (codes "(") _ (λ _.
       gives_then SentSo _ (what_is_sent s) _ sent_is (λ sent sent_so. gives_text _ (codes ")") _ (λ _.
-      gives_then (SentNames So) _ (chained_behind stack s sent.message) (λ message. yields (output dir kind sent.numbers message))
+      gives_then (SentNames So) _ (chained_behind stack s sent.message)
+      (λ message. yields (output dir kind sent.numbers message))
       (behind_is sent.message sent_so.message) (λ message message_is.
       gives_value (OperationNames So) (output dir kind sent.numbers message) (sent_so.numbers, message_is)))))))))))
 
@@ -183,7 +223,8 @@ module _ (stack : List LayerTree) (s : Named) (So : Name → Type 0) (spelled : 
       (gives_case (OperationNames So) word (codes "set") (a_set stack s) _ set_is
       (gives_case (OperationNames So) word (codes "push") (a_push stack s) _ push_is
       (gives_case (OperationNames So) word (codes "take") (a_take stack s) _ take_is
-      (gives_case (OperationNames So) word (codes "out") (an_output stack s) _ output_is (gives_nowhere (OperationNames So))))))))
+      (gives_case (OperationNames So) word (codes "out") (an_output stack s) _ output_is
+      (gives_nowhere (OperationNames So))))))))
 
   pub said_is : (line : List ℕ) (o : Operation) → operation_said stack s line ≡ Some o → OperationNames So o
   said_is line o is = gives_whole (OperationNames So) (a_word >>= operation_by stack s) line o (gives_word _ _ by_is) is

@@ -1,8 +1,10 @@
 -- Readers by their parts: what each part gives, the whole does.
-use Rattle.std.proofs.Common.{◌≡◌, ℕ, Bool, true, false, List, [], ◌∷◌, Option, Some, None, option_and_then, unwrap_or, bytes_eq, refl, ap, subst}
+use Rattle.std.proofs.Common.{◌≡◌, ℕ, Bool, true, false, List, [], ◌∷◌, Option, Some, None, option_and_then, unwrap_or}
+use Rattle.std.proofs.Common.{bytes_eq, refl, ap, subst}
 use Rattle.std.specs.Prelude.{if◌then◌else◌}
 use Rattle.std.specs.List.{AllByRecursion}
-use Rattle.pack_mean.specs.Reader.{Reader, ◌>>=◌, yields, given, nowhere, the_text, a_name, a_word, whole, nothing_behind, each_of, more_of}
+use Rattle.pack_mean.specs.Reader.{Reader, ◌>>=◌, yields, given, nowhere, the_text, a_name, a_word, whole}
+use Rattle.pack_mean.specs.Reader.{nothing_behind, each_of, more_of}
 
 -- where two steps gave something, the first did, and the second then gave this
 pub through : {A B C : Type 0} (f : A → Option B) (o : Option A) (y : B) → option_and_then f o ≡ Some y →
@@ -27,35 +29,43 @@ gives_given P (Some x) h = record { said = λ text y rest is. some_same (λ q. P
 pub gives_nowhere : {A : Type 0} (P : A → Type 0) → Gives P nowhere
 gives_nowhere P = record { said = λ text y rest is. absurd (cc is) }
 
-pub gives_then : {A B : Type 0} (P : A → Type 0) (Q : B → Type 0) (read : Reader A) (next : A → Reader B) → Gives P read →
+pub gives_then : {A B : Type 0} (P : A → Type 0) (Q : B → Type 0) (read : Reader A) (next : A → Reader B) →
+    Gives P read →
     ((x : A) → P x → Gives Q (next x)) → Gives Q (read >>= next)
-gives_then {A = A} {B = B} P Q read next h k = record { said = λ text y rest is. go text y rest (read text) refl is } where
-  go : (text : List ℕ) (y : B) (rest : List ℕ) (o : Option (A × List ℕ)) → read text ≡ o →
-      option_and_then (λ taken. next taken.0 taken.1) o ≡ Some (y, rest) → Q y
-  go text y rest None e is = absurd (cc is)
-  go text y rest (Some t) e is = (k t.0 (h.said text t.0 t.1 e)).said t.1 y rest is
+gives_then {A = A} {B = B} P Q read next h k = record { said = λ text y rest is. go text y rest (read text) refl is }
+  where
+    go : (text : List ℕ) (y : B) (rest : List ℕ) (o : Option (A × List ℕ)) → read text ≡ o →
+        option_and_then (λ taken. next taken.0 taken.1) o ≡ Some (y, rest) → Q y
+    go text y rest None e is = absurd (cc is)
+    go text y rest (Some t) e is = (k t.0 (h.said text t.0 t.1 e)).said t.1 y rest is
 
 -- Behind what isn't looked at.
-pub gives_past : {A B : Type 0} (Q : B → Type 0) (read : Reader A) (next : A → Reader B) → ((x : A) → Gives Q (next x)) →
+pub gives_past : {A B : Type 0} (Q : B → Type 0) (read : Reader A) (next : A → Reader B) →
+    ((x : A) → Gives Q (next x)) →
     Gives Q (read >>= next)
 gives_past Q read next k = gives_then (λ x. Unit {0}) Q read next record { said = λ text x rest is. tt } (λ x h. k x)
 
 -- The same behind a name, a word, what there is, and a text.
-pub gives_name : {B : Type 0} (Q : B → Type 0) (next : List (List ℕ) → Reader B) → ((name : List (List ℕ)) → Gives Q (next name)) →
+pub gives_name : {B : Type 0} (Q : B → Type 0) (next : List (List ℕ) → Reader B) →
+    ((name : List (List ℕ)) → Gives Q (next name)) →
     Gives Q (a_name >>= next)
 gives_name Q next k = gives_past Q a_name next k
 
-pub gives_word : {B : Type 0} (Q : B → Type 0) (next : List ℕ → Reader B) → ((word : List ℕ) → Gives Q (next word)) → Gives Q (a_word >>= next)
+pub gives_word : {B : Type 0} (Q : B → Type 0) (next : List ℕ → Reader B) → ((word : List ℕ) → Gives Q (next word)) →
+    Gives Q (a_word >>= next)
 gives_word Q next k = gives_past Q a_word next k
 
-pub gives_known : {A B : Type 0} (Q : B → Type 0) (o : Option A) (next : A → Reader B) → ((x : A) → Gives Q (next x)) → Gives Q (given o >>= next)
+pub gives_known : {A B : Type 0} (Q : B → Type 0) (o : Option A) (next : A → Reader B) → ((x : A) → Gives Q (next x)) →
+    Gives Q (given o >>= next)
 gives_known Q o next k = gives_past Q (given o) next k
 
-pub gives_text : {B : Type 0} (Q : B → Type 0) (wanted : List ℕ) (next : Unit {0} → Reader B) → ((u : Unit {0}) → Gives Q (next u)) →
+pub gives_text : {B : Type 0} (Q : B → Type 0) (wanted : List ℕ) (next : Unit {0} → Reader B) →
+    ((u : Unit {0}) → Gives Q (next u)) →
     Gives Q (the_text wanted >>= next)
 gives_text Q wanted next k = gives_past Q (the_text wanted) next k
 
-pub gives_if : {A : Type 0} (P : A → Type 0) (b : Bool) (f g : Reader A) → Gives P f → Gives P g → Gives P (if b then f else g)
+pub gives_if : {A : Type 0} (P : A → Type 0) (b : Bool) (f g : Reader A) → Gives P f → Gives P g →
+    Gives P (if b then f else g)
 gives_if P true f g h k = h
 gives_if P false f g h k = k
 
@@ -70,7 +80,8 @@ gives_either {A = A} P test f g h k = record { said = λ text y rest is. go (tes
   go true text y rest is = h.said text y rest is
   go false text y rest is = k.said text y rest is
 
-pub gives_whole : {A : Type 0} (P : A → Type 0) (read : Reader A) (text : List ℕ) (x : A) → Gives P read → whole read text ≡ Some x → P x
+pub gives_whole : {A : Type 0} (P : A → Type 0) (read : Reader A) (text : List ℕ) (x : A) → Gives P read →
+    whole read text ≡ Some x → P x
 gives_whole {A = A} P read text x h is = go (read text) refl is where
   go : (o : Option (A × List ℕ)) → read text ≡ o → option_and_then nothing_behind o ≡ Some x → P x
   go None e k = absurd (cc k)
@@ -80,8 +91,11 @@ gives_whole {A = A} P read text x h is = go (read text) refl is where
 module _ {A B : Type 0} (P : A → Type 0) (read : Reader A) (h : Gives P read) where
   pub gives_more : (bs : List B) → Gives (AllByRecursion P) (more_of read bs)
   gives_more [] = gives_value _ _ tt
-  gives_more (b ∷ bs) = gives_past _ _ _ (λ comma. gives_then P _ _ _ h (λ x hx. gives_then _ _ _ _ (gives_more bs) (λ xs hxs. gives_value _ _ (hx, hxs))))
+  gives_more (b ∷ bs) =
+      gives_past _ _ _ (λ comma.
+      gives_then P _ _ _ h (λ x hx. gives_then _ _ _ _ (gives_more bs) (λ xs hxs. gives_value _ _ (hx, hxs))))
 
   pub gives_each : (bs : List B) → Gives (AllByRecursion P) (each_of read bs)
   gives_each [] = gives_value _ _ tt
-  gives_each (b ∷ bs) = gives_then P _ _ _ h (λ x hx. gives_then _ _ _ _ (gives_more bs) (λ xs hxs. gives_value _ _ (hx, hxs)))
+  gives_each (b ∷ bs) =
+      gives_then P _ _ _ h (λ x hx. gives_then _ _ _ _ (gives_more bs) (λ xs hxs. gives_value _ _ (hx, hxs)))

@@ -1,5 +1,7 @@
 -- The bypasses of an accepted file are the stack's.
-use Rattle.std.proofs.Common.{◌≡◌, ℕ, suc, Bool, true, false, cond, not, nat_le, is_some, List, [], ◌∷◌, ◌++◌, map, count_by, option_to_list, Option, Some, None, option_map, Result, Ok, Err, refl, sym, ap, ◌∙◌, subst, arith, leb-true, le_refl, append_assoc, length, slice_get, length-append}
+use Rattle.std.proofs.Common.{◌≡◌, ℕ, suc, Bool, true, false, cond, not, nat_le, is_some, List, [], ◌∷◌, ◌++◌, map}
+use Rattle.std.proofs.Common.{count_by, option_to_list, Option, Some, None, option_map, Result, Ok, Err, refl, sym, ap}
+use Rattle.std.proofs.Common.{◌∙◌, subst, arith, leb-true, le_refl, append_assoc, length, slice_get, length-append}
 use Rattle.std.specs.Prelude.{if◌then◌else◌}
 use Rattle.std.specs.List.{AllZip, AllByRecursion}
 use Rattle.std.proofs.lemmas.List.Sums.{sum_by-cons}
@@ -25,24 +27,29 @@ use Rattle.symbol_laws.proofs.Replaced.{replaced_are_of_stack}
 use Rattle.pack_mean.specs.File.{Due, within_limit, due_from, due_of}
 use Rattle.pack_mean.specs.Accepted.{SameActs}
 use Rattle.pack_laws.specs.Form.{at_first, InForm}
-use Rattle.pack_laws.specs.Replaced.{chosen, filled, second_filled, with_entry, from_entries, from_file, AcceptedAreOfStack, OwnTracesGiveOwn, MayReplace, AcceptedMayReplace}
+use Rattle.pack_laws.specs.Replaced.{chosen, filled, second_filled, with_entry, from_entries, from_file}
+use Rattle.pack_laws.specs.Replaced.{AcceptedAreOfStack, OwnTracesGiveOwn, MayReplace, AcceptedMayReplace}
 use Rattle.pack_laws.proofs.Readers.{some_same}
 use Rattle.pack_laws.proofs.Reading.{what_is_read_is_in_form}
 
 -- the fields that vary are counted alike
 pub fields_vary : (fields : List (Option ℕ)) → count_by (λ field. not (is_some field)) fields ≡ varying fields
 fields_vary [] = refl
-fields_vary (Some v ∷ fields) = omega (arith, sum_by-cons (λ field. cond (not (is_some field)) 1 0) (Some v) fields, fields_vary fields)
-fields_vary (None ∷ fields) = omega (arith, sum_by-cons (λ field. cond (not (is_some field)) 1 0) None fields, fields_vary fields)
+fields_vary (Some v ∷ fields) =
+    omega (arith, sum_by-cons (λ field. cond (not (is_some field)) 1 0) (Some v) fields, fields_vary fields)
+fields_vary (None ∷ fields) =
+    omega (arith, sum_by-cons (λ field. cond (not (is_some field)) 1 0) None fields, fields_vary fields)
 
-zip_both : {A B : Type 0} (P Q : A → B → Type 0) (xs : List A) (ys : List B) → AllZip P xs ys → AllZip Q xs ys → AllZip (λ x y. P x y × Q x y) xs ys
+zip_both : {A B : Type 0} (P Q : A → B → Type 0) (xs : List A) (ys : List B) → AllZip P xs ys → AllZip Q xs ys →
+    AllZip (λ x y. P x y × Q x y) xs ys
 zip_both P Q [] [] h k = tt
 zip_both P Q [] (y ∷ ys) h k = absurd h
 zip_both P Q (x ∷ xs) [] h k = absurd h
 zip_both P Q (x ∷ xs) (y ∷ ys) h k = ((h.0, k.0), zip_both P Q xs ys h.1 k.1)
 
 abbrev due_with : ℕ → Entry → Case → List Operation → Due
-due_with n e case own = record { entry = n; case = case; fields = count_by (λ field. not (is_some field)) e.fields; own = own }
+due_with n e case own =
+    record { entry = n; case = case; fields = count_by (λ field. not (is_some field)) e.fields; own = own }
 
 module _ (stack : List LayerTree) (sound : IsSound stack) where
   -- a trace of a file for a case that is due
@@ -50,10 +57,12 @@ module _ (stack : List LayerTree) (sound : IsSound stack) where
   Fits d trace = InForm stack d trace × SameActs d trace
 
   module _ (n : ℕ) (e : Entry) (case : Case) where
-    chosen_replaces : (own trace : List Operation) → trace_of case stack e.known e.fields ≡ Ok own → Fits (due_with n e case own) trace →
+    chosen_replaces : (own trace : List Operation) → trace_of case stack e.known e.fields ≡ Ok own →
+        Fits (due_with n e case own) trace →
         Replaces stack e own (chosen own trace)
     chosen_replaces own trace made fits = go (nat_le (trace_joins trace) (trace_joins own)) refl where
-      go : (b : Bool) → nat_le (trace_joins trace) (trace_joins own) ≡ b → Replaces stack e own (if b then trace else own)
+      go : (b : Bool) → nat_le (trace_joins trace) (trace_joins own) ≡ b →
+          Replaces stack e own (if b then trace else own)
       go true few = record {
         acts = fits.1;
         closed = subst (λ k. Closed stack (at_first k) trace) (fields_vary e.fields) fits.0.closed;
@@ -72,7 +81,8 @@ module _ (stack : List LayerTree) (sound : IsSound stack) where
       made : IsReplaced stack e own (filled own traces).0
       rest : AllZip Fits more (filled own traces).1
 
-    fill : (more : List Due) (traces : List (List Operation)) (s : Result Shape NoShape) (r : Result (List Operation) NoShape) →
+    fill : (more : List Due) (traces : List (List Operation)) (s : Result Shape NoShape)
+        (r : Result (List Operation) NoShape) →
         ((own : List Operation) → r ≡ Ok own → trace_of case stack e.known e.fields ≡ Ok own) →
         AllZip Fits (option_to_list (option_map (due_with n e case) (within_limit s r)) ++ more) traces →
         IsFilled more traces (made_with simplest (lack_of s) r)
@@ -82,18 +92,21 @@ module _ (stack : List LayerTree) (sound : IsSound stack) where
       go true = record { made = refl; rest = h }
       go false = record { made = refl; rest = h }
     fill more traces (Ok s) (Ok own) same h = go (nat_le s.length longest_shape) traces h where
-      go : (b : Bool) (ts : List (List Operation)) → AllZip Fits (option_to_list (option_map (due_with n e case) (if b then Some own else None)) ++ more) ts →
+      go : (b : Bool) (ts : List (List Operation)) →
+          AllZip Fits (option_to_list (option_map (due_with n e case) (if b then Some own else None)) ++ more) ts →
           IsFilled more ts (made_with simplest (if b then None else Some no_shape.long) (Ok own))
       go false ts k = record { made = refl; rest = k }
       go true [] k = absurd k
       go true (t ∷ ts) k = record { made = (chosen_replaces own t (same own refl) k.0, refl); rest = k.1 }
 
   -- the same of a second case
-  record IsSecondFilled (e : Entry) (more : List Due) (traces : List (List Operation)) (own : Option Made) : Type 0 where
-    made : IsSecondReplaced stack e own (second_filled own traces).0
-    rest : AllZip Fits more (second_filled own traces).1
+  record IsSecondFilled (e : Entry) (more : List Due) (traces : List (List Operation)) (own : Option Made) : Type 0
+    where
+      made : IsSecondReplaced stack e own (second_filled own traces).0
+      rest : AllZip Fits more (second_filled own traces).1
 
-  fill_second : (n : ℕ) (e : Entry) (more : List Due) (traces : List (List Operation)) (b : Bool) → has_second_case stack e.known ≡ b →
+  fill_second : (n : ℕ) (e : Entry) (more : List Due) (traces : List (List Operation)) (b : Bool) →
+      has_second_case stack e.known ≡ b →
       AllZip Fits (option_to_list (option_map (due_with n e Second) (within_limit
       (if b then drawn_shape stack e.known Second else Err no_shape.same)
       (if b then made_trace stack e.known e.fields Second else Err no_shape.same))) ++ more) traces →
@@ -102,7 +115,8 @@ module _ (stack : List LayerTree) (sound : IsSound stack) where
       (if b then made_trace stack e.known e.fields Second else Err no_shape.same)) else None)
   fill_second n e more traces true forks h =
       let x = fill n e Second more traces (drawn_shape stack e.known Second) (made_trace stack e.known e.fields Second)
-      (λ own is. subst (λ b. (if b then made_trace stack e.known e.fields Second else Err no_shape.same) ≡ Ok own) (sym forks) is) h in
+      (λ own is. subst (λ b. (if b then made_trace stack e.known e.fields Second else Err no_shape.same) ≡ Ok own)
+      (sym forks) is) h in
       record { made = x.made; rest = x.rest }
   fill_second n e more traces false forks h = record { made = tt; rest = h }
 
@@ -114,19 +128,29 @@ module _ (stack : List LayerTree) (sound : IsSound stack) where
       AreFilled es (from_entries stack es traces)
   fill_all n [] traces h = record { made = tt; second = tt }
   fill_all n (e ∷ es) traces h =
-      let firsts = option_to_list (option_map (due_with n e First) (within_limit (shape stack e.known First) (trace_of First stack e.known e.fields))) in
-      let seconds = option_to_list (option_map (due_with n e Second) (within_limit (shape stack e.known Second) (trace_of Second stack e.known e.fields))) in
-      let x = fill n e First (seconds ++ due_from stack (suc n) es) traces (shape stack e.known First) (trace_of First stack e.known e.fields)
-      (λ own is. is) (subst (λ ds. AllZip Fits ds traces) (append_assoc firsts seconds (due_from stack (suc n) es)) h) in
-      let y = fill_second n e (due_from stack (suc n) es) (filled (made_of simplest First stack e) traces).1 (has_second_case stack e.known) refl x.rest in
-      let more = fill_all (suc n) es (second_filled (second_of simplest stack e) (filled (made_of simplest First stack e) traces).1).1 y.rest in
+      let firsts = option_to_list
+      (option_map (due_with n e First)
+      (within_limit (shape stack e.known First) (trace_of First stack e.known e.fields))) in
+      let seconds = option_to_list
+      (option_map (due_with n e Second)
+      (within_limit (shape stack e.known Second) (trace_of Second stack e.known e.fields))) in
+      let x = fill n e First (seconds ++ due_from stack (suc n) es) traces (shape stack e.known First)
+      (trace_of First stack e.known e.fields)
+      (λ own is. is) (subst (λ ds. AllZip Fits ds traces) (append_assoc firsts seconds (due_from stack (suc n) es)) h)
+      in
+      let y = fill_second n e (due_from stack (suc n) es) (filled (made_of simplest First stack e) traces).1
+      (has_second_case stack e.known) refl x.rest in
+      let more = fill_all (suc n) es
+      (second_filled (second_of simplest stack e) (filled (made_of simplest First stack e) traces).1).1 y.rest in
       record { made = (x.made, more.made); second = (y.made, more.second) }
 
 pub accepted_are_of_stack : AcceptedAreOfStack
 accepted_are_of_stack stack text sound file =
-    let fits = zip_both (InForm stack) SameActs (due_of stack) file.traces (what_is_read_is_in_form stack text file.traces file.read) file.same in
+    let fits = zip_both (InForm stack) SameActs (due_of stack) file.traces
+    (what_is_read_is_in_form stack text file.traces file.read) file.same in
     let filled = fill_all stack sound 0 (entries_of stack) file.traces fits in
-    replaced_are_of_stack stack (from_file stack file.traces) sound record { made = filled.made; second = filled.second }
+    replaced_are_of_stack stack (from_file stack file.traces) sound record
+    { made = filled.made; second = filled.second }
 
 -- what is due tells of its entry how many fields vary
 entry_at : (front : List Entry) (e : Entry) (es : List Entry) → slice_get (front ++ e ∷ es) (length front) ≡ Some e
@@ -136,7 +160,8 @@ entry_at (x ∷ front) e es = entry_at front e es
 abbrev TellsEntry : List Entry → Due → Type 0
 TellsEntry all d = (e : Entry) → slice_get all d.entry ≡ Some e → d.fields ≡ varying e.fields
 
-all_join : {A : Type 0} (P : A → Type 0) (xs ys : List A) → AllByRecursion P xs → AllByRecursion P ys → AllByRecursion P (xs ++ ys)
+all_join : {A : Type 0} (P : A → Type 0) (xs ys : List A) → AllByRecursion P xs → AllByRecursion P ys →
+    AllByRecursion P (xs ++ ys)
 all_join P [] ys h k = k
 all_join P (x ∷ xs) ys h k = (h.0, all_join P xs ys h.1 k)
 
@@ -144,12 +169,14 @@ one_tells : (front : List Entry) (e : Entry) (es : List Entry) (case : Case) (o 
     AllByRecursion (TellsEntry (front ++ e ∷ es)) (option_to_list (option_map (due_with (length front) e case) o))
 one_tells front e es case None = tt
 one_tells front e es case (Some own) = (
-  λ other is. some_same (λ x. count_by (λ field. not (is_some field)) e.fields ≡ varying x.fields) (sym (entry_at front e es) ∙ is)
+  λ other is. some_same (λ x. count_by (λ field. not (is_some field)) e.fields ≡ varying x.fields)
+      (sym (entry_at front e es) ∙ is)
       (fields_vary e.fields),
   tt,
 )
 
-all_tell : (stack : List LayerTree) (front es : List Entry) → AllByRecursion (TellsEntry (front ++ es)) (due_from stack (length front) es)
+all_tell : (stack : List LayerTree) (front es : List Entry) →
+    AllByRecursion (TellsEntry (front ++ es)) (due_from stack (length front) es)
 all_tell stack front [] = tt
 all_tell stack front (e ∷ es) =
     let firsts = option_to_list (option_map (due_with (length front) e First)
@@ -160,12 +187,15 @@ all_tell stack front (e ∷ es) =
     let both = length-append front (e ∷ []) in both ∙ (omega arith) in
     let more : AllByRecursion (TellsEntry (front ++ e ∷ es)) (due_from stack (suc (length front)) es) =
     subst (λ n. AllByRecursion (TellsEntry (front ++ e ∷ es)) (due_from stack n es)) count
-    (subst (λ all. AllByRecursion (TellsEntry all) (due_from stack (length (front ++ e ∷ [])) es)) (append_assoc front (e ∷ []) es)
+    (subst (λ all. AllByRecursion (TellsEntry all) (due_from stack (length (front ++ e ∷ [])) es))
+    (append_assoc front (e ∷ []) es)
     (all_tell stack (front ++ e ∷ []) es)) in
     all_join (TellsEntry (front ++ e ∷ es)) (firsts ++ seconds) (due_from stack (suc (length front)) es)
-    (all_join (TellsEntry (front ++ e ∷ es)) firsts seconds (one_tells front e es First _) (one_tells front e es Second _)) more
+    (all_join (TellsEntry (front ++ e ∷ es)) firsts seconds (one_tells front e es First _)
+    (one_tells front e es Second _)) more
 
-may_replace : (stack : List LayerTree) (due : List Due) (traces : List (List Operation)) → AllByRecursion (TellsEntry (entries_of stack)) due →
+may_replace : (stack : List LayerTree) (due : List Due) (traces : List (List Operation)) →
+    AllByRecursion (TellsEntry (entries_of stack)) due →
     AllZip (InForm stack) due traces → AllZip SameActs due traces → AllZip (MayReplace stack) due traces
 may_replace stack [] [] tells form same = tt
 may_replace stack [] (t ∷ ts) tells form same = absurd form
@@ -181,7 +211,8 @@ may_replace stack (d ∷ due) (t ∷ ts) tells form same = (
 )
 
 pub accepted_may_replace : AcceptedMayReplace
-accepted_may_replace stack text file = may_replace stack (due_of stack) file.traces (all_tell stack [] (entries_of stack))
+accepted_may_replace stack text file =
+    may_replace stack (due_of stack) file.traces (all_tell stack [] (entries_of stack))
     (what_is_read_is_in_form stack text file.traces file.read) file.same
 
 -- the own traces in their own place
@@ -194,8 +225,10 @@ chosen_own trace = go (nat_le (trace_joins trace) (trace_joins trace)) where
 abbrev owns : List Due → List (List Operation)
 owns due = map (λ d. d.own) due
 
-refilled : (n : ℕ) (e : Entry) (case : Case) (s : Result Shape NoShape) (r : Result (List Operation) NoShape) (rest : List (List Operation)) →
-    filled (made_with simplest (lack_of s) r) (owns (option_to_list (option_map (due_with n e case) (within_limit s r))) ++ rest) ≡
+refilled : (n : ℕ) (e : Entry) (case : Case) (s : Result Shape NoShape) (r : Result (List Operation) NoShape)
+    (rest : List (List Operation)) →
+    filled (made_with simplest (lack_of s) r)
+    (owns (option_to_list (option_map (due_with n e case) (within_limit s r))) ++ rest) ≡
     (made_with simplest (lack_of s) r, rest)
 refilled n e case (Err reason) r rest = refl
 refilled n e case (Ok s) (Err reason) rest = go (nat_le s.length longest_shape) where
@@ -234,16 +267,23 @@ module _ (stack : List LayerTree) where
       record { made = map (made_of simplest First stack) es; second = map (second_of simplest stack) es }
   entries_refilled n [] = refl
   entries_refilled n (e ∷ es) =
-      let firsts = option_to_list (option_map (due_with n e First) (within_limit (shape stack e.known First) (trace_of First stack e.known e.fields))) in
-      let seconds = option_to_list (option_map (due_with n e Second) (within_limit (shape stack e.known Second) (trace_of Second stack e.known e.fields))) in
+      let firsts = option_to_list
+      (option_map (due_with n e First)
+      (within_limit (shape stack e.known First) (trace_of First stack e.known e.fields))) in
+      let seconds = option_to_list
+      (option_map (due_with n e Second)
+      (within_limit (shape stack e.known Second) (trace_of Second stack e.known e.fields))) in
       let more = due_from stack (suc n) es in
       let split : owns (firsts ++ seconds ++ more) ≡ owns firsts ++ (owns seconds ++ owns more) =
-      map-append (λ (d : Due). d.own) (firsts ++ seconds) more ∙ ap (λ l. l ++ owns more) (map-append (λ (d : Due). d.own) firsts seconds) ∙
+      map-append (λ (d : Due). d.own) (firsts ++ seconds) more ∙
+      ap (λ l. l ++ owns more) (map-append (λ (d : Due). d.own) firsts seconds) ∙
       append_assoc (owns firsts) (owns seconds) (owns more) in
-      let first_is = refilled n e First (shape stack e.known First) (trace_of First stack e.known e.fields) (owns seconds ++ owns more) in
+      let first_is = refilled n e First (shape stack e.known First) (trace_of First stack e.known e.fields)
+      (owns seconds ++ owns more) in
       let second_is = second_refilled n e (owns more) (has_second_case stack e.known) in
       ap (λ ts. from_entries stack (e ∷ es) ts) split ∙
-      ap (λ (q : Made × List (List Operation)). with_filled es q.0 (second_filled (second_of simplest stack e) q.1)) first_is ∙
+      ap (λ (q : Made × List (List Operation)). with_filled es q.0 (second_filled (second_of simplest stack e) q.1))
+      first_is ∙
       ap (λ (q : Option Made × List (List Operation)). with_filled es (made_of simplest First stack e) q) second_is ∙
       ap (λ b. with_entry (made_of simplest First stack e) (second_of simplest stack e) b) (entries_refilled (suc n) es)
 

@@ -1,5 +1,7 @@
 -- The names that lines spell were made before, and are there.
-use Rattle.std.proofs.Common.{◌≡◌, ℕ, ◌<◌, Bool, true, false, nat_lt, List, [], ◌∷◌, ◌++◌, map, length, slice_get, slice_index_or, Option, Some, None, option_map, option_and_then, unwrap_or, codes, bytes_eq, refl, sym, ap, ◌∙◌, subst, inl, inr, ltb-true}
+use Rattle.std.proofs.Common.{◌≡◌, ℕ, ◌<◌, Bool, true, false, nat_lt, List, [], ◌∷◌, ◌++◌, map, length, slice_get}
+use Rattle.std.proofs.Common.{slice_index_or, Option, Some, None, option_map, option_and_then, unwrap_or, codes}
+use Rattle.std.proofs.Common.{bytes_eq, refl, sym, ap, ◌∙◌, subst, inl, inr, ltb-true}
 use Rattle.std.specs.Prelude.{if◌then◌else◌}
 use Rattle.std.proofs.Math.ListN.{get_or-map}
 use Rattle.std.proofs.lemmas.List.{length-map, map-append}
@@ -7,18 +9,26 @@ use Rattle.layer_ast.specs.declared.syntax.Shape.TheVariants.{One, Array, Square
 use Rattle.layer_mean.specs.Tree.{CellTree, Form, ItemsTree, LayerTree, numbers, queue, queues}
 use Rattle.script_mean.specs.Words.{number_of}
 use Rattle.file_laws.specs.Named.{shape_in, alone_in, among_in}
-use Rattle.trace_mean.specs.Trace.{Atom, number, peer, field, bound, Core, body, noted, nothing, Operation, bind, note, check, set, set_square, push, take, output}
+use Rattle.trace_mean.specs.Trace.{Atom, number, peer, field, bound, Core, body, noted, nothing, Operation, bind, note}
+use Rattle.trace_mean.specs.Trace.{check, set, set_square, push, take, output}
 use Rattle.trace_mean.specs.Fuse.{form_at, items_of}
 use Rattle.trace_form_laws.specs.Closed.{Reach, AtomIsMade, CoreIsMade, IsMade, reaching}
 use Rattle.trace_form_laws.specs.There.{IsThere}
 use Rattle.bypass_mean.specs.Text.{layer_of}
-use Rattle.pack_mean.specs.Named.{Named, items_in, no_items, items_at, naming, below, place_of, row_number, row_message, atom_named, core_named, cell_named}
+use Rattle.pack_mean.specs.Named.{Named, items_in, no_items, items_at, naming, below, place_of, row_number, row_message}
+use Rattle.pack_mean.specs.Named.{atom_named, core_named, cell_named}
 use Rattle.pack_laws.proofs.Readers.{through, some_same}
 use Rattle.pack_laws.proofs.Form.{FormNames, Spelled, some_mapped, place_below}
 
 -- what there is, where so much may be named
 abbrev pub reach_of : Named → Reach
-reach_of s = record { fields = s.fields; binds = s.binds; notes = s.notes; rows = map (λ items. length items.numbers) s.rows }
+reach_of s = record {
+  fields = s.fields;
+  binds = s.binds;
+  notes = s.notes;
+  rows =
+      map (λ items. length items.numbers) s.rows;
+}
 
 pub below_limit : (limit : ℕ) (word : List ℕ) (n : ℕ) → below limit word ≡ Some n → n < limit
 below_limit limit word n is = through _ (number_of word) _ is (λ m m_is is1. go m (nat_lt m limit) refl is1) where
@@ -27,19 +37,25 @@ below_limit limit word n is = through _ (number_of word) _ is (λ m m_is is1. go
   go m false e k = absurd (cc k)
 
 module _ (stack : List LayerTree) (s : Named) where
-  one_word : (word : List ℕ) (a : Atom) (b : Bool) → (if b then Some peer else option_map number (number_of word)) ≡ Some a → AtomIsMade (reach_of s) a
+  one_word : (word : List ℕ) (a : Atom) (b : Bool) → (if b then Some peer else option_map number (number_of word)) ≡
+      Some a → AtomIsMade (reach_of s) a
   one_word word a true is = some_same (AtomIsMade (reach_of s)) is tt
   one_word word a false is = some_mapped (AtomIsMade (reach_of s)) number (number_of word) (λ n n_is. tt) a is
 
   two_words : (k : List ℕ) (a : Atom) (b c : Bool) →
-      (if b then option_map field (below s.fields k) else if c then option_map bound (below s.binds k) else None) ≡ Some a → AtomIsMade (reach_of s) a
-  two_words k a true c is = some_mapped (AtomIsMade (reach_of s)) field (below s.fields k) (λ n n_is. below_limit s.fields k n n_is) a is
-  two_words k a false true is = some_mapped (AtomIsMade (reach_of s)) bound (below s.binds k) (λ n n_is. below_limit s.binds k n n_is) a is
+      (if b then option_map field (below s.fields k) else if c then option_map bound (below s.binds k) else None) ≡
+      Some a → AtomIsMade (reach_of s) a
+  two_words k a true c is = some_mapped (AtomIsMade (reach_of s)) field (below s.fields k)
+      (λ n n_is. below_limit s.fields k n n_is) a is
+  two_words k a false true is = some_mapped (AtomIsMade (reach_of s)) bound (below s.binds k)
+      (λ n n_is. below_limit s.binds k n n_is) a is
   two_words k a false false is = absurd (cc is)
 
-  three_words : (row name : List ℕ) (a : Atom) (b : Bool) → (if b then row_number s row name else None) ≡ Some a → AtomIsMade (reach_of s) a
+  three_words : (row name : List ℕ) (a : Atom) (b : Bool) → (if b then row_number s row name else None) ≡ Some a →
+      AtomIsMade (reach_of s) a
   three_words row name a true is = through _ (below (length s.rows) row) _ is (λ r r_is is1.
-      through _ (place_of name (slice_index_or s.rows r no_items).numbers) _ is1 (λ k k_is is2. some_same (AtomIsMade (reach_of s)) is2
+      through _ (place_of name (slice_index_or s.rows r no_items).numbers) _ is1
+      (λ k k_is is2. some_same (AtomIsMade (reach_of s)) is2
       (subst (λ n. k < n) (sym (get_or-map (λ (items : ItemsTree). length items.numbers) s.rows r no_items))
       (place_below name (slice_index_or s.rows r no_items).numbers k k_is))))
   three_words row name a false is = absurd (cc is)
@@ -51,19 +67,24 @@ module _ (stack : List LayerTree) (s : Named) where
   atom_is_made (kind ∷ row ∷ name ∷ []) a is = three_words row name a (bytes_eq kind (codes "row")) is
   atom_is_made (kind ∷ row ∷ name ∷ more ∷ words) a is = absurd (cc is)
 
-  no_number : (c : Core) (b e : Bool) → (if b then Some body else if e then Some nothing else None) ≡ Some c → CoreIsMade (reach_of s) c
+  no_number : (c : Core) (b e : Bool) → (if b then Some body else if e then Some nothing else None) ≡ Some c →
+      CoreIsMade (reach_of s) c
   no_number c true e is = some_same (CoreIsMade (reach_of s)) is tt
   no_number c false true is = some_same (CoreIsMade (reach_of s)) is tt
   no_number c false false is = absurd (cc is)
 
   of_row : (row : List ℕ) (c : Core) → row_message s row ≡ Some c → CoreIsMade (reach_of s) c
   of_row row c is = through _ (below (length s.rows) row) _ is (λ r r_is is1.
-      through _ ((slice_index_or s.rows r no_items).message) _ is1 (λ m m_is is2. some_same (CoreIsMade (reach_of s)) is2
-      (subst (λ n. r < n) (sym (length-map s.rows (λ (items : ItemsTree). length items.numbers))) (below_limit (length s.rows) row r r_is))))
+      through _ ((slice_index_or s.rows r no_items).message) _ is1
+      (λ m m_is is2. some_same (CoreIsMade (reach_of s)) is2
+      (subst (λ n. r < n) (sym (length-map s.rows (λ (items : ItemsTree). length items.numbers)))
+      (below_limit (length s.rows) row r r_is))))
 
-  a_count : (k : List ℕ) (c : Core) (b e : Bool) → (if b then option_map noted (below s.notes k) else if e then row_message s k else None) ≡ Some c →
+  a_count : (k : List ℕ) (c : Core) (b e : Bool) →
+      (if b then option_map noted (below s.notes k) else if e then row_message s k else None) ≡ Some c →
       CoreIsMade (reach_of s) c
-  a_count k c true e is = some_mapped (CoreIsMade (reach_of s)) noted (below s.notes k) (λ n n_is. below_limit s.notes k n n_is) c is
+  a_count k c true e is = some_mapped (CoreIsMade (reach_of s)) noted (below s.notes k)
+      (λ n n_is. below_limit s.notes k n n_is) c is
   a_count k c false true is = of_row k c is
   a_count k c false false is = absurd (cc is)
 
@@ -98,17 +119,21 @@ module _ (stack : List LayerTree) (s : Named) where
     cell_is = λ name cell is. made_form cell.0 cell.1 (form_at (layer_of stack cell.0) cell.1) (at_place name cell is);
   }
 
-  form_in : {A : Type 0} (f : Form → Option A) (o : Option CellTree) (form : Form) → option_map (λ cell. cell.form) o ≡ Some form →
+  form_in : {A : Type 0} (f : Form → Option A) (o : Option CellTree) (form : Form) → option_map (λ cell. cell.form) o ≡
+      Some form →
       option_and_then (λ cell. f cell.form) o ≡ f form
   form_in f None form is = absurd (cc is)
   form_in f (Some cell) form is = some_same (λ x. f cell.form ≡ f x) is refl
 
-  there_form : (p c : ℕ) (form : Option Form) → form_at (layer_of stack p) c ≡ form → FormNames stack (IsThere stack) p c form
+  there_form : (p c : ℕ) (form : Option Form) → form_at (layer_of stack p) c ≡ form →
+      FormNames stack (IsThere stack) p c form
   there_form p c None is = tt
-  there_form p c (Some (numbers One initial)) is = inl (form_in shape_in (slice_get (layer_of stack p).cells c) (numbers One initial) is, refl)
+  there_form p c (Some (numbers One initial)) is =
+      inl (form_in shape_in (slice_get (layer_of stack p).cells c) (numbers One initial) is, refl)
   there_form p c (Some (numbers Array initial)) is =
       λ e. inr (form_in shape_in (slice_get (layer_of stack p).cells c) (numbers Array initial) is)
-  there_form p c (Some (numbers Square initial)) is = form_in shape_in (slice_get (layer_of stack p).cells c) (numbers Square initial) is
+  there_form p c (Some (numbers Square initial)) is = form_in shape_in
+      (slice_get (layer_of stack p).cells c) (numbers Square initial) is
   there_form p c (Some (queue capacity items)) is =
       let listed = form_in alone_in (slice_get (layer_of stack p).cells c) (queue capacity items) is in (
         record { items = items; listed = inl (listed, refl) },

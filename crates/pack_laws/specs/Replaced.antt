@@ -16,7 +16,8 @@ use Rattle.pack_mean.specs.Accepted.{Accepts}
 abbrev pub chosen : (own trace : List Operation) → List Operation
 chosen own trace = if nat_le (trace_joins trace) (trace_joins own) then trace else own
 
--- What is made of a case with the first of a file's traces, and the traces behind that. Where nothing is made none is due.
+-- What is made of a case with the first of a file's traces, and the traces behind that. Where nothing is made none is
+-- due.
 abbrev pub filled : Made → List (List Operation) → Made × List (List Operation)
 filled (fused own guarded) [] = (fused own guarded, [])
 filled (fused own guarded) (trace ∷ traces) = (fused (chosen own trace) (simplest (chosen own trace)), traces)
@@ -41,14 +42,17 @@ from_entries stack (e ∷ es) traces =
 abbrev pub from_file : List LayerTree → List (List Operation) → Bypasses
 from_file stack traces = from_entries stack (entries_of stack) traces
 
--- A trace of a file may be run in place of the own one of its case, whose entry is given by its number, where it joins no more.
+-- A trace of a file may be run in place of the own one of its case, whose entry is given by its number, where it joins
+-- no more.
 abbrev pub MayReplace : List LayerTree → Due → List Operation → Type 0
-MayReplace stack d trace = (e : Entry) → slice_get (entries_of stack) d.entry ≡ Some e → trace_joins trace ≤ trace_joins d.own →
+MayReplace stack d trace = (e : Entry) → slice_get (entries_of stack) d.entry ≡ Some e →
+    trace_joins trace ≤ trace_joins d.own →
     Replaces stack e d.own trace
 
 -- Of a file that is accepted all may.
 abbrev pub AcceptedMayReplace : Type 0
-AcceptedMayReplace = (stack : List LayerTree) (text : List ℕ) (file : Accepts stack text) → AllZip (MayReplace stack) (due_of stack) file.traces
+AcceptedMayReplace = (stack : List LayerTree) (text : List ℕ) (file : Accepts stack text) →
+    AllZip (MayReplace stack) (due_of stack) file.traces
 
 -- Its bypasses are the stack's.
 abbrev pub AcceptedAreOfStack : Type 0
@@ -57,4 +61,5 @@ AcceptedAreOfStack = (stack : List LayerTree) (text : List ℕ) → IsSound stac
 
 -- The stack's own traces give what is made of them.
 abbrev pub OwnTracesGiveOwn : Type 0
-OwnTracesGiveOwn = (stack : List LayerTree) → from_file stack (map (λ d. d.own) (due_of stack)) ≡ bypasses_of simplest stack
+OwnTracesGiveOwn = (stack : List LayerTree) → from_file stack (map (λ d. d.own) (due_of stack)) ≡
+    bypasses_of simplest stack

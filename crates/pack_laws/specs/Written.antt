@@ -12,7 +12,8 @@ use Rattle.pack_mean.specs.Operation.{operation_said}
 abbrev pub note_name : ℕ → List ℕ
 note_name n = codes "m." ++ decimal n
 
--- What may be named on a line behind others, as it is written: of each row what its numbers are called, of each note its name.
+-- What may be named on a line behind others, as it is written: of each row what its numbers are called, of each note
+-- its name.
 abbrev pub written_with : List (List ℕ) → Named → Written
 written_with before s = record {
   binds = s.binds;
@@ -23,7 +24,8 @@ written_with before s = record {
 
 -- The line of any operation.
 abbrev pub line_with : List LayerTree → List (List ℕ) → Named → Operation → List ℕ
-line_with stack before s (note m) = codes "note " ++ note_name s.notes ++ codes " = " ++ message_text stack (written_with before s) m
+line_with stack before s (note m) = codes "note " ++ note_name s.notes ++ codes " = " ++
+    message_text stack (written_with before s) m
 line_with stack before s operation = line_of stack (written_with before s) operation
 
 abbrev pub WhatIsReadIsWrittenSo : Type 0

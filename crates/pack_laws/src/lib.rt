@@ -8,7 +8,8 @@ ghost use Rattle.pack_laws.specs.Form.{WhatIsReadIsInForm};
 ghost use Rattle.pack_laws.specs.Replaced.{AcceptedAreOfStack, AcceptedMayReplace, OwnTracesGiveOwn};
 ghost use Rattle.pack_laws.specs.Written.{WhatIsReadIsWrittenSo};
 
-/// The traces that are read of a file name only what was made before and what there is, and there is one for each case that is due.
+/// The traces that are read of a file name only what was made before and what there is, and there is one for each case
+/// that is due.
 pub fn what_is_read_is_in_form()
     ensures { WhatIsReadIsInForm }
 {}

@@ -1,7 +1,8 @@
 //! Files of small stacks, read by evaluation: the functions here are empty.
 #![tactic(auto)]
 
-ghost use Rattle.pack_laws.specs.Samples.{CounterIsRead, MessagesAreRead, NumbersAreRead, OperationsAreRead, OperatorsAreRead, OthersAreRefused, SmallIsRead, SmallIsRefused};
+ghost use Rattle.pack_laws.specs.Samples.{CounterIsRead, MessagesAreRead, NumbersAreRead, OperationsAreRead};
+ghost use Rattle.pack_laws.specs.Samples.{OperatorsAreRead, OthersAreRefused, SmallIsRead, SmallIsRefused};
 
 /// A file of own traces.
 pub fn counter_is_read()

@@ -1,13 +1,16 @@
 -- How expressions of traces are read. Each bracket, round or square, goes one deeper.
-use Rattle.std.specs.Prelude.{ℕ, zero, suc, List, [], ◌∷◌, take, bytes_eq, codes, Option, Some, None, option_map, if◌then◌else◌}
+use Rattle.std.specs.Prelude.{ℕ, zero, suc, List, [], ◌∷◌, take, bytes_eq, codes, Option, Some, None, option_map}
+use Rattle.std.specs.Prelude.{if◌then◌else◌}
 use Rattle.layer_ast.specs.declared.syntax.Function.{Function}
 use Rattle.layer_ast.specs.declared.syntax.Shape.TheVariants.{One, Array, Square}
 use Rattle.layer_mean.specs.Tree.{Carried, Form, ItemsTree, LayerTree, numbers, queue, queues}
-use Rattle.trace_mean.specs.Trace.{Atom, number, Core, TraceNumber, atom, me, count, ltime, element, square, rows, item, size, binary, apply, pick, TraceMessage, core, held, cut, tail, join}
+use Rattle.trace_mean.specs.Trace.{Atom, number, Core, TraceNumber, atom, me, count, ltime, element, square, rows, item}
+use Rattle.trace_mean.specs.Trace.{size, binary, apply, pick, TraceMessage, core, held, cut, tail, join}
 use Rattle.trace_mean.specs.Fuse.{form_at}
 use Rattle.bypass_mean.specs.Text.{layer_of}
 use Rattle.pack_mean.specs.Reader.{Reader, ◌>>=◌, yields, given, nowhere, the_text, a_name, a_word}
-use Rattle.pack_mean.specs.Named.{Named, items_at, place_of, atom_named, core_named, cell_named, function_named, operator_named}
+use Rattle.pack_mean.specs.Named.{Named, items_at, place_of, atom_named, core_named, cell_named, function_named}
+use Rattle.pack_mean.specs.Named.{operator_named}
 
 -- A queue: its place, its number there, and its index.
 pub record QueueNamed : Type 0 where
@@ -51,7 +54,8 @@ a_cell stack inner name = do
 
 -- A queue, behind its name.
 abbrev pub index_of_queue : Inner → ℕ → ℕ → Option Form → Reader QueueNamed
-index_of_queue inner p c (Some (queue capacity items)) = yields (record { place = p; cell = c; index = atom (number 0) })
+index_of_queue inner p c (Some (queue capacity items)) =
+    yields (record { place = p; cell = c; index = atom (number 0) })
 index_of_queue inner p c (Some (queues capacity items)) = do
   index ← an_index inner
   yields (record { place = p; cell = c; index = index })
@@ -63,7 +67,8 @@ queue_with stack inner = do
   cell ← given (cell_named stack name)
   index_of_queue inner cell.0 cell.1 (form_at (layer_of stack cell.0) cell.1)
 
--- `len(QUEUE)`, `at(QUEUE,ROW).NAME`, `size(MESSAGE)`, `pick(CONDITION,FIRST,SECOND)` and `FUNCTION(NUMBER)`, behind their word.
+-- `len(QUEUE)`, `at(QUEUE,ROW).NAME`, `size(MESSAGE)`, `pick(CONDITION,FIRST,SECOND)` and `FUNCTION(NUMBER)`, behind
+-- their word.
 abbrev pub a_length : Inner → Reader TraceNumber
 a_length inner = do
   _ ← the_text (codes "(")
@@ -72,7 +77,8 @@ a_length inner = do
   yields (rows q.place q.cell q.index)
 
 abbrev pub item_named : List LayerTree → QueueNamed → TraceNumber → List (List ℕ) → Option TraceNumber
-item_named stack q row (name ∷ []) = option_map (item q.place q.cell q.index row) (place_of name (items_at stack q.place q.cell).numbers)
+item_named stack q row (name ∷ []) =
+    option_map (item q.place q.cell q.index row) (place_of name (items_at stack q.place q.cell).numbers)
 item_named stack q row _ = None
 
 abbrev pub an_item : List LayerTree → Inner → Reader TraceNumber

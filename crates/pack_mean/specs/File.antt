@@ -1,5 +1,6 @@
 -- Which traces a file holds, or its first line that is out of form.
-use Rattle.std.specs.Prelude.{ℕ, zero, suc, ◌+◌, not, nat_le, List, [], ◌∷◌, ◌++◌, bytes_eq, codes, is_some, Option, Some, None, option_map, option_to_list, Result, Ok, Err, if◌then◌else◌}
+use Rattle.std.specs.Prelude.{ℕ, zero, suc, ◌+◌, not, nat_le, List, [], ◌∷◌, ◌++◌, bytes_eq, codes, is_some, Option}
+use Rattle.std.specs.Prelude.{Some, None, option_map, option_to_list, Result, Ok, Err, if◌then◌else◌}
 use Rattle.std.specs.List.{count_by}
 use Rattle.std.specs.Fmt.{decimal}
 use Rattle.audit_mean.specs.Report.{◌>>=◌, in_form}
@@ -25,7 +26,8 @@ within_limit _ _ = None
 abbrev pub own_trace : List LayerTree → Entry → Case → Option (List Operation)
 own_trace stack e case = within_limit (shape stack e.known case) (trace_of case stack e.known e.fields)
 
--- A case that a file of the stack has to hold: the number of its entry, how many fields of that vary, and its own trace.
+-- A case that a file of the stack has to hold: the number of its entry, how many fields of that vary, and its own
+-- trace.
 pub record Due : Type 0 where
   pub entry : ℕ
   pub case : Case
@@ -65,8 +67,8 @@ heading entry case = codes "entry " ++ entry_name entry ++ codes " case " ++ dec
 abbrev pub most_operations : ℕ
 most_operations = 4096
 
--- Where in a file a line stands: in front of the first, behind it, in a case that may have so many operations more, or behind `end`; and
--- the cases that are still due.
+-- Where in a file a line stands: in front of the first, behind it, in a case that may have so many operations more, or
+-- behind `end`; and the cases that are still due.
 pub data Stage : Type 0 where
   opening : (due : List Due) → Stage
   idle : (due : List Due) → Stage
@@ -84,7 +86,8 @@ begun due = record { stage = opening due; held = []; traces = [] }
 
 -- The line with which the next case begins, or behind the last the file ends.
 abbrev pub next_case : List Due → List (List Operation) → List ℕ → Option Reading
-next_case [] traces line = if bytes_eq line (codes "end") then Some (record { stage = ended; held = []; traces = traces }) else None
+next_case [] traces line =
+    if bytes_eq line (codes "end") then Some (record { stage = ended; held = []; traces = traces }) else None
 next_case (d ∷ due) traces line = if bytes_eq line (heading d.entry d.case)
     then Some (record { stage = within due (nothing_named d.fields) most_operations; held = []; traces = traces })
     else None
@@ -94,7 +97,8 @@ abbrev pub with_operation : List LayerTree → List Due → Named → ℕ → Re
 with_operation stack due s left r (note m) =
     Some (record r { stage = within due (naming stack s (note m)) left; held = r.held ++ note m ∷ [] })
 with_operation stack due s zero r o = None
-with_operation stack due s (suc left) r o = Some (record r { stage = within due (naming stack s o) left; held = r.held ++ o ∷ [] })
+with_operation stack due s (suc left) r o =
+    Some (record r { stage = within due (naming stack s o) left; held = r.held ++ o ∷ [] })
 
 abbrev pub operation_line : List LayerTree → List Due → Named → ℕ → Reading → Option Operation → Option Reading
 operation_line stack due s left r None = None
@@ -106,13 +110,15 @@ case_line stack due s left r line (Some next) = Some next
 case_line stack due s left r line None = operation_line stack due s left r (operation_said stack s line)
 
 abbrev pub first_line : List Due → List ℕ → Option Reading
-first_line due line = if bytes_eq line (codes "bypasses 1") then Some (record { stage = idle due; held = []; traces = [] }) else None
+first_line due line =
+    if bytes_eq line (codes "bypasses 1") then Some (record { stage = idle due; held = []; traces = [] }) else None
 
 -- What is read with a line more, if it is in form.
 abbrev pub line_read : List LayerTree → Reading → Stage → List ℕ → Option Reading
 line_read stack r (opening due) line = first_line due line
 line_read stack r (idle due) line = next_case due r.traces line
-line_read stack r (within due s left) line = case_line stack due s left r line (next_case due (r.traces ++ r.held ∷ []) line)
+line_read stack r (within due s left) line =
+    case_line stack due s left r line (next_case due (r.traces ++ r.held ∷ []) line)
 line_read stack r ended line = None
 
 -- A file may end behind `end` alone; else that is missing.
@@ -120,7 +126,8 @@ abbrev pub traces_at_end : Stage → ℕ → List (List Operation) → Result (L
 traces_at_end ended number traces = Ok traces
 traces_at_end _ number traces = Err number
 
--- The traces of the lines from this number on, or the number of the first that is out of form; where `end` is missing that is one past the last.
+-- The traces of the lines from this number on, or the number of the first that is out of form; where `end` is missing
+-- that is one past the last.
 abbrev pub traces_from : List LayerTree → Reading → ℕ → List (List ℕ) → Result (List (List Operation)) ℕ
 traces_from stack r number [] = traces_at_end r.stage number r.traces
 traces_from stack r number (line ∷ lines) = do

@@ -1,21 +1,25 @@
 -- What a line may name, and how names are spelled.
-use Rattle.std.specs.Prelude.{ℕ, ◌+◌, nat_lt, List, [], ◌∷◌, ◌++◌, length, map, slice_index_or, bytes_eq, codes, Option, Some, None, option_map, unwrap_or, if◌then◌else◌}
+use Rattle.std.specs.Prelude.{ℕ, ◌+◌, nat_lt, List, [], ◌∷◌, ◌++◌, length, map, slice_index_or, bytes_eq, codes, Option}
+use Rattle.std.specs.Prelude.{Some, None, option_map, unwrap_or, if◌then◌else◌}
 use Rattle.std.specs.List.{find, position}
 use Rattle.layer_ast.specs.declared.syntax.Function.{Function}
 use Rattle.layer_ast.specs.declared.syntax.Function.TheVariants.{Not, Bit, Count, Lowest}
 use Rattle.layer_ast.specs.declared.syntax.Operator.{Operator}
-use Rattle.layer_ast.specs.declared.syntax.Operator.TheVariants.{Add, Subtract, Multiply, Equal, NotEqual, Less, LessOrEqual, Greater, GreaterOrEqual, And, Or, BitAnd, BitOr, BitXor}
+use Rattle.layer_ast.specs.declared.syntax.Operator.TheVariants.{Add, Subtract, Multiply, Equal, NotEqual, Less}
+use Rattle.layer_ast.specs.declared.syntax.Operator.TheVariants.{LessOrEqual, Greater, GreaterOrEqual, And, Or, BitAnd}
+use Rattle.layer_ast.specs.declared.syntax.Operator.TheVariants.{BitOr, BitXor}
 use Rattle.layer_ast.specs.declared.tokens.Kind.{Kind}
 use Rattle.layer_ast.specs.Printed.{function_sign, operator_sign}
 use Rattle.layer_ast.specs.Spelling.{beside, kinds}
 use Rattle.script_mean.specs.Words.{◌>>=◌, number_of}
 use Rattle.layer_mean.specs.Tree.{Form, ItemsTree, LayerTree, queue, queues}
-use Rattle.trace_mean.specs.Trace.{Atom, number, peer, field, bound, taken_number, Core, body, noted, taken_message, nothing, Operation, bind, note, take}
+use Rattle.trace_mean.specs.Trace.{Atom, number, peer, field, bound, taken_number, Core, body, noted, taken_message}
+use Rattle.trace_mean.specs.Trace.{nothing, Operation, bind, note, take}
 use Rattle.trace_mean.specs.Fuse.{form_at}
 use Rattle.bypass_mean.specs.Text.{layer_of, sign_text}
 
--- What may be named on a line: so many variable fields, numbers bound before and messages noted before, and of each row taken before what
--- its queue's rows have.
+-- What may be named on a line: so many variable fields, numbers bound before and messages noted before, and of each row
+-- taken before what its queue's rows have.
 pub record Named : Type 0 where
   pub fields : ℕ
   pub binds : ℕ
@@ -68,7 +72,8 @@ row_message s row = do
   message ← (slice_index_or s.rows r no_items).message
   Some (taken_message r message.1)
 
--- The number that words with points between spell, if no cell is read for it: a literal, `peer`, `in.K`, `t.K`, `row.K.NAME`.
+-- The number that words with points between spell, if no cell is read for it: a literal, `peer`, `in.K`, `t.K`,
+-- `row.K.NAME`.
 abbrev pub atom_named : Named → List (List ℕ) → Option Atom
 atom_named s (word ∷ []) = if bytes_eq word (codes "peer") then Some peer else option_map number (number_of word)
 atom_named s (kind ∷ k ∷ []) =
@@ -112,7 +117,8 @@ function_named (word ∷ []) = find (λ f. bytes_eq word (sign_text (function_si
 function_named _ = None
 
 abbrev pub operators : List Operator
-operators = Add ∷ Subtract ∷ Multiply ∷ Equal ∷ NotEqual ∷ Less ∷ LessOrEqual ∷ Greater ∷ GreaterOrEqual ∷ And ∷ Or ∷ BitAnd ∷ BitOr ∷ BitXor ∷ []
+operators = Add ∷ Subtract ∷ Multiply ∷ Equal ∷ NotEqual ∷ Less ∷ LessOrEqual ∷ Greater ∷ GreaterOrEqual ∷ And ∷ Or ∷
+    BitAnd ∷ BitOr ∷ BitXor ∷ []
 
 abbrev pub operator_named : List ℕ → Option Operator
 operator_named word = find (λ o. bytes_eq word (sign_text (operator_sign o))) operators

@@ -1,5 +1,6 @@
 -- How the operations of traces are read, each from a line of its own.
-use Rattle.std.specs.Prelude.{ℕ, zero, suc, ◌+◌, ◌==◌, List, [], ◌∷◌, ◌++◌, length, map, take, replicate, bytes_eq, codes, Option, Some, None, if◌then◌else◌}
+use Rattle.std.specs.Prelude.{ℕ, zero, suc, ◌+◌, ◌==◌, List, [], ◌∷◌, ◌++◌, length, map, take, replicate, bytes_eq}
+use Rattle.std.specs.Prelude.{codes, Option, Some, None, if◌then◌else◌}
 use Rattle.std.specs.Fmt.{decimal}
 use Rattle.layer_ast.specs.declared.tokens.Dir.{Dir}
 use Rattle.layer_ast.specs.declared.tokens.Dir.TheVariants.{Up, Down}
@@ -10,10 +11,12 @@ use Rattle.layer_mean.specs.Headers.{header_none}
 use Rattle.layer_mean.specs.Tree.{Carried, LayerTree}
 use Rattle.msg_core.specs.Headers.{most_fields}
 use Rattle.trace_mean.specs.Trace as trace
-use Rattle.trace_mean.specs.Trace.{Atom, Core, TraceNumber, element, square, Link, Chained, Operation, bind, note, check, set, set_square, push, output}
+use Rattle.trace_mean.specs.Trace.{Atom, Core, TraceNumber, element, square, Link, Chained, Operation, bind, note}
+use Rattle.trace_mean.specs.Trace.{check, set, set_square, push, output}
 use Rattle.trace_mean.specs.Fuse.{fields_of}
 use Rattle.bypass_mean.specs.Text.{layer_of, sign_text}
-use Rattle.pack_mean.specs.Reader.{Reader, ◌>>=◌, yields, given, nowhere, the_text, a_name, a_word, whole, each_of, more_of}
+use Rattle.pack_mean.specs.Reader.{Reader, ◌>>=◌, yields, given, nowhere, the_text, a_name, a_word, whole, each_of}
+use Rattle.pack_mean.specs.Reader.{more_of}
 use Rattle.pack_mean.specs.Named.{Named, items_at, place_of, atom_named, core_named, kind_named}
 use Rattle.pack_mean.specs.Expression.{QueueNamed, inside, most_brackets, a_cell, a_number, a_message, a_queue}
 
@@ -43,7 +46,8 @@ a_link stack s place = do
   _ ← the_text (codes ")")
   yields (record { place = place; tag = tag; fields = fields })
 
--- Known headers, with `/` between: they stand at places one above the other, the first at this one. There are no more than places.
+-- Known headers, with `/` between: they stand at places one above the other, the first at this one. There are no more
+-- than places.
 abbrev pub links_behind : List LayerTree → Named → ℕ → ℕ → Reader (List Link)
 links_behind stack s place zero text = Some ([], text)
 links_behind stack s place (suc left) [] = Some ([], [])
@@ -72,12 +76,14 @@ a_chained stack s place = do
   chain ← a_chain stack s place
   yields (record { chain = chain; core = c })
 
--- The message of a row to be pushed, where its queue's rows have one: it stands behind their numbers, and a comma where there are some.
+-- The message of a row to be pushed, where its queue's rows have one: it stands behind their numbers, and a comma where
+-- there are some.
 abbrev pub comma_behind : List (List ℕ) → Reader (Unit {0})
 comma_behind [] = yields tt
 comma_behind (name ∷ names) = the_text (codes ",")
 
-abbrev pub row_message : List LayerTree → Named → ℕ → List (List ℕ) → Option (List ℕ × Carried) → Reader (Option Chained)
+abbrev pub row_message : List LayerTree → Named → ℕ → List (List ℕ) → Option (List ℕ × Carried) →
+    Reader (Option Chained)
 row_message stack s place names None = yields None
 row_message stack s place names (Some carried) = do
   _ ← comma_behind names
@@ -102,7 +108,8 @@ a_last s name = do
 
 -- What follows behind a comma, if one stands here.
 abbrev pub or_no_more : Reader Sent → Reader Sent
-or_no_more more text = if bytes_eq (take 1 text) (codes ",") then (the_text (codes ",") >>= λ _. more) text else Some (nothing_sent, text)
+or_no_more more text = if bytes_eq (take 1 text) (codes ",") then (the_text (codes ",") >>= λ _. more) text else Some
+    (nothing_sent, text)
 
 -- What a name is, and what follows it: behind a number there may be more.
 abbrev pub sent_by : Named → Reader Sent → List (List ℕ) → Option Atom → Reader Sent
@@ -121,7 +128,8 @@ sent_within s (suc left) = do
   sent_by s (sent_within s left) name (atom_named s name)
 
 abbrev pub what_is_sent : Named → Reader Sent
-what_is_sent s text = if bytes_eq (take 1 text) (codes ")") then Some (nothing_sent, text) else sent_within s most_fields text
+what_is_sent s text = if bytes_eq (take 1 text) (codes ")") then Some (nothing_sent, text) else sent_within
+    s most_fields text
 
 -- Its message, with its known headers behind the bracket.
 abbrev pub chained_behind : List LayerTree → Named → Option Core → Reader (Option Chained)
@@ -174,7 +182,8 @@ a_push stack s = do
   q ← a_queue stack s
   _ ← the_text (codes " (")
   numbers ← each_of (a_number stack s) (items_at stack q.place q.cell).numbers
-  message ← row_message stack s (q.place + 1) (items_at stack q.place q.cell).numbers (items_at stack q.place q.cell).message
+  message ← row_message stack s (q.place + 1) (items_at stack q.place q.cell).numbers
+      (items_at stack q.place q.cell).message
   _ ← the_text (codes ")")
   yields (push q.place q.cell q.index numbers message)
 

@@ -1,5 +1,6 @@
 -- Readers: what has to stand at the front of a text, one after the other.
-use Rattle.std.specs.Prelude.{ℕ, ◌==◌, ◌||◌, Bool, not, List, ◌∷◌, [], length, take, drop, bytes_eq, codes, Option, Some, None, option_and_then, option_map, if◌then◌else◌}
+use Rattle.std.specs.Prelude.{ℕ, ◌==◌, ◌||◌, Bool, not, List, ◌∷◌, [], length, take, drop, bytes_eq, codes, Option}
+use Rattle.std.specs.Prelude.{Some, None, option_and_then, option_map, if◌then◌else◌}
 use Rattle.std.specs.List.{position_or_len, slice_split}
 use Rattle.layer_ast.specs.Spelling.{is_word_byte}
 
@@ -26,7 +27,8 @@ nowhere text = None
 
 -- These very bytes.
 abbrev pub the_text : List ℕ → Reader (Unit {0})
-the_text wanted text = if bytes_eq (take (length wanted) text) wanted then Some (tt, drop (length wanted) text) else None
+the_text wanted text = if bytes_eq (take (length wanted) text) wanted then Some (tt, drop (length wanted) text) else
+    None
 
 -- The bytes up to the first that isn't such.
 abbrev pub run_of : (ℕ → Bool) → Reader (List ℕ)

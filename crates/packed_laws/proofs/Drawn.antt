@@ -1,5 +1,6 @@
 -- Plans have as many fields as their headers have, so their entries fit.
-use Rattle.std.proofs.Common.{◌≡◌, ℕ, zero, suc, ◌+◌, ◌-◌, ◌≤◌, Bool, true, false, List, [], ◌∷◌, map, flat_map, length, Option, Some, None, refl, ◌∙◌, subst, arith}
+use Rattle.std.proofs.Common.{◌≡◌, ℕ, zero, suc, ◌+◌, ◌-◌, ◌≤◌, Bool, true, false, List, [], ◌∷◌, map, flat_map, length}
+use Rattle.std.proofs.Common.{Option, Some, None, refl, ◌∙◌, subst, arith}
 use Rattle.std.specs.Prelude.{◌==◌, nat_lt, if◌then◌else◌, Result, Ok, Err, option_map, option_to_list}
 use Rattle.std.specs.List.{AllByRecursion, enumerate_from, filter}
 use Rattle.std.specs.Option.{option_map_or}
@@ -10,18 +11,24 @@ use Rattle.layer_ast.specs.declared.tokens.Kind.{Kind}
 use Rattle.layer_ast.specs.declared.tokens.Kind.TheVariants as kind
 use Rattle.layer_mean.specs.declared.run.Case.{Case}
 use Rattle.layer_mean.specs.declared.run.Case.TheVariants.{First, Second}
-use Rattle.layer_mean.specs.Tree.{Carried, part, whole, MessageTree, message, nothing, held, cut, tail, join, ContentTree, EmissionTree, HandlerTree, LayerTree}
+use Rattle.layer_mean.specs.Tree.{Carried, part, whole, MessageTree, message, nothing, held, cut, tail, join}
+use Rattle.layer_mean.specs.Tree.{ContentTree, EmissionTree, HandlerTree, LayerTree}
 use Rattle.layer_mean.specs.Visit.{is_for, handler_for}
-use Rattle.layer_mean.specs.Way.{Step, test, fork, set_slot, set_number, set_square, put, get, send, loop, handler_way, way_length}
+use Rattle.layer_mean.specs.Way.{Step, test, fork, set_slot, set_number, set_square, put, get, send, loop, handler_way}
+use Rattle.layer_mean.specs.Way.{way_length}
 use Rattle.layer_mean.specs.Queue.{Task, Line, Turn, beyond, is_place, layer_at, tasks_of, next_of, run_for, taken_turn}
 use Rattle.layer_mean.specs.Marked.{Log, Logged, Marked, marked, marked_sent, marked_start}
 use Rattle.stack_mean.specs.Acceptance.{weight_limit}
-use Rattle.stack_mean.specs.Drawn.{DrawnHeader, DrawnMessage, chained, unknown, DrawnEvent, constant_of, drawn_row, drawn_message, Drawing, with_header, sent_headers, emission_headers, with_sent, with_taken, draw_step, draw_steps, DrawnVisit, drawn_met, drawn_on, drawn_unhandled, drawn_entered, drawn_way, drawn_handled, drawn_visit}
+use Rattle.stack_mean.specs.Drawn.{DrawnHeader, DrawnMessage, chained, unknown, DrawnEvent, constant_of, drawn_row}
+use Rattle.stack_mean.specs.Drawn.{drawn_message, Drawing, with_header, sent_headers, emission_headers, with_sent}
+use Rattle.stack_mean.specs.Drawn.{with_taken, draw_step, draw_steps, DrawnVisit, drawn_met, drawn_on, drawn_unhandled}
+use Rattle.stack_mean.specs.Drawn.{drawn_entered, drawn_way, drawn_handled, drawn_visit}
 use Rattle.stack_mean.specs.NoShape as no_shape
 use Rattle.stack_mean.specs.NoShape.{NoShape, drawn_from}
 use Rattle.stack_mean.specs.Plan.{Plan}
 use Rattle.stack_mean.specs.Plans.{is_packet, plan_of, outs_of, groups, packets_of, plans_of, plans_limit}
-use Rattle.stack_mean.specs.Shape.{Progress, visits_limit, drawn_turn, shaped_visit, shaper, undrawn, Known, entry_task, has_second_case, ShapeOut, shape_out, shape_with, drawn_shape, shape}
+use Rattle.stack_mean.specs.Shape.{Progress, visits_limit, drawn_turn, shaped_visit, shaper, undrawn, Known, entry_task}
+use Rattle.stack_mean.specs.Shape.{has_second_case, ShapeOut, shape_out, shape_with, drawn_shape, shape}
 use Rattle.weight_laws.proofs.Nodes.{found}
 use Rattle.chain_laws.specs.Runs.{IsOnItsWay, task_place}
 use Rattle.chain_laws.proofs.Lists.{Where, each_append, each_map, each_or, each_room, each_set, each_take}
@@ -67,7 +74,8 @@ module _ (stack : List LayerTree) where
   row_drawn place part = tt
   row_drawn place (whole blank) = tt
 
-  message_drawn : (place : ℕ) (scope : List DrawnMessage) (m : MessageTree) → AllByRecursion (MessageIs place) scope → MessageIs place (drawn_message scope m)
+  message_drawn : (place : ℕ) (scope : List DrawnMessage) (m : MessageTree) → AllByRecursion (MessageIs place) scope →
+      MessageIs place (drawn_message scope m)
   message_drawn place scope (message k) h = each_or (MessageIs place) scope k (chained []) h tt
   message_drawn place scope nothing h = tt
   message_drawn place scope (held c i row carried) h = row_drawn place carried
@@ -75,28 +83,39 @@ module _ (stack : List LayerTree) where
   message_drawn place scope (tail m from) h = message_drawn place scope m h
   message_drawn place scope (join p m) h = message_drawn place scope m h
 
-  taken_drawn : (place : ℕ) (slots : List ℕ) (slot : Option (ℕ × Carried)) (scope : List DrawnMessage) → AllByRecursion (MessageIs place) scope →
+  taken_drawn : (place : ℕ) (slots : List ℕ) (slot : Option (ℕ × Carried)) (scope : List DrawnMessage) →
+      AllByRecursion (MessageIs place) scope →
       AllByRecursion (MessageIs place) (with_taken (record { numbers = slots; message = slot }) scope)
   taken_drawn place slots None scope h = h
-  taken_drawn place slots (Some slot) scope h = each_set (MessageIs place) scope slot.0 (drawn_row slot.1) h (row_drawn place slot.1)
+  taken_drawn place slots (Some slot) scope h = each_set (MessageIs place) scope slot.0 (drawn_row slot.1) h
+      (row_drawn place slot.1)
 
   module _ (p : ℕ) where
-    header_drawn : (dir : Dir) (c : ContentTree) (headers : List DrawnHeader) → HeaderFits (layer_of stack p) dir c → Counts (p + 1) headers →
+    header_drawn : (dir : Dir) (c : ContentTree) (headers : List DrawnHeader) → HeaderFits (layer_of stack p) dir c →
+        Counts (p + 1) headers →
         Counts (sent_place p dir) (with_header dir c headers)
     header_drawn Up c headers fits h = h
     header_drawn Down c headers fits h = (length-map c.fields constant_of ∙ fits.1, h)
 
-    emission_drawn : (d : Drawing) (e : EmissionTree) (c : Option ContentTree) → SentContentFits (layer_of stack p) e.direction c → DrawingIs p d →
+    emission_drawn : (d : Drawing) (e : EmissionTree) (c : Option ContentTree) →
+        SentContentFits (layer_of stack p) e.direction c → DrawingIs p d →
         DrawnIs p (drawn_from (λ headers. Ok (with_sent d e headers)) (emission_headers p e.direction d.scope c))
     emission_drawn d e None fits h = record { scope = h.scope; sent = each_append _ d.sent _ h.sent (tt, tt) }
-    emission_drawn d e (Some c) fits h = go (drawn_message d.scope c.message) (message_drawn (p + 1) d.scope c.message h.scope) where
-      go : (m : DrawnMessage) → MessageIs (p + 1) m → DrawnIs p (drawn_from (λ headers. Ok (with_sent d e headers)) (sent_headers p e.direction c m))
-      go (chained headers) is =
-          record { scope = h.scope; sent = each_append _ d.sent _ h.sent (header_drawn e.direction c headers fits.header_fits is, tt) }
-      go unknown is = tt
+    emission_drawn d e (Some c) fits h =
+        go (drawn_message d.scope c.message) (message_drawn (p + 1) d.scope c.message h.scope) where
+          go : (m : DrawnMessage) → MessageIs (p + 1) m →
+              DrawnIs p (drawn_from (λ headers. Ok (with_sent d e headers)) (sent_headers p e.direction c m))
+          go (chained headers) is =
+              record {
+                scope = h.scope;
+                sent =
+                    each_append _ d.sent _ h.sent (header_drawn e.direction c headers fits.header_fits is, tt);
+              }
+          go unknown is = tt
 
     step_drawn : (x : Step) (d : Drawing) → StepFits (layer_of stack p) x → DrawingIs p d → DrawnIs p (draw_step p x d)
-    step_drawn (get c i taken) d fits h = record { scope = taken_drawn (p + 1) taken.numbers taken.message d.scope h.scope; sent = h.sent }
+    step_drawn (get c i taken) d fits h =
+        record { scope = taken_drawn (p + 1) taken.numbers taken.message d.scope h.scope; sent = h.sent }
     step_drawn (send e) d fits h = emission_drawn d e e.content fits.content_fits h
     step_drawn loop d fits h = tt
     step_drawn (test wanted e) d fits h = h
@@ -106,22 +125,28 @@ module _ (stack : List LayerTree) where
     step_drawn (set_square c row column e) d fits h = h
     step_drawn (put c i capacity row) d fits h = h
 
-    steps_drawn : (xs : List Step) (d : Drawing) → AllByRecursion (StepFits (layer_of stack p)) xs → DrawingIs p d → DrawnIs p (draw_steps p xs d)
+    steps_drawn : (xs : List Step) (d : Drawing) → AllByRecursion (StepFits (layer_of stack p)) xs → DrawingIs p d →
+        DrawnIs p (draw_steps p xs d)
     steps_drawn [] d fits h = h
-    steps_drawn (x ∷ xs) d fits h = go (draw_step p x d) (λ e is. steps_drawn xs e fits.1 is) (step_drawn x d fits.0 h) where
-      go : (r : Result Drawing NoShape) → ((e : Drawing) → DrawingIs p e → DrawnIs p (draw_steps p xs e)) → DrawnIs p r →
-          DrawnIs p (drawn_from (draw_steps p xs) r)
-      go (Ok e) so is = so e is
-      go (Err reason) so is = tt
+    steps_drawn (x ∷ xs) d fits h = go (draw_step p x d) (λ e is. steps_drawn xs e fits.1 is) (step_drawn x d fits.0 h)
+      where
+        go : (r : Result Drawing NoShape) → ((e : Drawing) → DrawingIs p e → DrawnIs p (draw_steps p xs e)) →
+            DrawnIs p r →
+            DrawnIs p (drawn_from (draw_steps p xs) r)
+        go (Ok e) so is = so e is
+        go (Err reason) so is = tt
 
-    way_drawn : (w : Option (List Step)) (d : Drawing) → WayFits (layer_of stack p) w → DrawingIs p d → VisitIs p (drawn_way p w d)
+    way_drawn : (w : Option (List Step)) (d : Drawing) → WayFits (layer_of stack p) w → DrawingIs p d →
+        VisitIs p (drawn_way p w d)
     way_drawn None d fits h = tt
     way_drawn (Some steps) d fits h = go (draw_steps p steps d) (steps_drawn steps d fits h) where
-      go : (r : Result Drawing NoShape) → DrawnIs p r → VisitIs p (drawn_from (λ e. Ok (record { sent = e.sent; length = way_length steps })) r)
+      go : (r : Result Drawing NoShape) → DrawnIs p r →
+          VisitIs p (drawn_from (λ e. Ok (record { sent = e.sent; length = way_length steps })) r)
       go (Ok e) is = is.sent
       go (Err reason) is = tt
 
-    unhandled_drawn : (dir : Dir) (e : DrawnEvent) (tag : ℕ) (headers : Option (List DrawnHeader)) → Where (Counts (p + 1)) headers →
+    unhandled_drawn : (dir : Dir) (e : DrawnEvent) (tag : ℕ) (headers : Option (List DrawnHeader)) →
+        Where (Counts (p + 1)) headers →
         VisitIs p (drawn_unhandled p dir e tag headers)
     unhandled_drawn dir e tag None h = (tt, tt)
     unhandled_drawn Down e tag (Some headers) h = ((refl, h), tt)
@@ -146,16 +171,24 @@ module _ (stack : List LayerTree) where
     met_drawn_is Up (Some (x ∷ xs)) h = h.1
     met_drawn_is Down (Some headers) h = h
 
-    visit_drawn : LayerFits (layer_of stack p) → (case : Case) (dir : Dir) (e : DrawnEvent) → EventIs (met_place dir) e →
+    visit_drawn : LayerFits (layer_of stack p) → (case : Case) (dir : Dir) (e : DrawnEvent) →
+        EventIs (met_place dir) e →
         VisitIs p (drawn_visit case p (layer_of stack p) dir e)
-    visit_drawn fits case dir e h = go (handler_for (layer_of stack p) dir e.kind (drawn_met dir e.headers).tag) refl (met_drawn_is dir e.headers h) where
-      go : (o : Option HandlerTree) → handler_for (layer_of stack p) dir e.kind (drawn_met dir e.headers).tag ≡ o →
-          Where (Counts (p + 1)) (drawn_met dir e.headers).headers → VisitIs p (drawn_handled case p o dir e (drawn_met dir e.headers))
-      go None is k = unhandled_drawn dir e (drawn_met dir e.headers).tag (drawn_met dir e.headers).headers k
-      go (Some x) is k =
-          let chosen = found (HandlerFits (layer_of stack p)) (is_for dir e.kind (drawn_met dir e.headers).tag) (layer_of stack p).handlers x fits is in
-          way_drawn (handler_way case x) (drawn_entered x (drawn_met dir e.headers).headers) (chosen.0 case)
-          (record { scope = each_room (MessageIs (p + 1)) x.messages (chained []) _ tt (entered_drawn (drawn_met dir e.headers).headers k); sent = tt })
+    visit_drawn fits case dir e h = go (handler_for (layer_of stack p) dir e.kind (drawn_met dir e.headers).tag) refl
+        (met_drawn_is dir e.headers h) where
+          go : (o : Option HandlerTree) → handler_for (layer_of stack p) dir e.kind (drawn_met dir e.headers).tag ≡ o →
+              Where (Counts (p + 1)) (drawn_met dir e.headers).headers →
+              VisitIs p (drawn_handled case p o dir e (drawn_met dir e.headers))
+          go None is k = unhandled_drawn dir e (drawn_met dir e.headers).tag (drawn_met dir e.headers).headers k
+          go (Some x) is k =
+              let chosen = found (HandlerFits (layer_of stack p)) (is_for dir e.kind (drawn_met dir e.headers).tag)
+              (layer_of stack p).handlers x fits is in
+              way_drawn (handler_way case x) (drawn_entered x (drawn_met dir e.headers).headers) (chosen.0 case)
+              (record {
+                scope = each_room (MessageIs (p + 1)) x.messages (chained []) _ tt
+                    (entered_drawn (drawn_met dir e.headers).headers k);
+                sent = tt;
+              })
 
   -- runs
   abbrev Progressed : Type 0
@@ -172,27 +205,39 @@ module _ (stack : List LayerTree) where
   abbrev OutsAre : List (Logged DrawnEvent) → Type 0
   OutsAre outs = AllByRecursion (λ x. OutIs x.dir x.marked.event) outs
 
-  task_drawn : (at visit n : ℕ) → 1 ≤ at → at ≤ length stack → (x : Dir × DrawnEvent) → EventIs (sent_place (at - 1) x.0) x.1 →
-      TaskIs (record { at = beyond x.0 at; dir = x.0; event = record { event = x.1; made_by = Some (record { visit = visit; emission = n }) } })
+  task_drawn : (at visit n : ℕ) → 1 ≤ at → at ≤ length stack → (x : Dir × DrawnEvent) →
+      EventIs (sent_place (at - 1) x.0) x.1 →
+      TaskIs (record {
+        at = beyond x.0 at;
+        dir = x.0;
+        event =
+            record { event = x.1; made_by = Some (record { visit = visit; emission = n }) };
+      })
   task_drawn at visit n low high (Up, e) h =
       let same : at - 1 + 1 ≡ at + 1 - 1 = omega (arith, low) in
       record { way = (omega arith, omega (arith, high)); event = subst (λ place. EventIs place e) same h }
   task_drawn at visit n low high (Down, e) h = record { way = omega (arith, high); event = h }
 
-  marked_drawn : (at visit n : ℕ) → 1 ≤ at → at ≤ length stack → (sent : List (Dir × DrawnEvent)) → SentAre (at - 1) sent →
+  marked_drawn : (at visit n : ℕ) → 1 ≤ at → at ≤ length stack → (sent : List (Dir × DrawnEvent)) →
+      SentAre (at - 1) sent →
       AllByRecursion TaskIs (tasks_of at
-      (map (λ x. (x.1.0, record { event = x.1.1; made_by = Some (record { visit = visit; emission = x.0 }) })) (enumerate_from n sent)))
+      (map (λ x. (x.1.0, record { event = x.1.1; made_by = Some (record { visit = visit; emission = x.0 }) }))
+      (enumerate_from n sent)))
   marked_drawn at visit n low high [] h = tt
-  marked_drawn at visit n low high (x ∷ xs) h = (task_drawn at visit n low high x h.0, marked_drawn at visit (n + 1) low high xs h.1)
+  marked_drawn at visit n low high (x ∷ xs) h =
+      (task_drawn at visit n low high x h.0, marked_drawn at visit (n + 1) low high xs h.1)
 
   module _ (case : Case) (fits : LayersFit stack) where
-    turn_drawn : (place : ℕ) (p : Progress) (r : Result DrawnVisit NoShape) → VisitIs place r → SentAre place (drawn_turn p r).sent
+    turn_drawn : (place : ℕ) (p : Progress) (r : Result DrawnVisit NoShape) → VisitIs place r →
+        SentAre place (drawn_turn p r).sent
     turn_drawn place p (Ok v) h = h
     turn_drawn place p (Err reason) h = tt
 
-    met_here : (dir : Dir) (at : ℕ) (e : DrawnEvent) → 1 ≤ at → EventIs (task_place dir at) e → EventIs (met_place (at - 1) dir) e
+    met_here : (dir : Dir) (at : ℕ) (e : DrawnEvent) → 1 ≤ at → EventIs (task_place dir at) e →
+        EventIs (met_place (at - 1) dir) e
     met_here Up at e low h = h
-    met_here Down at e low h = let same : at ≡ at - 1 + 1 = omega (arith, low) in subst (λ place. EventIs place e) same h
+    met_here Down at e low h = let same : at ≡ at - 1 + 1 = omega (arith, low) in
+        subst (λ place. EventIs place e) same h
 
     shaped_drawn : (at : ℕ) → 1 ≤ at → (dir : Dir) (e : DrawnEvent) (r : Progressed) → EventIs (task_place dir at) e →
         SentAre (at - 1) (shaped_visit case stack at dir e r).sent
@@ -201,8 +246,10 @@ module _ (stack : List LayerTree) where
       visit : Result DrawnVisit NoShape
       visit = drawn_visit case (at - 1) (layer_at stack at) dir e
 
-      go : (b : Bool) → SentAre (at - 1) (if b then drawn_turn p visit else record { world = Err no_shape.long; sent = [] }).sent
-      go true = turn_drawn (at - 1) p visit (visit_drawn (at - 1) (layers_fit_at stack (at - 1) fits) case dir e (met_here dir at e low h))
+      go : (b : Bool) → SentAre (at - 1)
+          (if b then drawn_turn p visit else record { world = Err no_shape.long; sent = [] }).sent
+      go true = turn_drawn (at - 1) p visit
+          (visit_drawn (at - 1) (layers_fit_at stack (at - 1) fits) case dir e (met_here dir at e low h))
       go false = tt
 
     out_drawn : (dir : Dir) (at : ℕ) (e : DrawnEvent) → IsOnItsWay stack dir at → is_place (length stack) at ≡ false →
@@ -210,10 +257,12 @@ module _ (stack : List LayerTree) where
     out_drawn Up at e way off h = tt
     out_drawn Down at e way off h = subst (λ place. EventIs place e) (under (length stack) at off way) h
 
-    next_drawn : (t : Task (Marked DrawnEvent)) (rest : List (Task (Marked DrawnEvent))) (log : Log Progressed DrawnEvent) →
+    next_drawn : (t : Task (Marked DrawnEvent)) (rest : List (Task (Marked DrawnEvent)))
+        (log : Log Progressed DrawnEvent) →
         AllByRecursion TaskIs (t ∷ rest) →
         OutsAre log.outs →
-        let r = next_of (length stack) (marked (shaper case stack)) (t ∷ rest) log in AllByRecursion TaskIs r.tasks × OutsAre r.world.outs
+        let r = next_of (length stack) (marked (shaper case stack)) (t ∷ rest) log in AllByRecursion TaskIs r.tasks ×
+        OutsAre r.world.outs
     next_drawn t rest log h outs = go (is_place (length stack) t.at) refl where
       turn : Turn Progressed DrawnEvent
       turn = shaped_visit case stack t.at t.dir t.event.event log.world
@@ -223,11 +272,13 @@ module _ (stack : List LayerTree) where
           then taken_turn t.at rest ((marked (shaper case stack)).visit t.at t.dir t.event log)
           else record { world = (marked (shaper case stack)).output t.dir t.event log; tasks = rest }
 
-      go : (b : Bool) → is_place (length stack) t.at ≡ b → AllByRecursion TaskIs (line b).tasks × OutsAre (line b).world.outs
+      go : (b : Bool) → is_place (length stack) t.at ≡ b → AllByRecursion TaskIs (line b).tasks ×
+          OutsAre (line b).world.outs
       go true place =
           let here = placed (length stack) t.at place in (
             each_append TaskIs rest (tasks_of t.at (marked_sent (length log.visits) turn.sent)) h.1
-                (marked_drawn t.at (length log.visits) 0 here.0 here.1 turn.sent (shaped_drawn t.at here.0 t.dir t.event.event log.world h.0.event)),
+                (marked_drawn t.at (length log.visits) 0 here.0 here.1 turn.sent
+                (shaped_drawn t.at here.0 t.dir t.event.event log.world h.0.event)),
             outs,
           )
       go false off = (
@@ -236,8 +287,10 @@ module _ (stack : List LayerTree) where
             (out_drawn t.dir t.at t.event.event h.0.way off h.0.event, tt),
       )
 
-    run_drawn : (n : ℕ) (tasks : List (Task (Marked DrawnEvent))) (log : Log Progressed DrawnEvent) → AllByRecursion TaskIs tasks → OutsAre log.outs →
-        OutsAre (run_for (length stack) (marked (shaper case stack)) n (record { world = log; tasks = tasks })).world.outs
+    run_drawn : (n : ℕ) (tasks : List (Task (Marked DrawnEvent))) (log : Log Progressed DrawnEvent) →
+        AllByRecursion TaskIs tasks → OutsAre log.outs →
+        OutsAre (run_for (length stack) (marked (shaper case stack)) n
+        (record { world = log; tasks = tasks })).world.outs
     run_drawn zero tasks log h outs = outs
     run_drawn (suc n) [] log h outs = outs
     run_drawn (suc n) (t ∷ rest) log h outs =
@@ -249,7 +302,8 @@ module _ (stack : List LayerTree) where
   abbrev ShapeOutIs : ShapeOut → Type 0
   ShapeOutIs out = (out.dir ≡ Down) → Counts 0 out.headers
 
-  headers_drawn : (headers : Option (List DrawnHeader)) → Where (Counts 0) headers → Counts 0 (option_map_or (λ headers. headers) headers [])
+  headers_drawn : (headers : Option (List DrawnHeader)) → Where (Counts 0) headers →
+      Counts 0 (option_map_or (λ headers. headers) headers [])
   headers_drawn None h = tt
   headers_drawn (Some headers) h = h
 
@@ -268,14 +322,16 @@ module _ (stack : List LayerTree) where
       let known : Known = record { dir = Down; kind = k; tags = [] } in
       let first = marked_start undrawn (entry_task stack known) in
       let log = (run_for (length stack) (marked (shaper case stack)) weight_limit first).world in
-      outs_drawn log log.world (run_drawn case fits weight_limit first.tasks first.world (record { way = omega arith; event = tt }, tt) tt)
+      outs_drawn log log.world
+      (run_drawn case fits weight_limit first.tasks first.world (record { way = omega arith; event = tt }, tt) tt)
 
   shape_drawn : LayersFit stack → (k : Kind) (case : Case) →
       AllByRecursion ShapeOutIs (outs_of (shape stack (record { dir = Down; kind = k; tags = [] }) case))
   shape_drawn fits k First = first_drawn fits k First
   shape_drawn fits k Second = go (has_second_case stack (record { dir = Down; kind = k; tags = [] })) where
     go : (b : Bool) → AllByRecursion ShapeOutIs
-        (outs_of (if b then drawn_shape stack (record { dir = Down; kind = k; tags = [] }) Second else Err no_shape.same))
+        (outs_of (if b then drawn_shape stack (record { dir = Down; kind = k; tags = [] }) Second else Err
+        no_shape.same))
     go true = first_drawn fits k Second
     go false = tt
 
@@ -304,17 +360,20 @@ module _ (stack : List LayerTree) where
     down Up is = absurd (cc is)
     down Down is = refl
 
-    go : (b : Bool) → is_packet out out.dir ≡ b → AllByRecursion (λ out. PlanCounts (plan_of out)) (filter (λ out. is_packet out out.dir) outs) →
+    go : (b : Bool) → is_packet out out.dir ≡ b →
+        AllByRecursion (λ out. PlanCounts (plan_of out)) (filter (λ out. is_packet out out.dir) outs) →
         AllByRecursion (λ out. PlanCounts (plan_of out))
         (if b then out ∷ filter (λ out. is_packet out out.dir) outs else filter (λ out. is_packet out out.dir) outs)
     go true is rest = (counted 0 out.headers (h.0 (down out.dir is)), rest)
     go false is rest = rest
 
   group_counted : LayersFit stack → (k : Kind) (case : Case) →
-      AllByRecursion (λ out. PlanCounts (plan_of out)) (packets_of stack (record { entry = record { dir = Down; kind = k; tags = [] }; case = case }))
+      AllByRecursion (λ out. PlanCounts (plan_of out))
+      (packets_of stack (record { entry = record { dir = Down; kind = k; tags = [] }; case = case }))
   group_counted fits k case = packets_counted _ (shape_drawn fits k case)
 
-  flat_all : {A B : Type 0} (P : B → Type 0) (f : A → List B) (xs : List A) → AllByRecursion (λ x. AllByRecursion P (f x)) xs →
+  flat_all : {A B : Type 0} (P : B → Type 0) (f : A → List B) (xs : List A) →
+      AllByRecursion (λ x. AllByRecursion P (f x)) xs →
       AllByRecursion P (flat_map f xs)
   flat_all P f [] h = tt
   flat_all P f (x ∷ xs) h = each_append P (f x) (flat_map f xs) h.0 (flat_all P f xs h.1)
@@ -324,5 +383,8 @@ module _ (stack : List LayerTree) where
       (each_map (λ out. PlanCounts (plan_of out)) PlanCounts plan_of (λ out h. h) (flat_map (packets_of stack) groups)
       (flat_all (λ out. PlanCounts (plan_of out)) (packets_of stack) groups (
         group_counted fits kind.Cast First,
-        (group_counted fits kind.Send First, (group_counted fits kind.Cast Second, (group_counted fits kind.Send Second, tt))),
+        (
+          group_counted fits kind.Send First,
+          (group_counted fits kind.Cast Second, (group_counted fits kind.Send Second, tt)),
+        ),
       )))

@@ -1,5 +1,7 @@
 -- The own traces of a stack that can be packed can be read where they are written.
-use Rattle.std.proofs.Common.{◌≡◌, ℕ, suc, ◌+◌, Bool, true, false, not, nat_le, is_some, List, [], ◌∷◌, ◌++◌, map, length, count_by, Option, Some, None, option_map, option_to_list, refl, sym, ap, subst, arith, leb-true}
+use Rattle.std.proofs.Common.{◌≡◌, ℕ, suc, ◌+◌, Bool, true, false, not, nat_le, is_some, List, [], ◌∷◌, ◌++◌, map}
+use Rattle.std.proofs.Common.{length, count_by, Option, Some, None, option_map, option_to_list, refl, sym, ap, subst}
+use Rattle.std.proofs.Common.{arith, leb-true}
 use Rattle.std.specs.Prelude.{if◌then◌else◌, Result, Ok, Err}
 use Rattle.std.specs.List.{AllByRecursion}
 use Rattle.std.proofs.lemmas.List.Sums.{sum_by-cons}
@@ -56,19 +58,28 @@ module _ (stack : List LayerTree) (can : CanBePacked stack) where
     entry : IsEntry stack e.known
     fits : EntryFits stack e
 
-  own_can : (n : ℕ) (e : Entry) (case : Case) → IsGood e → (s : Shape) (own : List Operation) → trace_of case stack e.known e.fields ≡ Ok own →
+  own_can : (n : ℕ) (e : Entry) (case : Case) → IsGood e → (s : Shape) (own : List Operation) →
+      trace_of case stack e.known e.fields ≡ Ok own →
       nat_le s.length longest_shape ≡ true → told_by_shape s ≡ told_by_trace own →
-      CanBeRead stack (record { entry = n; case = case; fields = count_by (λ field. not (is_some field)) e.fields; own = own })
+      CanBeRead stack (record {
+        entry = n;
+        case = case;
+        fields = count_by (λ field. not (is_some field)) e.fields;
+        own =
+            own;
+      })
   own_can n e case good s own made within told =
       let long = ap (λ t. t.length) told in
       let few = leb-true s.length longest_shape within in
-      let fits = accepted_traces_fit case stack e.known e.fields own (typed_is_orderly stack can.sound.typed) can.sound.accepts good.entry made in
+      let fits = accepted_traces_fit case stack e.known e.fields own (typed_is_orderly stack can.sound.typed)
+      can.sound.accepts good.entry made in
       let notes = fits.notes in
       let all = all_counted own in
       let vary = fields_vary e.fields in
       let fields = good.fits.fields in
       record {
-        closed = subst (λ k. Closed stack (at_first k) own) (sym vary) (traces_are_closed case stack e.known e.fields own made);
+        closed = subst (λ k. Closed stack (at_first k) own) (sym vary)
+            (traces_are_closed case stack e.known e.fields own made);
         there = traces_name_well case stack e.known e.fields own can.sound.named made;
         fits = traces_fit stack can.layers_fit case e.known e.fields own good.fits.chain made;
         few = omega (arith, long, few);
@@ -87,7 +98,8 @@ module _ (stack : List LayerTree) (can : CanBePacked stack) where
   case_can : (n : ℕ) (e : Entry) (case : Case) → IsGood e → AllByRecursion (CanBeRead stack) (due_in stack n e case)
   case_can n e case good = go (shape stack e.known case) (trace_of case stack e.known e.fields) refl
       (traces_stand_for_shapes case stack e.known e.fields) where
-        go : (s : Result Shape NoShape) (r : Result (List Operation) NoShape) → trace_of case stack e.known e.fields ≡ r →
+        go : (s : Result Shape NoShape) (r : Result (List Operation) NoShape) → trace_of case stack e.known e.fields ≡
+            r →
             drawn_from (λ s. Ok (told_by_shape s)) s ≡ drawn_from (λ operations. Ok (told_by_trace operations)) r →
             AllByRecursion (CanBeRead stack) (listed n e case (within_limit s r))
         go (Err reason) r made told = tt
@@ -100,13 +112,17 @@ module _ (stack : List LayerTree) (can : CanBePacked stack) where
               short true within same = (own_can n e case good s own made within same, tt)
               short false within same = tt
 
-  from_can : (n : ℕ) (es : List Entry) → AllByRecursion IsGood es → AllByRecursion (CanBeRead stack) (due_from stack n es)
+  from_can : (n : ℕ) (es : List Entry) → AllByRecursion IsGood es →
+      AllByRecursion (CanBeRead stack) (due_from stack n es)
   from_can n [] good = tt
-  from_can n (e ∷ es) good = each_append (CanBeRead stack) (due_in stack n e First ++ due_in stack n e Second) (due_from stack (suc n) es)
-      (each_append (CanBeRead stack) (due_in stack n e First) (due_in stack n e Second) (case_can n e First good.0) (case_can n e Second good.0))
+  from_can n (e ∷ es) good = each_append (CanBeRead stack) (due_in stack n e First ++ due_in stack n e Second)
+      (due_from stack (suc n) es)
+      (each_append (CanBeRead stack) (due_in stack n e First) (due_in stack n e Second) (case_can n e First good.0)
+      (case_can n e Second good.0))
       (from_can (suc n) es good.1)
 
-  plans_good : (plans : List Plan) → AllByRecursion (PlanIsEntry stack) plans → AllByRecursion (EntryFits stack) (map plan_entry plans) →
+  plans_good : (plans : List Plan) → AllByRecursion (PlanIsEntry stack) plans →
+      AllByRecursion (EntryFits stack) (map plan_entry plans) →
       AllByRecursion IsGood (map plan_entry plans)
   plans_good [] entries fit = tt
   plans_good (plan ∷ plans) entries fit = (record { entry = entries.0; fits = fit.0 }, plans_good plans entries.1 fit.1)

@@ -1,5 +1,6 @@
 -- The entries of a stack fit, where its layers do and their headers have few fields.
-use Rattle.std.proofs.Common.{◌≡◌, ℕ, zero, suc, ◌+◌, ◌*◌, ◌^◌, ◌<◌, ◌≤◌, true, List, [], ◌∷◌, map, length, drop, slice_get, slice_index_or, is_some, Option, Some, None, refl, sym, ap, ◌∙◌, subst, arith}
+use Rattle.std.proofs.Common.{◌≡◌, ℕ, zero, suc, ◌+◌, ◌*◌, ◌^◌, ◌<◌, ◌≤◌, true, List, [], ◌∷◌, map, length, drop}
+use Rattle.std.proofs.Common.{slice_get, slice_index_or, is_some, Option, Some, None, refl, sym, ap, ◌∙◌, subst, arith}
 use Rattle.std.specs.Prelude.{IfSome}
 use Rattle.std.specs.List.{All, AllByRecursion}
 use Rattle.std.specs.Option.{option_map_or}
@@ -38,7 +39,8 @@ record AtFront (stack : List LayerTree) (p : ℕ) (layer : LayerTree) (above : L
   inside : p < length stack
   rest : drop (suc p) stack ≡ above
 
-front_at : (stack : List LayerTree) (p : ℕ) (layer : LayerTree) (above : List LayerTree) → drop p stack ≡ layer ∷ above → AtFront stack p layer above
+front_at : (stack : List LayerTree) (p : ℕ) (layer : LayerTree) (above : List LayerTree) →
+    drop p stack ≡ layer ∷ above → AtFront stack p layer above
 front_at [] zero layer above h = absurd (cc h)
 front_at [] (suc p) layer above h = absurd (cc h)
 front_at (own ∷ stack) zero layer above h = record {
@@ -61,8 +63,10 @@ atoms_fit : (next : ℕ) (fields : List (Option ℕ)) → All (λ field. IfSome 
     AllByRecursion AtomFits (field_atoms next fields)
 atoms_fit next [] h = tt
 atoms_fit next (Some n ∷ fields) h =
-    let small = All-head (λ field. IfSome field (λ constant. constant < 2 ^ 32)) (Some n) fields h in
-    (omega (arith, small), atoms_fit next fields (All-tail (λ field. IfSome field (λ constant. constant < 2 ^ 32)) (Some n) fields h))
+    let small = All-head (λ field. IfSome field (λ constant. constant < 2 ^ 32)) (Some n) fields h in (
+      omega (arith, small),
+      atoms_fit next fields (All-tail (λ field. IfSome field (λ constant. constant < 2 ^ 32)) (Some n) fields h),
+    )
 atoms_fit next (None ∷ fields) h =
     (tt, atoms_fit (suc next) fields (All-tail (λ field. IfSome field (λ constant. constant < 2 ^ 32)) None fields h))
 
@@ -72,8 +76,10 @@ vary_less (Some n ∷ fields) = let more = vary_less fields in omega (arith, mor
 vary_less (None ∷ fields) = let more = vary_less fields in omega (arith, more)
 
 module _ (stack : List LayerTree) where
-  chain_fits : (p : ℕ) (layers : List LayerTree) (tags : List ℕ) (atoms : List Atom) → drop p stack ≡ layers → AreDeclared layers tags →
-      total stack p tags ≤ length atoms → AllByRecursion AtomFits atoms → ChainFits stack p (entry_chain p layers tags atoms)
+  chain_fits : (p : ℕ) (layers : List LayerTree) (tags : List ℕ) (atoms : List Atom) → drop p stack ≡ layers →
+      AreDeclared layers tags →
+      total stack p tags ≤ length atoms → AllByRecursion AtomFits atoms →
+      ChainFits stack p (entry_chain p layers tags atoms)
   chain_fits p layers [] atoms at declares most fit = tt
   chain_fits p [] (tag ∷ tags) atoms at declares most fit = absurd declares
   chain_fits p (layer ∷ above) (tag ∷ tags) atoms at declares most fit =
@@ -83,7 +89,8 @@ module _ (stack : List LayerTree) where
       let next : suc p ≡ p + 1 = omega arith in
       let left = length-drop n atoms in
       let further = ap (λ place. total stack place tags) next in
-      let more = chain_fits (suc p) above tags (drop n atoms) front.rest declares.1 (omega (arith, most, same, left, further))
+      let more = chain_fits (suc p) above tags (drop n atoms) front.rest declares.1
+      (omega (arith, most, same, left, further))
       (each_drop AtomFits n atoms fit) in (
         record {
           at = refl;
@@ -101,7 +108,8 @@ module _ (stack : List LayerTree) where
   few_of (x ∷ headers) zero h = h.0
   few_of (x ∷ headers) (suc tag) h = few_of headers tag h.1
 
-  total_few : (p : ℕ) (layers : List LayerTree) (tags : List ℕ) → drop p stack ≡ layers → AreDeclared layers tags → AllByRecursion HasFewFields layers →
+  total_few : (p : ℕ) (layers : List LayerTree) (tags : List ℕ) → drop p stack ≡ layers → AreDeclared layers tags →
+      AllByRecursion HasFewFields layers →
       total stack p tags ≤ 4 * length layers
   total_few p layers [] at declares few = omega arith
   total_few p [] (tag ∷ tags) at declares few = absurd declares
@@ -114,22 +122,26 @@ module _ (stack : List LayerTree) where
       let more = total_few (suc p) above tags front.rest declares.1 few.1 in
       omega (arith, own, same, further, more)
 
-  plan_fits : (plan : Plan) → length stack ≤ 24 → AllByRecursion HasFewFields stack → PlanIsEntry stack plan → PlanCounts stack plan →
+  plan_fits : (plan : Plan) → length stack ≤ 24 → AllByRecursion HasFewFields stack → PlanIsEntry stack plan →
+      PlanCounts stack plan →
       All (λ field. IfSome field (λ constant. constant < 2 ^ 32)) plan.fields → EntryFits stack (plan_entry plan)
   plan_fits plan high few entry counts numbered =
       let size = atoms_count 0 plan.fields in
       let most = total_few 0 stack plan.tags refl entry.tags few in
       let vary = vary_less plan.fields in
       record {
-        chain = chain_fits 0 stack plan.tags (field_atoms 0 plan.fields) refl entry.tags (omega (arith, size, counts)) (atoms_fit 0 plan.fields numbered);
+        chain = chain_fits 0 stack plan.tags (field_atoms 0 plan.fields) refl entry.tags (omega (arith, size, counts))
+            (atoms_fit 0 plan.fields numbered);
         fields = omega (arith, vary, counts, most, high);
       }
 
   abbrev IsNumbered : Plan → Type 0
   IsNumbered plan = All (λ field. IfSome field (λ constant. constant < 2 ^ 32)) plan.fields
 
-  plans_fit : (plans : List Plan) → length stack ≤ 24 → AllByRecursion HasFewFields stack → AllByRecursion (PlanIsEntry stack) plans →
-      AllByRecursion (PlanCounts stack) plans → AreNumbered plans → AllByRecursion (EntryFits stack) (map plan_entry plans)
+  plans_fit : (plans : List Plan) → length stack ≤ 24 → AllByRecursion HasFewFields stack →
+      AllByRecursion (PlanIsEntry stack) plans →
+      AllByRecursion (PlanCounts stack) plans → AreNumbered plans →
+      AllByRecursion (EntryFits stack) (map plan_entry plans)
   plans_fit [] high few entries counts numbered = tt
   plans_fit (plan ∷ plans) high few entries counts numbered = (
     plan_fits plan high few entries.0 counts.0 (All-head IsNumbered plan plans numbered),
@@ -142,6 +154,7 @@ module _ (stack : List LayerTree) where
     record { chain = tt; fields = omega arith },
     (
       record { chain = tt; fields = omega arith },
-      plans_fit (plans_of stack) high few (plans_are_entries stack (typed_is_orderly stack typed)) (plans_counted stack fit) (plans_are_numbered stack typed),
+      plans_fit (plans_of stack) high few (plans_are_entries stack (typed_is_orderly stack typed))
+          (plans_counted stack fit) (plans_are_numbered stack typed),
     ),
   )

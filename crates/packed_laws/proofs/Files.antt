@@ -1,5 +1,6 @@
 -- A file of own traces is read as these.
-use Rattle.std.proofs.Common.{◌≡◌, ℕ, zero, suc, ◌+◌, ◌≤◌, true, List, [], ◌∷◌, ◌++◌, length, map, fold, Some, None, Ok, codes, decimal, refl, sym, ap, ◌∙◌, subst, arith, append_assoc, append-nil}
+use Rattle.std.proofs.Common.{◌≡◌, ℕ, zero, suc, ◌+◌, ◌≤◌, true, List, [], ◌∷◌, ◌++◌, length, map, fold, Some, None, Ok}
+use Rattle.std.proofs.Common.{codes, decimal, refl, sym, ap, ◌∙◌, subst, arith, append_assoc, append-nil}
 use Rattle.std.specs.Prelude.{if◌then◌else◌}
 use Rattle.std.specs.List.{AllByRecursion}
 use Rattle.std.proofs.lemmas.List.{length-append}
@@ -15,7 +16,8 @@ use Rattle.trace_form_laws.specs.Closed.{IsMade, Closed}
 use Rattle.trace_form_laws.specs.There.{AreThere}
 use Rattle.bypass_mean.specs.Text.{writes, operation_lines}
 use Rattle.pack_mean.specs.Named.{Named, nothing_named, items_at, naming}
-use Rattle.pack_mean.specs.File.{Due, heading, entry_name, case_number, most_operations, idle, within, ended, Reading, begun, next_case, with_operation, operation_line, case_line, line_read, traces_from}
+use Rattle.pack_mean.specs.File.{Due, heading, entry_name, case_number, most_operations, idle, within, ended, Reading}
+use Rattle.pack_mean.specs.File.{begun, next_case, with_operation, operation_line, case_line, line_read, traces_from}
 use Rattle.pack_laws.specs.Files.{case_lines}
 use Rattle.pack_laws.specs.Written.{written_with, line_with}
 use Rattle.pack_laws.proofs.Files.{writes_one}
@@ -31,21 +33,26 @@ module _ (stack : List LayerTree) where
   -- the lines of operations, behind lines and what may be named
   abbrev pub lines_from : List (List ℕ) → Named → List Operation → List (List ℕ)
   lines_from before s [] = []
-  lines_from before s (o ∷ os) = line_with stack before s o ∷ lines_from (before ++ line_with stack before s o ∷ []) (naming stack s o) os
+  lines_from before s (o ∷ os) = line_with stack before s o ∷ lines_from (before ++ line_with stack before s o ∷ [])
+      (naming stack s o) os
 
   written : (before : List (List ℕ)) (s : Named) (os : List Operation) →
       (fold (writes true stack) (written_with before s) os).lines ≡ before ++ lines_from before s os
   written before s [] = sym (append-nil before)
   written before s (o ∷ os) = ap (λ w. (fold (writes true stack) w os).lines) (writes_one stack before s o) ∙
-      written (before ++ line_with stack before s o ∷ []) (naming stack s o) os ∙ append_assoc before (line_with stack before s o ∷ []) _
+      written (before ++ line_with stack before s o ∷ []) (naming stack s o) os ∙
+      append_assoc before (line_with stack before s o ∷ []) _
 
-  pub lines_are : (fields : ℕ) (os : List Operation) → operation_lines true stack os ≡ lines_from [] (nothing_named fields) os
+  pub lines_are : (fields : ℕ) (os : List Operation) → operation_lines true stack os ≡
+      lines_from [] (nothing_named fields) os
   lines_are fields os = written [] (nothing_named fields) os
 
   -- a line read, and the others behind it
   then_back : (r next : Reading) (number : ℕ) (line : List ℕ) (lines : List (List ℕ)) (all : List (List Operation)) →
-      line_read stack r r.stage line ≡ Some next → traces_from stack next (suc number) lines ≡ Ok all → traces_from stack r number (line ∷ lines) ≡ Ok all
-  then_back r next number line lines all is h = ap (λ o. in_form number o >>= λ n. traces_from stack n (suc number) lines) is ∙ h
+      line_read stack r r.stage line ≡ Some next → traces_from stack next (suc number) lines ≡ Ok all →
+      traces_from stack r number (line ∷ lines) ≡ Ok all
+  then_back r next number line lines all is h =
+      ap (λ o. in_form number o >>= λ n. traces_from stack n (suc number) lines) is ∙ h
 
   -- no operation's line begins a case or ends the file
   no_case : (due : List Due) (traces : List (List Operation)) (before : List (List ℕ)) (s : Named) (o : Operation) →
@@ -74,25 +81,31 @@ module _ (stack : List LayerTree) where
         Some (record { stage = within due (naming stack s o) behind; held = r.held ++ o ∷ []; traces = r.traces })
     more : trace_length os ≤ behind
 
-  counts : (o : Operation) (os : List Operation) (left : ℕ) → trace_length (o ∷ os) ≤ left → counted o + trace_length os ≤ left
+  counts : (o : Operation) (os : List Operation) (left : ℕ) → trace_length (o ∷ os) ≤ left →
+      counted o + trace_length os ≤ left
   counts o os left h = let both = sum_by-cons counted o os in omega (arith, both, h)
 
-  other : (due : List Due) (s : Named) (left : ℕ) (r : Reading) (o : Operation) (os : List Operation) → counted o + trace_length os ≤ left → counted o ≡ 1 →
+  other : (due : List Due) (s : Named) (left : ℕ) (r : Reading) (o : Operation) (os : List Operation) →
+      counted o + trace_length os ≤ left → counted o ≡ 1 →
       ((n : ℕ) → with_operation stack due s (suc n) r o ≡
-      Some (record { stage = within due (naming stack s o) n; held = r.held ++ o ∷ []; traces = r.traces })) → Took due s left r o os
+      Some (record { stage = within due (naming stack s o) n; held = r.held ++ o ∷ []; traces = r.traces })) →
+      Took due s left r o os
   other due s zero r o os h one is = absurd (omega (arith, h, one))
   other due s (suc n) r o os h one is = record { behind = n; is = is n; more = omega (arith, h, one) }
 
-  took : (due : List Due) (s : Named) (left : ℕ) (r : Reading) (o : Operation) (os : List Operation) → counted o + trace_length os ≤ left →
+  took : (due : List Due) (s : Named) (left : ℕ) (r : Reading) (o : Operation) (os : List Operation) →
+      counted o + trace_length os ≤ left →
       Took due s left r o os
   took due s left r (note m) os h = record { behind = left; is = refl; more = omega (arith, h) }
   took due s left r (bind e) os h = other due s left r (bind e) os h refl (λ n. refl)
   took due s left r (check e) os h = other due s left r (check e) os h refl (λ n. refl)
   took due s left r (set p c e x) os h = other due s left r (set p c e x) os h refl (λ n. refl)
-  took due s left r (set_square p c row column x) os h = other due s left r (set_square p c row column x) os h refl (λ n. refl)
+  took due s left r (set_square p c row column x) os h = other due s left r (set_square p c row column x) os h refl
+      (λ n. refl)
   took due s left r (push p c e ns message) os h = other due s left r (push p c e ns message) os h refl (λ n. refl)
   took due s left r (take p c e) os h = other due s left r (take p c e) os h refl (λ n. refl)
-  took due s left r (output dir kind ns message) os h = other due s left r (output dir kind ns message) os h refl (λ n. refl)
+  took due s left r (output dir kind ns message) os h = other due s left r (output dir kind ns message) os h refl
+      (λ n. refl)
 
   taken_is : (s : Named) (o : Operation) → taken_behind stack s.rows o ≡ (naming stack s o).rows
   taken_is s (bind e) = refl
@@ -131,7 +144,8 @@ module _ (stack : List LayerTree) where
       told = room.told;
     }
 
-    room_behind : (s : Named) (n : ℕ) (o : Operation) → OperationNames (IsMade stack (reach_of s)) o → Room s (suc n) → Room (naming stack s o) n
+    room_behind : (s : Named) (n : ℕ) (o : Operation) → OperationNames (IsMade stack (reach_of s)) o → Room s (suc n) →
+        Room (naming stack s o) n
     room_behind s n (bind e) made room = record {
       fields = room.fields;
       binds = let h = room.binds in omega (arith, h);
@@ -160,27 +174,42 @@ module _ (stack : List LayerTree) where
     }
 
     -- operations in front of what is read behind any of them
-    operations_back : (os : List Operation) (before : List (List ℕ)) (s : Named) (left : ℕ) (due : List Due) (held : List Operation)
-        (traces all : List (List Operation)) (rest : List (List ℕ)) (number : ℕ) → Closed stack (reach_of s) os → AreThere stack os →
+    operations_back : (os : List Operation) (before : List (List ℕ)) (s : Named) (left : ℕ) (due : List Due)
+        (held : List Operation)
+        (traces all : List (List Operation)) (rest : List (List ℕ)) (number : ℕ) → Closed stack (reach_of s) os →
+        AreThere stack os →
         TraceFits stack s.rows os → trace_length os ≤ left → Room s (length os) →
         ((s' : Named) (left' number' : ℕ) →
-        traces_from stack (record { stage = within due s' left'; held = held ++ os; traces = traces }) number' rest ≡ Ok all) →
-        traces_from stack (record { stage = within due s left; held = held; traces = traces }) number (lines_from before s os ++ rest) ≡ Ok all
+        traces_from stack (record { stage = within due s' left'; held = held ++ os; traces = traces }) number' rest ≡
+        Ok all) →
+        traces_from stack (record { stage = within due s left; held = held; traces = traces }) number
+        (lines_from before s os ++ rest) ≡ Ok all
     operations_back [] before s left due held traces all rest number closed there fits most room more =
-        subst (λ os. traces_from stack (record { stage = within due s left; held = os; traces = traces }) number rest ≡ Ok all) (append-nil held)
+        subst (λ os. traces_from stack (record { stage = within due s left; held = os; traces = traces }) number rest ≡
+        Ok all) (append-nil held)
         (more s left number)
     operations_back (o ∷ os) before s left due held traces all rest number closed there fits most room more =
         let r : Reading = record { stage = within due s left; held = held; traces = traces } in
         let line = line_with stack before s o in
         let t = took due s left r o os (counts o os left most) in
-        let next : Reading = record { stage = within due (naming stack s o) t.behind; held = held ++ o ∷ []; traces = traces } in
+        let next : Reading = record {
+          stage = within due (naming stack s o) t.behind;
+          held = held ++ o ∷ [];
+          traces =
+              traces;
+        } in
         let said = operation_back stack told few before s (small s (length (o ∷ os)) room) o closed.0 there.0 fits.0 in
         then_back r next number line (lines_from (before ++ line ∷ []) (naming stack s o) os ++ rest) all
-        (ap (case_line stack due s left r line) (no_case due (traces ++ held ∷ []) before s o) ∙ ap (operation_line stack due s left r) said ∙ t.is)
-        (operations_back os (before ++ line ∷ []) (naming stack s o) t.behind due (held ++ o ∷ []) traces all rest (suc number)
+        (ap (case_line stack due s left r line) (no_case due (traces ++ held ∷ []) before s o) ∙
+        ap (operation_line stack due s left r) said ∙ t.is)
+        (operations_back os (before ++ line ∷ []) (naming stack s o) t.behind due (held ++ o ∷ []) traces all rest
+        (suc number)
         (subst (λ reach. Closed stack reach os) (sym (reach_behind stack s o)) closed.1) there.1
-        (subst (λ taken. TraceFits stack taken os) (taken_is s o) fits.1) t.more (room_behind s (length os) o closed.0 room)
-        (λ s' left' number'. subst (λ l. traces_from stack (record { stage = within due s' left'; held = l; traces = traces }) number' rest ≡ Ok all)
+        (subst (λ taken. TraceFits stack taken os) (taken_is s o) fits.1) t.more
+        (room_behind s (length os) o closed.0 room)
+        (λ s' left' number'. subst
+        (λ l. traces_from stack (record { stage = within due s' left'; held = l; traces = traces }) number' rest ≡
+        Ok all)
         (sym (append_assoc held (o ∷ []) os)) (more s' left' number')))
 
     abbrev owns : List Due → List (List Operation)
@@ -196,35 +225,49 @@ module _ (stack : List LayerTree) where
         record { fields = can.fields; binds = none; notes = none; rows = none; told = tt }
 
     -- the cases that are due, in front of which others were read
-    cases_back : (due : List Due) (traces : List (List Operation)) (r : Reading) (number : ℕ) → AllByRecursion (CanBeRead stack) due →
-        ((line : List ℕ) (next : Reading) → next_case due traces line ≡ Some next → line_read stack r r.stage line ≡ Some next) →
+    cases_back : (due : List Due) (traces : List (List Operation)) (r : Reading) (number : ℕ) →
+        AllByRecursion (CanBeRead stack) due →
+        ((line : List ℕ) (next : Reading) → next_case due traces line ≡ Some next → line_read stack r r.stage line ≡
+        Some next) →
         traces_from stack r number (case_lines stack due (owns due) ++ ending) ≡ Ok (traces ++ owns due)
-    cases_back [] traces r number can next = then_back r (record { stage = ended; held = []; traces = traces }) number (codes "end") [] (traces ++ [])
+    cases_back [] traces r number can next = then_back r (record { stage = ended; held = []; traces = traces }) number
+        (codes "end") [] (traces ++ [])
         (next (codes "end") _ refl) (ap Ok (sym (append-nil traces)))
     cases_back (d ∷ due) traces r number can next =
-        let first : Reading = record { stage = within due (nothing_named d.fields) most_operations; held = []; traces = traces } in
+        let first : Reading =
+        record { stage = within due (nothing_named d.fields) most_operations; held = []; traces = traces } in
         let rest = case_lines stack due (owns due) ++ ending in
         let opened : next_case (d ∷ due) traces (heading d.entry d.case) ≡ Some first =
-        ap (λ b. if b then Some first else None) ((bytes_eq-Decides (heading d.entry d.case) (heading d.entry d.case)).1 refl) in
+        ap (λ b. if b then Some first else None)
+        ((bytes_eq-Decides (heading d.entry d.case) (heading d.entry d.case)).1 refl) in
         ap (λ ls. traces_from stack r number (heading d.entry d.case ∷ ls))
-        (append_assoc (operation_lines true stack d.own) (case_lines stack due (owns due)) ending ∙ ap (λ ls. ls ++ rest) (lines_are d.fields d.own)) ∙
-        then_back r first number (heading d.entry d.case) (lines_from [] (nothing_named d.fields) d.own ++ rest) (traces ++ d.own ∷ owns due)
+        (append_assoc (operation_lines true stack d.own) (case_lines stack due (owns due)) ending ∙
+        ap (λ ls. ls ++ rest) (lines_are d.fields d.own)) ∙
+        then_back r first number (heading d.entry d.case) (lines_from [] (nothing_named d.fields) d.own ++ rest)
+        (traces ++ d.own ∷ owns due)
         (next (heading d.entry d.case) first opened)
-        (operations_back d.own [] (nothing_named d.fields) most_operations due [] traces (traces ++ d.own ∷ owns due) rest (suc number)
+        (operations_back d.own [] (nothing_named d.fields) most_operations due [] traces (traces ++ d.own ∷ owns due)
+        rest (suc number)
         can.0.closed can.0.there can.0.fits can.0.few (first_room d can.0)
-        (λ s left n. subst (λ all. traces_from stack (record { stage = within due s left; held = d.own; traces = traces }) n rest ≡ Ok all)
+        (λ s left n. subst (λ all.
+        traces_from stack (record { stage = within due s left; held = d.own; traces = traces }) n rest ≡ Ok all)
         (append_assoc traces (d.own ∷ []) (owns due))
-        (cases_back due (traces ++ d.own ∷ []) (record { stage = within due s left; held = d.own; traces = traces }) n can.1
-        (λ line other is. ap (case_line stack due s left (record { stage = within due s left; held = d.own; traces = traces }) line) is))))
+        (cases_back due (traces ++ d.own ∷ []) (record { stage = within due s left; held = d.own; traces = traces }) n
+        can.1
+        (λ line other is. ap (case_line stack due s left
+        (record { stage = within due s left; held = d.own; traces = traces }) line) is))))
 
     pub file_back : (due : List Due) → AllByRecursion (CanBeRead stack) due →
         traces_from stack (begun due) 1 (codes "bypasses 1" ∷ case_lines stack due (owns due) ++ ending) ≡ Ok (owns due)
-    file_back due can = then_back (begun due) (record { stage = idle due; held = []; traces = [] }) 1 (codes "bypasses 1")
+    file_back due can = then_back (begun due) (record { stage = idle due; held = []; traces = [] }) 1
+        (codes "bypasses 1")
         (case_lines stack due (owns due) ++ ending)
-        (owns due) refl (cases_back due [] (record { stage = idle due; held = []; traces = [] }) 2 can (λ line next is. is))
+        (owns due) refl (cases_back due [] (record { stage = idle due; held = []; traces = [] }) 2 can
+        (λ line next is. is))
 
     -- and none of its lines has a line feed
-    operations_plain : (os : List Operation) (before : List (List ℕ)) (s : Named) → Closed stack (reach_of s) os → AreThere stack os →
+    operations_plain : (os : List Operation) (before : List (List ℕ)) (s : Named) → Closed stack (reach_of s) os →
+        AreThere stack os →
         TraceFits stack s.rows os → Room s (length os) → AllByRecursion IsPlain (lines_from before s os)
     operations_plain [] before s closed there fits room = tt
     operations_plain (o ∷ os) before s closed there fits room = (
@@ -245,11 +288,13 @@ module _ (stack : List LayerTree) where
         (plain_both (codes "entry ") (entry_name d.entry) refl (entry_plain d.entry)) refl)
         (decimal_plain (case_number d.case))
 
-    pub cases_plain : (due : List Due) → AllByRecursion (CanBeRead stack) due → AllByRecursion IsPlain (case_lines stack due (owns due))
+    pub cases_plain : (due : List Due) → AllByRecursion (CanBeRead stack) due →
+        AllByRecursion IsPlain (case_lines stack due (owns due))
     cases_plain [] can = tt
     cases_plain (d ∷ due) can = (
       heading_plain d,
       each_append IsPlain (operation_lines true stack d.own) (case_lines stack due (owns due))
           (subst (AllByRecursion IsPlain) (sym (lines_are d.fields d.own))
-          (operations_plain d.own [] (nothing_named d.fields) can.0.closed can.0.there can.0.fits (first_room d can.0))) (cases_plain due can.1),
+          (operations_plain d.own [] (nothing_named d.fields) can.0.closed can.0.there can.0.fits (first_room d can.0)))
+          (cases_plain due can.1),
     )

@@ -1,10 +1,14 @@
 -- What a trace has to be that it can be read as it was written, beside that it names what was made and what is there.
-use Rattle.std.specs.Prelude.{◌≡◌, ℕ, suc, ◌+◌, ◌<◌, ◌≤◌, List, [], ◌∷◌, length, slice_index_or, Option, Some, None, option_map, is_some, true}
+use Rattle.std.specs.Prelude.{◌≡◌, ℕ, suc, ◌+◌, ◌<◌, ◌≤◌, List, [], ◌∷◌, length, slice_index_or, Option, Some, None}
+use Rattle.std.specs.Prelude.{option_map, is_some, true}
 use Rattle.std.specs.List.{AllByRecursion}
 use Rattle.layer_mean.specs.Headers.{declared}
 use Rattle.layer_mean.specs.Tree.{Carried, ItemsTree, LayerTree}
 use Rattle.msg_core.specs.Headers.{most_fields}
-use Rattle.trace_mean.specs.Trace.{Atom, number, Core, taken_message, TraceNumber, atom, me, count, ltime, element, square, rows, item, size, binary, apply, pick, TraceMessage, core, held, cut, tail, join, Link, Chained, Operation, bind, note, check, set, set_square, push, take, output}
+use Rattle.trace_mean.specs.Trace.{Atom, number, Core, taken_message, TraceNumber, atom, me, count, ltime, element}
+use Rattle.trace_mean.specs.Trace.{square, rows, item, size, binary, apply, pick, TraceMessage, core, held, cut, tail}
+use Rattle.trace_mean.specs.Trace.{join, Link, Chained, Operation, bind, note, check, set, set_square, push, take}
+use Rattle.trace_mean.specs.Trace.{output}
 use Rattle.trace_mean.specs.Fuse.{fields_of}
 use Rattle.bypass_mean.specs.Text.{layer_of}
 use Rattle.pack_mean.specs.Expression.{most_brackets}
@@ -28,28 +32,32 @@ CoreFits taken (taken_message row carried) = Carries (slice_index_or taken row n
 CoreFits taken _ = Unit {0}
 
 abbrev mutual
-  -- So it is in a number and in a message, where these rows were taken; a message that a queue holds is what it carries; and no more
-  -- brackets than so many are open at once, round and square ones together.
+  -- So it is in a number and in a message, where these rows were taken; a message that a queue holds is what it
+  -- carries; and no more brackets than so many are open at once, round and square ones together.
   pub NumberFits : List LayerTree → List ItemsTree → ℕ → TraceNumber → Type 0
   NumberFits stack taken n (atom a) = AtomFits a
   NumberFits stack taken n me = Unit {0}
   NumberFits stack taken n count = Unit {0}
   NumberFits stack taken n ltime = Unit {0}
   NumberFits stack taken (suc n) (element p c e) = NumberFits stack taken n e
-  NumberFits stack taken (suc n) (square p c row column) = NumberFits stack taken n row × NumberFits stack taken n column
+  NumberFits stack taken (suc n) (square p c row column) = NumberFits stack taken n row ×
+      NumberFits stack taken n column
   NumberFits stack taken (suc (suc n)) (rows p c e) = NumberFits stack taken n e
-  NumberFits stack taken (suc (suc n)) (item p c e row k) = NumberFits stack taken n e × NumberFits stack taken (suc n) row
+  NumberFits stack taken (suc (suc n)) (item p c e row k) = NumberFits stack taken n e ×
+      NumberFits stack taken (suc n) row
   NumberFits stack taken (suc n) (size m) = MessageFits stack taken n m
   NumberFits stack taken (suc n) (binary operator a b) = NumberFits stack taken n a × NumberFits stack taken n b
   NumberFits stack taken (suc n) (apply function a) = NumberFits stack taken n a
-  NumberFits stack taken (suc n) (pick c a b) = NumberFits stack taken n c × NumberFits stack taken n a × NumberFits stack taken n b
+  NumberFits stack taken (suc n) (pick c a b) = NumberFits stack taken n c × NumberFits stack taken n a ×
+      NumberFits stack taken n b
   NumberFits stack taken _ _ = ⊥
 
   pub MessageFits : List LayerTree → List ItemsTree → ℕ → TraceMessage → Type 0
   MessageFits stack taken n (core c) = CoreFits taken c
   MessageFits stack taken (suc (suc n)) (held p c e row carried) =
       Carries (items_at stack p c) carried × NumberFits stack taken n e × NumberFits stack taken (suc n) row
-  MessageFits stack taken (suc n) (cut m from length) = MessageFits stack taken n m × NumberFits stack taken n from × NumberFits stack taken n length
+  MessageFits stack taken (suc n) (cut m from length) = MessageFits stack taken n m × NumberFits stack taken n from ×
+      NumberFits stack taken n length
   MessageFits stack taken (suc n) (tail m from) = MessageFits stack taken n m × NumberFits stack taken n from
   MessageFits stack taken (suc n) (join first m) = MessageFits stack taken n first × MessageFits stack taken n m
   MessageFits stack taken _ _ = ⊥
@@ -85,18 +93,22 @@ RowFits stack taken place _ _ = ⊥
 abbrev pub index_brackets : ℕ
 index_brackets = 199
 
--- An operation, behind which these rows were taken: a row that is pushed has as many numbers as its queue's rows, and what is put out has at most
--- as many as an event has; its known headers stand from the lowest place on, and those of a row from the place above its queue.
+-- An operation, behind which these rows were taken: a row that is pushed has as many numbers as its queue's rows, and
+-- what is put out has at most as many as an event has; its known headers stand from the lowest place on, and those of a
+-- row from the place above its queue.
 abbrev pub OperationFits : List LayerTree → List ItemsTree → Operation → Type 0
 OperationFits stack taken (bind e) = NumberFits stack taken most_brackets e
 OperationFits stack taken (note m) = MessageFits stack taken most_brackets m
 OperationFits stack taken (check e) = NumberFits stack taken most_brackets e
-OperationFits stack taken (set p c e x) = NumberFits stack taken index_brackets e × NumberFits stack taken most_brackets x
+OperationFits stack taken (set p c e x) = NumberFits stack taken index_brackets e ×
+    NumberFits stack taken most_brackets x
 OperationFits stack taken (set_square p c row column x) =
-    NumberFits stack taken index_brackets row × NumberFits stack taken index_brackets column × NumberFits stack taken most_brackets x
+    NumberFits stack taken index_brackets row × NumberFits stack taken index_brackets column ×
+    NumberFits stack taken most_brackets x
 OperationFits stack taken (push p c e numbers message) =
     NumberFits stack taken index_brackets e × AllByRecursion (NumberFits stack taken most_brackets) numbers ×
-    (length numbers ≡ length (items_at stack p c).numbers) × RowFits stack taken (p + 1) (items_at stack p c).message message
+    (length numbers ≡ length (items_at stack p c).numbers) × RowFits stack taken (p + 1) (items_at stack p c).message
+    message
 OperationFits stack taken (take p c e) = NumberFits stack taken index_brackets e
 OperationFits stack taken (output dir kind numbers message) =
     (length numbers ≤ most_fields) × AllByRecursion AtomFits numbers × SentFits stack taken message

@@ -1,5 +1,7 @@
 -- What readers find at the front of a text that was written.
-use Rattle.std.proofs.Common.{◌≡◌, ℕ, zero, suc, ◌^◌, ◌<◌, ◌≤◌, Bool, true, false, not, ◌&&◌, ◌==◌, List, [], ◌∷◌, ◌++◌, length, take, drop, get_or, Option, Some, None, option_and_then, option_map, decimal, bytes_eq, refl, sym, ap, ap₂, ◌∙◌, subst, arith, ◌⊎◌, inl, inr, eqb-true}
+use Rattle.std.proofs.Common.{◌≡◌, ℕ, zero, suc, ◌^◌, ◌<◌, ◌≤◌, Bool, true, false, not, ◌&&◌, ◌==◌, List, [], ◌∷◌, ◌++◌}
+use Rattle.std.proofs.Common.{length, take, drop, get_or, Option, Some, None, option_and_then, option_map, decimal}
+use Rattle.std.proofs.Common.{bytes_eq, refl, sym, ap, ap₂, ◌∙◌, subst, arith, ◌⊎◌, inl, inr, eqb-true}
 use Rattle.std.specs.Prelude.{if◌then◌else◌, All}
 use Rattle.std.specs.Char.{is_ascii_digit}
 use Rattle.std.specs.List.{AllByRecursion, list_all, join_with_byte, position_or_len, slice_split}
@@ -25,7 +27,8 @@ pub record Finds {A : Type 0} (read : Reader A) (text : List ℕ) (x : A) (rest 
 pub finds_value : {A : Type 0} (x : A) (text : List ℕ) → Finds (yields x) text x text
 finds_value x text = record { said = refl }
 
-pub finds_then : {A B : Type 0} (read : Reader A) (next : A → Reader B) (text : List ℕ) (x : A) (left : List ℕ) (y : B) (rest : List ℕ) →
+pub finds_then : {A B : Type 0} (read : Reader A) (next : A → Reader B) (text : List ℕ) (x : A) (left : List ℕ) (y : B)
+    (rest : List ℕ) →
     Finds read text x left → Finds (next x) left y rest → Finds (read >>= next) text y rest
 finds_then read next text x left y rest h k =
     record { said = ap (λ o. option_and_then (λ taken. next taken.0 taken.1) o) h.said ∙ k.said }
@@ -34,13 +37,17 @@ text_back : (wanted rest : List ℕ) → the_text wanted (wanted ++ rest) ≡ So
 text_back wanted rest =
     let same : bytes_eq (take (length wanted) (wanted ++ rest)) wanted ≡ true =
     ap (λ l. bytes_eq l wanted) (take-append_seam wanted rest) ∙ (bytes_eq-Decides wanted wanted).1 refl in
-    ap (λ b. if b then Some (tt, drop (length wanted) (wanted ++ rest)) else None) same ∙ ap (λ l. Some (tt, l)) (drop-append_seam wanted rest)
+    ap (λ b. if b then Some (tt, drop (length wanted) (wanted ++ rest)) else None) same ∙
+    ap (λ l. Some (tt, l)) (drop-append_seam wanted rest)
 
-pub finds_text : {B : Type 0} (wanted : List ℕ) (next : Unit {0} → Reader B) (text : List ℕ) (y : B) (rest : List ℕ) → Finds (next tt) text y rest →
+pub finds_text : {B : Type 0} (wanted : List ℕ) (next : Unit {0} → Reader B) (text : List ℕ) (y : B) (rest : List ℕ) →
+    Finds (next tt) text y rest →
     Finds (the_text wanted >>= next) (wanted ++ text) y rest
-finds_text wanted next text y rest h = finds_then (the_text wanted) next (wanted ++ text) tt text y rest record { said = text_back wanted text } h
+finds_text wanted next text y rest h = finds_then (the_text wanted) next (wanted ++ text) tt text y rest record
+    { said = text_back wanted text } h
 
-pub finds_given : {A B : Type 0} (o : Option A) (next : A → Reader B) (text : List ℕ) (x : A) (y : B) (rest : List ℕ) → o ≡ Some x →
+pub finds_given : {A B : Type 0} (o : Option A) (next : A → Reader B) (text : List ℕ) (x : A) (y : B) (rest : List ℕ) →
+    o ≡ Some x →
     Finds (next x) text y rest → Finds (given o >>= next) text y rest
 finds_given o next text x y rest is h =
     finds_then (given o) next text x text y rest record { said = ap (λ q. option_map (λ v. (v, text)) q) is } h
@@ -49,7 +56,8 @@ pub finds_known : {A : Type 0} (o : Option A) (text : List ℕ) (x : A) → o �
 finds_known o text x is = record { said = ap (λ q. option_map (λ v. (v, text)) q) is }
 
 -- behind another text that is the same
-pub finds_same : {A : Type 0} (read : Reader A) (text other : List ℕ) (x : A) (rest : List ℕ) → text ≡ other → Finds read other x rest →
+pub finds_same : {A : Type 0} (read : Reader A) (text other : List ℕ) (x : A) (rest : List ℕ) → text ≡ other →
+    Finds read other x rest →
     Finds read text x rest
 finds_same read text other x rest same h = record { said = ap read same ∙ h.said }
 
@@ -67,7 +75,8 @@ run_length such (t ∷ text) rest all stops =
     let more = run_length such text rest parts.1 stops in
     rw parts.0 (omega (arith, more))
 
-pub run_back : (such : ℕ → Bool) (text rest : List ℕ) → list_all such text ≡ true → Stops such rest → Finds (run_of such) (text ++ rest) text rest
+pub run_back : (such : ℕ → Bool) (text rest : List ℕ) → list_all such text ≡ true → Stops such rest →
+    Finds (run_of such) (text ++ rest) text rest
 run_back such text rest all stops = record {
   said = ap (λ n. Some (take n (text ++ rest), drop n (text ++ rest))) (run_length such text rest all stops) ∙
       ap₂ (λ x y. Some (x, y)) (take-append_seam text rest) (drop-append_seam text rest);
@@ -99,7 +108,8 @@ name_split : (word : List ℕ) (words : List (List ℕ)) → IsWord word → All
     slice_split (λ byte. byte == 46) (join_with_byte 46 (word ∷ words)) ≡ word ∷ words
 name_split word [] is are = slice_split_none _ word (no_points word is)
 name_split word (next ∷ words) is are =
-    slice_split_at _ word 46 (join_with_byte 46 (next ∷ words)) (no_points word is) refl ∙ ap (λ ws. word ∷ ws) (name_split next words are.0 are.1)
+    slice_split_at _ word 46 (join_with_byte 46 (next ∷ words)) (no_points word is) refl ∙
+    ap (λ ws. word ∷ ws) (name_split next words are.0 are.1)
 
 name_all : (word : List ℕ) (words : List (List ℕ)) → IsWord word → AllByRecursion IsWord words →
     list_all is_name_byte (join_with_byte 46 (word ∷ words)) ≡ true
@@ -107,10 +117,12 @@ name_all word [] is are = name_bytes word is
 name_all word (next ∷ words) is are = list_all-append is_name_byte word (46 ∷ join_with_byte 46 (next ∷ words)) ∙
     rw (name_bytes word is) (name_all next words are.0 are.1)
 
-pub name_back : (word : List ℕ) (words : List (List ℕ)) (rest : List ℕ) → IsWord word → AllByRecursion IsWord words → Stops is_name_byte rest →
+pub name_back : (word : List ℕ) (words : List (List ℕ)) (rest : List ℕ) → IsWord word → AllByRecursion IsWord words →
+    Stops is_name_byte rest →
     Finds a_name (join_with_byte 46 (word ∷ words) ++ rest) (word ∷ words) rest
 name_back word words rest is are stops =
-    finds_then (run_of is_name_byte) (λ name. yields (slice_split (λ byte. byte == 46) name)) (join_with_byte 46 (word ∷ words) ++ rest)
+    finds_then (run_of is_name_byte) (λ name. yields (slice_split (λ byte. byte == 46) name))
+    (join_with_byte 46 (word ∷ words) ++ rest)
     (join_with_byte 46 (word ∷ words)) rest (word ∷ words) rest
     (run_back is_name_byte (join_with_byte 46 (word ∷ words)) rest (name_all word words is are) stops)
     record { said = ap (λ ws. Some (ws, rest)) (name_split word words is are) }
@@ -121,7 +133,8 @@ digits_same [] = refl
 digits_same (d ∷ ds) = ap (λ b. is_ascii_digit d && b) (digits_same ds)
 
 decimal_digits : (n : ℕ) → n < 2 ^ 64 → list_all is_ascii_digit (decimal n) ≡ true
-decimal_digits n small = sym (digits_same (decimal n)) ∙ digits_decimal (numerals_by_value _ tells_all_ascii_digits) n small
+decimal_digits n small = sym (digits_same (decimal n)) ∙ digits_decimal (numerals_by_value _ tells_all_ascii_digits) n
+    small
 
 digit_byte : (d : ℕ) → is_ascii_digit d ≡ true → is_word_byte d ≡ true
 digit_byte d is = grind (arith, nat_tests)
@@ -132,7 +145,8 @@ digits_word (d ∷ ds) all =
     let parts = and_parts (is_ascii_digit d) (list_all is_ascii_digit ds) all in
     rw (digit_byte d parts.0) (digits_word ds parts.1)
 
-plain : (ds : List ℕ) → list_all is_ascii_digit ds ≡ true → 0 < length ds → (length ds ≡ 1) ⊎ (48 < get_or ds 0 0) → is_plain ds ≡ true
+plain : (ds : List ℕ) → list_all is_ascii_digit ds ≡ true → 0 < length ds → (length ds ≡ 1) ⊎ (48 < get_or ds 0 0) →
+    is_plain ds ≡ true
 plain [] all some first = absurd (omega arith)
 plain (d ∷ []) all some first = (and_parts (is_ascii_digit d) _ all).0
 plain (d ∷ e ∷ more) all some (inl one) = absurd (omega arith)
@@ -152,16 +166,24 @@ inside n most = grind (arith, nat_tests)
 
 pub number_back : (n : ℕ) → n ≤ 4294967295 → number_of (decimal n) ≡ Some n
 number_back n most =
-    rw (decimal_plain n (omega arith), digits_value-decimal (numerals_by_value _ tells_all_ascii_digits) n (omega arith)) (inside n most)
+    rw (
+      decimal_plain n (omega arith),
+      digits_value-decimal (numerals_by_value _ tells_all_ascii_digits) n (omega arith),
+    ) (inside n most)
 
 pub decimal_word : (n : ℕ) → n ≤ 4294967295 → IsWord (decimal n)
 decimal_word n most = digits_word (decimal n) (decimal_digits n (omega arith))
 
 -- they spell no other word
-pub decimal_differs : (n : ℕ) (word : List ℕ) → n ≤ 4294967295 → list_all is_ascii_digit word ≡ false → bytes_eq (decimal n) word ≡ false
+pub decimal_differs : (n : ℕ) (word : List ℕ) → n ≤ 4294967295 → list_all is_ascii_digit word ≡ false →
+    bytes_eq (decimal n) word ≡ false
 decimal_differs n word most other = go (bytes_eq (decimal n) word) refl where
   go : (b : Bool) → bytes_eq (decimal n) word ≡ b → b ≡ false
-  go true e = absurd (cc (ap (list_all is_ascii_digit) ((bytes_eq-Decides (decimal n) word).0 e), decimal_digits n (omega arith), other))
+  go true e = absurd (cc (
+    ap (list_all is_ascii_digit) ((bytes_eq-Decides (decimal n) word).0 e),
+    decimal_digits n (omega arith),
+    other,
+  ))
   go false e = refl
 
 -- a text that begins with a byte of a word begins with no sign
@@ -169,7 +191,8 @@ abbrev pub Leads : List ℕ → Type 0
 Leads [] = ⊥
 Leads (byte ∷ bytes) = is_word_byte byte ≡ true
 
-pub leads_not : (sign : ℕ) (text rest : List ℕ) → is_word_byte sign ≡ false → Leads text → bytes_eq (take 1 (text ++ rest)) (sign ∷ []) ≡ false
+pub leads_not : (sign : ℕ) (text rest : List ℕ) → is_word_byte sign ≡ false → Leads text →
+    bytes_eq (take 1 (text ++ rest)) (sign ∷ []) ≡ false
 leads_not sign [] rest none leads = absurd leads
 leads_not sign (byte ∷ text) rest none leads = go (byte == sign) refl where
   go : (b : Bool) → (byte == sign) ≡ b → bytes_eq (take 1 (byte ∷ text ++ rest)) (sign ∷ []) ≡ false

@@ -5,7 +5,9 @@ use Rattle.layer_ast.specs.declared.tokens.Dir.{Dir}
 use Rattle.layer_ast.specs.declared.tokens.Dir.TheVariants.{Up, Down}
 use Rattle.layer_mean.specs.declared.run.Case.{Case}
 use Rattle.layer_mean.specs.Headers.{declared}
-use Rattle.layer_mean.specs.Tree.{Carried, ExpressionTree, number, me, count, ltime, local, element, square, rows, item, size, binary, apply, pick, MessageTree, message, nothing, held, cut, tail, join, ContentTree, EmissionTree, RowTree, ItemsTree, HandlerTree, LayerTree}
+use Rattle.layer_mean.specs.Tree.{Carried, ExpressionTree, number, me, count, ltime, local, element, square, rows, item}
+use Rattle.layer_mean.specs.Tree.{size, binary, apply, pick, MessageTree, message, nothing, held, cut, tail, join}
+use Rattle.layer_mean.specs.Tree.{ContentTree, EmissionTree, RowTree, ItemsTree, HandlerTree, LayerTree}
 use Rattle.layer_mean.specs.Way.{Step, test, fork, set_slot, set_number, set_square, put, get, send, loop, handler_way}
 use Rattle.msg_core.specs.Headers.{most_fields}
 use Rattle.trace_mean.specs.Fuse.{form_at, fields_of}
@@ -18,8 +20,9 @@ abbrev pub cell_items : LayerTree → ℕ → ItemsTree
 cell_items layer c = unwrap_or (items_in (form_at layer c)) no_items
 
 abbrev mutual
-  -- An expression and a message of a layer in which no more than so many brackets are open at once, round and square ones together, whose literals
-  -- are read, and in which a message that a queue holds is of the kind that its rows carry.
+  -- An expression and a message of a layer in which no more than so many brackets are open at once, round and square
+  -- ones together, whose literals are read, and in which a message that a queue holds is of the kind that its rows
+  -- carry.
   pub ExpressionFits : LayerTree → ℕ → ExpressionTree → Type 0
   ExpressionFits layer n (number k) = k ≤ largest_number
   ExpressionFits layer n me = Unit {0}
@@ -33,7 +36,8 @@ abbrev mutual
   ExpressionFits layer (suc n) (size m) = MessageFits layer n m
   ExpressionFits layer (suc n) (binary operator a b) = ExpressionFits layer n a × ExpressionFits layer n b
   ExpressionFits layer (suc n) (apply function a) = ExpressionFits layer n a
-  ExpressionFits layer (suc n) (pick c a b) = ExpressionFits layer n c × ExpressionFits layer n a × ExpressionFits layer n b
+  ExpressionFits layer (suc n) (pick c a b) = ExpressionFits layer n c × ExpressionFits layer n a ×
+      ExpressionFits layer n b
   ExpressionFits layer _ _ = ⊥
 
   pub MessageFits : LayerTree → ℕ → MessageTree → Type 0
@@ -41,7 +45,8 @@ abbrev mutual
   MessageFits layer n nothing = Unit {0}
   MessageFits layer (suc (suc n)) (held c e row carried) =
       Carries (cell_items layer c) carried × ExpressionFits layer n e × ExpressionFits layer (suc n) row
-  MessageFits layer (suc n) (cut m from most) = MessageFits layer n m × ExpressionFits layer n from × ExpressionFits layer n most
+  MessageFits layer (suc n) (cut m from most) = MessageFits layer n m × ExpressionFits layer n from ×
+      ExpressionFits layer n most
   MessageFits layer (suc n) (tail m from) = MessageFits layer n m × ExpressionFits layer n from
   MessageFits layer (suc n) (join first m) = MessageFits layer n first × MessageFits layer n m
   MessageFits layer _ _ = ⊥

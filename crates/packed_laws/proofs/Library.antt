@@ -28,7 +28,8 @@ is_shallow room (t ∷ tokens) = option_map_or (λ left. is_shallow left tokens)
 shallow_within : (tokens : List Token) (room : ℕ) → is_shallow room tokens ≡ true → IsWithin room tokens
 shallow_within [] room h = tt
 shallow_within (t ∷ tokens) room h = go (room_behind t room) (λ left k. shallow_within tokens left k) h where
-  go : (o : Option ℕ) → ((left : ℕ) → is_shallow left tokens ≡ true → IsWithin left tokens) → option_map_or (λ left. is_shallow left tokens) o false ≡ true →
+  go : (o : Option ℕ) → ((left : ℕ) → is_shallow left tokens ≡ true → IsWithin left tokens) →
+      option_map_or (λ left. is_shallow left tokens) o false ≡ true →
       WithRoom o (λ left. IsWithin left tokens)
   go None so k = absurd (cc k)
   go (Some left) so k = so left k
@@ -116,27 +117,33 @@ library_shallow = rw (
   top_shallow,
 ) refl
 
-looked_up : (table : List (List ℕ × List ℕ)) (word text : List ℕ) → list_all (λ (entry : List ℕ × List ℕ). text_shallow entry.1) table ≡ true →
+looked_up : (table : List (List ℕ × List ℕ)) (word text : List ℕ) →
+    list_all (λ (entry : List ℕ × List ℕ). text_shallow entry.1) table ≡ true →
     lookup (bytes_eq word) table ≡ Some text → text_shallow text ≡ true
 looked_up [] word text all is = absurd (cc is)
 looked_up (entry ∷ table) word text all is =
-    let parts = and_parts (text_shallow entry.1) (list_all (λ (entry : List ℕ × List ℕ). text_shallow entry.1) table) all in
+    let parts = and_parts (text_shallow entry.1) (list_all (λ (entry : List ℕ × List ℕ). text_shallow entry.1) table)
+    all in
     go (bytes_eq word entry.0) parts.0 (looked_up table word text parts.1) is where
-      go : (b : Bool) → text_shallow entry.1 ≡ true → (lookup (bytes_eq word) table ≡ Some text → text_shallow text ≡ true) →
+      go : (b : Bool) → text_shallow entry.1 ≡ true →
+          (lookup (bytes_eq word) table ≡ Some text → text_shallow text ≡ true) →
           (if b then Some entry.1 else lookup (bytes_eq word) table) ≡ Some text → text_shallow text ≡ true
       go true here later k = some_same (λ t. text_shallow t ≡ true) k here
       go false here later k = later k
 
-called_shallow : (words : List (List ℕ)) → AllByRecursion (λ text. text_shallow text ≡ true) (filter_map library_text words)
+called_shallow : (words : List (List ℕ)) →
+    AllByRecursion (λ text. text_shallow text ≡ true) (filter_map library_text words)
 called_shallow [] = tt
-called_shallow (word ∷ words) = go (library_text word) (λ text is. looked_up library word text library_shallow is) (called_shallow words) where
-  go : (o : Option (List ℕ)) → ((text : List ℕ) → o ≡ Some text → text_shallow text ≡ true) →
-      AllByRecursion (λ text. text_shallow text ≡ true) (filter_map library_text words) →
-      AllByRecursion (λ text. text_shallow text ≡ true) (cons_option o (filter_map library_text words))
-  go None so rest = rest
-  go (Some text) so rest = (so text refl, rest)
+called_shallow (word ∷ words) = go (library_text word) (λ text is. looked_up library word text library_shallow is)
+    (called_shallow words) where
+      go : (o : Option (List ℕ)) → ((text : List ℕ) → o ≡ Some text → text_shallow text ≡ true) →
+          AllByRecursion (λ text. text_shallow text ≡ true) (filter_map library_text words) →
+          AllByRecursion (λ text. text_shallow text ≡ true) (cons_option o (filter_map library_text words))
+      go None so rest = rest
+      go (Some text) so rest = (so text refl, rest)
 
-library_walked : (texts : List (List ℕ)) (ls : List LayerTree) → AllByRecursion (λ text. text_shallow text ≡ true) texts → AllZip SpellsLayer texts ls →
+library_walked : (texts : List (List ℕ)) (ls : List LayerTree) →
+    AllByRecursion (λ text. text_shallow text ≡ true) texts → AllZip SpellsLayer texts ls →
     AllByRecursion WalkedLayer ls
 library_walked [] [] shallow h = tt
 library_walked [] (l ∷ ls) shallow h = absurd h
@@ -153,6 +160,7 @@ pub record WalkedFile (file : FileTree) : Type 0 where
 
 pub file_walked : (text : List ℕ) (file : FileTree) → IsFile text file → WalkedFile file
 file_walked text file is = record {
-  layers_are = layers_walk file.layers 98 (omega arith) _ (text_walked 100 (print.file file) text is.spelled.fits is.spelled.within);
+  layers_are = layers_walk file.layers 98 (omega arith) _
+      (text_walked 100 (print.file file) text is.spelled.fits is.spelled.within);
   library_is = library_walked (called_for file) file.library (called_shallow _) is.library;
 }

@@ -1,5 +1,6 @@
 -- What was packed of a stack that a file means is accepted.
-use Rattle.std.proofs.Common.{◌≡◌, ◌∙◌, ℕ, ◌+◌, ◌≤◌, Bool, true, false, List, [], ◌∷◌, length, map, Option, Some, None, refl, subst, arith}
+use Rattle.std.proofs.Common.{◌≡◌, ◌∙◌, ℕ, ◌+◌, ◌≤◌, Bool, true, false, List, [], ◌∷◌, length, map, Option, Some, None}
+use Rattle.std.proofs.Common.{refl, subst, arith}
 use Rattle.std.specs.Prelude.{Ok, Err, nat_lt, if◌then◌else◌}
 use Rattle.std.specs.List.{AllByRecursion, enumerate_from}
 use Rattle.std.specs.Option.{option_map_or}
@@ -14,7 +15,8 @@ use Rattle.file_mean.specs.Names.{Placed}
 use Rattle.file_mean.specs.Stack.{placed_layer, stack_of}
 use Rattle.msg_core.specs.Headers.{most_fields}
 use Rattle.stack_mean.specs.Graph.{Node, first_on_cycle}
-use Rattle.stack_mean.specs.Acceptance.{accepted, without_cycle, largest_weight, largest_joins, weight_limit, joins_limit, held_at_most, too_many, too_many_joins}
+use Rattle.stack_mean.specs.Acceptance.{accepted, without_cycle, largest_weight, largest_joins, weight_limit}
+use Rattle.stack_mean.specs.Acceptance.{joins_limit, held_at_most, too_many, too_many_joins}
 use Rattle.chain_laws.specs.Runs.{TypedStack}
 use Rattle.chain_laws.proofs.Lists.{Where}
 use Rattle.file_laws.specs.Bounds.{HoldsDeclaration, HoldsLayer, HoldsPlaced, placed_at}
@@ -34,21 +36,28 @@ use Rattle.packed_laws.proofs.Packed.{packed_is_read, packed_is_accepted}
 use Rattle.packed_laws.proofs.Stacks.{stack_fits, stack_told}
 
 -- an accepted stack is the one that was judged
-accepted_same : (s t : List LayerTree) (o : Option Node) → said_accepted (without_cycle s o) ≡ Ok t → (without_cycle s o ≡ Ok s) × (s ≡ t)
+accepted_same : (s t : List LayerTree) (o : Option Node) → said_accepted (without_cycle s o) ≡ Ok t →
+    (without_cycle s o ≡ Ok s) × (s ≡ t)
 accepted_same s t (Some node) is = absurd (cc is)
-accepted_same s t None is = heavy (nat_lt weight_limit (largest_weight s)) (nat_lt joins_limit (largest_joins s)) is where
-  heavy : (a b : Bool) → said_accepted (if a then Err (too_many (held_at_most (largest_weight s))) else if b then Err too_many_joins else Ok s) ≡ Ok t →
-      ((if a then Err (too_many (held_at_most (largest_weight s))) else if b then Err too_many_joins else Ok s) ≡ Ok s) × (s ≡ t)
-  heavy true b is = absurd (cc is)
-  heavy false true is = absurd (cc is)
-  heavy false false is = (refl, cc is)
+accepted_same s t None is = heavy (nat_lt weight_limit (largest_weight s)) (nat_lt joins_limit (largest_joins s)) is
+  where
+    heavy : (a b : Bool) →
+        said_accepted (if a then Err (too_many (held_at_most (largest_weight s))) else if b then Err too_many_joins else
+        Ok s) ≡ Ok t →
+        ((if a then Err (too_many (held_at_most (largest_weight s))) else if b then Err too_many_joins else Ok s) ≡
+        Ok s)
+        × (s ≡ t)
+    heavy true b is = absurd (cc is)
+    heavy false true is = absurd (cc is)
+    heavy false false is = (refl, cc is)
 
 record IsOwn (file : ast.FileTree) (t : List LayerTree) : Type 0 where
   faultless : file_fault file ≡ None
   accepts : accepted (stack_of file) ≡ Ok (stack_of file)
   is : stack_of file ≡ t
 
-own_stack : (file : ast.FileTree) (t : List LayerTree) (fault : Option faults.FileFault) → file_fault file ≡ fault → judged_by file fault ≡ Ok t →
+own_stack : (file : ast.FileTree) (t : List LayerTree) (fault : Option faults.FileFault) → file_fault file ≡ fault →
+    judged_by file fault ≡ Ok t →
     IsOwn file t
 own_stack file t (Some fault) found is = absurd (cc is)
 own_stack file t None none is =
@@ -56,7 +65,8 @@ own_stack file t None none is =
     record { faultless = none; accepts = same.0; is = same.1 }
 
 -- the headers of a layer that members hold have few fields
-few_in : (p : Placed) (d : ast.DeclarationTree) → HoldsDeclaration p d → Where (λ (h : HeaderTree). h.fields ≤ most_fields) (header_in d)
+few_in : (p : Placed) (d : ast.DeclarationTree) → HoldsDeclaration p d →
+    Where (λ (h : HeaderTree). h.fields ≤ most_fields) (header_in d)
 few_in p (ast.param at name value) h = tt
 few_in p (ast.int at name shape initial) h = tt
 few_in p (ast.rows_cell at name capacity items) h = tt
@@ -65,10 +75,12 @@ few_in p (ast.header at name fields ending) h = h
 
 layer_few : (p : Placed) → HoldsLayer p → HasFewFields (layer_of p)
 unfolding layer_of
-layer_few p holds = filter_map_each (HoldsDeclaration p) (λ (h : HeaderTree). h.fields ≤ most_fields) header_in (λ d h. few_in p d h) p.layer.declarations
+layer_few p holds = filter_map_each (HoldsDeclaration p) (λ (h : HeaderTree). h.fields ≤ most_fields) header_in
+    (λ d h. few_in p d h) p.layer.declarations
     holds.declarations_are
 
-place_few : (file : ast.FileTree) (n : ℕ) (place : ast.PlaceTree) (o : Option Placed) → HoldsPlaced o → HasFewFields (option_map_or layer_of o no_layer)
+place_few : (file : ast.FileTree) (n : ℕ) (place : ast.PlaceTree) (o : Option Placed) → HoldsPlaced o →
+    HasFewFields (option_map_or layer_of o no_layer)
 place_few file n place None holds = absurd holds
 place_few file n place (Some p) holds = layer_few p holds
 
@@ -94,9 +106,11 @@ record Fits (stack : List LayerTree) : Type 0 where
 
 places_counted : (file : ast.FileTree) → length (stack_of file) ≡ length file.places
 unfolding stack_of
-places_counted file = length-map (enumerate_from 0 file.places) (λ (x : ℕ × ast.PlaceTree). placed_layer file x.0 x.1) ∙ length-enumerate_from 0 file.places
+places_counted file = length-map (enumerate_from 0 file.places) (λ (x : ℕ × ast.PlaceTree). placed_layer file x.0 x.1) ∙
+    length-enumerate_from 0 file.places
 
-file_fits : (text : List ℕ) (stack : List LayerTree) (m : Means text stack) → IsOwn m.file stack → Fits (stack_of m.file)
+file_fits : (text : List ℕ) (stack : List LayerTree) (m : Means text stack) → IsOwn m.file stack →
+    Fits (stack_of m.file)
 unfolding stack_of
 file_fits text stack m own =
     let file = m.file in
@@ -111,7 +125,8 @@ file_fits text stack m own =
       typed = typed;
       named = files_are_named file own.faultless;
       told = stack_told file literal walked 0 file.places parts.places_are;
-      layers_fit = stack_fits file literal walked 0 0 file.places parts.places_are literal.places_are holds.layers_are typed;
+      layers_fit = stack_fits file literal walked 0 0 file.places parts.places_are literal.places_are holds.layers_are
+          typed;
       few = stack_few file 0 file.places parts.places_are holds.layers_are;
       high = omega (arith, count, most);
     }

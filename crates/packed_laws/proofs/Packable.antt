@@ -36,12 +36,15 @@ pub record CanBeRead (stack : List LayerTree) (d : Due) : Type 0 where
   pub long : length d.own ≤ largest_number
   pub fields : d.fields ≤ largest_number
 
--- the known headers with which an entry begins are those of its layers, with as many fields as they have; and few of these vary
+-- the known headers with which an entry begins are those of its layers, with as many fields as they have; and few of
+-- these vary
 pub record EntryFits (stack : List LayerTree) (e : Entry) : Type 0 where
-  pub chain : ChainFits stack (task_place e.known.dir (entry_place stack e.known.dir)) (entry_chain 0 stack e.known.tags (field_atoms 0 e.fields))
+  pub chain : ChainFits stack (task_place e.known.dir (entry_place stack e.known.dir))
+      (entry_chain 0 stack e.known.tags (field_atoms 0 e.fields))
   pub fields : varying e.fields ≤ largest_number
 
--- a stack can be packed and read again where its names can be told apart, it isn't too high, and its layers and entries fit
+-- a stack can be packed and read again where its names can be told apart, it isn't too high, and its layers and entries
+-- fit
 pub record CanBePacked (stack : List LayerTree) : Type 0 where
   pub sound : IsSound stack
   pub told : AreToldApart stack

@@ -1,5 +1,7 @@
 -- No line of a trace has a line feed in it.
-use Rattle.std.proofs.Common.{◌≡◌, ℕ, zero, suc, ◌+◌, ◌/◌, ◌%◌, ◌<◌, ◌≤◌, Bool, true, false, not, ◌==◌, List, [], ◌∷◌, ◌++◌, map, flat_map, length, slice_index_or, Option, Some, None, is_some, option_to_list, codes, decimal, refl, sym, ◌∙◌, subst, arith, inl, inr}
+use Rattle.std.proofs.Common.{◌≡◌, ℕ, zero, suc, ◌+◌, ◌/◌, ◌%◌, ◌<◌, ◌≤◌, Bool, true, false, not, ◌==◌, List, [], ◌∷◌}
+use Rattle.std.proofs.Common.{◌++◌, map, flat_map, length, slice_index_or, Option, Some, None, is_some, option_to_list}
+use Rattle.std.proofs.Common.{codes, decimal, refl, sym, ◌∙◌, subst, arith, inl, inr}
 use Rattle.std.specs.Prelude.{if◌then◌else◌}
 use Rattle.std.specs.Fmt.{digits, digits_onto, digit_glyph}
 use Rattle.std.specs.List.{AllByRecursion, list_all, join_by, join_with_byte}
@@ -14,7 +16,9 @@ use Rattle.layer_ast.specs.declared.tokens.Kind.TheVariants as kind
 use Rattle.layer_ast.specs.declared.syntax.Function.{Function}
 use Rattle.layer_ast.specs.declared.syntax.Function.TheVariants.{Not, Bit, Count, Lowest}
 use Rattle.layer_ast.specs.declared.syntax.Operator.{Operator}
-use Rattle.layer_ast.specs.declared.syntax.Operator.TheVariants.{Add, Subtract, Multiply, Equal, NotEqual, Less, LessOrEqual, Greater, GreaterOrEqual, And, Or, BitAnd, BitOr, BitXor}
+use Rattle.layer_ast.specs.declared.syntax.Operator.TheVariants.{Add, Subtract, Multiply, Equal, NotEqual, Less}
+use Rattle.layer_ast.specs.declared.syntax.Operator.TheVariants.{LessOrEqual, Greater, GreaterOrEqual, And, Or, BitAnd}
+use Rattle.layer_ast.specs.declared.syntax.Operator.TheVariants.{BitOr, BitXor}
 use Rattle.layer_ast.specs.declared.syntax.Shape.TheVariants.{One, Array, Square}
 use Rattle.layer_ast.specs.Printed.{direction_sign, function_sign, operator_sign}
 use Rattle.layer_ast.specs.Spelling.{is_word_byte, kinds, kind_word, reserved, symbols}
@@ -28,7 +32,8 @@ use Rattle.trace_mean.specs.Fuse.{form_at}
 use Rattle.trace_form_laws.specs.Names.{AtomNames, LinkNames, SentNames, NumberNames, MessageNames, OperationNames}
 use Rattle.trace_form_laws.specs.Closed.{AtomIsMade, CoreIsMade, IsMade}
 use Rattle.trace_form_laws.specs.There.{HasNumber, HasRows, HasQueue, HasItem, IsThere}
-use Rattle.bypass_mean.specs.Text.{layer_of, sign_text, listed, indexed, with_index, atom_text, core_text, cell_name, cell_text, number_text, message_text, link_text, chain_text, behind, pushed_text}
+use Rattle.bypass_mean.specs.Text.{layer_of, sign_text, listed, indexed, with_index, atom_text, core_text, cell_name}
+use Rattle.bypass_mean.specs.Text.{cell_text, number_text, message_text, link_text, chain_text, behind, pushed_text}
 use Rattle.pack_mean.specs.Named.{Named, items_at, atom_named, core_named, cell_named}
 use Rattle.pack_mean.specs.Expression.{most_brackets}
 use Rattle.pack_mean.specs.Operation.{tag_named}
@@ -36,7 +41,8 @@ use Rattle.pack_laws.specs.Written.{note_name, written_with, line_with}
 use Rattle.pack_laws.proofs.Spelled.{reach_of}
 use Rattle.pack_laws.proofs.Words.{called}
 use Rattle.packed_laws.specs.Told.{IsWord, AreToldApart}
-use Rattle.packed_laws.proofs.Fits.{largest_number, AtomFits, CoreFits, NumberFits, MessageFits, LinkFits, ChainFits, SentFits, RowFits, index_brackets, OperationFits}
+use Rattle.packed_laws.proofs.Fits.{largest_number, AtomFits, CoreFits, NumberFits, MessageFits, LinkFits, ChainFits}
+use Rattle.packed_laws.proofs.Fits.{SentFits, RowFits, index_brackets, OperationFits}
 use Rattle.packed_laws.proofs.Names.{all_at, IsSmall, Names, atom_names, core_names, tag_names, cell_names, rows_told}
 use Rattle.packed_laws.proofs.Numbers.{form_of, rows_are}
 
@@ -61,7 +67,8 @@ word_plain (byte ∷ word) is =
     let parts = and_parts (is_word_byte byte) (list_all is_word_byte word) is in
     rw (word_plain_byte byte parts.0) (word_plain word parts.1)
 
-pub words_plain : (word : List ℕ) (words : List (List ℕ)) → IsWord word → AllByRecursion IsWord words → IsPlain (join_with_byte 46 (word ∷ words))
+pub words_plain : (word : List ℕ) (words : List (List ℕ)) → IsWord word → AllByRecursion IsWord words →
+    IsPlain (join_with_byte 46 (word ∷ words))
 words_plain word [] is are = word_plain word is
 words_plain word (next ∷ words) is are =
     plain_both word (46 ∷ join_with_byte 46 (next ∷ words)) (word_plain word is) (words_plain next words are.0 are.1)
@@ -77,7 +84,8 @@ digits_plain (suc k) n acc h = go (n / 10 == 0) (digits_plain k (n / 10) (digit_
   onto = rw (glyph_plain (n % 10)) h
 
   go : (b : Bool) → IsPlain (digits_onto k 10 false (n / 10) (digit_glyph false (n % 10) ∷ acc)) →
-      IsPlain (if b then digit_glyph false (n % 10) ∷ acc else digits_onto k 10 false (n / 10) (digit_glyph false (n % 10) ∷ acc))
+      IsPlain (if b then digit_glyph false (n % 10) ∷
+      acc else digits_onto k 10 false (n / 10) (digit_glyph false (n % 10) ∷ acc))
   go true more = onto
   go false more = more
 
@@ -86,17 +94,22 @@ unfolding digits
 decimal_plain n = digits_plain 64 n [] refl
 
 -- parts with others between
-pub parts_plain : {A : Type 0} (shown : A → List ℕ) (between : List ℕ) (xs : List A) → IsPlain between → AllByRecursion (λ x. IsPlain (shown x)) xs →
+pub parts_plain : {A : Type 0} (shown : A → List ℕ) (between : List ℕ) (xs : List A) → IsPlain between →
+    AllByRecursion (λ x. IsPlain (shown x)) xs →
     IsPlain (join_by shown between xs)
 parts_plain shown between [] h all = refl
-parts_plain {A = A} shown between (x ∷ xs) h all = plain_both (shown x) (flat_map (λ y. between ++ shown y) xs) all.0 (more xs all.1) where
-  more : (ys : List A) → AllByRecursion (λ y. IsPlain (shown y)) ys → IsPlain (flat_map (λ y. between ++ shown y) ys)
-  more [] each = refl
-  more (y ∷ ys) each = plain_both (between ++ shown y) (flat_map (λ z. between ++ shown z) ys) (plain_both between (shown y) h each.0) (more ys each.1)
+parts_plain {A = A} shown between (x ∷ xs) h all = plain_both (shown x) (flat_map (λ y. between ++ shown y) xs) all.0
+    (more xs all.1) where
+      more : (ys : List A) → AllByRecursion (λ y. IsPlain (shown y)) ys →
+          IsPlain (flat_map (λ y. between ++ shown y) ys)
+      more [] each = refl
+      more (y ∷ ys) each = plain_both (between ++ shown y) (flat_map (λ z. between ++ shown z) ys)
+          (plain_both between (shown y) h each.0) (more ys each.1)
 
 pub listed_plain : (parts : List (List ℕ)) → AllByRecursion IsPlain parts → IsPlain (listed parts)
 listed_plain parts all = plain_both (codes "(" ++ join_by (λ part. part) (codes ",") parts) (codes ")")
-    (plain_both (codes "(") (join_by (λ part. part) (codes ",") parts) refl (parts_plain (λ part. part) (codes ",") parts refl all)) refl
+    (plain_both (codes "(") (join_by (λ part. part) (codes ",") parts) refl
+    (parts_plain (λ part. part) (codes ",") parts refl all)) refl
 
 pub one_plain : (f a : List ℕ) → IsPlain f → IsPlain a → IsPlain (f ++ listed (a ∷ []))
 one_plain f a h k = plain_both f (listed (a ∷ [])) h (listed_plain (a ∷ []) (k, tt))
@@ -104,13 +117,15 @@ one_plain f a h k = plain_both f (listed (a ∷ [])) h (listed_plain (a ∷ []) 
 pub two_plain : (f a b : List ℕ) → IsPlain f → IsPlain a → IsPlain b → IsPlain (f ++ listed (a ∷ b ∷ []))
 two_plain f a b h k l = plain_both f (listed (a ∷ b ∷ [])) h (listed_plain (a ∷ b ∷ []) (k, (l, tt)))
 
-pub three_plain : (f a b c : List ℕ) → IsPlain f → IsPlain a → IsPlain b → IsPlain c → IsPlain (f ++ listed (a ∷ b ∷ c ∷ []))
+pub three_plain : (f a b c : List ℕ) → IsPlain f → IsPlain a → IsPlain b → IsPlain c →
+    IsPlain (f ++ listed (a ∷ b ∷ c ∷ []))
 three_plain f a b c h k l m = plain_both f (listed (a ∷ b ∷ c ∷ [])) h (listed_plain (a ∷ b ∷ c ∷ []) (k, (l, (m, tt))))
 
 pub indexed_plain : (index : List ℕ) → IsPlain index → IsPlain (indexed index)
 indexed_plain index h = plain_both (codes "[" ++ index) (codes "]") (plain_both (codes "[") index refl h) refl
 
-pub shown_plain : (form : Option Form) (name index : List ℕ) → IsPlain name → IsPlain index → IsPlain (with_index form name index)
+pub shown_plain : (form : Option Form) (name index : List ℕ) → IsPlain name → IsPlain index →
+    IsPlain (with_index form name index)
 shown_plain None name index h k = plain_both name (indexed index) h (indexed_plain index k)
 shown_plain (Some (numbers One initial)) name index h k = h
 shown_plain (Some (numbers Array initial)) name index h k = plain_both name (indexed index) h (indexed_plain index k)
@@ -162,7 +177,8 @@ kind_plain kind.Flushed = refl
 kind_plain kind.View = refl
 kind_plain kind.Leave = refl
 
-names_plain : {A : Type 0} (named : List (List ℕ) → Option A) (text : List ℕ) (a : A) → Names named text a → IsPlain text
+names_plain : {A : Type 0} (named : List (List ℕ) → Option A) (text : List ℕ) (a : A) → Names named text a →
+    IsPlain text
 names_plain named text a x = subst IsPlain (sym x.text_is) (words_plain x.first x.more x.is_word x.are_words)
 
 -- a cell that is named is there
@@ -170,11 +186,13 @@ number_there : (layer : LayerTree) (c : ℕ) (e : TraceNumber) → HasNumber lay
 number_there layer c e (inl one) = (form_of shape_in layer c One one.0).there
 number_there layer c e (inr array) = (form_of shape_in layer c Array array).there
 
-rows_there : (layer : LayerTree) (c : ℕ) (e : TraceNumber) (items : ItemsTree) → HasRows layer c e items → c < length layer.cells
+rows_there : (layer : LayerTree) (c : ℕ) (e : TraceNumber) (items : ItemsTree) → HasRows layer c e items →
+    c < length layer.cells
 rows_there layer c e items (inl alone) = (form_of alone_in layer c items alone.0).there
 rows_there layer c e items (inr among) = (form_of among_in layer c items among).there
 
-module _ (stack : List LayerTree) (told : AreToldApart stack) (few : length stack ≤ largest_number) (before : List (List ℕ)) (s : Named)
+module _ (stack : List LayerTree) (told : AreToldApart stack) (few : length stack ≤ largest_number)
+    (before : List (List ℕ)) (s : Named)
     (small : IsSmall s) where
   abbrev NumberText : TraceNumber → List ℕ
   NumberText e = number_text stack (written_with before s) e
@@ -183,15 +201,19 @@ module _ (stack : List LayerTree) (told : AreToldApart stack) (few : length stac
   MessageText m = message_text stack (written_with before s) m
 
   cell_plain : (p c : ℕ) → p < length stack → c < length (layer_of stack p).cells → IsPlain (cell_name stack p c)
-  cell_plain p c inside there = names_plain (cell_named stack) _ (p, c) (cell_names stack told few s p c inside there).names
+  cell_plain p c inside there = names_plain
+      (cell_named stack) _ (p, c) (cell_names stack told few s p c inside there).names
 
-  index_plain : (p c : ℕ) (index : List ℕ) → p < length stack → c < length (layer_of stack p).cells → IsPlain index → IsPlain (cell_text stack p c index)
-  index_plain p c index inside there h = shown_plain (form_at (layer_of stack p) c) (cell_name stack p c) index (cell_plain p c inside there) h
+  index_plain : (p c : ℕ) (index : List ℕ) → p < length stack → c < length (layer_of stack p).cells → IsPlain index →
+      IsPlain (cell_text stack p c index)
+  index_plain p c index inside there h = shown_plain (form_at (layer_of stack p) c) (cell_name stack p c) index
+      (cell_plain p c inside there) h
 
   atom_plain : (a : Atom) → AtomIsMade (reach_of s) a → AtomFits a → IsPlain (atom_text (written_with before s) a)
   atom_plain a made fits = names_plain (atom_named s) _ a (atom_names before s small a made fits)
 
-  core_plain : (c : Core) → CoreIsMade (reach_of s) c → CoreFits s.rows c → IsPlain (core_text (written_with before s) c)
+  core_plain : (c : Core) → CoreIsMade (reach_of s) c → CoreFits s.rows c →
+      IsPlain (core_text (written_with before s) c)
   core_plain c made fits = names_plain (core_named s) _ c (core_names before s small c made fits).names
 
   abbrev MadeNumber : TraceNumber → Type 0
@@ -206,7 +228,8 @@ module _ (stack : List LayerTree) (told : AreToldApart stack) (few : length stac
   abbrev ThereMessage : TraceMessage → Type 0
   ThereMessage m = MessageNames (IsThere stack) m
 
-  item_plain : (p c : ℕ) (e row : TraceNumber) (k : ℕ) → p < length stack → HasItem (layer_of stack p) c e k → IsPlain (NumberText e) →
+  item_plain : (p c : ℕ) (e row : TraceNumber) (k : ℕ) → p < length stack → HasItem (layer_of stack p) c e k →
+      IsPlain (NumberText e) →
       IsPlain (NumberText row) →
       IsPlain (NumberText (trace.item p c e row k))
   item_plain p c e row k inside has h l =
@@ -217,37 +240,51 @@ module _ (stack : List LayerTree) (told : AreToldApart stack) (few : length stac
       let name = all_at IsWord names k [] (rows_told stack told few p c inside).words below in
       plain_both (codes "at" ++ listed (cell_text stack p c (NumberText e) ∷ NumberText row ∷ []) ++ codes ".") _
       (plain_both (codes "at" ++ listed (cell_text stack p c (NumberText e) ∷ NumberText row ∷ [])) (codes ".")
-      (two_plain (codes "at") (cell_text stack p c (NumberText e)) (NumberText row) refl (index_plain p c (NumberText e) inside there h) l) refl)
-      (subst (λ ns. IsPlain (slice_index_or ns k [])) (called (form_at (layer_of stack p) c)) (word_plain (slice_index_or names k []) name))
+      (two_plain (codes "at") (cell_text stack p c (NumberText e)) (NumberText row) refl
+      (index_plain p c (NumberText e) inside there h) l) refl)
+      (subst (λ ns. IsPlain (slice_index_or ns k [])) (called (form_at (layer_of stack p) c))
+      (word_plain (slice_index_or names k []) name))
 
   mutual
-    number_plain : (n : ℕ) (e : TraceNumber) → MadeNumber e → ThereNumber e → NumberFits stack s.rows n e → IsPlain (NumberText e)
+    number_plain : (n : ℕ) (e : TraceNumber) → MadeNumber e → ThereNumber e → NumberFits stack s.rows n e →
+        IsPlain (NumberText e)
     number_plain n (trace.atom a) made there fits = atom_plain a made fits
     number_plain n trace.me made there fits = refl
     number_plain n trace.count made there fits = refl
     number_plain n trace.ltime made there fits = refl
     number_plain (suc n) (trace.element p c e) made there fits =
-        index_plain p c (NumberText e) made.0 (number_there (layer_of stack p) c e there.0) (number_plain n e made.1 there.1 fits)
+        index_plain p c (NumberText e) made.0 (number_there (layer_of stack p) c e there.0)
+        (number_plain n e made.1 there.1 fits)
     number_plain (suc n) (trace.square p c a b) made there fits =
         plain_both (cell_name stack p c ++ indexed (NumberText a)) (indexed (NumberText b))
-        (plain_both (cell_name stack p c) (indexed (NumberText a)) (cell_plain p c made.0 (form_of shape_in (layer_of stack p) c Square there.0).there)
-        (indexed_plain (NumberText a) (number_plain n a made.1 there.1 fits.0))) (indexed_plain (NumberText b) (number_plain n b made.2 there.2 fits.1))
-    number_plain (suc (suc n)) (trace.rows p c e) made there fits = one_plain (codes "len") (cell_text stack p c (NumberText e)) refl
-        (index_plain p c (NumberText e) made.0 (rows_there (layer_of stack p) c e there.0.items there.0.listed) (number_plain n e made.1 there.1 fits))
+        (plain_both (cell_name stack p c) (indexed (NumberText a))
+        (cell_plain p c made.0 (form_of shape_in (layer_of stack p) c Square there.0).there)
+        (indexed_plain (NumberText a) (number_plain n a made.1 there.1 fits.0)))
+        (indexed_plain (NumberText b) (number_plain n b made.2 there.2 fits.1))
+    number_plain (suc (suc n)) (trace.rows p c e) made there fits = one_plain
+        (codes "len") (cell_text stack p c (NumberText e)) refl
+        (index_plain p c (NumberText e) made.0 (rows_there (layer_of stack p) c e there.0.items there.0.listed)
+        (number_plain n e made.1 there.1 fits))
     number_plain (suc (suc n)) (trace.item p c e row k) made there fits =
-        item_plain p c e row k made.0 there.0 (number_plain n e made.1 there.1 fits.0) (number_plain (suc n) row made.2 there.2 fits.1)
-    number_plain (suc n) (trace.size m) made there fits = one_plain (codes "size") (MessageText m) refl (message_plain n m made there fits)
+        item_plain p c e row k made.0 there.0 (number_plain n e made.1 there.1 fits.0)
+        (number_plain (suc n) row made.2 there.2 fits.1)
+    number_plain (suc n) (trace.size m) made there fits = one_plain
+        (codes "size") (MessageText m) refl (message_plain n m made there fits)
     number_plain (suc n) (trace.binary o a b) made there fits =
-        plain_both (codes "(" ++ NumberText a ++ codes " " ++ sign_text (operator_sign o) ++ codes " " ++ NumberText b) (codes ")")
+        plain_both (codes "(" ++ NumberText a ++ codes " " ++ sign_text (operator_sign o) ++ codes " " ++ NumberText b)
+        (codes ")")
         (plain_both (codes "(" ++ NumberText a ++ codes " " ++ sign_text (operator_sign o) ++ codes " ") (NumberText b)
         (plain_both (codes "(" ++ NumberText a ++ codes " " ++ sign_text (operator_sign o)) (codes " ")
         (plain_both (codes "(" ++ NumberText a ++ codes " ") (sign_text (operator_sign o))
-        (plain_both (codes "(" ++ NumberText a) (codes " ") (plain_both (codes "(") (NumberText a) refl (number_plain n a made.0 there.0 fits.0)) refl)
+        (plain_both (codes "(" ++ NumberText a) (codes " ")
+        (plain_both (codes "(") (NumberText a) refl (number_plain n a made.0 there.0 fits.0)) refl)
         (operator_plain o)) refl) (number_plain n b made.1 there.1 fits.1)) refl
     number_plain (suc n) (trace.apply f a) made there fits =
         one_plain (sign_text (function_sign f)) (NumberText a) (function_plain f) (number_plain n a made there fits)
-    number_plain (suc n) (trace.pick c a b) made there fits = three_plain (codes "pick") (NumberText c) (NumberText a) (NumberText b) refl
-        (number_plain n c made.0 there.0 fits.0) (number_plain n a made.1 there.1 fits.1) (number_plain n b made.2 there.2 fits.2)
+    number_plain (suc n) (trace.pick c a b) made there fits = three_plain
+        (codes "pick") (NumberText c) (NumberText a) (NumberText b) refl
+        (number_plain n c made.0 there.0 fits.0) (number_plain n a made.1 there.1 fits.1)
+        (number_plain n b made.2 there.2 fits.2)
     number_plain zero (trace.element p c e) made there fits = absurd fits
     number_plain zero (trace.square p c a b) made there fits = absurd fits
     number_plain zero (trace.rows p c e) made there fits = absurd fits
@@ -259,17 +296,24 @@ module _ (stack : List LayerTree) (told : AreToldApart stack) (few : length stac
     number_plain zero (trace.apply f a) made there fits = absurd fits
     number_plain zero (trace.pick c a b) made there fits = absurd fits
 
-    message_plain : (n : ℕ) (m : TraceMessage) → MadeMessage m → ThereMessage m → MessageFits stack s.rows n m → IsPlain (MessageText m)
+    message_plain : (n : ℕ) (m : TraceMessage) → MadeMessage m → ThereMessage m → MessageFits stack s.rows n m →
+        IsPlain (MessageText m)
     message_plain n (trace.core c) made there fits = core_plain c made fits
-    message_plain (suc (suc n)) (trace.held p c e row carried) made there fits = two_plain (codes "held") (cell_text stack p c (NumberText e))
+    message_plain (suc (suc n)) (trace.held p c e row carried) made there fits = two_plain
+        (codes "held") (cell_text stack p c (NumberText e))
         (NumberText row) refl
-        (index_plain p c (NumberText e) made.0 (rows_there (layer_of stack p) c e there.0.items there.0.listed) (number_plain n e made.1 there.1 fits.1))
+        (index_plain p c (NumberText e) made.0 (rows_there (layer_of stack p) c e there.0.items there.0.listed)
+        (number_plain n e made.1 there.1 fits.1))
         (number_plain (suc n) row made.2 there.2 fits.2)
-    message_plain (suc n) (trace.cut m from most) made there fits = three_plain (codes "cut") (MessageText m) (NumberText from) (NumberText most) refl
-        (message_plain n m made.0 there.0 fits.0) (number_plain n from made.1 there.1 fits.1) (number_plain n most made.2 there.2 fits.2)
-    message_plain (suc n) (trace.tail m from) made there fits = two_plain (codes "tail") (MessageText m) (NumberText from) refl
+    message_plain (suc n) (trace.cut m from most) made there fits = three_plain
+        (codes "cut") (MessageText m) (NumberText from) (NumberText most) refl
         (message_plain n m made.0 there.0 fits.0) (number_plain n from made.1 there.1 fits.1)
-    message_plain (suc n) (trace.join first m) made there fits = two_plain (codes "join") (MessageText first) (MessageText m) refl
+        (number_plain n most made.2 there.2 fits.2)
+    message_plain (suc n) (trace.tail m from) made there fits = two_plain
+        (codes "tail") (MessageText m) (NumberText from) refl
+        (message_plain n m made.0 there.0 fits.0) (number_plain n from made.1 there.1 fits.1)
+    message_plain (suc n) (trace.join first m) made there fits = two_plain
+        (codes "join") (MessageText first) (MessageText m) refl
         (message_plain n first made.0 there.0 fits.0) (message_plain n m made.1 there.1 fits.1)
     message_plain zero (trace.held p c e row carried) made there fits = absurd fits
     message_plain (suc zero) (trace.held p c e row carried) made there fits = absurd fits
@@ -284,24 +328,29 @@ module _ (stack : List LayerTree) (told : AreToldApart stack) (few : length stac
   abbrev Made : Atom → Type 0
   Made a = AtomNames (IsMade stack (reach_of s)) a
 
-  atoms_plain : (xs : List Atom) → AllByRecursion Made xs → AllByRecursion AtomFits xs → AllByRecursion IsPlain (map AtomText xs)
+  atoms_plain : (xs : List Atom) → AllByRecursion Made xs → AllByRecursion AtomFits xs →
+      AllByRecursion IsPlain (map AtomText xs)
   atoms_plain [] made fits = tt
   atoms_plain (x ∷ xs) made fits = (atom_plain x made.0 fits.0, atoms_plain xs made.1 fits.1)
 
-  link_plain : (place : ℕ) (l : Link) → LinkFits stack place l → LinkNames (IsMade stack (reach_of s)) l → IsPlain (link_text stack AtomText l)
+  link_plain : (place : ℕ) (l : Link) → LinkFits stack place l → LinkNames (IsMade stack (reach_of s)) l →
+      IsPlain (link_text stack AtomText l)
   link_plain place l fits made =
       let x = tag_names stack told few l.place l.tag (subst (λ p. p < length stack) (sym fits.at) fits.inside)
       (subst (λ p. is_some (declared (layer_of stack p) l.tag) ≡ true) (sym fits.at) fits.declares) in
-      plain_both ((layer_of stack l.place).name ++ codes "." ++ option_map_or (λ (h : HeaderTree). h.name) (declared (layer_of stack l.place) l.tag) [])
+      plain_both ((layer_of stack l.place).name ++ codes "." ++
+      option_map_or (λ (h : HeaderTree). h.name) (declared (layer_of stack l.place) l.tag) [])
       (listed (map AtomText l.fields)) (names_plain (tag_named (layer_of stack l.place)) _ l.tag x)
       (listed_plain (map AtomText l.fields) (atoms_plain l.fields made fits.fields_fit))
 
-  links_plain : (place : ℕ) (ls : List Link) → ChainFits stack place ls → AllByRecursion (LinkNames (IsMade stack (reach_of s))) ls →
+  links_plain : (place : ℕ) (ls : List Link) → ChainFits stack place ls →
+      AllByRecursion (LinkNames (IsMade stack (reach_of s))) ls →
       AllByRecursion (λ l. IsPlain (link_text stack AtomText l)) ls
   links_plain place [] fits made = tt
   links_plain place (l ∷ ls) fits made = (link_plain place l fits.0 made.0, links_plain (place + 1) ls fits.1 made.1)
 
-  behind_plain : (place : ℕ) (ls : List Link) → ChainFits stack place ls → AllByRecursion (LinkNames (IsMade stack (reach_of s))) ls →
+  behind_plain : (place : ℕ) (ls : List Link) → ChainFits stack place ls →
+      AllByRecursion (LinkNames (IsMade stack (reach_of s))) ls →
       IsPlain (behind stack (written_with before s) ls)
   behind_plain place [] fits made = refl
   behind_plain place (l ∷ ls) fits made = plain_both (codes " ") (chain_text stack AtomText (l ∷ ls)) refl
@@ -310,32 +359,40 @@ module _ (stack : List LayerTree) (told : AreToldApart stack) (few : length stac
   all_plain : (xs : List TraceNumber) → AllByRecursion MadeNumber xs → AllByRecursion ThereNumber xs →
       AllByRecursion (NumberFits stack s.rows most_brackets) xs → AllByRecursion IsPlain (map NumberText xs)
   all_plain [] made there fits = tt
-  all_plain (x ∷ xs) made there fits = (number_plain most_brackets x made.0 there.0 fits.0, all_plain xs made.1 there.1 fits.1)
+  all_plain (x ∷ xs) made there fits =
+      (number_plain most_brackets x made.0 there.0 fits.0, all_plain xs made.1 there.1 fits.1)
 
-  pushed_plain : (place : ℕ) (carried : Option (List ℕ × Carried)) (message : Option Chained) → SentNames (IsMade stack (reach_of s)) message →
-      RowFits stack s.rows place carried message → AllByRecursion IsPlain (map (pushed_text stack (written_with before s)) (option_to_list message))
+  pushed_plain : (place : ℕ) (carried : Option (List ℕ × Carried)) (message : Option Chained) →
+      SentNames (IsMade stack (reach_of s)) message →
+      RowFits stack s.rows place carried message →
+      AllByRecursion IsPlain (map (pushed_text stack (written_with before s)) (option_to_list message))
   pushed_plain place None None made fits = tt
   pushed_plain place None (Some m) made fits = absurd fits
   pushed_plain place (Some carried) None made fits = absurd fits
   pushed_plain place (Some carried) (Some m) made fits = (
-    plain_both (core_text (written_with before s) m.core) (behind stack (written_with before s) m.chain) (core_plain m.core made.core_is fits.core_fits)
+    plain_both (core_text (written_with before s) m.core) (behind stack (written_with before s) m.chain)
+        (core_plain m.core made.core_is fits.core_fits)
         (behind_plain place m.chain fits.chain_fits made.chain_is),
     tt,
   )
 
-  cores_plain : (message : Option Chained) → SentNames (IsMade stack (reach_of s)) message → SentFits stack s.rows message →
+  cores_plain : (message : Option Chained) → SentNames (IsMade stack (reach_of s)) message →
+      SentFits stack s.rows message →
       AllByRecursion IsPlain (map (λ (m : Chained). core_text (written_with before s) m.core) (option_to_list message))
   cores_plain None made fits = tt
   cores_plain (Some m) made fits = (core_plain m.core made.core_is fits.core_fits, tt)
 
-  chain_plain : (message : Option Chained) → SentNames (IsMade stack (reach_of s)) message → SentFits stack s.rows message →
+  chain_plain : (message : Option Chained) → SentNames (IsMade stack (reach_of s)) message →
+      SentFits stack s.rows message →
       IsPlain (option_map_or (λ (m : Chained). behind stack (written_with before s) m.chain) message [])
   chain_plain None made fits = refl
   chain_plain (Some m) made fits = behind_plain 0 m.chain fits.chain_fits made.chain_is
 
-  queue_plain : (p c : ℕ) (e : TraceNumber) → p < length stack → MadeNumber e → HasQueue (layer_of stack p) c e → ThereNumber e →
+  queue_plain : (p c : ℕ) (e : TraceNumber) → p < length stack → MadeNumber e → HasQueue (layer_of stack p) c e →
+      ThereNumber e →
       NumberFits stack s.rows index_brackets e → IsPlain (cell_text stack p c (NumberText e))
-  queue_plain p c e inside made has there fits = index_plain p c (NumberText e) inside (rows_there (layer_of stack p) c e has.items has.listed)
+  queue_plain p c e inside made has there fits = index_plain
+      p c (NumberText e) inside (rows_there (layer_of stack p) c e has.items has.listed)
       (number_plain index_brackets e made there fits)
 
   set_plain : (text x : List ℕ) → IsPlain text → IsPlain x → IsPlain (codes "set " ++ text ++ codes " = " ++ x)
@@ -343,22 +400,30 @@ module _ (stack : List LayerTree) (told : AreToldApart stack) (few : length stac
       (plain_both (codes "set " ++ text) (codes " = ") (plain_both (codes "set ") text refl h) refl) k
 
   -- an operation's line
-  pub line_plain : (o : Operation) → OperationNames (IsMade stack (reach_of s)) o → OperationNames (IsThere stack) o → OperationFits stack s.rows o →
+  pub line_plain : (o : Operation) → OperationNames (IsMade stack (reach_of s)) o → OperationNames (IsThere stack) o →
+      OperationFits stack s.rows o →
       IsPlain (line_with stack before s o)
-  line_plain (trace.bind e) made there fits = plain_both (codes "bind t." ++ decimal s.binds ++ codes " = ") (NumberText e)
-      (plain_both (codes "bind t." ++ decimal s.binds) (codes " = ") (plain_both (codes "bind t.") (decimal s.binds) refl (decimal_plain s.binds)) refl)
+  line_plain (trace.bind e) made there fits = plain_both (codes "bind t." ++ decimal s.binds ++ codes " = ")
+      (NumberText e)
+      (plain_both (codes "bind t." ++ decimal s.binds) (codes " = ")
+      (plain_both (codes "bind t.") (decimal s.binds) refl (decimal_plain s.binds)) refl)
       (number_plain most_brackets e made there fits)
-  line_plain (trace.note m) made there fits = plain_both (codes "note " ++ note_name s.notes ++ codes " = ") (MessageText m)
+  line_plain (trace.note m) made there fits = plain_both (codes "note " ++ note_name s.notes ++ codes " = ")
+      (MessageText m)
       (plain_both (codes "note " ++ note_name s.notes) (codes " = ")
-      (plain_both (codes "note ") (note_name s.notes) refl (plain_both (codes "m.") (decimal s.notes) refl (decimal_plain s.notes))) refl)
+      (plain_both (codes "note ") (note_name s.notes) refl
+      (plain_both (codes "m.") (decimal s.notes) refl (decimal_plain s.notes))) refl)
       (message_plain most_brackets m made there fits)
-  line_plain (trace.check e) made there fits = plain_both (codes "check ") (NumberText e) refl (number_plain most_brackets e made there fits)
+  line_plain (trace.check e) made there fits =
+      plain_both (codes "check ") (NumberText e) refl (number_plain most_brackets e made there fits)
   line_plain (trace.set p c e x) made there fits = set_plain (cell_text stack p c (NumberText e)) (NumberText x)
-      (index_plain p c (NumberText e) made.0 (number_there (layer_of stack p) c e there.0) (number_plain index_brackets e made.1 there.1 fits.0))
+      (index_plain p c (NumberText e) made.0 (number_there (layer_of stack p) c e there.0)
+      (number_plain index_brackets e made.1 there.1 fits.0))
       (number_plain most_brackets x made.2 there.2 fits.1)
   line_plain (trace.set_square p c a b x) made there fits = set_plain (NumberText (trace.square p c a b)) (NumberText x)
       (plain_both (cell_name stack p c ++ indexed (NumberText a)) (indexed (NumberText b))
-      (plain_both (cell_name stack p c) (indexed (NumberText a)) (cell_plain p c made.0 (form_of shape_in (layer_of stack p) c Square there.0).there)
+      (plain_both (cell_name stack p c) (indexed (NumberText a))
+      (cell_plain p c made.0 (form_of shape_in (layer_of stack p) c Square there.0).there)
       (indexed_plain (NumberText a) (number_plain index_brackets a made.1 there.1 fits.0)))
       (indexed_plain (NumberText b) (number_plain index_brackets b made.2 there.2 fits.1)))
       (number_plain most_brackets x made.3 there.3 fits.2)
@@ -366,20 +431,24 @@ module _ (stack : List LayerTree) (told : AreToldApart stack) (few : length stac
       let parts = map NumberText xs ++ map (pushed_text stack (written_with before s)) (option_to_list message) in
       plain_both (codes "push " ++ cell_text stack p c (NumberText e) ++ codes " ") (listed parts)
       (plain_both (codes "push " ++ cell_text stack p c (NumberText e)) (codes " ")
-      (plain_both (codes "push ") (cell_text stack p c (NumberText e)) refl (queue_plain p c e made.0 made.1 there.0 there.1 fits.0)) refl)
+      (plain_both (codes "push ") (cell_text stack p c (NumberText e)) refl
+      (queue_plain p c e made.0 made.1 there.0 there.1 fits.0)) refl)
       (listed_plain parts (each_append IsPlain (map NumberText xs) _ (all_plain xs made.2 there.2 fits.1)
       (pushed_plain (p + 1) (items_at stack p c).message message made.3 fits.3)))
   line_plain (trace.take p c e) made there fits =
       let n = length (written_with before s).rows in
       plain_both (codes "take " ++ cell_text stack p c (NumberText e) ++ codes " row.") (decimal n)
       (plain_both (codes "take " ++ cell_text stack p c (NumberText e)) (codes " row.")
-      (plain_both (codes "take ") (cell_text stack p c (NumberText e)) refl (queue_plain p c e made.0 made.1 there.0 there.1 fits)) refl) (decimal_plain n)
+      (plain_both (codes "take ") (cell_text stack p c (NumberText e)) refl
+      (queue_plain p c e made.0 made.1 there.0 there.1 fits)) refl) (decimal_plain n)
   line_plain (trace.output dir k xs message) made there fits =
-      let parts = map AtomText xs ++ map (λ (m : Chained). core_text (written_with before s) m.core) (option_to_list message) in
+      let parts = map AtomText xs ++ map (λ (m : Chained). core_text (written_with before s) m.core)
+      (option_to_list message) in
       plain_both (codes "out " ++ sign_text (direction_sign dir) ++ codes " " ++ kind_word k ++ listed parts) _
       (plain_both (codes "out " ++ sign_text (direction_sign dir) ++ codes " " ++ kind_word k) (listed parts)
       (plain_both (codes "out " ++ sign_text (direction_sign dir) ++ codes " ") (kind_word k)
       (plain_both (codes "out " ++ sign_text (direction_sign dir)) (codes " ")
       (plain_both (codes "out ") (sign_text (direction_sign dir)) refl (direction_plain dir)) refl) (kind_plain k))
-      (listed_plain parts (each_append IsPlain (map AtomText xs) _ (atoms_plain xs made.0 fits.1) (cores_plain message made.1 fits.2))))
+      (listed_plain parts (each_append IsPlain
+      (map AtomText xs) _ (atoms_plain xs made.0 fits.1) (cores_plain message made.1 fits.2))))
       (chain_plain message made.1 fits.2)

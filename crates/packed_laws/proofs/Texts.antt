@@ -1,5 +1,6 @@
 -- The lines of a text that was written line by line.
-use Rattle.std.proofs.Common.{◌≡◌, ℕ, ◌-◌, Bool, true, false, not, ◌==◌, List, [], ◌∷◌, ◌++◌, length, map, take, slice_index, refl, sym, ap, ◌∙◌, arith, append_assoc}
+use Rattle.std.proofs.Common.{◌≡◌, ℕ, ◌-◌, Bool, true, false, not, ◌==◌, List, [], ◌∷◌, ◌++◌, length, map, take}
+use Rattle.std.proofs.Common.{slice_index, refl, sym, ap, ◌∙◌, arith, append_assoc}
 use Rattle.std.specs.Prelude.{if◌then◌else◌, All}
 use Rattle.std.specs.List.{AllByRecursion, concat, list_all, join_with_byte, slice_split}
 use Rattle.std.proofs.Math.Seq.{take-append_seam, get_or-append_seam}
@@ -25,11 +26,14 @@ lines_split : (line : List ℕ) (lines : List (List ℕ)) → IsPlain line → A
     slice_split (λ byte. byte == 10) (join_with_byte 10 (line ∷ lines)) ≡ line ∷ lines
 lines_split line [] is are = slice_split_none _ line (no_feeds line is)
 lines_split line (next ∷ lines) is are =
-    slice_split_at _ line 10 (join_with_byte 10 (next ∷ lines)) (no_feeds line is) refl ∙ ap (λ ls. line ∷ ls) (lines_split next lines are.0 are.1)
+    slice_split_at _ line 10 (join_with_byte 10 (next ∷ lines)) (no_feeds line is) refl ∙
+    ap (λ ls. line ∷ ls) (lines_split next lines are.0 are.1)
 
-joined : (line : List ℕ) (lines : List (List ℕ)) → concat (map ended_line (line ∷ lines)) ≡ join_with_byte 10 (line ∷ lines) ++ 10 ∷ []
+joined : (line : List ℕ) (lines : List (List ℕ)) → concat (map ended_line (line ∷ lines)) ≡
+    join_with_byte 10 (line ∷ lines) ++ 10 ∷ []
 joined line [] = append_assoc line (10 ∷ []) []
-joined line (next ∷ lines) = append_assoc line (10 ∷ []) (concat (map ended_line (next ∷ lines))) ∙ ap (λ l. line ++ 10 ∷ l) (joined next lines) ∙
+joined line (next ∷ lines) = append_assoc line (10 ∷ []) (concat (map ended_line (next ∷ lines))) ∙
+    ap (λ l. line ++ 10 ∷ l) (joined next lines) ∙
     sym (append_assoc line (10 ∷ join_with_byte 10 (next ∷ lines)) (10 ∷ []))
 
 without_end : (text : List ℕ) → unended (text ++ 10 ∷ []) ≡ text
@@ -37,7 +41,8 @@ without_end text =
     let size = length-append text (10 ∷ []) in
     let less : length (text ++ 10 ∷ []) - 1 ≡ length text = omega (arith, size) in
     ap (λ n. if slice_index (text ++ 10 ∷ []) n == 10 then take n (text ++ 10 ∷ []) else text ++ 10 ∷ []) less ∙
-    ap (λ byte. if byte == 10 then take (length text) (text ++ 10 ∷ []) else text ++ 10 ∷ []) (get_or-append_seam text 10 [] 0) ∙
+    ap (λ byte. if byte == 10 then take (length text) (text ++ 10 ∷ []) else text ++ 10 ∷ [])
+    (get_or-append_seam text 10 [] 0) ∙
     take-append_seam text (10 ∷ [])
 
 lines_ended : (text : List ℕ) → lines_of (text ++ 10 ∷ []) ≡ slice_split (λ byte. byte == 10) text
@@ -46,4 +51,5 @@ lines_ended (byte ∷ text) = ap (slice_split (λ byte. byte == 10)) (without_en
 
 pub lines_back : (line : List ℕ) (lines : List (List ℕ)) → IsPlain line → AllByRecursion IsPlain lines →
     lines_of (concat (map ended_line (line ∷ lines))) ≡ line ∷ lines
-lines_back line lines is are = ap lines_of (joined line lines) ∙ lines_ended (join_with_byte 10 (line ∷ lines)) ∙ lines_split line lines is are
+lines_back line lines is are = ap lines_of (joined line lines) ∙ lines_ended (join_with_byte 10 (line ∷ lines)) ∙
+    lines_split line lines is are

@@ -20,5 +20,6 @@ WhatWasPackedIsRead = (file : List ℕ) (stack : List LayerTree) → Means file 
 
 -- So it is accepted where it is no longer than such a file may be.
 abbrev pub WhatWasPackedIsAccepted : Type 0
-WhatWasPackedIsAccepted = (file : List ℕ) (stack : List LayerTree) → Means file stack → length (packed_text stack) ≤ longest_file →
+WhatWasPackedIsAccepted = (file : List ℕ) (stack : List LayerTree) → Means file stack →
+    length (packed_text stack) ≤ longest_file →
     Accepts stack (packed_text stack)

@@ -4,7 +4,8 @@
 ghost use Rattle.packed_laws.specs.Packed.{WhatWasPackedIsAccepted, WhatWasPackedIsRead};
 ghost use Rattle.packed_laws.specs.Told.{StacksAreToldApart};
 
-/// The names of each stack that a file means can be told apart: those of a layer's cells, of its headers, and of the numbers of a queue's rows.
+/// The names of each stack that a file means can be told apart: those of a layer's cells, of its headers, and of the
+/// numbers of a queue's rows.
 pub fn stacks_are_told_apart()
     ensures { StacksAreToldApart }
 {}

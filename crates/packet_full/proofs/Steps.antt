@@ -1,5 +1,6 @@
 -- A datagram is what its three steps read.
-use Rattle.std.proofs.Common.{◌≡◌, ℕ, ◌-◌, ◌<◌, ◌≤◌, Bool, true, false, List, ◌++◌, Option, Some, None, refl, sym, ap, ◌∙◌, subst, arith, length, drop, length-append}
+use Rattle.std.proofs.Common.{◌≡◌, ℕ, ◌-◌, ◌<◌, ◌≤◌, Bool, true, false, List, ◌++◌, Option, Some, None, refl, sym, ap}
+use Rattle.std.proofs.Common.{◌∙◌, subst, arith, length, drop, length-append}
 use Rattle.std.specs.Prelude.{Result, Ok, Err, ok_or, nat_le, ◌==◌, ◌||◌}
 use Rattle.std.proofs.lemmas.Bool.{le-leb, leb-true}
 use Rattle.std.proofs.lemmas.List.{drop_at}
@@ -32,7 +33,8 @@ joined (Ok x) f g = refl
 joined (Err e) f g = refl
 
 behind_plan : (o : Option (List Header × List ℕ)) (p : reading.Preamble) →
-    (ok_or o cause.Chain >>= λ (headers, body). unless (nat_le (length body) longest_body) cause.Body >>= λ _. Ok (packet_of p headers body))
+    (ok_or o cause.Chain >>= λ (headers, body). unless (nat_le (length body) longest_body) cause.Body >>= λ _.
+    Ok (packet_of p headers body))
     ≡ (ok_or o cause.Chain >>= closed p)
 unfolding closed
 behind_plan (Some (hs, body)) p = refl
@@ -46,18 +48,23 @@ behind_front stack p (Some (plan, behind)) = behind_plan (headers stack plan beh
 behind_front stack p None = refl
 
 behind_all : (stack : List LayerTree) (plans : List Plan) (here : Here) (o : Option (reading.Preamble × List ℕ)) →
-    (ok_or o cause.Short >>= λ (p, behind). unless ((p.form == full_form) || (p.form == short_form)) cause.Form >>= λ _. meant_for here p >>= λ _.
-    ok_or (named_plan plans p behind) cause.Plan >>= λ (plan, behind). ok_or (headers stack plan behind) cause.Chain >>= λ (headers, body).
+    (ok_or o cause.Short >>= λ (p, behind). unless ((p.form == full_form) || (p.form == short_form)) cause.Form >>= λ _.
+    meant_for here p >>= λ _.
+    ok_or (named_plan plans p behind) cause.Plan >>= λ (plan, behind). ok_or (headers stack plan behind) cause.Chain >>=
+    λ (headers, body).
     unless (nat_le (length body) longest_body) cause.Body >>= λ _. Ok (packet_of p headers body))
-    ≡ ((ok_or o cause.Short >>= λ (p, behind). unless ((p.form == full_form) || (p.form == short_form)) cause.Form >>= λ _. meant_for here p >>= λ _.
+    ≡ ((ok_or o cause.Short >>= λ (p, behind). unless ((p.form == full_form) || (p.form == short_form)) cause.Form >>=
+    λ _. meant_for here p >>= λ _.
     Ok (p, behind)) >>= inside stack plans)
 unfolding contents
 behind_all stack plans here None = refl
-behind_all stack plans here (Some (p, behind)) = by_form ((p.form == full_form) || (p.form == short_form)) (meant_for here p)
+behind_all stack plans here (Some (p, behind)) = by_form ((p.form == full_form) || (p.form == short_form))
+    (meant_for here p)
   where
     by_form : (form : Bool) (meant : Result (Unit {0}) Stray) →
         (unless form cause.Form >>= λ _. meant >>= λ _.
-        ok_or (named_plan plans p behind) cause.Plan >>= λ (plan, behind). ok_or (headers stack plan behind) cause.Chain >>= λ (headers, body).
+        ok_or (named_plan plans p behind) cause.Plan >>= λ (plan, behind). ok_or (headers stack plan behind) cause.Chain
+        >>= λ (headers, body).
         unless (nat_le (length body) longest_body) cause.Body >>= λ _. Ok (packet_of p headers body))
         ≡ ((unless form cause.Form >>= λ _. meant >>= λ _. Ok (p, behind)) >>= inside stack plans)
     by_form false meant = refl
@@ -70,18 +77,23 @@ unfolding received opened
 in_steps stack plans here bytes = behind_all stack plans here (preamble bytes)
 
 -- a datagram that isn't opened is refused
-pub not_opened : (stack : List LayerTree) (plans : List Plan) (here : Here) (bytes : List ℕ) (e : Stray) → opened here bytes ≡ Err e →
+pub not_opened : (stack : List LayerTree) (plans : List Plan) (here : Here) (bytes : List ℕ) (e : Stray) →
+    opened here bytes ≡ Err e →
     received stack plans here bytes ≡ Err e
 not_opened stack plans here bytes e is = in_steps stack plans here bytes ∙ ap (λ r. r >>= inside stack plans) is
 
 -- one that is opened is what is behind
-pub behind_opened : (stack : List LayerTree) (plans : List Plan) (here : Here) (bytes : List ℕ) (p : reading.Preamble) (behind : List ℕ) →
+pub behind_opened : (stack : List LayerTree) (plans : List Plan) (here : Here) (bytes : List ℕ) (p : reading.Preamble)
+    (behind : List ℕ) →
     opened here bytes ≡ Ok (p, behind) → received stack plans here bytes ≡ (contents stack plans p behind >>= closed p)
-behind_opened stack plans here bytes p behind is = in_steps stack plans here bytes ∙ ap (λ r. r >>= inside stack plans) is
+behind_opened stack plans here bytes p behind is = in_steps stack plans here bytes ∙
+    ap (λ r. r >>= inside stack plans) is
 
 -- one whose headers aren't read is refused
-pub not_contents : (stack : List LayerTree) (plans : List Plan) (here : Here) (bytes : List ℕ) (p : reading.Preamble) (behind : List ℕ)
-    (e : Stray) → opened here bytes ≡ Ok (p, behind) → contents stack plans p behind ≡ Err e → received stack plans here bytes ≡ Err e
+pub not_contents : (stack : List LayerTree) (plans : List Plan) (here : Here) (bytes : List ℕ) (p : reading.Preamble)
+    (behind : List ℕ)
+    (e : Stray) → opened here bytes ≡ Ok (p, behind) → contents stack plans p behind ≡ Err e →
+    received stack plans here bytes ≡ Err e
 not_contents stack plans here bytes p behind e is none =
     behind_opened stack plans here bytes p behind is ∙ ap (λ r. r >>= closed p) none
 
@@ -100,8 +112,10 @@ not_leb a b true is more = let less = leb-true a b is in absurd (omega arith)
 not_leb a b false is more = refl
 
 -- one whose headers are read is what its close says
-pub closed_scan : (stack : List LayerTree) (plans : List Plan) (here : Here) (bytes : List ℕ) (front : Preamble) (behind : List ℕ)
-    (hs : List Header) (body : List ℕ) (result : Result (Unit {0}) Stray) (scan : Scan) → opened here bytes ≡ Ok (preamble_tree front, behind) →
+pub closed_scan : (stack : List LayerTree) (plans : List Plan) (here : Here) (bytes : List ℕ) (front : Preamble)
+    (behind : List ℕ)
+    (hs : List Header) (body : List ℕ) (result : Result (Unit {0}) Stray) (scan : Scan) →
+    opened here bytes ≡ Ok (preamble_tree front, behind) →
     IsOwn here front → contents stack plans (preamble_tree front) behind ≡ Ok (hs, body) →
     (length body ≤ longest_body → EndsIn bytes body) → Closes bytes front hs body result scan →
     Scans here bytes (received stack plans here bytes) result scan
@@ -110,7 +124,8 @@ closed_scan stack plans here bytes front behind hs body (Ok x) scan is own read 
     subst (λ s. received stack plans here bytes ≡ Ok (packet_scanned here bytes s)) (sym tells)
     (behind_opened stack plans here bytes (preamble_tree front) behind is
     ∙ ap (λ r. r >>= closed (preamble_tree front)) read
-    ∙ ap (λ b. unless b cause.Body >>= λ _. Ok (packet_of (preamble_tree front) hs body)) (le-leb (length body) longest_body short)
+    ∙ ap (λ b. unless b cause.Body >>= λ _. Ok (packet_of (preamble_tree front) hs body))
+    (le-leb (length body) longest_body short)
     ∙ (λ k. Ok (record {
       group = own.group k;
       stamp = own.stamp k;
@@ -122,10 +137,13 @@ closed_scan stack plans here bytes front behind hs body (Ok x) scan is own read 
 closed_scan stack plans here bytes front behind hs body (Err e) scan is own read ends (long, tells) =
     behind_opened stack plans here bytes (preamble_tree front) behind is
     ∙ ap (λ r. r >>= closed (preamble_tree front)) read
-    ∙ ap (λ b. unless b cause.Body >>= λ _. Ok (packet_of (preamble_tree front) hs body)) (not_leb (length body) longest_body (nat_le (length body) longest_body) refl long)
+    ∙ ap (λ b. unless b cause.Body >>= λ _. Ok (packet_of (preamble_tree front) hs body))
+    (not_leb (length body) longest_body (nat_le (length body) longest_body) refl long)
     ∙ ap Err (sym tells)
 
 -- where its body begins
-pub place_within : (bytes : List ℕ) (front : Preamble) (hs : List Header) (body : List ℕ) (x : Unit {0}) (scan : Scan) → Closes bytes front hs body (Ok x) scan →
+pub place_within : (bytes : List ℕ) (front : Preamble) (hs : List Header) (body : List ℕ) (x : Unit {0}) (scan : Scan) →
+    Closes bytes front hs body (Ok x) scan →
     scan.body ≤ length bytes
-place_within bytes front hs body x scan (short, tells) = subst (λ (s : Scan). s.body ≤ length bytes) (sym tells) (omega arith)
+place_within bytes front hs body x scan (short, tells) = subst (λ (s : Scan). s.body ≤ length bytes) (sym tells)
+    (omega arith)

@@ -1,5 +1,6 @@
 -- What a full datagram is made of.
-use Rattle.std.proofs.Common.{◌≡◌, ℕ, zero, suc, Fits, w8, get_or, ◌≤◌, ◌≢◌, Bool, true, false, ◌⊎◌, inl, inr, List, [], ◌∷◌, ◌++◌, Some, None, refl, sym, ap, ◌∙◌, subst, arith, length}
+use Rattle.std.proofs.Common.{◌≡◌, ℕ, zero, suc, Fits, w8, get_or, ◌≤◌, ◌≢◌, Bool, true, false, ◌⊎◌, inl, inr, List, []}
+use Rattle.std.proofs.Common.{◌∷◌, ◌++◌, Some, None, refl, sym, ap, ◌∙◌, subst, arith, length}
 use Rattle.std.specs.Prelude.{Ok, Err, flat_map, ◌==◌, ◌||◌}
 use Rattle.std.proofs.lemmas.Bool.{eqb-true, le-leb}
 use Rattle.msg_core.specs.Parts.{longest_body}
@@ -11,7 +12,8 @@ use Rattle.layer_mean.specs.Tree.{LayerTree}
 use Rattle.stack_mean.specs.Plan.{Plan}
 use Rattle.packet_mean.specs.Reading.{Preamble, chain}
 use Rattle.packet_mean.specs.Received.{◌>>=◌, unless, packet_of}
-use Rattle.packet_mean.specs.Spelling.{full_form, short_form, full_bytes, preamble_bytes, header_bytes, AreBytes, SpellsShort}
+use Rattle.packet_mean.specs.Spelling.{full_form, short_form, full_bytes, preamble_bytes, header_bytes, AreBytes}
+use Rattle.packet_mean.specs.Spelling.{SpellsShort}
 use Rattle.packet_mean.specs.declared.here.Here.{Here}
 use Rattle.packet_laws.specs.Lengths.{IsWithinLimits}
 use Rattle.packet_laws.proofs.Lengths.{datagrams_fit}
@@ -21,7 +23,9 @@ use Rattle.packet_full.specs.Scanned.{IsBehind}
 use Rattle.packet_full.proofs.Steps.{EndsIn, behind_opened, ends_in}
 
 in_full : (bytes : List ℕ) (q : Packet) → (bytes ≡ full_bytes q) ⊎ SpellsShort [] bytes q → EndsIn bytes q.message.body
-in_full bytes q (inl full) = subst (λ bs. EndsIn bs q.message.body) (sym full) (ends_in (preamble_bytes full_form q ++ flat_map header_bytes q.message.headers) q.message.body)
+in_full bytes q (inl full) =
+    subst (λ bs. EndsIn bs q.message.body) (sym full)
+    (ends_in (preamble_bytes full_form q ++ flat_map header_bytes q.message.headers) q.message.body)
 in_full bytes q (inr short) = absurd (cc short.listed)
 
 -- bytes by their type
@@ -31,7 +35,8 @@ are_bytes (b ∷ bs) fits zero d below = Fits-lt-pow (fits 0)
 are_bytes (b ∷ bs) fits (suc k) d below = are_bytes bs (λ i. fits (suc i)) k d (omega arith)
 
 -- a form that isn't the short one is the full one
-pub full_by : (form : ℕ) → ((form == full_form) || (form == short_form)) ≡ true → form ≢ short_form → (form == full_form) ≡ true
+pub full_by : (form : ℕ) → ((form == full_form) || (form == short_form)) ≡ true → form ≢ short_form →
+    (form == full_form) ≡ true
 full_by form is other = go (form == full_form) refl
   where
     go : (full : Bool) → (form == full_form) ≡ full → (form == full_form) ≡ true
@@ -39,18 +44,22 @@ full_by form is other = go (form == full_form) refl
     go false full = let short = rw full at is in absurd (other (eqb-true form short_form short))
 
 -- the headers of a full datagram
-pub full_contents : (stack : List LayerTree) (plans : List Plan) (p : Preamble) (behind : List ℕ) (hs : List Header) (body : List ℕ) →
-    (p.form == full_form) ≡ true → chain stack 0 behind ≡ Some (hs, body) → contents stack plans p behind ≡ Ok (hs, body)
+pub full_contents : (stack : List LayerTree) (plans : List Plan) (p : Preamble) (behind : List ℕ) (hs : List Header)
+    (body : List ℕ) →
+    (p.form == full_form) ≡ true → chain stack 0 behind ≡ Some (hs, body) → contents stack plans p behind ≡
+    Ok (hs, body)
 unfolding contents
 full_contents stack plans p behind hs body full read = rw (full, read) refl
 
-pub no_full_contents : (stack : List LayerTree) (plans : List Plan) (p : Preamble) (behind : List ℕ) → (p.form == full_form) ≡ true →
+pub no_full_contents : (stack : List LayerTree) (plans : List Plan) (p : Preamble) (behind : List ℕ) →
+    (p.form == full_form) ≡ true →
     chain stack 0 behind ≡ None → contents stack plans p behind ≡ Err cause.Chain
 unfolding contents
 no_full_contents stack plans p behind full none = rw (full, none) refl
 
 -- a short datagram names none of no plans
-pub no_plans : (stack : List LayerTree) (p : Preamble) (behind : List ℕ) → p.form ≡ short_form → contents stack [] p behind ≡ Err cause.Plan
+pub no_plans : (stack : List LayerTree) (p : Preamble) (behind : List ℕ) → p.form ≡ short_form →
+    contents stack [] p behind ≡ Err cause.Plan
 unfolding contents
 no_plans stack p [] short = rw short refl
 no_plans stack p (k ∷ behind) short = rw short refl
@@ -60,14 +69,21 @@ pub record Ends (bytes body : List ℕ) : Type 0 where
   pub ends : EndsIn bytes body
   pub behind : IsBehind body bytes
 
-pub full_ends : (stack : List LayerTree) (here : Here) (bytes : List ℕ) (p : Preamble) (behind : List ℕ) (hs : List Header) (body : List ℕ) →
-    IsWithinLimits stack → AreBytes bytes → opened here bytes ≡ Ok (p, behind) → contents stack [] p behind ≡ Ok (hs, body) →
+pub full_ends : (stack : List LayerTree) (here : Here) (bytes : List ℕ) (p : Preamble) (behind : List ℕ)
+    (hs : List Header) (body : List ℕ) →
+    IsWithinLimits stack → AreBytes bytes → opened here bytes ≡ Ok (p, behind) → contents stack [] p behind ≡
+    Ok (hs, body) →
     length body ≤ longest_body → Ends bytes body
 unfolding closed
 full_ends stack here bytes p behind hs body limits small is read short =
     let got = behind_opened stack [] here bytes p behind is
     ∙ ap (λ r. r >>= closed p) read
     ∙ ap (λ b. unless b cause.Body >>= λ _. Ok (packet_of p hs body)) (le-leb (length body) longest_body short) in
-    let both = (taken_as_spelled stack [] here bytes (packet_of p hs body) (λ k d below. absurd (omega arith)) small).0 got in
+    let both = (taken_as_spelled stack [] here bytes (packet_of p hs body) (λ k d below. absurd (omega arith)) small).0
+    got in
     let ends = in_full bytes (packet_of p hs body) both.0.spelled in
-    record { ends = ends; behind = record { less = ends.less; few = datagrams_fit stack [] bytes (packet_of p hs body) limits both.0 } }
+    record {
+      ends = ends;
+      behind =
+          record { less = ends.less; few = datagrams_fit stack [] bytes (packet_of p hs body) limits both.0 };
+    }

@@ -17,8 +17,8 @@ use Rattle.packet_full.specs.declared.opened.Opened.{Opened}
 use Rattle.packet_full.specs.declared.scan.Scan.{Scan}
 use Rattle.packet_full.specs.Taking.{left, preamble_tree}
 
--- What stands in front of a datagram of one of the two forms that is meant for a member, and the bytes behind; or the first cause
--- for which it isn't one.
+-- What stands in front of a datagram of one of the two forms that is meant for a member, and the bytes behind; or the
+-- first cause for which it isn't one.
 unfoldable pub opened : Here → List ℕ → Result (reading.Preamble × List ℕ) Stray
 opened here bytes = do
   (p, behind) ← ok_or (preamble bytes) cause.Short
@@ -50,7 +50,8 @@ Opens is_opened (Err cause) = is_opened ≡ Err cause
 
 -- What is told of a datagram whose last bytes are the body.
 abbrev pub told : List ℕ → Preamble → List Header → (body : List ℕ) → Scan
-told bytes front headers body = record { sender = front.sender; dest = front.dest; headers = headers; body = length bytes - length body }
+told bytes front headers body =
+    record { sender = front.sender; dest = front.dest; headers = headers; body = length bytes - length body }
 
 -- The last step's answer.
 abbrev pub Closes : List ℕ → Preamble → List Header → (body : List ℕ) → Result (Unit {0}) Stray → Scan → Type 0

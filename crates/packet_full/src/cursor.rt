@@ -95,7 +95,8 @@ impl<'a> Cursor<'a> {
     /// The header of a place's layer, and whether it closes the chain.
     fn header(&mut self, stack: &Stack, place: u8) -> Option<(Header, bool)>
         requires { place < length (stack_tree stack.now) }
-        ensures { Takes (header_read (slice_index_or (stack_tree stack.now) place no_layer) place (left self.old)) result (left self.new) }
+        ensures { Takes (header_read (slice_index_or (stack_tree stack.now) place no_layer) place (left self.old))
+            result (left self.new) }
     {
         let tag = self.byte()?;
         let form = form_at(stack, place, tag)?;
@@ -130,7 +131,8 @@ impl<'a> Cursor<'a> {
     pub fn chain(&mut self, stack: &Stack, place: u8, headers: &mut Headers) -> Option<()>
         requires place { place ≤ length (stack_tree stack.now) }
         requires none { headers.old ≡ [] }
-        ensures read { Takes (reading.chain (drop place (stack_tree stack.now)) place (left self.old)) (option_map (λ _. headers.new) result) (left self.new) }
+        ensures read { Takes (reading.chain (drop place (stack_tree stack.now)) place (left self.old))
+            (option_map (λ _. headers.new) result) (left self.new) }
         ensures few { IfSome result (λ _. length headers.new + place ≤ length (stack_tree stack.now)) }
     {
         stack.is_within_limits();

@@ -15,7 +15,8 @@ use crate::scan::Scan;
 use msg_core::{LONGEST_BODY, Stray};
 use packet_mean::Here;
 
-/// What stands in front of a datagram of one of the two forms that is meant for a member; or the first cause for which it isn't one.
+/// What stands in front of a datagram of one of the two forms that is meant for a member; or the first cause for which
+/// it isn't one.
 #[tactic(auto, unfolding(crate::specs::Steps::opened))]
 pub fn open<'a>(here: &Here, bytes: &'a [u8]) -> Result<Opened<'a>, Stray>
     ensures front { Opens (opened here.now bytes.now) result }
@@ -44,7 +45,8 @@ fn body_place(bytes: &[u8], cursor: &Cursor<'_>) -> u32
     (bytes.len() - cursor.len()) as u32
 }
 
-/// Makes a scan whose headers were read into it that of their datagram, the bytes that are left being its body; Err where that is too long.
+/// Makes a scan whose headers were read into it that of their datagram, the bytes that are left being its body; Err
+/// where that is too long.
 pub fn close(
     bytes: &[u8],
     front: &Preamble,

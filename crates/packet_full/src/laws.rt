@@ -3,8 +3,8 @@
 ghost use Rattle.packet_full.specs.Again.{WrittenIsRead};
 ghost use Rattle.packet_full.specs.Steps.{ReadInSteps};
 
-/// A packet that was written in full is read again by each member for which it is meant, whatever the member's rank, and refused by each
-/// other for the first cause for which it isn't.
+/// A packet that was written in full is read again by each member for which it is meant, whatever the member's rank,
+/// and refused by each other for the first cause for which it isn't.
 pub fn written_is_read()
     ensures { WrittenIsRead }
 {}

@@ -13,7 +13,8 @@ use event_graph::Stack;
 use msg_core::{Dest, Headers, Stray};
 use packet_mean::Here;
 
-/// What a datagram says that a member takes: the sender's rank, to whom it goes, the headers, and where its body begins.
+/// What a datagram says that a member takes: the sender's rank, to whom it goes, the headers, and where its body
+/// begins.
 #[derive(Drop)]
 pub struct Scan {
     pub sender: u8,
@@ -36,8 +37,8 @@ impl Scan {
     }
 }
 
-/// Reads what a full datagram says to a member into `scan`, without memory; or tells the first cause for which it is refused, and `scan` is
-/// of no use then. A short one that no earlier cause refuses names no plan here.
+/// Reads what a full datagram says to a member into `scan`, without memory; or tells the first cause for which it is
+/// refused, and `scan` is of no use then. A short one that no earlier cause refuses names no plan here.
 pub fn scan_full(stack: &Stack, here: &Here, bytes: &[u8], scan: &mut Scan) -> Result<(), Stray>
     ensures read { Scans here.now bytes.now (received (stack_tree stack.now) [] here.now bytes.now) result scan.new }
     ensures within { IfOk result (λ _. scan.new.body ≤ length bytes.now) }

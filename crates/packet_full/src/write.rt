@@ -101,7 +101,8 @@ pub fn put_body(body: &[u8], into: &mut Vec<u8>)
 /// bytes lie is looked up once.
 fn put_front(here: &Here, dest: Dest, headers: &Headers, into: &mut Vec<u8>)
     requires { vec_len into.old + 19 + 17 * length headers.now ≤ vec_capacity into.old }
-    ensures items { into.new.items ≡ into.old.items ++ spelling.preamble_bytes full_form (sent_packet here.now dest [] [])
+    ensures items { into.new.items ≡ into.old.items ++
+        spelling.preamble_bytes full_form (sent_packet here.now dest [] [])
         ++ flat_map spelling.header_bytes headers.now }
     ensures len { vec_len into.new ≤ vec_len into.old + 19 + 17 * length headers.now }
     ensures capacity { vec_capacity into.new ≡ vec_capacity into.old }
@@ -113,11 +114,12 @@ fn put_front(here: &Here, dest: Dest, headers: &Headers, into: &mut Vec<u8>)
     *into = bytes;
 }
 
-/// Puts in full what a member sends to a destination, with these headers and this body, behind what a vector holds. It takes no memory: there
-/// is to be room for 17 bytes of each header, and for the rest.
+/// Puts in full what a member sends to a destination, with these headers and this body, behind what a vector holds. It
+/// takes no memory: there is to be room for 17 bytes of each header, and for the rest.
 pub fn put_full_of(here: &Here, dest: Dest, headers: &Headers, body: &[u8], into: &mut Vec<u8>)
     requires { vec_len into.old + room_needed (sent_packet here.now dest headers.now body.now) ≤ vec_capacity into.old }
-    ensures items { into.new.items ≡ into.old.items ++ spelling.full_bytes (sent_packet here.now dest headers.now body.now) }
+    ensures items { into.new.items ≡ into.old.items ++
+        spelling.full_bytes (sent_packet here.now dest headers.now body.now) }
     ensures capacity { vec_capacity into.old ≤ vec_capacity into.new }
 {
     put_front(here, dest, headers, into);

@@ -1,5 +1,6 @@
 -- Chains of headers are read as they were written, and what was read was so written.
-use Rattle.std.proofs.Common.{◌≡◌, ℕ, suc, Bool, true, false, List, [], ◌∷◌, ◌++◌, Option, Some, None, refl, sym, ap, ◌∙◌, subst}
+use Rattle.std.proofs.Common.{◌≡◌, ℕ, suc, Bool, true, false, List, [], ◌∷◌, ◌++◌, Option, Some, None, refl, sym, ap}
+use Rattle.std.proofs.Common.{◌∙◌, subst}
 use Rattle.std.specs.Prelude.{flat_map, MatchBool, IsSomeAnd, if◌then◌else◌}
 use Rattle.std.proofs.lemmas.List.{append_assoc}
 use Rattle.msg_core.specs.declared.message.Header.{Header}
@@ -32,7 +33,8 @@ others_back : (ends : Bool) (above : List LayerTree) (place : ℕ) (hs : List He
 others_back true above place hs rest none more = rw none refl
 others_back false above place hs rest is more = more is
 
-pub chain_back : (layers : List LayerTree) (place : ℕ) (hs : List Header) (rest : List ℕ) → IsChain layers place hs → Fields hs →
+pub chain_back : (layers : List LayerTree) (place : ℕ) (hs : List Header) (rest : List ℕ) → IsChain layers place hs →
+    Fields hs →
     chain layers place (written hs ++ rest) ≡ Some (hs, rest)
 chain_back [] place hs rest is fields = rw is refl
 chain_back (layer ∷ above) place [] rest is fields = absurd is
@@ -43,27 +45,32 @@ chain_back (layer ∷ above) place (h ∷ hs) rest is fields =
       append_assoc (flat_map number_bytes h.fields) (written hs) rest,
       ← is_d.1,
       numbers_back h.fields (written hs ++ rest) fields.0,
-      others_back d.ends above (suc place) hs rest is_d.2 (λ chained. chain_back above (suc place) hs rest chained fields.1),
+      others_back d.ends above (suc place) hs rest is_d.2
+          (λ chained. chain_back above (suc place) hs rest chained fields.1),
     )
     (ap (λ at. Some (record { layer = at; tag = h.tag; fields = h.fields } ∷ hs, rest)) (sym is_d.0)))
 
 -- what reading a chain says
-pub record ChainRead (layers : List LayerTree) (place : ℕ) (bytes : List ℕ) (hs : List Header) (rest : List ℕ) : Type 0 where
-  pub chained : IsChain layers place hs
-  pub fields : Fields hs
-  pub spelled : bytes ≡ written hs ++ rest
-  pub behind : Bytes rest
+pub record ChainRead (layers : List LayerTree) (place : ℕ) (bytes : List ℕ) (hs : List Header) (rest : List ℕ) : Type 0
+  where
+    pub chained : IsChain layers place hs
+    pub fields : Fields hs
+    pub spelled : bytes ≡ written hs ++ rest
+    pub behind : Bytes rest
 
 -- what reading the headers behind one says
-record OthersRead (ends : Bool) (layers : List LayerTree) (place : ℕ) (bytes : List ℕ) (hs : List Header) (rest : List ℕ) : Type 0 where
+record OthersRead (ends : Bool) (layers : List LayerTree) (place : ℕ) (bytes : List ℕ) (hs : List Header)
+    (rest : List ℕ) : Type 0 where
   follow : MatchBool ends (hs ≡ []) (IsChain layers place hs)
   fields : Fields hs
   spelled : bytes ≡ written hs ++ rest
   behind : Bytes rest
 
-others_read : (ends : Bool) (above : List LayerTree) (place : ℕ) (bytes : List ℕ) (hs : List Header) (rest : List ℕ) → Bytes bytes →
+others_read : (ends : Bool) (above : List LayerTree) (place : ℕ) (bytes : List ℕ) (hs : List Header) (rest : List ℕ) →
+    Bytes bytes →
     (if ends then given [] else chain above place) bytes ≡ Some (hs, rest) →
-    (chain above place bytes ≡ Some (hs, rest) → ChainRead above place bytes hs rest) → OthersRead ends above place bytes hs rest
+    (chain above place bytes ≡ Some (hs, rest) → ChainRead above place bytes hs rest) →
+    OthersRead ends above place bytes hs rest
 others_read true above place bytes hs rest h is more =
     subst (λ q. OthersRead true above place bytes q.0 q.1) (same_read is)
     record { follow = refl; fields = tt; spelled = refl; behind = h }
@@ -74,7 +81,8 @@ others_read false above place bytes hs rest h is more =
 pub some_and : {A : Type 0} (o : Option A) (P : A → Type 0) (x : A) → o ≡ Some x → P x → IsSomeAnd o P
 some_and o P x is holds = rw is holds
 
-pub chain_read : (layers : List LayerTree) (place : ℕ) (bytes : List ℕ) (hs : List Header) (rest : List ℕ) → Bytes bytes →
+pub chain_read : (layers : List LayerTree) (place : ℕ) (bytes : List ℕ) (hs : List Header) (rest : List ℕ) →
+    Bytes bytes →
     chain layers place bytes ≡ Some (hs, rest) → ChainRead layers place bytes hs rest
 chain_read [] place bytes hs rest h is =
     subst (λ q. ChainRead [] place bytes q.0 q.1) (same_read is)
@@ -85,7 +93,8 @@ chain_read (layer ∷ above) place (tag ∷ bytes) hs rest h is =
     through _ (numbers d.fields bytes) _ is_d (λ (ns, r) reads is_ns.
     through _ ((if d.ends then given [] else chain above (suc place)) r) _ is_ns (λ (others, s) follow is_s.
     let own = numbers_read d.fields bytes ns r h.1 reads in
-    let more = others_read d.ends above (suc place) r others s own.behind follow (chain_read above (suc place) r others s own.behind) in
+    let more = others_read d.ends above (suc place) r others s own.behind follow
+    (chain_read above (suc place) r others s own.behind) in
     subst (λ q. ChainRead (layer ∷ above) place (tag ∷ bytes) q.0 q.1) (same_read is_s)
     record {
       chained = some_and (declared layer tag) _ d declares (refl, own.count, more.follow);

@@ -31,15 +31,18 @@ pub each_behind : {A : Type 0} (P : A → Type 0) (xs ys : List A) → Each P (x
 each_behind P [] ys h = h
 each_behind P (x ∷ xs) ys h = each_behind P xs ys h.1
 
-pub each_piece : {A B : Type 0} (P : B → Type 0) (f : A → List B) (xs : List A) → Each P (flat_map f xs) → Each (λ x. Each P (f x)) xs
+pub each_piece : {A B : Type 0} (P : B → Type 0) (f : A → List B) (xs : List A) → Each P (flat_map f xs) →
+    Each (λ x. Each P (f x)) xs
 each_piece P f [] h = tt
-each_piece P f (x ∷ xs) h = (each_front P (f x) (flat_map f xs) h, each_piece P f xs (each_behind P (f x) (flat_map f xs) h))
+each_piece P f (x ∷ xs) h =
+    (each_front P (f x) (flat_map f xs) h, each_piece P f xs (each_behind P (f x) (flat_map f xs) h))
 
 pub each_joined : {A : Type 0} (P : A → Type 0) (xs ys : List A) → Each P xs → Each P ys → Each P (xs ++ ys)
 each_joined P [] ys h i = i
 each_joined P (x ∷ xs) ys h i = (h.0, each_joined P xs ys h.1 i)
 
-pub each_pieces : {A B : Type 0} (P : B → Type 0) (f : A → List B) (xs : List A) → Each (λ x. Each P (f x)) xs → Each P (flat_map f xs)
+pub each_pieces : {A B : Type 0} (P : B → Type 0) (f : A → List B) (xs : List A) → Each (λ x. Each P (f x)) xs →
+    Each P (flat_map f xs)
 each_pieces P f [] h = tt
 each_pieces P f (x ∷ xs) h = each_joined P (f x) (flat_map f xs) h.0 (each_pieces P f xs h.1)
 

@@ -1,5 +1,6 @@
 -- The preamble is read as it was written, and what was read was so written.
-use Rattle.std.proofs.Common.{◌≡◌, ℕ, ◌<◌, Bool, true, false, List, [], ◌∷◌, ◌++◌, Some, refl, sym, ap, ◌∙◌, subst, arith}
+use Rattle.std.proofs.Common.{◌≡◌, ℕ, ◌<◌, Bool, true, false, List, [], ◌∷◌, ◌++◌, Some, refl, sym, ap, ◌∙◌, subst}
+use Rattle.std.proofs.Common.{arith}
 use Rattle.std.specs.Prelude.{◌==◌, if◌then◌else◌}
 use Rattle.std.proofs.lemmas.Bool.{eqb-true, eqb-false}
 use Rattle.std.proofs.lemmas.Nat.{from_be_bytes-to_be_bytes_4}
@@ -69,7 +70,8 @@ pub record FrontRead (bytes : List ℕ) (f : Preamble) (rest : List ℕ) : Type 
   pub spelled : bytes ≡ preamble_bytes f.form (packet_of f [] []) ++ rest
   pub behind : Bytes rest
 
-pub front_read : (bytes : List ℕ) (f : Preamble) (rest : List ℕ) → Bytes bytes → preamble bytes ≡ Some (f, rest) → FrontRead bytes f rest
+pub front_read : (bytes : List ℕ) (f : Preamble) (rest : List ℕ) → Bytes bytes → preamble bytes ≡ Some (f, rest) →
+    FrontRead bytes f rest
 front_read bytes f rest h is =
     through _ (byte bytes) _ is (λ (form, r1) e1 is1. let form_is = byte_read bytes form r1 h e1 in
     through _ (number r1) _ is1 (λ (group, r2) e2 is2. let group_is = number_read r1 group r2 form_is.behind e2 in
@@ -88,7 +90,8 @@ front_read bytes f rest h is =
       sender = sender_is.small;
       destination = to.1;
       spelled = form_is.spelled ∙ ap (λ xs. form ∷ xs) (group_is.written ∙ ap (λ xs. number_bytes group ++ xs)
-          (stamp_is.written ∙ ap (λ xs. number_bytes stamp ++ xs) (ltime_is.written ∙ ap (λ xs. number_bytes ltime ++ xs)
+          (stamp_is.written ∙ ap (λ xs. number_bytes stamp ++ xs)
+          (ltime_is.written ∙ ap (λ xs. number_bytes ltime ++ xs)
           (mask_is.written ∙ ap (λ xs. number_bytes mask ++ xs) (sender_is.spelled ∙ ap (λ xs. sender ∷ xs)
           (dest_is.spelled ∙ ap (λ b. b ∷ r7) (sym to.0)))))));
       behind = dest_is.behind;

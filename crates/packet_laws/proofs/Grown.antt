@@ -32,19 +32,26 @@ pushed_is_chained stack place layer h d m listed is short on = record {
   body = short;
 }
 
-goes_on : (ends : Bool) (stack : List LayerTree) (place : ℕ) (hs : List Header) (body : List ℕ) → length body ≤ longest_body →
+goes_on : (ends : Bool) (stack : List LayerTree) (place : ℕ) (hs : List Header) (body : List ℕ) →
+    length body ≤ longest_body →
     MatchBool ends (hs ≡ []) (IsChain (drop (suc place) stack) (suc place) hs) →
     MatchBool ends (hs ≡ []) (IsChained stack (suc place) record { headers = hs; body = body })
 goes_on true stack place hs body short none = none
 goes_on false stack place hs body short is = record { chain = is; body = short }
 
-chain_popped : (stack : List LayerTree) (place : ℕ) (layer : LayerTree) (hs : List Header) (body : List ℕ) → length body ≤ longest_body →
+chain_popped : (stack : List LayerTree) (place : ℕ) (layer : LayerTree) (hs : List Header) (body : List ℕ) →
+    length body ≤ longest_body →
     IsChain (layer ∷ drop (suc place) stack) place hs →
     (h : Header) × (d : HeaderTree) × (first_of hs ≡ Some h) × IsOf layer place h d
     × GoesOn stack place d (popped record { headers = hs; body = body })
 chain_popped stack place layer [] body short is = absurd is
-chain_popped stack place layer (h ∷ hs) body short is = there (declared layer h.tag) _ is (λ d declares is_d.
-    (h, d, refl, record { at = is_d.0; tag = declares; fields = is_d.1 }, goes_on d.ends stack place hs body short is_d.2))
+chain_popped stack place layer (h ∷ hs) body short is = there (declared layer h.tag) _ is (λ d declares is_d. (
+  h,
+  d,
+  refl,
+  record { at = is_d.0; tag = declares; fields = is_d.1 },
+  goes_on d.ends stack place hs body short is_d.2,
+))
 
 pub popped_goes_on : PoppedGoesOn
 popped_goes_on stack place layer m listed is =

@@ -1,5 +1,6 @@
 -- How many bytes readers take, and how long spellings are.
-use Rattle.std.proofs.Common.{◌≡◌, ℕ, suc, ◌+◌, ◌*◌, ◌<◌, ◌≤◌, Bool, true, false, ◌⊎◌, inl, inr, List, [], ◌∷◌, Option, Some, None, refl, sym, ◌∙◌, arith}
+use Rattle.std.proofs.Common.{◌≡◌, ℕ, suc, ◌+◌, ◌*◌, ◌<◌, ◌≤◌, Bool, true, false, ◌⊎◌, inl, inr, List, [], ◌∷◌, Option}
+use Rattle.std.proofs.Common.{Some, None, refl, sym, ◌∙◌, arith}
 use Rattle.std.specs.Prelude.{length, flat_map, nat_lt, MatchBool}
 use Rattle.std.proofs.lemmas.Bool.{ltb-true, ltb-false}
 use Rattle.std.proofs.lemmas.List.{length-append}
@@ -21,16 +22,22 @@ use Rattle.packet_laws.proofs.Whole.{each_at}
 -- a reader takes just so many bytes, whatever they are
 record Takes {A : Type 0} (k : ℕ) (r : Reader A) : Type 0 where
   short : (bytes : List ℕ) → length bytes < k → r bytes ≡ None
-  long : (bytes : List ℕ) → k ≤ length bytes → (x : A) × (rest : List ℕ) × (r bytes ≡ Some (x, rest)) × (length rest + k ≡ length bytes)
+  long : (bytes : List ℕ) → k ≤ length bytes → (x : A) × (rest : List ℕ) × (r bytes ≡ Some (x, rest)) ×
+      (length rest + k ≡ length bytes)
 
 takes_given : {A : Type 0} (x : A) → Takes 0 (given x)
-takes_given x = record { short = λ bytes few. absurd (omega arith); long = λ bytes enough. (x, bytes, refl, omega arith) }
+takes_given x = record {
+  short = λ bytes few. absurd (omega arith);
+  long = λ bytes enough.
+      (x, bytes, refl, omega arith);
+}
 
 byte_short : (bytes : List ℕ) → length bytes < 1 → byte bytes ≡ None
 byte_short [] few = refl
 byte_short (b ∷ bs) few = absurd (omega arith)
 
-byte_long : (bytes : List ℕ) → 1 ≤ length bytes → (x : ℕ) × (rest : List ℕ) × (byte bytes ≡ Some (x, rest)) × (length rest + 1 ≡ length bytes)
+byte_long : (bytes : List ℕ) → 1 ≤ length bytes → (x : ℕ) × (rest : List ℕ) × (byte bytes ≡ Some (x, rest)) ×
+    (length rest + 1 ≡ length bytes)
 byte_long [] enough = absurd (omega arith)
 byte_long (b ∷ bs) enough = (b, bs, refl, omega arith)
 
@@ -41,7 +48,8 @@ number_short (a ∷ b ∷ []) few = refl
 number_short (a ∷ b ∷ c ∷ []) few = refl
 number_short (a ∷ b ∷ c ∷ d ∷ bs) few = absurd (omega arith)
 
-number_long : (bytes : List ℕ) → 4 ≤ length bytes → (x : ℕ) × (rest : List ℕ) × (number bytes ≡ Some (x, rest)) × (length rest + 4 ≡ length bytes)
+number_long : (bytes : List ℕ) → 4 ≤ length bytes → (x : ℕ) × (rest : List ℕ) × (number bytes ≡ Some (x, rest)) ×
+    (length rest + 4 ≡ length bytes)
 number_long (a ∷ b ∷ c ∷ d ∷ bs) enough = (_, bs, refl, omega arith)
 number_long [] enough = absurd (omega arith)
 number_long (a ∷ []) enough = absurd (omega arith)
@@ -92,7 +100,8 @@ preamble_is_19 bytes = (too_few bytes (nat_lt (length bytes) 19) refl, takes_pre
 abbrev Few : List LayerTree → Type 0
 Few layers = Each (λ layer. Each (λ d. d.fields ≤ 4) layer.headers) layers
 
-few_fields : (layer : LayerTree) (tag : ℕ) (d : HeaderTree) → Each (λ d. d.fields ≤ 4) layer.headers → declared layer tag ≡ Some d →
+few_fields : (layer : LayerTree) (tag : ℕ) (d : HeaderTree) → Each (λ d. d.fields ≤ 4) layer.headers →
+    declared layer tag ≡ Some d →
     d.fields ≤ 4
 few_fields layer tag d few is = each_at (λ d. d.fields ≤ 4) (header_none ∷ layer.headers) tag d (omega arith, few) is
 
@@ -104,11 +113,13 @@ numbers_length (n ∷ ns) = let more = numbers_length ns in omega arith
 abbrev Fit : List Header → ℕ → Type 0
 Fit hs n = (length (written hs) ≤ 17 * n) × (length (fields hs) ≤ 4 * n)
 
-others_fit : (ends : Bool) (hs : List Header) (n : ℕ) (P : Type 0) → MatchBool ends (hs ≡ []) P → (P → Fit hs n) → Fit hs n
+others_fit : (ends : Bool) (hs : List Header) (n : ℕ) (P : Type 0) → MatchBool ends (hs ≡ []) P → (P → Fit hs n) →
+    Fit hs n
 others_fit true hs n P none more = rw none (omega arith, omega arith)
 others_fit false hs n P is more = more is
 
-chain_length : (layers : List LayerTree) (place : ℕ) (hs : List Header) → Few layers → IsChain layers place hs → Fit hs (length layers)
+chain_length : (layers : List LayerTree) (place : ℕ) (hs : List Header) → Few layers → IsChain layers place hs →
+    Fit hs (length layers)
 chain_length [] place hs few is = rw is (omega arith, omega arith)
 chain_length (layer ∷ above) place [] few is = absurd is
 chain_length (layer ∷ above) place (h ∷ hs) few is =
@@ -128,12 +139,14 @@ variable_length (None ∷ ps) [] = omega arith
 variable_length (Some c ∷ ps) (n ∷ ns) = let more = variable_length ps ns in omega arith
 variable_length (None ∷ ps) (n ∷ ns) = let more = variable_length ps ns in omega arith
 
-full_length : (p : Packet) (n : ℕ) → Fit p.message.headers n → n ≤ 24 → length p.message.body ≤ 8192 → length (full_bytes p) ≤ 8619
+full_length : (p : Packet) (n : ℕ) → Fit p.message.headers n → n ≤ 24 → length p.message.body ≤ 8192 →
+    length (full_bytes p) ≤ 8619
 full_length p n fit few body =
     let bytes = length-append (written p.message.headers) p.message.body in
     omega (arith, fit.0, bytes)
 
-short_length : (plan : Plan) (k : ℕ) (p : Packet) (n : ℕ) → Fit p.message.headers n → n ≤ 24 → length p.message.body ≤ 8192 →
+short_length : (plan : Plan) (k : ℕ) (p : Packet) (n : ℕ) → Fit p.message.headers n → n ≤ 24 →
+    length p.message.body ≤ 8192 →
     length (short_bytes k plan p) ≤ 8619
 short_length plan k p n fit few body =
     let bytes = length-append (flat_map number_bytes (variable_fields plan p)) p.message.body in
@@ -150,5 +163,6 @@ either_length plans bytes p n fit few body (inr short) =
 pub datagrams_fit : DatagramsFit
 datagrams_fit stack plans bytes p within is =
     let few = each_so _ _ (λ layer h. each_of_all _ layer.headers h) stack (each_of_all _ stack within.fields) in
-    either_length plans bytes p (length stack) (chain_length stack 0 p.message.headers few is.spellable.chained.chain) within.places
+    either_length plans bytes p (length stack) (chain_length stack 0 p.message.headers few is.spellable.chained.chain)
+    within.places
     is.spellable.chained.body is.spelled

@@ -1,5 +1,6 @@
 -- Numbers are read as they were written, and what was read was so written.
-use Rattle.std.proofs.Common.{◌≡◌, ℕ, zero, suc, ◌<◌, List, [], ◌∷◌, ◌++◌, Option, Some, None, refl, sym, ap, ◌∙◌, subst, arith}
+use Rattle.std.proofs.Common.{◌≡◌, ℕ, zero, suc, ◌<◌, List, [], ◌∷◌, ◌++◌, Option, Some, None, refl, sym, ap, ◌∙◌}
+use Rattle.std.proofs.Common.{subst, arith}
 use Rattle.std.specs.Prelude.{length, flat_map, slice_index, unwrap_or, option_and_then}
 use Rattle.std.specs.Int.{w32, from_be_bytes, to_be_bytes}
 use Rattle.std.proofs.lemmas.Nat.{from_be_bytes-to_be_bytes_4, be_bytes_4}
@@ -39,15 +40,18 @@ four a b c d ha hb hc hd (suc (suc zero)) = hc
 four a b c d ha hb hc hd (suc (suc (suc zero))) = hd
 four a b c d ha hb hc hd (suc (suc (suc (suc i)))) = omega arith
 
-pub number_read : (bytes : List ℕ) (n : ℕ) (rest : List ℕ) → Bytes bytes → number bytes ≡ Some (n, rest) → NumberRead bytes n rest
+pub number_read : (bytes : List ℕ) (n : ℕ) (rest : List ℕ) → Bytes bytes → number bytes ≡ Some (n, rest) →
+    NumberRead bytes n rest
 number_read (a ∷ b ∷ c ∷ d ∷ behind) n rest (ha, (hb, (hc, (hd, h)))) is =
     let m = from_be_bytes w32 (a ∷ b ∷ c ∷ d ∷ []) in
-    let front : to_be_bytes w32 m ≡ a ∷ b ∷ c ∷ d ∷ [] = be_bytes_4 (a ∷ b ∷ c ∷ d ∷ []) m refl (four a b c d ha hb hc hd) refl in
+    let front : to_be_bytes w32 m ≡ a ∷ b ∷ c ∷ d ∷ [] =
+    be_bytes_4 (a ∷ b ∷ c ∷ d ∷ []) m refl (four a b c d ha hb hc hd) refl in
     subst (λ q. NumberRead (a ∷ b ∷ c ∷ d ∷ behind) q.0 q.1) (same_read is)
     record { small = omega arith; written = ap (λ xs. xs ++ behind) (sym front); behind = h }
 number_read _ n rest h is = absurd (cc is)
 
-pub numbers_back : (ns rest : List ℕ) → Numbers ns → numbers (length ns) (flat_map number_bytes ns ++ rest) ≡ Some (ns, rest)
+pub numbers_back : (ns rest : List ℕ) → Numbers ns → numbers (length ns) (flat_map number_bytes ns ++ rest) ≡
+    Some (ns, rest)
 numbers_back [] rest h = refl
 numbers_back (n ∷ ns) rest h = rw (from_be_bytes-to_be_bytes_4 n h.0, numbers_back ns rest h.1)
 
@@ -57,9 +61,11 @@ pub record NumbersRead (k : ℕ) (bytes ns rest : List ℕ) : Type 0 where
   pub written : bytes ≡ flat_map number_bytes ns ++ rest
   pub behind : Bytes rest
 
-pub numbers_read : (k : ℕ) (bytes ns rest : List ℕ) → Bytes bytes → numbers k bytes ≡ Some (ns, rest) → NumbersRead k bytes ns rest
+pub numbers_read : (k : ℕ) (bytes ns rest : List ℕ) → Bytes bytes → numbers k bytes ≡ Some (ns, rest) →
+    NumbersRead k bytes ns rest
 numbers_read zero bytes ns rest h is =
-    subst (λ q. NumbersRead zero bytes q.0 q.1) (same_read is) record { count = refl; small = tt; written = refl; behind = h }
+    subst (λ q. NumbersRead zero bytes q.0 q.1) (same_read is) record
+    { count = refl; small = tt; written = refl; behind = h }
 numbers_read (suc k) bytes ns rest h is =
     through _ (number bytes) _ is (λ (n, r) one is_n. through _ (numbers k r) _ is_n (λ (ms, s) more is_s.
     let first = number_read bytes n r h one in

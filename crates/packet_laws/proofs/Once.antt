@@ -13,7 +13,8 @@ use Rattle.packet_laws.proofs.Whole.{IsRead, spelled_read}
 
 -- the packet that bytes are read as, whoever reads them
 unspelled : List LayerTree → List Plan → List ℕ → Option Packet
-unspelled stack plans bytes = option_and_then (λ a. option_and_then (λ b. option_and_then (λ c. Some (packet_of a.0 c.0 c.1))
+unspelled stack plans bytes =
+    option_and_then (λ a. option_and_then (λ b. option_and_then (λ c. Some (packet_of a.0 c.0 c.1))
     (headers stack b.0 b.1)) (named_plan plans a.0 a.1)) (preamble bytes)
 
 unspelled_is : (stack : List LayerTree) (plans : List Plan) (bytes : List ℕ) (p : Packet) → IsRead stack plans bytes p →
@@ -39,7 +40,8 @@ one_full_spelling stack plans p is =
     (record { spellable = is; spelled = inl refl }, λ bytes spells first. one_full plans bytes p spells.spelled first)
 
 one_short : (plans : List Plan) (bytes : List ℕ) (p : Packet) (k : ℕ) (plan : Plan) → slice_get plans k ≡ Some plan →
-    (bytes ≡ full_bytes p) ⊎ SpellsShort plans bytes p → slice_get bytes 0 ≡ Some short_form → slice_get bytes 19 ≡ Some k →
+    (bytes ≡ full_bytes p) ⊎ SpellsShort plans bytes p → slice_get bytes 0 ≡ Some short_form →
+    slice_get bytes 19 ≡ Some k →
     bytes ≡ short_bytes k plan p
 one_short plans bytes p k plan listed (inl full) first at =
     let other : Some full_form ≡ Some short_form = subst (λ bs. slice_get bs 0 ≡ Some short_form) full first in

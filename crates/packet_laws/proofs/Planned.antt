@@ -1,5 +1,7 @@
--- Planned fields are read as they were written, and what was read was so written; headers are dealt out as they were collected.
-use Rattle.std.proofs.Common.{◌≡◌, ℕ, suc, ◌<◌, Bool, true, false, List, [], ◌∷◌, ◌++◌, Option, Some, None, refl, sym, ap, ◌∙◌, subst, arith}
+-- Planned fields are read as they were written, and what was read was so written; headers are dealt out as they were
+-- collected.
+use Rattle.std.proofs.Common.{◌≡◌, ℕ, suc, ◌<◌, Bool, true, false, List, [], ◌∷◌, ◌++◌, Option, Some, None, refl, sym}
+use Rattle.std.proofs.Common.{ap, ◌∙◌, subst, arith}
 use Rattle.std.specs.Prelude.{length, take, drop, map, flat_map, nat_le, ◌==◌, ◌&&◌, MatchBool, IfSome, if◌then◌else◌}
 use Rattle.std.proofs.lemmas.Bool.{eqb-true, eq-eqb, le-leb, leb-true}
 use Rattle.std.proofs.lemmas.List.{append_assoc, take-append-drop, length-append, length-take-le}
@@ -46,7 +48,8 @@ pub record PlannedRead (ps : List (Option ℕ)) (bytes ns rest : List ℕ) : Typ
 pub planned_read : (ps : List (Option ℕ)) (bytes ns rest : List ℕ) → Constants ps → Bytes bytes →
     planned ps bytes ≡ Some (ns, rest) → PlannedRead ps bytes ns rest
 planned_read [] bytes ns rest known h is =
-    subst (λ q. PlannedRead [] bytes q.0 q.1) (same_read is) record { agrees = refl; small = tt; spelled = refl; behind = h }
+    subst (λ q. PlannedRead [] bytes q.0 q.1) (same_read is) record
+    { agrees = refl; small = tt; spelled = refl; behind = h }
 planned_read (Some c ∷ ps) bytes ns rest small h is =
     through _ (planned ps bytes) _ is (λ (ms, s) more is_s.
     let others = planned_read ps bytes ms s small.1 h more in
@@ -78,7 +81,11 @@ fields hs = flat_map (λ h. h.fields) hs
 
 first_back : (xs rest : List ℕ) → first (length xs) (xs ++ rest) ≡ Some (xs, rest)
 first_back xs rest =
-    rw (le-leb (length xs) (length (xs ++ rest)) (omega (arith, length-append xs rest)), take-append_seam xs rest, drop-append_seam xs rest)
+    rw (
+      le-leb (length xs) (length (xs ++ rest)) (omega (arith, length-append xs rest)),
+      take-append_seam xs rest,
+      drop-append_seam xs rest,
+    )
 
 -- the value of a test that passed
 pub passed : {A : Type 0} (b : Bool) (p q : A) → (if b then Some p else None) ≡ Some q → (b ≡ true) × (p ≡ q)
@@ -114,13 +121,15 @@ dealt_back (layer ∷ above) place (h ∷ hs) rest is =
     (ap (λ at. Some (record { layer = at; tag = h.tag; fields = h.fields } ∷ hs, rest)) (sym is_d.0)))
 
 -- what dealing out says
-pub record DealtRead (layers : List LayerTree) (place : ℕ) (ts xs : List ℕ) (hs : List Header) (rest : List ℕ) : Type 0 where
-  pub chained : IsChain layers place hs
-  pub tagged : tags hs ≡ ts
-  pub collected : xs ≡ fields hs ++ rest
+pub record DealtRead (layers : List LayerTree) (place : ℕ) (ts xs : List ℕ) (hs : List Header) (rest : List ℕ) : Type 0
+  where
+    pub chained : IsChain layers place hs
+    pub tagged : tags hs ≡ ts
+    pub collected : xs ≡ fields hs ++ rest
 
 -- what dealing out behind a header says
-record OthersRead (ends : Bool) (layers : List LayerTree) (place : ℕ) (ts xs : List ℕ) (hs : List Header) (rest : List ℕ) : Type 0 where
+record OthersRead (ends : Bool) (layers : List LayerTree) (place : ℕ) (ts xs : List ℕ) (hs : List Header)
+    (rest : List ℕ) : Type 0 where
   follow : MatchBool ends (hs ≡ []) (IsChain layers place hs)
   tagged : tags hs ≡ ts
   collected : xs ≡ fields hs ++ rest
@@ -128,12 +137,14 @@ record OthersRead (ends : Bool) (layers : List LayerTree) (place : ℕ) (ts xs :
 none_read : (place : ℕ) (ts xs : List ℕ) (hs : List Header) (rest : List ℕ) → dealt [] place ts xs ≡ Some (hs, rest) →
     DealtRead [] place ts xs hs rest
 none_read place [] xs hs rest is =
-    subst (λ q. DealtRead [] place [] xs q.0 q.1) (same_read is) record { chained = refl; tagged = refl; collected = refl }
+    subst (λ q. DealtRead [] place [] xs q.0 q.1) (same_read is) record
+    { chained = refl; tagged = refl; collected = refl }
 none_read place (t ∷ ts) xs hs rest is = absurd (cc is)
 
 others_read : (ends : Bool) (above : List LayerTree) (place : ℕ) (ts xs : List ℕ) (hs : List Header) (rest : List ℕ) →
     (if ends then dealt [] place ts else dealt above place ts) xs ≡ Some (hs, rest) →
-    (dealt above place ts xs ≡ Some (hs, rest) → DealtRead above place ts xs hs rest) → OthersRead ends above place ts xs hs rest
+    (dealt above place ts xs ≡ Some (hs, rest) → DealtRead above place ts xs hs rest) →
+    OthersRead ends above place ts xs hs rest
 others_read true above place ts xs hs rest is more =
     let read = none_read place ts xs hs rest is in
     record { follow = read.chained; tagged = read.tagged; collected = read.collected }
@@ -148,7 +159,8 @@ dealt_read (layer ∷ above) place [] xs hs rest is = absurd (cc is)
 dealt_read (layer ∷ above) place (t ∷ ts) xs hs rest is =
     through_known _ (declared layer t) xs _ is (λ d declares is_d.
     through _ (first d.fields xs) _ is_d (λ (ns, r) reads is_ns.
-    through _ ((if d.ends then dealt [] (suc place) ts else dealt above (suc place) ts) r) _ is_ns (λ (others, s) follow is_s.
+    through _ ((if d.ends then dealt [] (suc place) ts else dealt above (suc place) ts) r) _ is_ns
+    (λ (others, s) follow is_s.
     let own = first_read d.fields xs ns r reads in
     let more = others_read d.ends above (suc place) ts r others s follow (dealt_read above (suc place) ts r others s) in
     subst (λ q. DealtRead (layer ∷ above) place (t ∷ ts) xs q.0 q.1) (same_read is_s)

@@ -21,7 +21,8 @@ use Rattle.packet_laws.proofs.Planned.{both, Constants}
 use Rattle.packet_laws.proofs.Whole.{spelled_read, read_spelled}
 
 -- steps that agree, behind one step
-behind_one : {A B : Type 0} (r : Result A Stray) (f g : A → Result B Stray) → ((x : A) → f x ≡ g x) → (r >>= f) ≡ (r >>= g)
+behind_one : {A B : Type 0} (r : Result A Stray) (f g : A → Result B Stray) → ((x : A) → f x ≡ g x) →
+    (r >>= f) ≡ (r >>= g)
 behind_one (Ok x) f g h = h x
 behind_one (Err e) f g h = refl
 
@@ -47,7 +48,8 @@ behind_some : {A B C : Type 0} (f : A → Result B Stray) (o : Option A) (e : St
 behind_some f (Some x) e y h k = k x refl h
 behind_some f None e y h k = absurd (cc h)
 
-behind_test : {B C : Type 0} (f : Unit {0} → Result B Stray) (b : Bool) (e : Stray) (y : B) → (unless b e >>= f) ≡ Ok y →
+behind_test : {B C : Type 0} (f : Unit {0} → Result B Stray) (b : Bool) (e : Stray) (y : B) →
+    (unless b e >>= f) ≡ Ok y →
     (b ≡ true → f tt ≡ Ok y → C) → C
 behind_test f true e y h k = k refl h
 behind_test f false e y h k = absurd (cc h)
@@ -70,12 +72,14 @@ views_same v w h =
 same_ok : (x y : Packet) → ◌≡◌ {A = Result Packet Stray} (Ok x) (Ok y) → x ≡ y
 same_ok x y h = cc h
 
-meant_is_for : (here : Here) (form : ℕ) (p : Packet) (x : Unit {0}) → meant_for here (preamble_of form p) ≡ Ok x → IsFor here p
+meant_is_for : (here : Here) (form : ℕ) (p : Packet) (x : Unit {0}) → meant_for here (preamble_of form p) ≡ Ok x →
+    IsFor here p
 meant_is_for here form p x h =
     behind_test _ (p.group == here.group) cause.Group _ h (λ group h1.
     behind_test _ (p.stamp == here.stamp) cause.Stamp _ h1 (λ stamp h2.
     behind_test _ (same_view p.view here.view) cause.View _ h2 (λ view h3.
-    behind_test _ (nat_lt p.sender (member_count here.view) && not (p.sender == here.rank)) cause.Sender _ h3 (λ sender h4.
+    behind_test _ (nat_lt p.sender (member_count here.view) && not (p.sender == here.rank)) cause.Sender _ h3
+    (λ sender h4.
     let parts = both (nat_lt p.sender (member_count here.view)) (not (p.sender == here.rank)) sender in
     record {
       group = eqb-true p.group here.group group;
@@ -103,7 +107,8 @@ for_is_meant here form p is =
     ) refl
 
 -- what was taken was spelled, and is for the member
-taken_spelled : (stack : List LayerTree) (plans : List Plan) (here : Here) (bytes : List ℕ) (p : Packet) → AreNumbered plans →
+taken_spelled : (stack : List LayerTree) (plans : List Plan) (here : Here) (bytes : List ℕ) (p : Packet) →
+    AreNumbered plans →
     AreBytes bytes → received stack plans here bytes ≡ Ok p → SpellsPacket stack plans bytes p × IsFor here p
 unfolding received
 taken_spelled stack plans here bytes p numbered small is =
@@ -140,7 +145,8 @@ pub stray_or_spelled : StrayOrSpelled
 stray_or_spelled stack plans here bytes numbered small = (
   (
     λ none. let taken = no_cause (received stack plans here bytes) none in
-        let spells = taken_spelled stack plans here bytes taken.0 numbered small taken.1 in (taken.0, spells.0, spells.1),
+        let spells = taken_spelled stack plans here bytes taken.0 numbered small taken.1 in
+        (taken.0, spells.0, spells.1),
     λ (p, spells, is). ap result_err (spelled_taken stack plans here bytes p spells is),
   ),
   λ p spells is. ap result_ok (spelled_taken stack plans here bytes p spells is),

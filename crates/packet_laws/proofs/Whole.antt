@@ -1,5 +1,6 @@
 -- A packet that is spelled is read again, and what was read was spelled.
-use Rattle.std.proofs.Common.{◌≡◌, ℕ, zero, suc, ◌<◌, ◌≤◌, Bool, true, false, ◌⊎◌, inl, inr, List, [], ◌∷◌, ◌++◌, Option, Some, None, refl, sym, ap, ◌∙◌, subst}
+use Rattle.std.proofs.Common.{◌≡◌, ℕ, zero, suc, ◌<◌, ◌≤◌, Bool, true, false, ◌⊎◌, inl, inr, List, [], ◌∷◌, ◌++◌}
+use Rattle.std.proofs.Common.{Option, Some, None, refl, sym, ap, ◌∙◌, subst}
 use Rattle.std.specs.Prelude.{length, flat_map, slice_get, ◌==◌, ◌&&◌, ◌||◌, bytes_eq, if◌then◌else◌}
 use Rattle.std.proofs.lemmas.Bool.{eqb-true}
 use Rattle.std.proofs.lemmas.List.{append-nil}
@@ -14,14 +15,17 @@ use Rattle.packet_mean.specs.Chained.{IsChain}
 use Rattle.packet_mean.specs.Plan.{kind_of, agree, variable, variable_fields, fits}
 use Rattle.stack_mean.specs.Plan.{Plan}
 use Rattle.packet_mean.specs.Reading as reading
-use Rattle.packet_mean.specs.Reading.{Preamble, preamble_of, byte, given, known, plan_for, named_plan, planned, dealt, whole, headers}
+use Rattle.packet_mean.specs.Reading.{Preamble, preamble_of, byte, given, known, plan_for, named_plan, planned, dealt}
+use Rattle.packet_mean.specs.Reading.{whole, headers}
 use Rattle.packet_mean.specs.Received.{packet_of}
-use Rattle.packet_mean.specs.Spelling.{full_form, short_form, number_bytes, preamble_bytes, full_bytes, short_bytes, IsSpellable, SpellsShort, SpellsPacket}
+use Rattle.packet_mean.specs.Spelling.{full_form, short_form, number_bytes, preamble_bytes, full_bytes, short_bytes}
+use Rattle.packet_mean.specs.Spelling.{IsSpellable, SpellsShort, SpellsPacket}
 use Rattle.packet_laws.proofs.Chains.{written, chain_back, chain_read}
 use Rattle.packet_laws.proofs.Each.{Each, Bytes, each_of_all, all_of_each, each_piece, each_pieces, each_so, Numbers}
 use Rattle.packet_laws.proofs.Front.{front_back, FrontRead, front_read}
 use Rattle.packet_laws.proofs.Numbers.{through, through_known, same_read}
-use Rattle.packet_laws.proofs.Planned.{both, tags, fields, Constants, planned_back, planned_read, dealt_back, dealt_read, passed}
+use Rattle.packet_laws.proofs.Planned.{both, tags, fields, Constants, planned_back, planned_read, dealt_back}
+use Rattle.packet_laws.proofs.Planned.{dealt_read, passed}
 
 -- how bytes are read as a packet, step by step
 pub record IsRead (stack : List LayerTree) (plans : List Plan) (bytes : List ℕ) (p : Packet) : Type 0 where
@@ -37,11 +41,14 @@ pub record IsRead (stack : List LayerTree) (plans : List Plan) (bytes : List ℕ
 number_fields : (hs : List Header) → Each (λ h. Numbers h.fields) hs → Numbers (fields hs)
 number_fields hs h = each_pieces (λ n. n < 4294967296) (λ h. h.fields) hs h
 
-fields_of_spellable : (stack : List LayerTree) (p : Packet) → IsSpellable stack p → Each (λ h. Numbers h.fields) p.message.headers
+fields_of_spellable : (stack : List LayerTree) (p : Packet) → IsSpellable stack p →
+    Each (λ h. Numbers h.fields) p.message.headers
 fields_of_spellable stack p is =
-    each_so _ _ (λ h numbers. each_of_all _ h.fields numbers) p.message.headers (each_of_all _ p.message.headers is.fields)
+    each_so _ _ (λ h numbers. each_of_all _ h.fields numbers) p.message.headers
+    (each_of_all _ p.message.headers is.fields)
 
-full_read : (stack : List LayerTree) (plans : List Plan) (p : Packet) → IsSpellable stack p → IsRead stack plans (full_bytes p) p
+full_read : (stack : List LayerTree) (plans : List Plan) (p : Packet) → IsSpellable stack p →
+    IsRead stack plans (full_bytes p) p
 full_read stack plans p is = record {
   form = full_form;
   is_form = refl;
@@ -53,7 +60,8 @@ full_read stack plans p is = record {
   contents = chain_back stack 0 p.message.headers p.message.body is.chained.chain (fields_of_spellable stack p is);
 }
 
-dealt_whole : (layers : List LayerTree) (hs : List Header) → IsChain layers 0 hs → whole (dealt layers 0 (tags hs) (fields hs)) ≡ Some hs
+dealt_whole : (layers : List LayerTree) (hs : List Header) → IsChain layers 0 hs →
+    whole (dealt layers 0 (tags hs) (fields hs)) ≡ Some hs
 dealt_whole layers hs is =
     ap whole (ap (dealt layers 0 (tags hs)) (sym (append-nil (fields hs))) ∙ dealt_back layers 0 hs [] is)
 
@@ -62,7 +70,8 @@ short_read : (stack : List LayerTree) (plans : List Plan) (p : Packet) (k : ℕ)
 short_read stack plans p k plan is listed fitting =
     let split = both (sameb kind_row.the_type plan.kind (kind_of p.dest) && bytes_eq plan.tags (tags p.message.headers))
     (agree plan.fields (fields p.message.headers)) fitting in
-    let names = both (sameb kind_row.the_type plan.kind (kind_of p.dest)) (bytes_eq plan.tags (tags p.message.headers)) split.0 in
+    let names = both (sameb kind_row.the_type plan.kind (kind_of p.dest)) (bytes_eq plan.tags (tags p.message.headers))
+    split.0 in
     let tagged = (bytes_eq-Decides plan.tags (tags p.message.headers)).0 names.1 in
     let numbers = number_fields p.message.headers (fields_of_spellable stack p is) in
     let rest = flat_map number_bytes (variable_fields plan p) ++ p.message.body in
@@ -83,18 +92,23 @@ short_read stack plans p k plan is listed fitting =
 
 either_read : (stack : List LayerTree) (plans : List Plan) (bytes : List ℕ) (p : Packet) → IsSpellable stack p →
     (bytes ≡ full_bytes p) ⊎ SpellsShort plans bytes p → IsRead stack plans bytes p
-either_read stack plans bytes p is (inl full) = subst (λ bs. IsRead stack plans bs p) (sym full) (full_read stack plans p is)
+either_read stack plans bytes p is (inl full) =
+    subst (λ bs. IsRead stack plans bs p) (sym full) (full_read stack plans p is)
 either_read stack plans bytes p is (inr short) =
-    subst (λ bs. IsRead stack plans bs p) (sym short.spelled) (short_read stack plans p short.number short.plan is short.listed short.fitting)
+    subst (λ bs. IsRead stack plans bs p) (sym short.spelled)
+    (short_read stack plans p short.number short.plan is short.listed short.fitting)
 
-pub spelled_read : (stack : List LayerTree) (plans : List Plan) (bytes : List ℕ) (p : Packet) → SpellsPacket stack plans bytes p →
+pub spelled_read : (stack : List LayerTree) (plans : List Plan) (bytes : List ℕ) (p : Packet) →
+    SpellsPacket stack plans bytes p →
     IsRead stack plans bytes p
 spelled_read stack plans bytes p is = either_read stack plans bytes p is.spellable is.spelled
 
 -- the two ways in which a plan is named, or none is
-named_read : (C : Option Plan → List ℕ → Type 0) (plans : List Plan) (f : Preamble) (behind : List ℕ) (plan : Option Plan) (rest : List ℕ)
+named_read : (C : Option Plan → List ℕ → Type 0) (plans : List Plan) (f : Preamble) (behind : List ℕ)
+    (plan : Option Plan) (rest : List ℕ)
     (full : Bool) → (f.form == full_form) ≡ full → (full || (f.form == short_form)) ≡ true →
-    (if full then given None else reading.◌>>=◌ byte (λ k. reading.◌>>=◌ (known (plan_for plans f.dest k)) (λ p. given (Some p)))) behind
+    (if full then given None else reading.◌>>=◌ byte
+    (λ k. reading.◌>>=◌ (known (plan_for plans f.dest k)) (λ p. given (Some p)))) behind
     ≡ Some (plan, rest) →
     (f.form ≡ full_form → C None behind) →
     ((k : ℕ) (p : Plan) (more : List ℕ) → f.form ≡ short_form → behind ≡ k ∷ more → slice_get plans k ≡ Some p →
@@ -129,8 +143,10 @@ pub passes : (a b : Bool) → a ≡ true → b ≡ true → (a && b) ≡ true
 passes a b h i = rw (h, i) refl
 
 -- what is in range where a preamble, headers and a body were read
-spellable : (stack : List LayerTree) (bytes : List ℕ) (f : Preamble) (behind : List ℕ) (hs : List Header) (body : List ℕ) →
-    FrontRead bytes f behind → IsChain stack 0 hs → Each (λ h. Numbers h.fields) hs → Bytes body → length body ≤ longest_body →
+spellable : (stack : List LayerTree) (bytes : List ℕ) (f : Preamble) (behind : List ℕ) (hs : List Header)
+    (body : List ℕ) →
+    FrontRead bytes f behind → IsChain stack 0 hs → Each (λ h. Numbers h.fields) hs → Bytes body →
+    length body ≤ longest_body →
     IsSpellable stack (packet_of f hs body)
 spellable stack bytes f behind hs body front chained numbers small short = record {
   group = front.group;
@@ -144,7 +160,8 @@ spellable stack bytes f behind hs body front chained numbers small short = recor
   body = all_of_each _ body small;
 }
 
-full_spelled : (stack : List LayerTree) (plans : List Plan) (bytes : List ℕ) (f : Preamble) (behind : List ℕ) (hs : List Header)
+full_spelled : (stack : List LayerTree) (plans : List Plan) (bytes : List ℕ) (f : Preamble) (behind : List ℕ)
+    (hs : List Header)
     (body : List ℕ) → FrontRead bytes f behind → length body ≤ longest_body → f.form ≡ full_form →
     headers stack None behind ≡ Some (hs, body) → SpellsPacket stack plans bytes (packet_of f hs body)
 full_spelled stack plans bytes f behind hs body front short form read =
@@ -155,7 +172,8 @@ full_spelled stack plans bytes f behind hs body front short form read =
           ∙ ap (λ xs. preamble_bytes full_form (packet_of f [] []) ++ xs) chained.spelled);
     }
 
-short_spelled : (stack : List LayerTree) (plans : List Plan) (bytes : List ℕ) (f : Preamble) (behind : List ℕ) (hs : List Header)
+short_spelled : (stack : List LayerTree) (plans : List Plan) (bytes : List ℕ) (f : Preamble) (behind : List ℕ)
+    (hs : List Header)
     (body : List ℕ) → Each (λ p. Constants p.fields) plans → FrontRead bytes f behind → length body ≤ longest_body →
     (k : ℕ) (p : Plan) (more : List ℕ) → f.form ≡ short_form → behind ≡ k ∷ more → slice_get plans k ≡ Some p →
     sameb kind_row.the_type p.kind (kind_of f.dest) ≡ true → headers stack (Some p) more ≡ Some (hs, body) →
@@ -169,7 +187,8 @@ short_spelled stack plans bytes f behind hs body constants front short k p more 
     let all : ns ≡ fields hs = dealt_is.collected ∙ append-nil (fields hs) in
     record {
       spellable = spellable stack bytes f behind hs body front dealt_is.chained
-          (each_piece _ (λ h. h.fields) hs (subst Numbers all numbers.small)) (subst Bytes known_is.1 numbers.behind) short;
+          (each_piece _ (λ h. h.fields) hs (subst Numbers all numbers.small)) (subst Bytes known_is.1 numbers.behind)
+          short;
       spelled = inr record {
         number = k;
         plan = p;
@@ -183,16 +202,20 @@ short_spelled stack plans bytes f behind hs body constants front short k p more 
       };
     })
 
-pub read_spelled : (stack : List LayerTree) (plans : List Plan) (bytes : List ℕ) (f : Preamble) (behind : List ℕ) (plan : Option Plan)
+pub read_spelled : (stack : List LayerTree) (plans : List Plan) (bytes : List ℕ) (f : Preamble) (behind : List ℕ)
+    (plan : Option Plan)
     (rest : List ℕ) (hs : List Header) (body : List ℕ) → Each (λ p. Constants p.fields) plans → Bytes bytes →
     reading.preamble bytes ≡ Some (f, behind) → ((f.form == full_form) || (f.form == short_form)) ≡ true →
-    named_plan plans f behind ≡ Some (plan, rest) → headers stack plan rest ≡ Some (hs, body) → length body ≤ longest_body →
+    named_plan plans f behind ≡ Some (plan, rest) → headers stack plan rest ≡ Some (hs, body) →
+    length body ≤ longest_body →
     SpellsPacket stack plans bytes (packet_of f hs body)
 read_spelled stack plans bytes f behind plan rest hs body constants small front form named contents short =
     let front_is = front_read bytes f behind small front in
-    named_read (λ plan rest. headers stack plan rest ≡ Some (hs, body) → SpellsPacket stack plans bytes (packet_of f hs body))
+    named_read (λ plan rest. headers stack plan rest ≡ Some (hs, body) →
+    SpellsPacket stack plans bytes (packet_of f hs body))
     plans f behind plan rest (f.form == full_form) refl form named
     (λ form_is. full_spelled stack plans bytes f behind hs body front_is short form_is)
-    (λ k p more form_is at listed same. short_spelled stack plans bytes f behind hs body constants front_is short k p more form_is at
+    (λ k p more form_is at listed same. short_spelled stack plans bytes f behind hs body constants front_is short k p
+    more form_is at
     listed same)
     contents

@@ -13,7 +13,8 @@ pub record IsOf (layer : LayerTree) (place : ℕ) (h : Header) (d : HeaderTree) 
   pub tag : declared layer h.tag ≡ Some d
   pub fields : length h.fields ≡ d.fields
 
--- What stands behind such a header: nothing where it ends the chain, and else a message that is chained from the place above.
+-- What stands behind such a header: nothing where it ends the chain, and else a message that is chained from the place
+-- above.
 abbrev pub GoesOn : List LayerTree → ℕ → HeaderTree → Content → Type 0
 GoesOn stack place d m = MatchBool d.ends (m.headers ≡ []) (IsChained stack (suc place) m)
 
@@ -27,7 +28,8 @@ PushedIsChained = (stack : List LayerTree) (place : ℕ) (layer : LayerTree) (h 
 abbrev pub PoppedGoesOn : Type 0
 PoppedGoesOn = (stack : List LayerTree) (place : ℕ) (layer : LayerTree) (m : Content) →
     slice_get stack place ≡ Some layer → IsChained stack place m →
-    (h : Header) × (d : HeaderTree) × (first_of m.headers ≡ Some h) × IsOf layer place h d × GoesOn stack place d (popped m)
+    (h : Header) × (d : HeaderTree) × (first_of m.headers ≡ Some h) × IsOf layer place h d ×
+    GoesOn stack place d (popped m)
 
 -- Above the top place a chained message has no headers.
 abbrev pub NoneAboveTheTop : Type 0

@@ -16,7 +16,8 @@ pub record IsWithinLimits (stack : List LayerTree) : Type 0 where
   pub places : length stack ≤ most_places
   pub fields : All (λ layer. All (λ header. header.fields ≤ most_fields) layer.headers) stack
 
--- Bytes that spell a packet of such a stack are at most 8,619, in either form: a preamble, 17 for each place, and a body.
+-- Bytes that spell a packet of such a stack are at most 8,619, in either form: a preamble, 17 for each place, and a
+-- body.
 abbrev pub DatagramsFit : Type 0
 DatagramsFit = (stack : List LayerTree) (plans : List Plan) (bytes : List ℕ) (p : Packet) → IsWithinLimits stack →
     SpellsPacket stack plans bytes p → length bytes ≤ 8619

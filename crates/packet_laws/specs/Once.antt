@@ -17,10 +17,13 @@ OneFullSpelling = (stack : List LayerTree) (plans : List Plan) (p : Packet) → 
     SpellsPacket stack plans (full_bytes p) p
     × ((bytes : List ℕ) → SpellsPacket stack plans bytes p → slice_get bytes 0 ≡ Some full_form → bytes ≡ full_bytes p)
 
--- It has one short spelling under each plan of the list that it fits and whose number is a byte; the number stands behind the preamble.
+-- It has one short spelling under each plan of the list that it fits and whose number is a byte; the number stands
+-- behind the preamble.
 abbrev pub OneShortSpelling : Type 0
-OneShortSpelling = (stack : List LayerTree) (plans : List Plan) (p : Packet) (k : ℕ) (plan : Plan) → IsSpellable stack p → k < 256 →
+OneShortSpelling = (stack : List LayerTree) (plans : List Plan) (p : Packet) (k : ℕ) (plan : Plan) →
+    IsSpellable stack p → k < 256 →
     slice_get plans k ≡ Some plan → fits plan p ≡ true →
     SpellsPacket stack plans (short_bytes k plan p) p
-    × ((bytes : List ℕ) → SpellsPacket stack plans bytes p → slice_get bytes 0 ≡ Some short_form → slice_get bytes 19 ≡ Some k →
+    × ((bytes : List ℕ) → SpellsPacket stack plans bytes p → slice_get bytes 0 ≡ Some short_form →
+    slice_get bytes 19 ≡ Some k →
     bytes ≡ short_bytes k plan p)

@@ -12,8 +12,8 @@ use Rattle.packet_mean.specs.declared.here.Here.{Here}
 abbrev pub AreNumbered : List Plan → Type 0
 AreNumbered plans = All (λ plan. All (λ field. IfSome field (λ constant. constant < 2 ^ 32)) plan.fields) plans
 
--- However bytes spell a packet, a member takes them as this packet, or refuses them for the first cause for which the packet isn't meant
--- for it: the form in which a packet came plays no part, and neither do the plans.
+-- However bytes spell a packet, a member takes them as this packet, or refuses them for the first cause for which the
+-- packet isn't meant for it: the form in which a packet came plays no part, and neither do the plans.
 abbrev pub ReceivedAsMeant : Type 0
 ReceivedAsMeant = (stack : List LayerTree) (plans : List Plan) (here : Here) (bytes : List ℕ) (p : Packet) →
     SpellsPacket stack plans bytes p →
@@ -25,8 +25,10 @@ TakenAsSpelled = (stack : List LayerTree) (plans : List Plan) (here : Here) (byt
     AreNumbered plans → AreBytes bytes →
     (received stack plans here bytes ≡ Ok p) ↔ (SpellsPacket stack plans bytes p × IsFor here p)
 
--- Bytes aren't stray exactly where they spell a packet that is for the member, and the packet that they then are is this one.
+-- Bytes aren't stray exactly where they spell a packet that is for the member, and the packet that they then are is
+-- this one.
 abbrev pub StrayOrSpelled : Type 0
-StrayOrSpelled = (stack : List LayerTree) (plans : List Plan) (here : Here) (bytes : List ℕ) → AreNumbered plans → AreBytes bytes →
+StrayOrSpelled = (stack : List LayerTree) (plans : List Plan) (here : Here) (bytes : List ℕ) → AreNumbered plans →
+    AreBytes bytes →
     ((stray stack plans here bytes ≡ None) ↔ ((p : Packet) × SpellsPacket stack plans bytes p × IsFor here p))
     × ((p : Packet) → SpellsPacket stack plans bytes p → IsFor here p → packet_spelled stack plans here bytes ≡ Some p)

@@ -1,6 +1,7 @@
--- Which states a layer can have at its place, and which events can come to it: what its cells hold is of their forms, messages are
--- chained, and all numbers and bytes are in range.
-use Rattle.std.specs.Prelude.{◌≡◌, ℕ, suc, ◌<◌, ◌≤◌, ◌^◌, Bool, true, false, List, [], length, drop, slice_index_or, Option, Some, None}
+-- Which states a layer can have at its place, and which events can come to it: what its cells hold is of their forms,
+-- messages are chained, and all numbers and bytes are in range.
+use Rattle.std.specs.Prelude.{◌≡◌, ℕ, suc, ◌<◌, ◌≤◌, ◌^◌, Bool, true, false, List, [], length, drop, slice_index_or}
+use Rattle.std.specs.Prelude.{Option, Some, None}
 use Rattle.std.specs.List.{AllByRecursion, AllZip}
 use Rattle.msg_core.specs.Chain.{Content}
 use Rattle.msg_core.specs.Parts.{longest_body}
@@ -11,7 +12,8 @@ use Rattle.layer_ast.specs.declared.tokens.Dir.TheVariants.{Up, Down}
 use Rattle.layer_mean.specs.declared.run.Event.{Event}
 use Rattle.layer_mean.specs.declared.run.Row.{Row}
 use Rattle.layer_mean.specs.Event.{carries}
-use Rattle.layer_mean.specs.Tree.{Carried, part, whole, ItemsTree, Form, numbers, queue, queues, CellTree, LayerTree, no_layer}
+use Rattle.layer_mean.specs.Tree.{Carried, part, whole, ItemsTree, Form, numbers, queue, queues, CellTree, LayerTree}
+use Rattle.layer_mean.specs.Tree.{no_layer}
 use Rattle.layer_mean.specs.State as state
 use Rattle.layer_mean.specs.State.{State, Contents, size_of}
 use Rattle.packet_mean.specs.Chained.{IsChain}
@@ -28,7 +30,8 @@ pub record IsBody (body : List ℕ) : Type 0 where
   pub within : length body ≤ longest_body
   pub bytes : AllByRecursion (λ b. b < 256) body
 
--- The headers of a message that comes from a place of a stack: a chain of the layers from there on, whose fields are numbers.
+-- The headers of a message that comes from a place of a stack: a chain of the layers from there on, whose fields are
+-- numbers.
 pub record IsFrom (stack : List LayerTree) (place : ℕ) (headers : List Header) : Type 0 where
   pub chain : IsChain (drop place stack) place headers
   pub fields : AllByRecursion (λ h. Numbers h.fields) headers
@@ -72,7 +75,8 @@ HoldsForm Above n (queues capacity items) (state.queues qs) =
     (length qs ≡ n) × AllByRecursion (IsQueue Above capacity items) qs
 HoldsForm Above n _ _ = ⊥
 
--- A state of a layer: its rank is one of its view's, the view's count of views is a number, and each cell holds what its form says.
+-- A state of a layer: its rank is one of its view's, the view's count of views is a number, and each cell holds what
+-- its form says.
 pub record IsState (Above : List Header → Type 0) (layer : LayerTree) (s : State) : Type 0 where
   pub some_member : 1 ≤ s.count
   pub most_members : s.count ≤ most_members
@@ -97,8 +101,8 @@ pub record IsEvent (Chain : List Header → Type 0) (e : Event) : Type 0 where
 abbrev pub IsChainedState : (stack : List LayerTree) (place : ℕ) → State → Type 0
 IsChainedState stack place s = IsState (IsFrom stack (suc place)) (slice_index_or stack place no_layer) s
 
--- The place from which the message of an event comes that comes to a place: going up it has the place's own header, and going
--- down it doesn't have it yet.
+-- The place from which the message of an event comes that comes to a place: going up it has the place's own header, and
+-- going down it doesn't have it yet.
 abbrev pub from_place : Dir → ℕ → ℕ
 from_place Up place = place
 from_place Down place = suc place

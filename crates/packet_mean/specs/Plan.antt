@@ -1,6 +1,7 @@
--- Which packets fit a plan: those whose headers are as it says but for a few numbers (that constant fields are left out of a packet,
--- and a number stands for them, is the SOSP 1999 paper's).
-use Rattle.std.specs.Prelude.{ℕ, Bool, true, false, ◌==◌, ◌&&◌, bytes_eq, List, [], ◌∷◌, map, flat_map, position, Option, Some, None}
+-- Which packets fit a plan: those whose headers are as it says but for a few numbers (that constant fields are left out
+-- of a packet, and a number stands for them, is the SOSP 1999 paper's).
+use Rattle.std.specs.Prelude.{ℕ, Bool, true, false, ◌==◌, ◌&&◌, bytes_eq, List, [], ◌∷◌, map, flat_map, position}
+use Rattle.std.specs.Prelude.{Option, Some, None}
 use denote.Enum.Bare.{sameb}
 use Rattle.msg_core.specs.Chain.{Content}
 use Rattle.msg_core.specs.declared.packet.Dest.{Dest}
@@ -38,7 +39,8 @@ variable _ _ = []
 
 -- A packet fits a plan where its kind, its tags and its constant fields are the plan's.
 abbrev pub fits : Plan → Packet → Bool
-fits plan packet = sameb kind_row.the_type plan.kind (kind_of packet.dest) && bytes_eq plan.tags (tags_of packet.message)
+fits plan packet = sameb kind_row.the_type plan.kind (kind_of packet.dest) &&
+    bytes_eq plan.tags (tags_of packet.message)
     && agree plan.fields (fields_of packet.message)
 
 -- The number of the least plan that a packet fits, if there is one.

@@ -1,5 +1,6 @@
 -- How a packet is read: readers that take what they read off the front of the bytes.
-use Rattle.std.specs.Prelude.{ℕ, zero, suc, ◌==◌, if◌then◌else◌, List, [], ◌∷◌, length, take, drop, nat_le, slice_get, Option, Some, None, option_and_then}
+use Rattle.std.specs.Prelude.{ℕ, zero, suc, ◌==◌, if◌then◌else◌, List, [], ◌∷◌, length, take, drop, nat_le, slice_get}
+use Rattle.std.specs.Prelude.{Option, Some, None, option_and_then}
 use Rattle.std.specs.Int.{w32, from_be_bytes}
 use denote.Enum.Bare.{sameb}
 use Rattle.msg_core.specs.declared.message.Header.{Header}
@@ -96,7 +97,8 @@ preamble = do
 -- The plan of this number, if it is one of the destination's kind.
 abbrev pub plan_for : List Plan → Dest → ℕ → Option Plan
 plan_for plans dest k =
-    option_and_then (λ plan. if sameb kind_row.the_type plan.kind (kind_of dest) then Some plan else None) (slice_get plans k)
+    option_and_then (λ plan. if sameb kind_row.the_type plan.kind (kind_of dest) then Some plan else None)
+    (slice_get plans k)
 
 -- The plan that a short spelling names; a full one names none.
 abbrev pub named_plan : List Plan → Preamble → Reader (Option Plan)
@@ -105,7 +107,8 @@ named_plan plans p = if p.form == full_form then given None else do
   plan ← known (plan_for plans p.dest k)
   given (Some plan)
 
--- The headers of the layers from a place on, each its tag and as many fields as it declares, through the first that ends the chain.
+-- The headers of the layers from a place on, each its tag and as many fields as it declares, through the first that
+-- ends the chain.
 abbrev pub chain : List LayerTree → (place : ℕ) → Reader (List Header)
 chain [] place = given []
 chain (layer ∷ above) place = do

@@ -1,5 +1,6 @@
 -- What a member makes of a datagram: the packet that it spells, or the first cause for which it is refused.
-use Rattle.std.specs.Prelude.{◌≡◌, ℕ, ◌<◌, ◌≢◌, ◌==◌, ◌&&◌, ◌||◌, not, nat_lt, nat_le, Bool, true, if◌then◌else◌, List, length, Option, Result, Ok, Err, ok_or}
+use Rattle.std.specs.Prelude.{◌≡◌, ℕ, ◌<◌, ◌≢◌, ◌==◌, ◌&&◌, ◌||◌, not, nat_lt, nat_le, Bool, true, if◌then◌else◌, List}
+use Rattle.std.specs.Prelude.{length, Option, Result, Ok, Err, ok_or}
 use Rattle.std.specs.Result.{result_ok, result_err}
 use Rattle.msg_core.specs.Parts.{longest_body}
 use Rattle.msg_core.specs.View.{member_count}
@@ -45,8 +46,8 @@ packet_of p headers body = record {
   message = record { headers = headers; body = body };
 }
 
--- The first cause for which what stands in front of a packet isn't meant for a member, if there is one: another group, stamp or view
--- than the member's; a sender that is no other rank of the view; a destination that the member isn't.
+-- The first cause for which what stands in front of a packet isn't meant for a member, if there is one: another group,
+-- stamp or view than the member's; a sender that is no other rank of the view; a destination that the member isn't.
 abbrev pub meant_for : Here → Preamble → Result (Unit {0}) Stray
 meant_for here p = do
   _ ← unless (p.group == here.group) cause.Group
@@ -55,9 +56,9 @@ meant_for here p = do
   _ ← unless (nat_lt p.sender (member_count here.view) && not (p.sender == here.rank)) cause.Sender
   unless (is_for here.rank p.dest) cause.Dest
 
--- The packet that bytes spell to a member of a stack with these plans, or the first cause for which they are stray: fewer bytes than
--- a preamble; another form than the two; that they aren't meant for the member; a short form without the number of a plan of its
--- kind; headers that are cut off or not declared; a body that is too long.
+-- The packet that bytes spell to a member of a stack with these plans, or the first cause for which they are stray:
+-- fewer bytes than a preamble; another form than the two; that they aren't meant for the member; a short form without
+-- the number of a plan of its kind; headers that are cut off or not declared; a body that is too long.
 unfoldable pub received : List LayerTree → List Plan → Here → List ℕ → Result Packet Stray
 received stack plans here bytes = do
   (p, behind) ← ok_or (preamble bytes) cause.Short
@@ -76,7 +77,8 @@ stray stack plans here bytes = result_err (received stack plans here bytes)
 abbrev pub packet_spelled : List LayerTree → List Plan → Here → List ℕ → Option Packet
 packet_spelled stack plans here bytes = result_ok (received stack plans here bytes)
 
--- A packet is for a member: it is of the same group, stamp and view, from another rank of the view, to all or to the own rank.
+-- A packet is for a member: it is of the same group, stamp and view, from another rank of the view, to all or to the
+-- own rank.
 pub record IsFor (here : Here) (packet : Packet) : Type 0 where
   pub group : packet.group ≡ here.group
   pub stamp : packet.stamp ≡ here.stamp

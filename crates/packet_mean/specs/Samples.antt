@@ -25,7 +25,8 @@ layer name headers = record { name = name; cells = []; headers = headers; handle
 abbrev pub ordered : List LayerTree
 ordered =
     layer (codes "bottom") (passing (codes "net") 1 ∷ []) ∷
-    layer (codes "mnak") (passing (codes "num") 1 ∷ ending (codes "nak") 2 ∷ ending (codes "again") 1 ∷ ending (codes "last") 1 ∷ []) ∷
+    layer (codes "mnak") (passing (codes "num") 1 ∷ ending (codes "nak") 2 ∷ ending (codes "again") 1 ∷
+    ending (codes "last") 1 ∷ []) ∷
     layer (codes "local") [] ∷
     layer (codes "total") (passing (codes "num") 2 ∷ passing (codes "ask") 0 ∷ []) ∷ []
 

@@ -43,11 +43,13 @@ header_bytes header = header.tag ∷ flat_map number_bytes header.fields
 
 -- The full spelling: the headers from the lowest layer up, and the body.
 abbrev pub full_bytes : Packet → List ℕ
-full_bytes packet = preamble_bytes full_form packet ++ flat_map header_bytes packet.message.headers ++ packet.message.body
+full_bytes packet = preamble_bytes full_form packet ++ flat_map header_bytes packet.message.headers ++
+    packet.message.body
 
 -- The short spelling under plan number k: this number, the variable fields, and the body.
 abbrev pub short_bytes : (k : ℕ) → Plan → Packet → List ℕ
-short_bytes k plan packet = preamble_bytes short_form packet ++ k ∷ flat_map number_bytes (variable_fields plan packet) ++ packet.message.body
+short_bytes k plan packet = preamble_bytes short_form packet ++ k ∷ flat_map number_bytes (variable_fields plan packet)
+    ++ packet.message.body
 
 -- Numbers below 2^32, and bytes.
 abbrev pub AreNumbers : List ℕ → Type 0
@@ -61,7 +63,8 @@ abbrev pub IsDestination : Dest → Type 0
 IsDestination to_all = Unit {0}
 IsDestination (Rank rank) = rank < everyone
 
--- A packet that can be spelled: its message is chained from the lowest place of the stack, and its numbers and bytes are in range.
+-- A packet that can be spelled: its message is chained from the lowest place of the stack, and its numbers and bytes
+-- are in range.
 pub record IsSpellable (stack : List LayerTree) (packet : Packet) : Type 0 where
   pub group : packet.group < 2 ^ 32
   pub stamp : packet.stamp < 2 ^ 32

@@ -1,5 +1,5 @@
-//! What packets are as bytes, as definitions: chains of headers, plans of short packets, the two spellings, and which datagrams are
-//! stray.
+//! What packets are as bytes, as definitions: chains of headers, plans of short packets, the two spellings, and which
+//! datagrams are stray.
 #![tactic(auto)]
 
 mod here;

@@ -5,7 +5,8 @@ ghost use Rattle.msg_core.specs.declared.packet.Stray.TheVariants as cause;
 ghost use Rattle.packet_mean.specs.Chained.{IsChained};
 ghost use Rattle.packet_mean.specs.Plan.{fits, least_fit};
 ghost use Rattle.packet_mean.specs.Received.{received, stray};
-ghost use Rattle.packet_mean.specs.Samples.{ordered, ordered_cast, ordered_plan, ordered_request, counter, counter_cast, counter_plans, counter_stray, second, small, front};
+ghost use Rattle.packet_mean.specs.Samples.{ordered, ordered_cast, ordered_plan, ordered_request, counter};
+ghost use Rattle.packet_mean.specs.Samples.{counter_cast, counter_plans, counter_stray, second, small, front};
 ghost use Rattle.packet_mean.specs.Spelling.{full_bytes, short_bytes};
 
 /// The messages of the samples are chained from the lowest place.
@@ -17,23 +18,33 @@ pub fn chained()
 
 /// A cast of four layers in 40 bytes, and in 33 under its plan: one constant is left out, and the tags are.
 pub fn spell_ordered()
-    ensures full { full_bytes ordered_cast ≡ (0xE5 ∷ 0 ∷ 0 ∷ 0 ∷ 1 ∷ 0 ∷ 0 ∷ 0 ∷ 1 ∷ 0 ∷ 0 ∷ 0 ∷ 0 ∷ 0 ∷ 0 ∷ 0 ∷ 3 ∷ 0 ∷ 0xFF ∷ 1 ∷ 0 ∷ 0 ∷ 0 ∷ 1 ∷ 1 ∷ 0 ∷ 0 ∷ 0 ∷ 0 ∷ 0 ∷ 1 ∷ 0 ∷ 0 ∷ 0 ∷ 0 ∷ 0 ∷ 0 ∷ 0 ∷ 0 ∷ 0x61 ∷ []) }
-    ensures short { short_bytes 0 ordered_plan ordered_cast ≡ (0xE6 ∷ 0 ∷ 0 ∷ 0 ∷ 1 ∷ 0 ∷ 0 ∷ 0 ∷ 1 ∷ 0 ∷ 0 ∷ 0 ∷ 0 ∷ 0 ∷ 0 ∷ 0 ∷ 3 ∷ 0 ∷ 0xFF ∷ 0 ∷ 0 ∷ 0 ∷ 0 ∷ 0 ∷ 0 ∷ 0 ∷ 0 ∷ 0 ∷ 0 ∷ 0 ∷ 0 ∷ 0 ∷ 0x61 ∷ []) }
+    ensures full { full_bytes ordered_cast ≡
+        (0xE5 ∷ 0 ∷ 0 ∷ 0 ∷ 1 ∷ 0 ∷ 0 ∷ 0 ∷ 1 ∷ 0 ∷ 0 ∷ 0 ∷ 0 ∷ 0 ∷ 0 ∷ 0 ∷ 3 ∷ 0 ∷ 0xFF ∷ 1 ∷ 0 ∷ 0 ∷ 0 ∷ 1 ∷ 1 ∷ 0 ∷
+        0 ∷ 0 ∷ 0 ∷ 0 ∷ 1 ∷ 0 ∷ 0 ∷ 0 ∷ 0 ∷ 0 ∷ 0 ∷ 0 ∷ 0 ∷ 0x61 ∷ []) }
+    ensures short { short_bytes 0 ordered_plan ordered_cast ≡
+        (0xE6 ∷ 0 ∷ 0 ∷ 0 ∷ 1 ∷ 0 ∷ 0 ∷ 0 ∷ 1 ∷ 0 ∷ 0 ∷ 0 ∷ 0 ∷ 0 ∷ 0 ∷ 0 ∷ 3 ∷ 0 ∷ 0xFF ∷ 0 ∷ 0 ∷ 0 ∷ 0 ∷ 0 ∷ 0 ∷ 0 ∷
+        0 ∷ 0 ∷ 0 ∷ 0 ∷ 0 ∷ 0 ∷ 0x61 ∷ []) }
 {}
 
 /// A cast of one layer has 26 bytes in both forms.
 pub fn spell_counter()
-    ensures full { full_bytes counter_cast ≡ (0xE5 ∷ 0 ∷ 0 ∷ 0 ∷ 1 ∷ 0 ∷ 0 ∷ 0 ∷ 7 ∷ 0 ∷ 0 ∷ 0 ∷ 0 ∷ 0 ∷ 0 ∷ 0 ∷ 7 ∷ 0 ∷ 0xFF ∷ 1 ∷ 0 ∷ 0 ∷ 0 ∷ 0 ∷ 0x68 ∷ 0x69 ∷ []) }
-    ensures short { short_bytes 0 (record { kind = Cast; tags = 1 ∷ []; fields = None ∷ [] }) counter_cast ≡ (0xE6 ∷ 0 ∷ 0 ∷ 0 ∷ 1 ∷ 0 ∷ 0 ∷ 0 ∷ 7 ∷ 0 ∷ 0 ∷ 0 ∷ 0 ∷ 0 ∷ 0 ∷ 0 ∷ 7 ∷ 0 ∷ 0xFF ∷ 0 ∷ 0 ∷ 0 ∷ 0 ∷ 0 ∷ 0x68 ∷ 0x69 ∷ []) }
+    ensures full { full_bytes counter_cast ≡
+        (0xE5 ∷ 0 ∷ 0 ∷ 0 ∷ 1 ∷ 0 ∷ 0 ∷ 0 ∷ 7 ∷ 0 ∷ 0 ∷ 0 ∷ 0 ∷ 0 ∷ 0 ∷ 0 ∷ 7 ∷ 0 ∷ 0xFF ∷ 1 ∷ 0 ∷ 0 ∷ 0 ∷ 0 ∷ 0x68 ∷
+        0x69 ∷ []) }
+    ensures short { short_bytes 0 (record { kind = Cast; tags = 1 ∷ []; fields = None ∷ [] }) counter_cast ≡
+        (0xE6 ∷ 0 ∷ 0 ∷ 0 ∷ 1 ∷ 0 ∷ 0 ∷ 0 ∷ 7 ∷ 0 ∷ 0 ∷ 0 ∷ 0 ∷ 0 ∷ 0 ∷ 0 ∷ 7 ∷ 0 ∷ 0xFF ∷ 0 ∷ 0 ∷ 0 ∷ 0 ∷ 0 ∷ 0x68 ∷
+        0x69 ∷ []) }
 {}
 
 /// The packets are read again, in both forms; a header that ends the chain has none behind it.
 pub fn read_samples()
     ensures ordered_full { received ordered [] (second 1 3) (full_bytes ordered_cast) ≡ Ok ordered_cast }
-    ensures ordered_short { received ordered (ordered_plan ∷ []) (second 1 3) (short_bytes 0 ordered_plan ordered_cast) ≡ Ok ordered_cast }
+    ensures ordered_short { received ordered (ordered_plan ∷ []) (second 1 3) (short_bytes 0 ordered_plan ordered_cast) ≡
+        Ok ordered_cast }
     ensures request { received ordered [] (second 1 3) (full_bytes ordered_request) ≡ Ok ordered_request }
     ensures counter_full { received counter counter_plans (second 7 7) (full_bytes counter_cast) ≡ Ok counter_cast }
-    ensures counter_short { received counter counter_plans (second 7 7) (front 0xE6 1 7 0 7 0 0xFF ++ 0 ∷ small 0 ++ codes "hi") ≡ Ok counter_cast }
+    ensures counter_short { received counter counter_plans (second 7 7) (front 0xE6 1 7 0 7 0 0xFF ++ 0 ∷ small 0 ++ codes "hi") ≡
+        Ok counter_cast }
 {}
 
 /// A packet fits a plan of its kind, tags and constants alone.

@@ -13,12 +13,14 @@ use Rattle.packet_laws.proofs.Strays.{received_as_meant}
 use Rattle.packet_short.specs.Again.{WrittenShortIsRead}
 use Rattle.packet_short.specs.Shortened.{shortened}
 
-spells : (stack : List LayerTree) (plans : List Plan) (packet : Packet) (k : ℕ) (bytes : List ℕ) → IsSpellable stack packet → k < 256 →
+spells : (stack : List LayerTree) (plans : List Plan) (packet : Packet) (k : ℕ) (bytes : List ℕ) →
+    IsSpellable stack packet → k < 256 →
     shortened plans k packet ≡ Some bytes → SpellsPacket stack plans bytes packet
 spells stack plans packet k bytes is small short =
     through _ (slice_get plans k) _ short (λ plan listed written.
     let test = passed (fits plan packet) (short_bytes k plan packet) bytes written in
-    subst (λ bs. SpellsPacket stack plans bs packet) test.1 (one_short_spelling stack plans packet k plan is small listed test.0).0)
+    subst (λ bs. SpellsPacket stack plans bs packet) test.1
+    (one_short_spelling stack plans packet k plan is small listed test.0).0)
 
 pub again : WrittenShortIsRead
 again stack plans here packet k bytes is small short =

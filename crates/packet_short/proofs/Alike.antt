@@ -1,5 +1,6 @@
 -- Headers agree with a plan one behind the other.
-use Rattle.std.proofs.Common.{◌≡◌, ◌≢◌, ℕ, zero, suc, ◌+◌, ◌<◌, ◌≤◌, Bool, true, false, List, [], ◌∷◌, ◌++◌, Option, Some, None, refl, sym, ap, ◌∙◌, add-one, arith, length, drop, get_or, map}
+use Rattle.std.proofs.Common.{◌≡◌, ◌≢◌, ℕ, zero, suc, ◌+◌, ◌<◌, ◌≤◌, Bool, true, false, List, [], ◌∷◌, ◌++◌, Option}
+use Rattle.std.proofs.Common.{Some, None, refl, sym, ap, ◌∙◌, add-one, arith, length, drop, get_or, map}
 use Rattle.std.specs.Prelude.{◌==◌, ◌&&◌, bytes_eq, flat_map, if◌then◌else◌}
 use Rattle.std.proofs.Math.Seq.{drop-cons}
 use Rattle.std.proofs.lemmas.Bool.{eqb-true, eq-eqb}
@@ -8,7 +9,8 @@ use Rattle.packet_mean.specs.Plan.{agree}
 use Rattle.packet_short.specs.Fits.{alike, behind}
 
 -- the first of those that are left
-pub left_at : {X : Type 0} (xs : List X) (k : ℕ) (x : X) → k < length xs → x ≡ get_or xs k x → drop k xs ≡ x ∷ drop (k + 1) xs
+pub left_at : {X : Type 0} (xs : List X) (k : ℕ) (x : X) → k < length xs → x ≡ get_or xs k x →
+    drop k xs ≡ x ∷ drop (k + 1) xs
 left_at xs k x below is =
     drop-cons xs k x below ∙ ap (λ y. y ∷ drop (suc k) xs) (sym is) ∙ ap (λ n. x ∷ drop n xs) (sym (add-one k))
 
@@ -29,7 +31,8 @@ by_test : (same others : Bool) (rest : Option (List (Option ℕ))) (more : List 
 by_test true others rest more is = is
 by_test false others rest more is = refl
 
-agree_on : (planned : List (Option ℕ)) (numbers more : List ℕ) → agree planned (numbers ++ more) ≡ agreed (behind planned numbers) more
+agree_on : (planned : List (Option ℕ)) (numbers more : List ℕ) → agree planned (numbers ++ more) ≡
+    agreed (behind planned numbers) more
 agree_on planned [] more = refl
 agree_on [] (v ∷ numbers) more = refl
 agree_on (None ∷ planned) (v ∷ numbers) more = agree_on planned numbers more
@@ -45,20 +48,23 @@ no_same a b true is other = absurd (other (eqb-true a b is))
 no_same a b false is other = refl
 
 -- a header of another tag
-pub other_tag : (tags : List ℕ) (t : ℕ) (ts : List ℕ) (planned : List (Option ℕ)) (hs : List Header) (k : ℕ) (h : Header) → k < length hs →
+pub other_tag : (tags : List ℕ) (t : ℕ) (ts : List ℕ) (planned : List (Option ℕ)) (hs : List Header) (k : ℕ)
+    (h : Header) → k < length hs →
     h ≡ get_or hs k h → tags ≡ t ∷ ts → t ≢ h.tag → alike tags planned (drop k hs) ≡ false
 other_tag tags t ts planned hs k h below is first other =
     rw (first, left_at hs k h below is, no_same t h.tag (t == h.tag) refl other) refl
 
 -- a header whose fields don't agree
-pub disagrees : (tags : List ℕ) (planned : List (Option ℕ)) (hs : List Header) (k : ℕ) (h : Header) → k < length hs → h ≡ get_or hs k h →
+pub disagrees : (tags : List ℕ) (planned : List (Option ℕ)) (hs : List Header) (k : ℕ) (h : Header) → k < length hs →
+    h ≡ get_or hs k h →
     None ≡ behind planned h.fields → alike tags planned (drop k hs) ≡ false
 disagrees tags planned hs k h below is none =
     rw (left_at hs k h below is, agree_on planned h.fields (flat_map (λ h. h.fields) (drop (k + 1) hs)), ← none)
     (never (bytes_eq tags (map (λ h. h.tag) (h ∷ drop (k + 1) hs))))
 
 -- a header as planned
-pub agrees_on : (tags : List ℕ) (t : ℕ) (ts : List ℕ) (planned rest : List (Option ℕ)) (hs : List Header) (k : ℕ) (h : Header) → k < length hs →
+pub agrees_on : (tags : List ℕ) (t : ℕ) (ts : List ℕ) (planned rest : List (Option ℕ)) (hs : List Header) (k : ℕ)
+    (h : Header) → k < length hs →
     h ≡ get_or hs k h → tags ≡ t ∷ ts → t ≡ h.tag → Some rest ≡ behind planned h.fields →
     alike ts rest (drop (k + 1) hs) ≡ alike tags planned (drop k hs)
 agrees_on tags t ts planned rest hs k h below is first same some =
@@ -81,18 +87,22 @@ numbers_at : (xs : List ℕ) (k : ℕ) → k < length xs → drop k xs ≡ get_o
 numbers_at xs k below = left_at xs k (get_or xs k 0) below (sym (get_or_same xs k below))
 
 -- a header as planned, the tags being read by its place
-pub goes_on : (tags : List ℕ) (planned rest : List (Option ℕ)) (hs : List Header) (k : ℕ) (h : Header) → k < length tags → k < length hs →
+pub goes_on : (tags : List ℕ) (planned rest : List (Option ℕ)) (hs : List Header) (k : ℕ) (h : Header) →
+    k < length tags → k < length hs →
     h ≡ get_or hs k h → get_or tags k 0 ≡ h.tag → Some rest ≡ behind planned h.fields →
     alike (drop (k + 1) tags) rest (drop (k + 1) hs) ≡ alike (drop k tags) planned (drop k hs)
 goes_on tags planned rest hs k h tagged below is same some =
-    agrees_on (drop k tags) (get_or tags k 0) (drop (k + 1) tags) planned rest hs k h below is (numbers_at tags k tagged) same some
+    agrees_on (drop k tags) (get_or tags k 0) (drop (k + 1) tags) planned rest hs k h below is
+    (numbers_at tags k tagged) same some
 
 -- a field behind the last planned one
-pub none_behind : (planned : List (Option ℕ)) (fields : List ℕ) (k : ℕ) → k < length fields → planned ≡ [] → behind planned (drop k fields) ≡ None
+pub none_behind : (planned : List (Option ℕ)) (fields : List ℕ) (k : ℕ) → k < length fields → planned ≡ [] →
+    behind planned (drop k fields) ≡ None
 none_behind planned fields k below none = rw (none, numbers_at fields k below) refl
 
 -- no more tags nor headers: nothing more is planned, or some field is
-pub ends_alike : (tags : List ℕ) (planned : List (Option ℕ)) (left : List Header) (empty : Bool) → left ≡ [] → tags ≡ [] →
+pub ends_alike : (tags : List ℕ) (planned : List (Option ℕ)) (left : List Header) (empty : Bool) → left ≡ [] →
+    tags ≡ [] →
     empty ≡ (length planned == 0) → empty ≡ alike tags planned left
 ends_alike tags planned left empty none no_tags is = rw (none, no_tags) (is ∙ sym (no_fields planned))
   where
@@ -110,5 +120,6 @@ empty_list [] none = refl
 empty_list (x ∷ xs) none = absurd (omega arith)
 
 -- all that is planned is left behind a header without fields
-pub all_behind : (planned : List (Option ℕ)) (fields : List ℕ) → length fields ≡ 0 → Some planned ≡ behind planned fields
+pub all_behind : (planned : List (Option ℕ)) (fields : List ℕ) → length fields ≡ 0 →
+    Some planned ≡ behind planned fields
 all_behind planned fields none = rw (empty_list fields none) refl

@@ -1,5 +1,6 @@
 -- Headers that are read one behind the other are those that are dealt out when all fields are read.
-use Rattle.std.proofs.Common.{◌≡◌, ℕ, zero, suc, Bool, true, false, List, [], ◌∷◌, Option, Some, None, refl, sym, ap, ◌∙◌, arith, length, take, drop}
+use Rattle.std.proofs.Common.{◌≡◌, ℕ, zero, suc, Bool, true, false, List, [], ◌∷◌, Option, Some, None, refl, sym, ap}
+use Rattle.std.proofs.Common.{◌∙◌, arith, length, take, drop}
 use Rattle.std.specs.Prelude.{nat_le, option_and_then, option_map, if◌then◌else◌}
 use Rattle.std.proofs.lemmas.Bool.{leb-true, le-leb}
 use Rattle.msg_core.specs.declared.message.Header.{Header}
@@ -37,12 +38,15 @@ first_by false le' n own behind is = rw (← is) refl
 same_le : (a b : ℕ) (le le' : Bool) → nat_le (suc a) (suc b) ≡ le → nat_le a b ≡ le' → le ≡ le'
 same_le a b true true h i = refl
 same_le a b false false h i = refl
-same_le a b true false h i = let less = leb-true (suc a) (suc b) h in let clash = sym i ∙ le-leb a b (omega arith) in absurd (cc clash)
-same_le a b false true h i = let less = leb-true a b i in let clash = sym h ∙ le-leb (suc a) (suc b) (omega arith) in absurd (cc clash)
+same_le a b true false h i = let less = leb-true (suc a) (suc b) h in let clash = sym i ∙ le-leb a b (omega arith) in
+    absurd (cc clash)
+same_le a b false true h i = let less = leb-true a b i in let clash = sym h ∙ le-leb (suc a) (suc b) (omega arith) in
+    absurd (cc clash)
 
 first_more : (k n : ℕ) (ns : List ℕ) → first (suc k) (n ∷ ns) ≡ option_map (more_fields n) (first k ns)
 first_more k n ns =
-    first_by (nat_le (suc k) (suc (length ns))) (nat_le k (length ns)) n (take k ns) (drop k ns) (same_le k (length ns) _ _ refl refl)
+    first_by (nat_le (suc k) (suc (length ns))) (nat_le k (length ns)) n (take k ns) (drop k ns)
+    (same_le k (length ns) _ _ refl refl)
 
 first_none : (ns : List ℕ) → first 0 ns ≡ Some ([], ns)
 first_none ns = rw (le-leb 0 (length ns) (omega arith)) refl
@@ -61,11 +65,13 @@ Same r s = (bytes : List ℕ) → r bytes ≡ s bytes
 after : {A B : Type 0} (r : Reader A) (f g : A → Reader B) → ((x : A) → Same (f x) (g x)) → Same (r >>= f) (r >>= g)
 after {A = A} r f g same bytes = go (r bytes)
   where
-    go : (o : Option (A × List ℕ)) → option_and_then (λ read. f read.0 read.1) o ≡ option_and_then (λ read. g read.0 read.1) o
+    go : (o : Option (A × List ℕ)) → option_and_then (λ read. f read.0 read.1) o ≡
+        option_and_then (λ read. g read.0 read.1) o
     go None = refl
     go (Some (x, rest)) = same x rest
 
-in_turn : {A B C : Type 0} (r : Reader A) (f : A → Reader B) (g : B → Reader C) → Same (r >>= λ x. f x >>= g) ((r >>= f) >>= g)
+in_turn : {A B C : Type 0} (r : Reader A) (f : A → Reader B) (g : B → Reader C) →
+    Same (r >>= λ x. f x >>= g) ((r >>= f) >>= g)
 in_turn {A = A} r f g bytes = go (r bytes)
   where
     go : (o : Option (A × List ℕ)) → option_and_then (λ read. (f read.0 >>= g) read.1) o
@@ -77,22 +83,27 @@ in_turn {A = A} r f g bytes = go (r bytes)
 abbrev after_first : {A : Type 0} → ℕ → (List ℕ → List ℕ → Option A) → List ℕ → Option A
 after_first k f ns = option_and_then (λ q. f q.0 q.1) (first k ns)
 
-map_then : {A B C : Type 0} (g : B → Option C) (h : A → B) (o : Option A) → option_and_then g (option_map h o) ≡ option_and_then (λ x. g (h x)) o
+map_then : {A B C : Type 0} (g : B → Option C) (h : A → B) (o : Option A) → option_and_then g (option_map h o) ≡
+    option_and_then (λ x. g (h x)) o
 map_then g h None = refl
 map_then g h (Some x) = refl
 
 after_more : {A : Type 0} (k : ℕ) (f : List ℕ → List ℕ → Option A) (n : ℕ) (ns : List ℕ) →
     after_first (suc k) f (n ∷ ns) ≡ after_first k (λ own. f (n ∷ own)) ns
-after_more k f n ns = ap (option_and_then (λ q. f q.0 q.1)) (first_more k n ns) ∙ map_then (λ q. f q.0 q.1) (more_fields n) (first k ns)
+after_more k f n ns = ap (option_and_then (λ q. f q.0 q.1)) (first_more k n ns) ∙
+    map_then (λ q. f q.0 q.1) (more_fields n) (first k ns)
 
 -- the first so many fields are read before the others
 split : {A : Type 0} (k : ℕ) (ps : List (Option ℕ)) (f : List ℕ → List ℕ → Option A) →
-    Same (made (λ ns. option_and_then (λ q. f q.0 q.1) (first k ns)) ps) (fields k ps >>= λ (own, rest). made (f own) rest)
-split zero ps f bytes = after (planned ps) _ _ (λ ns rest. ap (λ o. known (option_and_then (λ q. f q.0 q.1) o) rest) (first_none ns)) bytes
+    Same (made (λ ns. option_and_then (λ q. f q.0 q.1) (first k ns)) ps)
+    (fields k ps >>= λ (own, rest). made (f own) rest)
+split zero ps f bytes =
+    after (planned ps) _ _ (λ ns rest. ap (λ o. known (option_and_then (λ q. f q.0 q.1) o) rest) (first_none ns)) bytes
 split (suc k) [] f bytes = ap (λ o. known (option_and_then (λ q. f q.0 q.1) o) bytes) (none_first k)
 split (suc k) (p ∷ ps) f bytes =
     ap (option_and_then (λ read. known (after_first (suc k) f read.0) read.1)) (one_planned p ps bytes)
-    ∙ sym (in_turn (field p) (λ n. planned ps >>= λ more. given (n ∷ more)) (λ ns. known (after_first (suc k) f ns)) bytes)
+    ∙ sym (in_turn (field p) (λ n. planned ps >>= λ more. given (n ∷ more)) (λ ns. known (after_first (suc k) f ns))
+    bytes)
     ∙ after (field p) _ _ (λ n rest.
     sym (in_turn (planned ps) (λ more. given (n ∷ more)) (λ ns. known (after_first (suc k) f ns)) rest)
     ∙ after (planned ps) _ _ (λ more behind. ap (λ o. known o behind) (after_more k f n more)) rest
@@ -111,10 +122,12 @@ made_none {A = A} ps bytes = go (planned ps bytes)
 -- what is left of the fields is to be nothing
 over : (ps : List (Option ℕ)) → Same (made (λ ns. whole (Some ([], ns))) ps) (done [] ps)
 over [] bytes = refl
-over (p ∷ ps) bytes = ap (option_and_then (λ read. known (whole (Some ([], read.0))) read.1)) (one_planned p ps bytes) ∙ go (field p bytes)
+over (p ∷ ps) bytes = ap (option_and_then (λ read. known (whole (Some ([], read.0))) read.1)) (one_planned p ps bytes) ∙
+    go (field p bytes)
   where
     inner : (n : ℕ) (o : Option (List ℕ × List ℕ)) →
-        option_and_then (λ read. known (whole {A = List Header} (Some ([], read.0))) read.1) (option_and_then (λ read. given (n ∷ read.0) read.1) o) ≡ None
+        option_and_then (λ read. known (whole {A = List Header} (Some ([], read.0))) read.1)
+        (option_and_then (λ read. given (n ∷ read.0) read.1) o) ≡ None
     inner n None = refl
     inner n (Some (ns, rest)) = refl
 
@@ -129,7 +142,8 @@ in_front : {A B : Type 0} (g : A → B) (f : List ℕ → Option A) (ps : List (
     Same (made (λ ns. option_map g (f ns)) ps) (made f ps >>= λ x. given (g x))
 in_front {A = A} {B = B} g f ps bytes = go (planned ps bytes)
   where
-    inner : (o : Option A) (rest : List ℕ) → known (option_map g o) rest ≡ option_and_then (λ read. given (g read.0) read.1) (known o rest)
+    inner : (o : Option A) (rest : List ℕ) → known (option_map g o) rest ≡
+        option_and_then (λ read. given (g read.0) read.1) (known o rest)
     inner None rest = refl
     inner (Some x) rest = refl
 
@@ -157,14 +171,17 @@ abbrev above_dealt : Bool → List LayerTree → ℕ → List ℕ → Reader (Li
 above_dealt ends above place ts = if ends then dealt [] place ts else dealt above place ts
 
 abbrev Once : List LayerTree → ℕ → List ℕ → Type 0
-Once layers place ts = (ps : List (Option ℕ)) → Same (made (λ ns. whole (dealt layers place ts ns)) ps) (dealing layers place ts ps)
+Once layers place ts = (ps : List (Option ℕ)) →
+    Same (made (λ ns. whole (dealt layers place ts ns)) ps) (dealing layers place ts ps)
 
 none_once : (place : ℕ) (ts : List ℕ) → Once [] place ts
 none_once place [] ps bytes = over ps bytes
 none_once place (t ∷ ts) ps bytes = made_none ps bytes
 
-others_once : (ends : Bool) (above : List LayerTree) (place : ℕ) (ts : List ℕ) → Once above place ts → (ps : List (Option ℕ)) →
-    Same (made (λ ns. whole (above_dealt ends above place ts ns)) ps) (if ends then done ts ps else dealing above place ts ps)
+others_once : (ends : Bool) (above : List LayerTree) (place : ℕ) (ts : List ℕ) → Once above place ts →
+    (ps : List (Option ℕ)) →
+    Same (made (λ ns. whole (above_dealt ends above place ts ns)) ps)
+    (if ends then done ts ps else dealing above place ts ps)
 others_once true above place ts more ps bytes = none_once place ts ps bytes
 others_once false above place ts more ps bytes = more ps bytes
 
@@ -176,7 +193,8 @@ behind_tag o above place t ts = do
   others ← above_dealt d.ends above (suc place) ts
   given (record { layer = place; tag = t; fields = fields } ∷ others)
 
-abbrev header_behind : Option HeaderTree → (place t : ℕ) → List ℕ → List (Option ℕ) → Reader ((Header × Bool) × (List ℕ × List (Option ℕ)))
+abbrev header_behind : Option HeaderTree → (place t : ℕ) → List ℕ → List (Option ℕ) →
+    Reader ((Header × Bool) × (List ℕ × List (Option ℕ)))
 header_behind o place t ts ps = do
   form ← known (option_map form_of o)
   (own, rest) ← fields form.fields ps
@@ -187,16 +205,23 @@ with_above above place q = do
   others ← if q.0.1 then done q.1.0 q.1.1 else dealing above place q.1.0 q.1.1
   given (q.0.0 ∷ others)
 
-tag_once : (o : Option HeaderTree) (above : List LayerTree) (place t : ℕ) (ts : List ℕ) → Once above (suc place) ts → (ps : List (Option ℕ)) →
-    Same (made (λ ns. whole (behind_tag o above place t ts ns)) ps) (header_behind o place t ts ps >>= with_above above (suc place))
+tag_once : (o : Option HeaderTree) (above : List LayerTree) (place t : ℕ) (ts : List ℕ) → Once above (suc place) ts →
+    (ps : List (Option ℕ)) →
+    Same (made (λ ns. whole (behind_tag o above place t ts ns)) ps)
+    (header_behind o place t ts ps >>= with_above above (suc place))
 tag_once None above place t ts more ps bytes = made_none ps bytes
 tag_once (Some d) above place t ts more ps bytes =
-    after (planned ps) _ _ (λ ns rest. ap (λ o. known o rest) (whole_first own_header (above_dealt d.ends above (suc place) ts) (first d.fields ns))) bytes
-    ∙ split d.fields ps (λ own behind. option_map (λ hs. own_header own ∷ hs) (whole (above_dealt d.ends above (suc place) ts behind))) bytes
+    after (planned ps) _ _
+    (λ ns rest. ap (λ o. known o rest)
+    (whole_first own_header (above_dealt d.ends above (suc place) ts) (first d.fields ns))) bytes
+    ∙ split d.fields ps (λ own behind.
+    option_map (λ hs. own_header own ∷ hs) (whole (above_dealt d.ends above (suc place) ts behind))) bytes
     ∙ after (fields d.fields ps) _ _ (λ q rest.
     in_front (λ hs. own_header q.0 ∷ hs) (λ ns. whole (above_dealt d.ends above (suc place) ts ns)) q.1 rest
-    ∙ ap (option_and_then (λ read. given (own_header q.0 ∷ read.0) read.1)) (others_once d.ends above (suc place) ts more q.1 rest)) bytes
-    ∙ in_turn (fields d.fields ps) (λ q. given ((own_header q.0, d.ends), (ts, q.1))) (with_above above (suc place)) bytes
+    ∙ ap (option_and_then (λ read. given (own_header q.0 ∷ read.0) read.1))
+    (others_once d.ends above (suc place) ts more q.1 rest)) bytes
+    ∙ in_turn (fields d.fields ps) (λ q. given ((own_header q.0, d.ends), (ts, q.1))) (with_above above (suc place))
+    bytes
   where
     own_header : List ℕ → Header
     own_header own = record { layer = place; tag = t; fields = own }
@@ -205,7 +230,8 @@ tag_once (Some d) above place t ts more ps bytes =
 dealt_once : (layers : List LayerTree) (place : ℕ) (ts : List ℕ) → Once layers place ts
 dealt_once [] place ts ps bytes = none_once place ts ps bytes
 dealt_once (layer ∷ above) place [] ps bytes = made_none ps bytes
-dealt_once (layer ∷ above) place (t ∷ ts) ps bytes = tag_once (declared layer t) above place t ts (dealt_once above (suc place) ts) ps bytes
+dealt_once (layer ∷ above) place (t ∷ ts) ps bytes =
+    tag_once (declared layer t) above place t ts (dealt_once above (suc place) ts) ps bytes
 
 -- the headers of a short datagram, read one behind the other
 pub dealt_at_once : (stack : List LayerTree) (plan : Plan) (bytes : List ℕ) →

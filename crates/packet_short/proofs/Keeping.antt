@@ -11,8 +11,10 @@ use Rattle.packet_short.specs.Shortened.{KeepsVariable}
 use Rattle.packet_short.proofs.Alike.{left_at}
 
 -- those of one more header were kept
-pub one_more_kept : (whole old new : List ℕ) (planned rest : List (Option ℕ)) (hs : List Header) (k : ℕ) (h : Header) → k < length hs →
-    h ≡ get_or hs k h → whole ≡ old ++ variable planned (flat_map (λ h. h.fields) (drop k hs)) → KeepsVariable planned h.fields rest old new →
+pub one_more_kept : (whole old new : List ℕ) (planned rest : List (Option ℕ)) (hs : List Header) (k : ℕ) (h : Header) →
+    k < length hs →
+    h ≡ get_or hs k h → whole ≡ old ++ variable planned (flat_map (λ h. h.fields) (drop k hs)) →
+    KeepsVariable planned h.fields rest old new →
     whole ≡ new ++ variable rest (flat_map (λ h. h.fields) (drop (k + 1) hs))
 one_more_kept whole old new planned rest hs k h below is so_far keeps =
     so_far
@@ -25,26 +27,30 @@ kept_if true fields kept is = is
 kept_if false fields kept is = tt
 
 -- there is room for the fields of a plan of the list
-pub has_room : (most : ℕ) (plans : List Plan) (k : ℕ) (plan : Plan) → AllByRecursion (HasAtMost most) plans → k < length plans →
+pub has_room : (most : ℕ) (plans : List Plan) (k : ℕ) (plan : Plan) → AllByRecursion (HasAtMost most) plans →
+    k < length plans →
     plan ≡ get_or plans k plan → length plan.fields ≤ most
 has_room most [] k plan all below is = absurd (omega arith)
 has_room most (p ∷ ps) zero plan all below is = subst (λ (q : Plan). length q.fields ≤ most) (sym is) all.0
 has_room most (p ∷ ps) (suc k) plan all below is = has_room most ps k plan all.1 (omega arith) is
 
 -- what was kept is what the plan of a number leaves variable
-kept_at : (plans : List Plan) (k : ℕ) (plan : Plan) (fields kept : List ℕ) → k < length plans → plan ≡ get_or plans k plan →
+kept_at : (plans : List Plan) (k : ℕ) (plan : Plan) (fields kept : List ℕ) → k < length plans →
+    plan ≡ get_or plans k plan →
     kept ≡ variable plan.fields fields → kept ≡ kept_by plans (Some k) fields
 kept_at [] k plan fields kept below is are = absurd (omega arith)
 kept_at (p ∷ ps) zero plan fields kept below is are = are ∙ ap (λ (q : Plan). variable q.fields fields) is
 kept_at (p ∷ ps) (suc k) plan fields kept below is are = kept_at ps k plan fields kept (omega arith) is are
 
-pub kept_of : (plans : List Plan) (k : ℕ) (plan : Plan) (fits : Bool) (fields kept : List ℕ) → k < length plans → plan ≡ get_or plans k plan →
+pub kept_of : (plans : List Plan) (k : ℕ) (plan : Plan) (fits : Bool) (fields kept : List ℕ) → k < length plans →
+    plan ≡ get_or plans k plan →
     fits ≡ true → KeepsIf fits (variable plan.fields fields) kept → kept ≡ kept_by plans (Some k) fields
 kept_of plans k plan fits fields kept below is so keeps =
     kept_at plans k plan fields kept below is (subst (λ b. KeepsIf b (variable plan.fields fields) kept) so keeps)
 
 -- the same of the first plan
-pub kept_first : (plans : List Plan) (plan : Plan) (fits : Bool) (fields kept : List ℕ) → Some plan ≡ slice_get plans 0 →
+pub kept_first : (plans : List Plan) (plan : Plan) (fits : Bool) (fields kept : List ℕ) →
+    Some plan ≡ slice_get plans 0 →
     KeepsIf fits (variable plan.fields fields) kept → KeepsIf fits (kept_by plans (Some 0) fields) kept
 kept_first [] plan fits fields kept is keeps = absurd (cc is)
 kept_first (p ∷ ps) plan fits fields kept is keeps =
@@ -52,7 +58,8 @@ kept_first (p ∷ ps) plan fits fields kept is keeps =
     subst (λ (q : Plan). KeepsIf fits (variable q.fields fields) kept) same keeps
 
 -- there is room for its fields
-pub room_first : (most : ℕ) (plans : List Plan) (plan : Plan) → AllByRecursion (HasAtMost most) plans → Some plan ≡ slice_get plans 0 →
+pub room_first : (most : ℕ) (plans : List Plan) (plan : Plan) → AllByRecursion (HasAtMost most) plans →
+    Some plan ≡ slice_get plans 0 →
     length plan.fields ≤ most
 room_first most [] plan all is = absurd (cc is)
 room_first most (p ∷ ps) plan all is =

@@ -38,7 +38,8 @@ pub record Stands (plans : List Plan) (fit : Plan → Bool) (print : ℕ) (next 
 abbrev pub Prints : List Plan → (Plan → Bool) → ℕ → Type 0
 Prints plans fit print = (plan : Plan) → fit plan ≡ true → plan_print plan ≡ print
 
-unprinted : (plans : List Plan) (fit : Plan → Bool) (print : ℕ) → Prints plans fit print → (j : ℕ) (d : Plan) → j < length plans →
+unprinted : (plans : List Plan) (fit : Plan → Bool) (print : ℕ) → Prints plans fit print → (j : ℕ) (d : Plan) →
+    j < length plans →
     print_at plans j ≢ print → fit (get_or plans j d) ≡ false
 unprinted plans fit print prints j d below other = by_test (fit (get_or plans j d)) refl
   where
@@ -47,7 +48,8 @@ unprinted plans fit print prints j d below other = by_test (fit (get_or plans j 
     by_test true is = absurd (other (get_or-map plan_print plans j d 0 below ∙ prints (get_or plans j d) is))
 
 from_next : (plans : List Plan) (fit : Plan → Bool) (print from : ℕ) (next : Option ℕ) → Prints plans fit print →
-    ((j : ℕ) (d : Plan) → j < from → fit (get_or plans j d) ≡ false) → IsNext plans print from next → Stands plans fit print next
+    ((j : ℕ) (d : Plan) → j < from → fit (get_or plans j d) ≡ false) → IsNext plans print from next →
+    Stands plans fit print next
 from_next plans fit print from (Some k) prints unfit is = record {
   found = (is.listed, is.printed);
   unfit = λ j d less. by_place j d less (nat_lt j from) refl;
@@ -62,17 +64,21 @@ from_next plans fit print from None prints unfit is = record {
   unfit = λ j d less. by_place j d less (nat_lt j from) refl;
 }
   where
-    by_place : (j : ℕ) (d : Plan) → j < length plans → (first : Bool) → nat_lt j from ≡ first → fit (get_or plans j d) ≡ false
+    by_place : (j : ℕ) (d : Plan) → j < length plans → (first : Bool) → nat_lt j from ≡ first →
+        fit (get_or plans j d) ≡ false
     by_place j d less true test = unfit j d (ltb-true j from test)
     by_place j d less false test = unprinted plans fit print prints j d less (is j (ltb-false j from test) less)
 
-pub begun : (plans : List Plan) (fit : Plan → Bool) (print : ℕ) (next : Option ℕ) → Prints plans fit print → IsNext plans print 0 next →
+pub begun : (plans : List Plan) (fit : Plan → Bool) (print : ℕ) (next : Option ℕ) → Prints plans fit print →
+    IsNext plans print 0 next →
     Stands plans fit print next
 begun plans fit print next prints is = from_next plans fit print 0 next prints (λ j d less. absurd (omega arith)) is
 
 -- a plan that doesn't fit is passed over
-pub passed : (plans : List Plan) (fit : Plan → Bool) (print k : ℕ) (plan : Plan) (next : Option ℕ) → Prints plans fit print →
-    Stands plans fit print (Some k) → plan ≡ get_or plans k plan → fit plan ≡ false → IsNext plans (print_at plans k) (k + 1) next →
+pub passed : (plans : List Plan) (fit : Plan → Bool) (print k : ℕ) (plan : Plan) (next : Option ℕ) →
+    Prints plans fit print →
+    Stands plans fit print (Some k) → plan ≡ get_or plans k plan → fit plan ≡ false →
+    IsNext plans (print_at plans k) (k + 1) next →
     Stands plans fit print next
 passed plans fit print k plan next prints stands at misfit is =
     from_next plans fit print (k + 1) next prints (λ j d less. by_place j d less (j == k) refl)
@@ -90,16 +96,19 @@ pub further : (plans : List Plan) (print k : ℕ) (next : Option ℕ) → k < le
 further plans print k (Some m) below is = omega (arith, is.from_on, is.listed)
 further plans print k None below is = omega arith
 
-position_by : {X : Type 0} (p : X → Bool) (xs : List X) (n : ℕ) (there : Bool) → position_or_len p xs ≡ n → nat_lt n (length xs) ≡ there →
+position_by : {X : Type 0} (p : X → Bool) (xs : List X) (n : ℕ) (there : Bool) → position_or_len p xs ≡ n →
+    nat_lt n (length xs) ≡ there →
     position p xs ≡ (if there then Some n else None)
 position_by p xs n there is test = rw (is, test) refl
 
 -- the first plan that fits
-pub found_least : (plans : List Plan) (fit : Plan → Bool) (print k : ℕ) (plan : Plan) → Stands plans fit print (Some k) →
+pub found_least : (plans : List Plan) (fit : Plan → Bool) (print k : ℕ) (plan : Plan) →
+    Stands plans fit print (Some k) →
     plan ≡ get_or plans k plan → fit plan ≡ true → Some k ≡ position fit plans
 found_least plans fit print k plan stands at fits =
     sym (position_by fit plans k true
-    (position_or_len_is fit plans k plan (omega (arith, stands.found.0)) (λ j less. stands.unfit j plan less) (λ below. ap fit (sym at) ∙ fits))
+    (position_or_len_is fit plans k plan (omega (arith, stands.found.0)) (λ j less. stands.unfit j plan less)
+    (λ below. ap fit (sym at) ∙ fits))
     (lt-ltb k (length plans) stands.found.0))
 
 not_less : (n : ℕ) (less : Bool) → nat_lt n n ≡ less → less ≡ false
@@ -107,10 +116,12 @@ not_less n true is = let below = ltb-true n n is in absurd (omega arith)
 not_less n false is = refl
 
 -- no plan fits
-pub found_none : (plans : List Plan) (fit : Plan → Bool) (print : ℕ) (d : Plan) → Stands plans fit print None → None ≡ position fit plans
+pub found_none : (plans : List Plan) (fit : Plan → Bool) (print : ℕ) (d : Plan) → Stands plans fit print None →
+    None ≡ position fit plans
 found_none plans fit print d stands =
     sym (position_by fit plans (length plans) false
-    (position_or_len_is fit plans (length plans) d (omega arith) (λ j less. stands.unfit j d less) (λ below. absurd (omega arith)))
+    (position_or_len_is fit plans (length plans) d (omega arith) (λ j less. stands.unfit j d less)
+    (λ below. absurd (omega arith)))
     (not_less (length plans) (nat_lt (length plans) (length plans)) refl))
 
 -- a plan that headers of a packet fit has the packet's print
@@ -118,22 +129,26 @@ pub printed : (kind : Kind) (headers : List Header) (plan : Plan) → fits_heade
     plan_print plan ≡ print_of kind (map (λ h. h.tag) headers)
 printed kind headers plan fit =
     let tags : List ℕ = map (λ h. h.tag) headers in
-    let split = both (sameb kind_row.the_type plan.kind kind && bytes_eq plan.tags tags) (agree plan.fields (flat_map (λ h. h.fields) headers)) fit in
+    let split = both (sameb kind_row.the_type plan.kind kind && bytes_eq plan.tags tags)
+    (agree plan.fields (flat_map (λ h. h.fields) headers)) fit in
     let names = both (sameb kind_row.the_type plan.kind kind) (bytes_eq plan.tags tags) split.0 in
     let same : plan.kind ≡ kind = same_true kind_row.the_type tt plan.kind kind names.0 in
     let tagged : plan.tags ≡ tags = (bytes_eq-Decides plan.tags tags).0 names.1 in
     λ x. print_of (same x) (tagged x)
 
 -- the plan of a number, as the code keeps it
-pub listed : (plans : List Plan) (kept : List code.Plan) (k at : ℕ) (plan : code.Plan) → map plan_tree kept ≡ plans → at ≡ k →
+pub listed : (plans : List Plan) (kept : List code.Plan) (k at : ℕ) (plan : code.Plan) → map plan_tree kept ≡ plans →
+    at ≡ k →
     plan ≡ get_or kept at plan → k < length plans → plan_tree plan ≡ get_or plans k (plan_tree plan)
 listed plans kept k at plan shown same is below =
     ap plan_tree is ∙ ap (λ i. plan_tree (get_or kept i plan)) same
     ∙ sym (ap (λ ps. get_or ps k (plan_tree plan)) (sym shown)
-    ∙ get_or-map plan_tree kept k plan (plan_tree plan) (omega (arith, below, ap length shown, length-map kept plan_tree)))
+    ∙ get_or-map plan_tree kept k plan (plan_tree plan)
+    (omega (arith, below, ap length shown, length-map kept plan_tree)))
 
 -- whether the first plan fits
-pub at_first : (plans : List Plan) (fit : Plan → Bool) (plan : Plan) (fits : Bool) → Some plan ≡ slice_get plans 0 → fits ≡ fit plan →
+pub at_first : (plans : List Plan) (fit : Plan → Bool) (plan : Plan) (fits : Bool) → Some plan ≡ slice_get plans 0 →
+    fits ≡ fit plan →
     fits ≡ first_fits fit plans
 at_first [] fit plan fits is are = absurd (cc is)
 at_first (p ∷ ps) fit plan fits is are = are ∙ ap fit (cc is)

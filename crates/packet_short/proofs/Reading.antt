@@ -1,5 +1,6 @@
 -- Planned fields and headers are read one behind the other.
-use Rattle.std.proofs.Common.{◌≡◌, ℕ, suc, ◌+◌, ◌<◌, ◌≤◌, Bool, true, false, List, [], ◌∷◌, ◌++◌, Option, Some, None, refl, sym, ap, ◌∙◌, append_assoc, add-one, arith, length, drop}
+use Rattle.std.proofs.Common.{◌≡◌, ℕ, suc, ◌+◌, ◌<◌, ◌≤◌, Bool, true, false, List, [], ◌∷◌, ◌++◌, Option, Some, None}
+use Rattle.std.proofs.Common.{refl, sym, ap, ◌∙◌, append_assoc, add-one, arith, length, drop}
 use Rattle.std.specs.Prelude.{option_and_then, if◌then◌else◌, slice_index_or}
 use Rattle.std.proofs.Math.Seq.{drop-cons}
 use Rattle.msg_core.specs.declared.message.Header.{Header}
@@ -17,33 +18,40 @@ one_more front n None = refl
 one_more front n (Some ((more, rest), behind)) = ap (λ xs. Some ((xs, rest), behind)) (append_assoc front (n ∷ []) more)
 
 -- where a field was read, those behind it are read
-pub fields_go_on : (front : List ℕ) (n k j : ℕ) (planned : List (Option ℕ)) (p : Option ℕ) (ps : List (Option ℕ)) (bytes rest : List ℕ) →
+pub fields_go_on : (front : List ℕ) (n k j : ℕ) (planned : List (Option ℕ)) (p : Option ℕ) (ps : List (Option ℕ))
+    (bytes rest : List ℕ) →
     k ≡ suc j → planned ≡ p ∷ ps → field p bytes ≡ Some (n, rest) →
     with_front (front ++ n ∷ []) (fields j ps rest) ≡ with_front front (fields k planned bytes)
-fields_go_on front n k j planned p ps bytes rest count is read = rw (count, is, read) (one_more front n (fields j ps rest))
+fields_go_on front n k j planned p ps bytes rest count is read =
+    rw (count, is, read) (one_more front n (fields j ps rest))
 
 -- headers with one in front
 abbrev pub with_first : Header → Option (List Header × List ℕ) → Option (List Header × List ℕ)
 with_first h read = option_and_then (λ r. given (h ∷ r.0) r.1) read
 
 -- no layers are left
-pub none_dealt : (stack : List LayerTree) (place : ℕ) (tags : List ℕ) (planned : List (Option ℕ)) (bytes : List ℕ) (result : Bool) →
+pub none_dealt : (stack : List LayerTree) (place : ℕ) (tags : List ℕ) (planned : List (Option ℕ)) (bytes : List ℕ)
+    (result : Bool) →
     length stack ≤ place → ((bytes : List ℕ) → done tags planned bytes ≡ (if result then Some ([], bytes) else None)) →
     dealing (drop place stack) place tags planned bytes ≡ (if result then Some ([], bytes) else None)
 none_dealt stack place tags planned bytes result past is = rw (none_left stack place past) (is bytes)
 
-no_first : (layer : LayerTree) (above : List LayerTree) (place : ℕ) (tags : List ℕ) (planned : List (Option ℕ)) (bytes : List ℕ) →
+no_first : (layer : LayerTree) (above : List LayerTree) (place : ℕ) (tags : List ℕ) (planned : List (Option ℕ))
+    (bytes : List ℕ) →
     header layer place tags planned bytes ≡ None → dealing (layer ∷ above) place tags planned bytes ≡ None
 no_first layer above place tags planned bytes none = rw none refl
 
 -- no header of a place's layer
-pub no_header : (stack : List LayerTree) (place : ℕ) (tags : List ℕ) (planned : List (Option ℕ)) (bytes : List ℕ) → place < length stack →
-    header (slice_index_or stack place no_layer) place tags planned bytes ≡ None → dealing (drop place stack) place tags planned bytes ≡ None
+pub no_header : (stack : List LayerTree) (place : ℕ) (tags : List ℕ) (planned : List (Option ℕ)) (bytes : List ℕ) →
+    place < length stack →
+    header (slice_index_or stack place no_layer) place tags planned bytes ≡ None →
+    dealing (drop place stack) place tags planned bytes ≡ None
 no_header stack place tags planned bytes below none =
     ap (λ layers. dealing layers place tags planned bytes) (drop-cons stack place no_layer below)
     ∙ no_first (slice_index_or stack place no_layer) (drop (suc place) stack) place tags planned bytes none
 
-a_first : (layer : LayerTree) (above : List LayerTree) (place : ℕ) (tags : List ℕ) (planned : List (Option ℕ)) (bytes : List ℕ)
+a_first : (layer : LayerTree) (above : List LayerTree) (place : ℕ) (tags : List ℕ) (planned : List (Option ℕ))
+    (bytes : List ℕ)
     (h : Header) (ends : Bool) (more : List ℕ) (rest : List (Option ℕ)) (behind : List ℕ) →
     header layer place tags planned bytes ≡ Some (((h, ends), (more, rest)), behind) →
     dealing (layer ∷ above) place tags planned bytes
@@ -51,11 +59,14 @@ a_first : (layer : LayerTree) (above : List LayerTree) (place : ℕ) (tags : Lis
 a_first layer above place tags planned bytes h ends more rest behind some = rw some refl
 
 -- what is behind a header that ends or goes on
-onward : (stack : List LayerTree) (place next : ℕ) (ends : Bool) (more : List ℕ) (rest : List (Option ℕ)) (behind : List ℕ) →
+onward : (stack : List LayerTree) (place next : ℕ) (ends : Bool) (more : List ℕ) (rest : List (Option ℕ))
+    (behind : List ℕ) →
     next ≡ (if ends then length stack else place + 1) →
-    (if ends then done more rest else dealing (drop (suc place) stack) (suc place) more rest) behind ≡ dealing (drop next stack) next more rest behind
+    (if ends then done more rest else dealing (drop (suc place) stack) (suc place) more rest) behind ≡
+    dealing (drop next stack) next more rest behind
 onward stack place next true more rest behind is = sym (rw (none_left stack next (omega (arith, is))) refl)
-onward stack place next false more rest behind is = ap (λ at. dealing (drop at stack) at more rest behind) (sym (is ∙ add-one place))
+onward stack place next false more rest behind is = ap (λ at. dealing (drop at stack) at more rest behind)
+    (sym (is ∙ add-one place))
 
 -- a header of a place's layer, and those behind it
 pub a_header : (stack : List LayerTree) (place next : ℕ) (tags : List ℕ) (planned : List (Option ℕ)) (bytes : List ℕ)
@@ -65,7 +76,8 @@ pub a_header : (stack : List LayerTree) (place next : ℕ) (tags : List ℕ) (pl
     dealing (drop place stack) place tags planned bytes ≡ with_first h (dealing (drop next stack) next more rest behind)
 a_header stack place next tags planned bytes h ends more rest behind below some is =
     ap (λ layers. dealing layers place tags planned bytes) (drop-cons stack place no_layer below)
-    ∙ a_first (slice_index_or stack place no_layer) (drop (suc place) stack) place tags planned bytes h ends more rest behind some
+    ∙ a_first (slice_index_or stack place no_layer) (drop (suc place) stack) place tags planned bytes h ends more rest
+    behind some
     ∙ ap (with_first h) (onward stack place next ends more rest behind is)
 
 pub no_others : (stack : List LayerTree) (place next : ℕ) (tags : List ℕ) (planned : List (Option ℕ)) (bytes : List ℕ)
@@ -77,9 +89,11 @@ no_others stack place next tags planned bytes h ends more rest behind below some
     a_header stack place next tags planned bytes h ends more rest behind below some is ∙ ap (with_first h) none
 
 pub with_others : (stack : List LayerTree) (place next : ℕ) (tags : List ℕ) (planned : List (Option ℕ)) (bytes : List ℕ)
-    (h : Header) (ends : Bool) (more : List ℕ) (rest : List (Option ℕ)) (behind left : List ℕ) (hs : List Header) → place < length stack →
+    (h : Header) (ends : Bool) (more : List ℕ) (rest : List (Option ℕ)) (behind left : List ℕ) (hs : List Header) →
+    place < length stack →
     header (slice_index_or stack place no_layer) place tags planned bytes ≡ Some (((h, ends), (more, rest)), behind) →
-    next ≡ (if ends then length stack else place + 1) → dealing (drop next stack) next more rest behind ≡ Some (hs, left) →
+    next ≡ (if ends then length stack else place + 1) → dealing (drop next stack) next more rest behind ≡
+    Some (hs, left) →
     dealing (drop place stack) place tags planned bytes ≡ Some (h ∷ hs, left)
 with_others stack place next tags planned bytes h ends more rest behind left hs below some is others =
     a_header stack place next tags planned bytes h ends more rest behind below some is ∙ ap (with_first h) others

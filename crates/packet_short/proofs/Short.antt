@@ -22,20 +22,25 @@ pub named_is : (plans : List Plan) (p : Preamble) (bytes : List ℕ) → (p.form
 named_is plans p [] short = rw short refl
 named_is plans p (k ∷ bytes) short = rw short refl
 
-pub no_plan : (stack : List LayerTree) (plans : List Plan) (p : Preamble) (bytes : List ℕ) → (p.form == full_form) ≡ false →
+pub no_plan : (stack : List LayerTree) (plans : List Plan) (p : Preamble) (bytes : List ℕ) →
+    (p.form == full_form) ≡ false →
     plan_named plans p.dest bytes ≡ None → contents stack plans p bytes ≡ Err cause.Plan
 unfolding contents
 no_plan stack plans p bytes short none = rw (named_is plans p bytes short, none) refl
 
-pub not_dealt : (stack : List LayerTree) (plans : List Plan) (p : Preamble) (bytes : List ℕ) (plan : Plan) (more : List ℕ) →
-    (p.form == full_form) ≡ false → plan_named plans p.dest bytes ≡ Some (plan, more) → dealing stack 0 plan.tags plan.fields more ≡ None →
+pub not_dealt : (stack : List LayerTree) (plans : List Plan) (p : Preamble) (bytes : List ℕ) (plan : Plan)
+    (more : List ℕ) →
+    (p.form == full_form) ≡ false → plan_named plans p.dest bytes ≡ Some (plan, more) →
+    dealing stack 0 plan.tags plan.fields more ≡ None →
     contents stack plans p bytes ≡ Err cause.Chain
 unfolding contents
 not_dealt stack plans p bytes plan more short some none =
     rw (named_is plans p bytes short, some) (ap (λ o. ok_or o cause.Chain) (dealt_at_once stack plan more ∙ none))
 
-pub dealt_contents : (stack : List LayerTree) (plans : List Plan) (p : Preamble) (bytes : List ℕ) (plan : Plan) (more : List ℕ)
-    (hs : List Header) (body : List ℕ) → (p.form == full_form) ≡ false → plan_named plans p.dest bytes ≡ Some (plan, more) →
+pub dealt_contents : (stack : List LayerTree) (plans : List Plan) (p : Preamble) (bytes : List ℕ) (plan : Plan)
+    (more : List ℕ)
+    (hs : List Header) (body : List ℕ) → (p.form == full_form) ≡ false → plan_named plans p.dest bytes ≡
+    Some (plan, more) →
     dealing stack 0 plan.tags plan.fields more ≡ Some (hs, body) → contents stack plans p bytes ≡ Ok (hs, body)
 unfolding contents
 dealt_contents stack plans p bytes plan more hs body short some read =

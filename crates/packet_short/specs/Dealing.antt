@@ -1,4 +1,5 @@
--- The headers of a short datagram, read one behind the other: each has the next tag of the plan, and its fields are planned.
+-- The headers of a short datagram, read one behind the other: each has the next tag of the plan, and its fields are
+-- planned.
 use Rattle.std.specs.Prelude.{ℕ, zero, suc, Bool, if◌then◌else◌, List, [], ◌∷◌, ◌++◌, option_map, Option, Some, None}
 use Rattle.msg_core.specs.declared.message.Header.{Header}
 use Rattle.layer_mean.specs.Headers.{declared}
@@ -21,12 +22,15 @@ fields (suc k) (first ∷ planned) = do
   given (n ∷ more, rest)
 
 -- Fields that were read, in front of those that are still read.
-abbrev pub with_front : List ℕ → Option ((List ℕ × List (Option ℕ)) × List ℕ) → Option ((List ℕ × List (Option ℕ)) × List ℕ)
+abbrev pub with_front : List ℕ → Option ((List ℕ × List (Option ℕ)) × List ℕ) →
+    Option ((List ℕ × List (Option ℕ)) × List ℕ)
 with_front front None = None
 with_front front (Some ((more, rest), behind)) = Some ((front ++ more, rest), behind)
 
--- The header of a layer at a place that has the first of these tags, whether it closes the chain, and what is planned behind it.
-abbrev pub header : LayerTree → (place : ℕ) (tags : List ℕ) (planned : List (Option ℕ)) → Reader ((Header × Bool) × (List ℕ × List (Option ℕ)))
+-- The header of a layer at a place that has the first of these tags, whether it closes the chain, and what is planned
+-- behind it.
+abbrev pub header : LayerTree → (place : ℕ) (tags : List ℕ) (planned : List (Option ℕ)) →
+    Reader ((Header × Bool) × (List ℕ × List (Option ℕ)))
 header layer place [] planned = known None
 header layer place (tag ∷ tags) planned = do
   form ← known (option_map form_of (declared layer tag))

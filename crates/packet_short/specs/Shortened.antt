@@ -1,5 +1,6 @@
 -- Packets in their short forms.
-use Rattle.std.specs.Prelude.{◌≡◌, ℕ, suc, if◌then◌else◌, List, ◌++◌, flat_map, slice_get, Option, Some, None, option_and_then, Result, Ok, Err}
+use Rattle.std.specs.Prelude.{◌≡◌, ℕ, suc, if◌then◌else◌, List, ◌++◌, flat_map, slice_get, Option, Some, None}
+use Rattle.std.specs.Prelude.{option_and_then, Result, Ok, Err}
 use Rattle.msg_core.specs.declared.packet.Packet.{Packet}
 use Rattle.packet_mean.specs.Plan.{fits, variable}
 use Rattle.packet_mean.specs.Spelling.{number_bytes, short_bytes}
@@ -26,10 +27,13 @@ abbrev pub short_room : Packet → ℕ
 short_room packet = suc (room_needed packet)
 
 -- The variable ones of a header's fields were put behind bytes, and these are planned behind them.
-abbrev pub PutsVariable : (planned : List (Option ℕ)) (fields : List ℕ) (rest : List (Option ℕ)) (old new : List ℕ) → Type 0
+abbrev pub PutsVariable : (planned : List (Option ℕ)) (fields : List ℕ) (rest : List (Option ℕ)) (old new : List ℕ) →
+    Type 0
 PutsVariable planned fields rest old new = (more : List ℕ) →
     old ++ flat_map number_bytes (variable planned (fields ++ more)) ≡ new ++ flat_map number_bytes (variable rest more)
 
 -- The same where the fields themselves were put behind numbers.
-abbrev pub KeepsVariable : (planned : List (Option ℕ)) (fields : List ℕ) (rest : List (Option ℕ)) (old new : List ℕ) → Type 0
-KeepsVariable planned fields rest old new = (more : List ℕ) → old ++ variable planned (fields ++ more) ≡ new ++ variable rest more
+abbrev pub KeepsVariable : (planned : List (Option ℕ)) (fields : List ℕ) (rest : List (Option ℕ)) (old new : List ℕ) →
+    Type 0
+KeepsVariable planned fields rest old new = (more : List ℕ) → old ++ variable planned (fields ++ more) ≡ new ++
+    variable rest more

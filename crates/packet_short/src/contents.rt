@@ -17,7 +17,8 @@ use stack_shapes::{Plan, Plans};
 
 /// The plan that a short datagram names, if it is one of its destination's kind.
 fn named<'a>(plans: &'a Plans, dest: Dest, cursor: &mut Cursor<'_>) -> Option<&'a Plan>
-    ensures { Takes (plan_named (plans_tree plans.now) dest (left cursor.old)) (option_map (λ plan. plan_tree plan.now) result) (left cursor.new) }
+    ensures { Takes (plan_named (plans_tree plans.now) dest (left cursor.old))
+        (option_map (λ plan. plan_tree plan.now) result) (left cursor.new) }
 {
     let number = cursor.byte()?;
     let plan = plans.get(number)?;
@@ -36,7 +37,8 @@ pub(crate) fn contents(
     cursor: &mut Cursor<'_>,
     headers: &mut Headers,
 ) -> Result<(), Stray>
-    ensures { Contains (steps.contents (stack_tree stack.now) (plans_tree plans.now) (preamble_tree front.now) (left cursor.old)) result headers.new (left cursor.new) }
+    ensures { Contains (steps.contents (stack_tree stack.now) (plans_tree plans.now) (preamble_tree front.now)
+        (left cursor.old)) result headers.new (left cursor.new) }
 {
     headers.clear();
     if front.form == FULL_FORM {

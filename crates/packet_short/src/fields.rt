@@ -1,6 +1,7 @@
 //! The fields of packets that plans leave variable, as numbers.
 
-ghost use Rattle.std.specs.Prelude.{◌≡◌, ◌+◌, ◌≤◌, ◌∷◌, ◌++◌, [], IfSome, length, flat_map, option_map, vec_len, vec_capacity};
+ghost use Rattle.std.specs.Prelude.{◌≡◌, ◌+◌, ◌≤◌, ◌∷◌, ◌++◌, [], IfSome, length, flat_map, option_map, vec_len};
+ghost use Rattle.std.specs.Prelude.{vec_capacity};
 ghost use Rattle.packet_mean.specs.Plan.{variable};
 ghost use Rattle.packet_short.specs.Fits.{alike, behind};
 ghost use Rattle.packet_short.specs.Keeping.{KeepsIf};
@@ -45,11 +46,12 @@ fn keep_fields<'a>(
     left
 }
 
-/// Puts the fields of headers that a plan leaves variable, from the lowest layer up, behind what a vector holds. It takes no memory: there is to be
-/// room for as many numbers as the plan has fields.
+/// Puts the fields of headers that a plan leaves variable, from the lowest layer up, behind what a vector holds. It
+/// takes no memory: there is to be room for as many numbers as the plan has fields.
 pub fn variable_fields(plan: &Plan, headers: &Headers, into: &mut Vec<u32>)
     requires { vec_len into.old + length plan.now.fields.items ≤ vec_capacity into.old }
-    ensures items { into.new.items ≡ into.old.items ++ variable plan.now.fields.items (flat_map (λ h. h.fields) headers.now) }
+    ensures items { into.new.items ≡ into.old.items ++
+        variable plan.now.fields.items (flat_map (λ h. h.fields) headers.now) }
     ensures capacity { vec_capacity into.new ≡ vec_capacity into.old }
 {
     let mut left = plan.fields.as_slice();
@@ -58,7 +60,8 @@ pub fn variable_fields(plan: &Plan, headers: &Headers, into: &mut Vec<u32>)
     }
 }
 
-/// The planned fields behind those of a header, if its fields agree with theirs; the variable ones of these are put behind others.
+/// The planned fields behind those of a header, if its fields agree with theirs; the variable ones of these are put
+/// behind others.
 fn keep_agreeing<'a>(
     planned: &'a [Option<u32>],
     fields: &Fields,
@@ -93,7 +96,8 @@ fn keep_header<'a>(
 ) -> Option<&'a [Option<u32>]>
     requires { vec_len into.old + length planned.now ≤ vec_capacity into.old }
     ensures rest { option_map (λ rest. rest.now) result ≡ behind planned.now header.now.fields }
-    ensures items { IfSome result (λ rest. KeepsVariable planned.now header.now.fields rest.now into.old.items into.new.items) }
+    ensures items { IfSome result
+        (λ rest. KeepsVariable planned.now header.now.fields rest.now into.old.items into.new.items) }
     ensures len { IfSome result (λ rest. vec_len into.new + length rest.now ≤ vec_len into.old + length planned.now) }
     ensures capacity { vec_capacity into.new ≡ vec_capacity into.old }
 {
@@ -103,11 +107,13 @@ fn keep_header<'a>(
     keep_agreeing(planned, &header.fields, into)
 }
 
-/// Whether headers have a plan's tags, and fields as planned; if so, a vector has the variable ones then, in place of what it held.
+/// Whether headers have a plan's tags, and fields as planned; if so, a vector has the variable ones then, in place of
+/// what it held.
 pub(crate) fn is_alike_keeping(plan: &Plan, headers: &Headers, into: &mut Vec<u32>) -> bool
     requires { length plan.now.fields.items ≤ vec_capacity into.old }
     ensures alike { result ≡ alike plan.now.tags.items plan.now.fields.items headers.now }
-    ensures fields { KeepsIf result (variable plan.now.fields.items (flat_map (λ h. h.fields) headers.now)) into.new.items }
+    ensures fields { KeepsIf result (variable plan.now.fields.items (flat_map (λ h. h.fields) headers.now))
+        into.new.items }
     ensures capacity { vec_capacity into.new ≡ vec_capacity into.old }
 {
     into.clear();

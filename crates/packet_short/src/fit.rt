@@ -1,6 +1,7 @@
 //! The least plan that a packet fits.
 
-ghost use Rattle.std.specs.Prelude.{◌≡◌, ℕ, ◌<◌, ◌≤◌, List, Some, length, map, flat_map, get_or, position, vec_capacity};
+ghost use Rattle.std.specs.Prelude.{◌≡◌, ℕ, ◌<◌, ◌≤◌, List, Some, length, map, flat_map, get_or, position};
+ghost use Rattle.std.specs.Prelude.{vec_capacity};
 ghost use Rattle.std.specs.List.{AllByRecursion};
 ghost use Rattle.stack_mean.specs.Plan.{Plan};
 ghost use Rattle.packet_mean.specs.Plan as mean;
@@ -54,7 +55,8 @@ pub(crate) fn is_fitting(plan: &Plan, kind: Kind, headers: &Headers) -> bool
 fn is_fitting_keeping(plan: &Plan, kind: Kind, headers: &Headers, into: &mut Vec<u32>) -> bool
     requires { length plan.now.fields.items ≤ vec_capacity into.old }
     ensures fits { result ≡ fits_headers kind headers.now (plan_tree plan.now) }
-    ensures fields { KeepsIf result (variable (plan_tree plan.now).fields (flat_map (λ h. h.fields) headers.now)) into.new.items }
+    ensures fields { KeepsIf result (variable (plan_tree plan.now).fields (flat_map (λ h. h.fields) headers.now))
+        into.new.items }
     ensures capacity { vec_capacity into.new ≡ vec_capacity into.old }
 {
     plan.kind == kind && is_alike_keeping(plan, headers, into)
@@ -74,7 +76,8 @@ fn fits_first(plans: &Plans, kind: Kind, headers: &Headers) -> bool
 fn fits_first_keeping(plans: &Plans, kind: Kind, headers: &Headers, into: &mut Vec<u32>) -> bool
     requires room { AllByRecursion (HasAtMost (vec_capacity into.old)) (plans_tree plans.now) }
     ensures fits { result ≡ first_fits (fits_headers kind headers.now) (plans_tree plans.now) }
-    ensures fields { KeepsIf result (kept_by (plans_tree plans.now) (Some 0) (flat_map (λ h. h.fields) headers.now)) into.new.items }
+    ensures fields { KeepsIf result (kept_by (plans_tree plans.now) (Some 0) (flat_map (λ h. h.fields) headers.now))
+        into.new.items }
     ensures capacity { vec_capacity into.new ≡ vec_capacity into.old }
 {
     match plans.get(0) {
@@ -83,7 +86,8 @@ fn fits_first_keeping(plans: &Plans, kind: Kind, headers: &Headers, into: &mut V
     }
 }
 
-/// The number of the least plan that headers of a packet of a kind fit. Most fit the first; of the others only those of their print are looked at.
+/// The number of the least plan that headers of a packet of a kind fit. Most fit the first; of the others only those of
+/// their print are looked at.
 fn least(plans: &Plans, kind: Kind, headers: &Headers) -> Option<u8>
     ensures { result ≡ position (fits_headers kind headers.now) (plans_tree plans.now) }
 {
@@ -121,26 +125,29 @@ fn least_keeping(plans: &Plans, kind: Kind, headers: &Headers, into: &mut Vec<u3
     None
 }
 
-/// The number of the least plan that a packet to a destination with these headers fits, whoever sends it and whatever its body; None where it
-/// fits none.
+/// The number of the least plan that a packet to a destination with these headers fits, whoever sends it and whatever
+/// its body; None where it fits none.
 pub fn fits(plans: &Plans, dest: Dest, headers: &Headers) -> Option<u8>
-    ensures { (here : Here) (body : List ℕ) → result ≡ least_fit (plans_tree plans.now) (sent_packet here dest headers.now body) }
+    ensures { (here : Here) (body : List ℕ) →
+        result ≡ least_fit (plans_tree plans.now) (sent_packet here dest headers.now body) }
 {
     least(plans, kind_of(dest), headers)
 }
 
 /// The number of the least plan that the packet fits of which a scan tells, whatever its body; None where it fits none.
 pub fn fits_scan(plans: &Plans, scan: &Scan) -> Option<u8>
-    ensures { (here : Here) (bytes : List ℕ) → result ≡ least_fit (plans_tree plans.now) (packet_scanned here bytes scan.now) }
+    ensures { (here : Here) (bytes : List ℕ) →
+        result ≡ least_fit (plans_tree plans.now) (packet_scanned here bytes scan.now) }
 {
     least(plans, kind_of(scan.dest), &scan.headers)
 }
 
-/// The same as `fits_scan`; and the fields that this plan leaves variable stand then in place of what a vector held, none where there is no plan.
-/// It takes no memory: there is to be room for the fields of each plan.
+/// The same as `fits_scan`; and the fields that this plan leaves variable stand then in place of what a vector held,
+/// none where there is no plan. It takes no memory: there is to be room for the fields of each plan.
 pub fn fits_with_fields(plans: &Plans, scan: &Scan, into: &mut Vec<u32>) -> Option<u8>
     requires room { AllByRecursion (HasAtMost (vec_capacity into.old)) (plans_tree plans.now) }
-    ensures fits { (here : Here) (bytes : List ℕ) → result ≡ least_fit (plans_tree plans.now) (packet_scanned here bytes scan.now) }
+    ensures fits { (here : Here) (bytes : List ℕ) →
+        result ≡ least_fit (plans_tree plans.now) (packet_scanned here bytes scan.now) }
     ensures fields { into.new.items ≡ kept_by (plans_tree plans.now) result (flat_map (λ h. h.fields) scan.now.headers) }
     ensures capacity { vec_capacity into.new ≡ vec_capacity into.old }
 {

@@ -1,4 +1,5 @@
-//! The short forms of packets: which plan a packet fits, packets short under a plan, and the datagrams of both forms read.
+//! The short forms of packets: which plan a packet fits, packets short under a plan, and the datagrams of both forms
+//! read.
 #![tactic(auto)]
 
 mod agreement;

@@ -1,6 +1,7 @@
 //! What is left of a plan while headers are read by it.
 
-ghost use Rattle.std.specs.Prelude.{◌≡◌, ℕ, ◌+◌, ◌<◌, ◌≤◌, List, [], if◌then◌else◌, IfSome, None, Some, drop, length, option_map, slice_index_or};
+ghost use Rattle.std.specs.Prelude.{◌≡◌, ℕ, ◌+◌, ◌<◌, ◌≤◌, List, [], if◌then◌else◌, IfSome, None, Some, drop, length};
+ghost use Rattle.std.specs.Prelude.{option_map, slice_index_or};
 ghost use Rattle.event_graph.specs.Answer.{stack_tree};
 ghost use Rattle.layer_mean.specs.Tree.{no_layer};
 ghost use Rattle.packet_full.specs.Taking.{Takes, left};
@@ -51,7 +52,8 @@ impl<'a> Planned<'a> {
 
     /// Whether nothing more is planned.
     fn is_done(&self) -> bool
-        ensures { (bytes : List ℕ) → dealing.done self.now.tags.now self.now.fields.now bytes ≡ (if result then Some ([], bytes) else None) }
+        ensures { (bytes : List ℕ) → dealing.done self.now.tags.now self.now.fields.now bytes ≡
+            (if result then Some ([], bytes) else None) }
     {
         self.tags.is_empty() && self.fields.is_empty()
     }
@@ -59,7 +61,8 @@ impl<'a> Planned<'a> {
     /// The first so many planned fields.
     fn fields(&mut self, cursor: &mut Cursor<'_>, count: u8) -> Option<Fields>
         requires { count ≤ most_fields }
-        ensures read { Takes (dealing.fields count self.old.fields.now (left cursor.old)) (option_map (λ own. (own, self.new.fields.now)) result) (left cursor.new) }
+        ensures read { Takes (dealing.fields count self.old.fields.now (left cursor.old))
+            (option_map (λ own. (own, self.new.fields.now)) result) (left cursor.new) }
         ensures tags { self.new.tags ≡ self.old.tags }
     {
         let mut fields = Fields::none();
@@ -84,7 +87,8 @@ impl<'a> Planned<'a> {
         place: u8,
     ) -> Option<(Header, bool)>
         requires { place < length (stack_tree stack.now) }
-        ensures { Takes (dealing.header (slice_index_or (stack_tree stack.now) place no_layer) place self.old.tags.now self.old.fields.now (left cursor.old))
+        ensures { Takes (dealing.header (slice_index_or (stack_tree stack.now) place no_layer) place self.old.tags.now
+            self.old.fields.now (left cursor.old))
             (option_map (λ header. (header, (self.new.tags.now, self.new.fields.now))) result) (left cursor.new) }
     {
         let (tag, more) = self.tags.split_first()?;
@@ -111,7 +115,8 @@ impl<'a> Planned<'a> {
     ) -> Option<()>
         requires place { place ≤ length (stack_tree stack.now) }
         requires none { headers.old ≡ [] }
-        ensures read { Takes (dealing.dealing (drop place (stack_tree stack.now)) place self.old.tags.now self.old.fields.now (left cursor.old)) (option_map (λ _. headers.new) result) (left cursor.new) }
+        ensures read { Takes (dealing.dealing (drop place (stack_tree stack.now)) place self.old.tags.now
+            self.old.fields.now (left cursor.old)) (option_map (λ _. headers.new) result) (left cursor.new) }
         ensures few { IfSome result (λ _. length headers.new + place ≤ length (stack_tree stack.now)) }
     {
         stack.is_within_limits();

@@ -13,8 +13,9 @@ use packet_full::{Opened, Scan, close, open};
 use packet_mean::Here;
 use stack_shapes::Plans;
 
-/// Reads what a datagram says to a member of a stack with these plans, in full or short, into `scan`, without memory; or tells the first cause
-/// for which it is refused, and `scan` is of no use then. The headers are whole: the constants of a plan stand in them.
+/// Reads what a datagram says to a member of a stack with these plans, in full or short, into `scan`, without memory;
+/// or tells the first cause for which it is refused, and `scan` is of no use then. The headers are whole: the constants
+/// of a plan stand in them.
 pub fn scan_packet(
     stack: &Stack,
     plans: &Plans,
@@ -22,7 +23,8 @@ pub fn scan_packet(
     bytes: &[u8],
     scan: &mut Scan,
 ) -> Result<(), Stray>
-    ensures read { Scans here.now bytes.now (received (stack_tree stack.now) (plans_tree plans.now) here.now bytes.now) result scan.new }
+    ensures read { Scans here.now bytes.now (received (stack_tree stack.now) (plans_tree plans.now) here.now bytes.now)
+        result scan.new }
     ensures within { IfOk result (λ _. scan.new.body ≤ length bytes.now) }
 {
     stack.is_within_limits();

@@ -25,7 +25,8 @@ const HEADER_BYTES: usize = 17;
 /// Puts a number, unless it is planned as a constant.
 fn put_variable(planned: Option<u32>, number: u32, into: &mut Vec<u8>)
     requires { vec_len into.old + 4 ≤ vec_capacity into.old }
-    ensures items { into.new.items ≡ into.old.items ++ flat_map spelling.number_bytes (variable (planned ∷ []) (number ∷ [])) }
+    ensures items { into.new.items ≡ into.old.items ++
+        flat_map spelling.number_bytes (variable (planned ∷ []) (number ∷ [])) }
     ensures len { vec_len into.new ≤ vec_len into.old + 4 }
     ensures capacity { vec_capacity into.new ≡ vec_capacity into.old }
 {
@@ -60,7 +61,8 @@ fn put_fields<'a>(
 /// Puts the fields of headers that a plan leaves variable.
 fn put_headers(plan: &Plan, headers: &Headers, into: &mut Vec<u8>)
     requires { vec_len into.old + 16 * length headers.now ≤ vec_capacity into.old }
-    ensures items { into.new.items ≡ into.old.items ++ flat_map spelling.number_bytes (variable plan.now.fields.items (flat_map (λ h. h.fields) headers.now)) }
+    ensures items { into.new.items ≡ into.old.items ++
+        flat_map spelling.number_bytes (variable plan.now.fields.items (flat_map (λ h. h.fields) headers.now)) }
     ensures len { vec_len into.new ≤ vec_len into.old + 16 * length headers.now }
     ensures capacity { vec_capacity into.new ≡ vec_capacity into.old }
 {
@@ -77,8 +79,9 @@ pub fn short_room_of(headers: &Headers, body: &[u8]) -> usize
     headers.len() as usize * HEADER_BYTES + FRONT_BYTES + body.len()
 }
 
-/// Puts in its short form, under a plan and its number, what a member sends to a destination, with these headers and this body, behind what a vector
-/// holds, as the plan says and without asking whether it fits. It takes no memory: there is to be room for 17 bytes of each header, the body and 20 more.
+/// Puts in its short form, under a plan and its number, what a member sends to a destination, with these headers and
+/// this body, behind what a vector holds, as the plan says and without asking whether it fits. It takes no memory:
+/// there is to be room for 17 bytes of each header, the body and 20 more.
 pub fn put_short(
     plan: &Plan,
     number: u8,
@@ -89,7 +92,8 @@ pub fn put_short(
     into: &mut Vec<u8>,
 )
     requires { vec_len into.old + short_room (sent_packet here.now dest headers.now body.now) ≤ vec_capacity into.old }
-    ensures items { into.new.items ≡ into.old.items ++ spelling.short_bytes number (plan_tree plan.now) (sent_packet here.now dest headers.now body.now) }
+    ensures items { into.new.items ≡ into.old.items ++
+        spelling.short_bytes number (plan_tree plan.now) (sent_packet here.now dest headers.now body.now) }
     ensures capacity { vec_capacity into.old ≤ vec_capacity into.new }
 {
     put_preamble(SHORT_FORM, here, dest, into);
@@ -98,7 +102,8 @@ pub fn put_short(
     put_body(body, into);
 }
 
-/// Puts in its short form what fits a plan, as `put_short` does. Err exactly where it doesn't fit the plan; then nothing changes.
+/// Puts in its short form what fits a plan, as `put_short` does. Err exactly where it doesn't fit the plan; then
+/// nothing changes.
 pub fn put_short_of(
     plan: &Plan,
     number: u8,
@@ -109,7 +114,8 @@ pub fn put_short_of(
     into: &mut Vec<u8>,
 ) -> Result<(), NotFitting>
     requires { vec_len into.old + short_room (sent_packet here.now dest headers.now body.now) ≤ vec_capacity into.old }
-    ensures items { Puts (short_under (plan_tree plan.now) number (sent_packet here.now dest headers.now body.now)) into.old.items into.new.items result }
+    ensures items { Puts (short_under (plan_tree plan.now) number (sent_packet here.now dest headers.now body.now))
+        into.old.items into.new.items result }
     ensures capacity { vec_capacity into.old ≤ vec_capacity into.new }
 {
     if !is_fitting(plan, kind_of(dest), headers) {

@@ -13,20 +13,25 @@ use Rattle.outside.specs.Lines.{Wrote}
 use Rattle.outside.specs.Tells.{Tells}
 use Rattle.play_jobs.specs.Play.{Plays, cut_short}
 
--- Lines that were written in a mode over a stack whose members have room, as another mode, stack and plans that are the same see it.
-pub plays : (lines : Mode → List LayerTree → List Plan → List (List ℕ)) (mode own_mode : Mode) (stack own : List LayerTree) (plans own_plans : List Plan)
-    (members : ℕ) (a b : Tells) (r : Result (Unit {0}) SinkError) → own_mode ≡ mode → own ≡ stack → own_plans ≡ plans → HasRoom stack members →
+-- Lines that were written in a mode over a stack whose members have room, as another mode, stack and plans that are the
+-- same see it.
+pub plays : (lines : Mode → List LayerTree → List Plan → List (List ℕ)) (mode own_mode : Mode)
+    (stack own : List LayerTree) (plans own_plans : List Plan)
+    (members : ℕ) (a b : Tells) (r : Result (Unit {0}) SinkError) → own_mode ≡ mode → own ≡ stack → own_plans ≡ plans →
+    HasRoom stack members →
     Wrote (lines own_mode own own_plans) a b r → Plays stack members (lines mode stack plans) a b (cut_short r)
 plays lines mode own_mode stack own plans own_plans members a b r same_mode same same_plans room wrote =
     go r (subst {A = Mode × (List LayerTree × List Plan)} (λ x. Wrote (lines x.0 x.1.0 x.1.1) a b r)
     (λ k. (same_mode k, (same k, same_plans k))) wrote) where
-      go : (r : Result (Unit {0}) SinkError) → Wrote (lines mode stack plans) a b r → Plays stack members (lines mode stack plans) a b (cut_short r)
+      go : (r : Result (Unit {0}) SinkError) → Wrote (lines mode stack plans) a b r →
+          Plays stack members (lines mode stack plans) a b (cut_short r)
       go (Ok done) w = (room, w)
       go (Err Failed) w = (room, w)
       go (Err Memory) w = inr (room, w)
 
 -- A group that begins in a mode does so in its own.
-pub first_as_it_is : (mode : Mode) (stack : List LayerTree) (plans : List Plan) (group stamp members : ℕ) (c : Peopled) (places : ℕ) →
+pub first_as_it_is : (mode : Mode) (stack : List LayerTree) (plans : List Plan) (group stamp members : ℕ) (c : Peopled)
+    (places : ℕ) →
     IsAtFirst mode stack plans group stamp members c places → IsAtFirst c.mode stack plans group stamp members c places
 first_as_it_is mode stack plans group stamp members c places first =
     subst (λ x. IsAtFirst x stack plans group stamp members c places) (sym first.ready.mode_is) first

@@ -7,7 +7,8 @@ use Rattle.outside.specs.Shelf.{Shelved, found_in}
 use Rattle.bypass_file.specs.declared.error.BypassError.{BypassError}
 use Rattle.bypass_file.specs.declared.error.BypassError.TheVariants.{TooLarge, Line, Differs, Memory}
 use Rattle.bypass_laws.specs.Stack.{AreOfStack}
-use Rattle.end_mean.specs.Status.{Ended, done, second_refused, traces_refused, read_failed, write_failed, no_memory, too_many_rows}
+use Rattle.end_mean.specs.Status.{Ended, done, second_refused, traces_refused, read_failed, write_failed, no_memory}
+use Rattle.end_mean.specs.Status.{too_many_rows}
 use Rattle.file_jobs.specs.Stack.{IsMissed}
 use Rattle.group_mean.specs.Room.{HasRoom}
 use Rattle.job_ends.specs.Comes.{Around}
@@ -41,14 +42,16 @@ JudgesTraces stack text (Ok b) = Accepts stack text × AreOfStack stack (bypasse
 JudgesTraces stack text (Err ending) = RefusedTraces stack text (shown ending)
 
 -- The next read of this name found traces that are accepted for a stack.
-pub record AreTraces (stack : List LayerTree) (name : Text) (told : Option Shelved) (reads reads_after : ℕ) : Type 0 where
-  pub text : List ℕ
-  pub found : IfSome told (λ shelf. found_in shelf name ≡ Some text)
-  pub accepted : Accepts stack text
-  pub sound : reads_after ≡ reads
+pub record AreTraces (stack : List LayerTree) (name : Text) (told : Option Shelved) (reads reads_after : ℕ) : Type 0
+  where
+    pub text : List ℕ
+    pub found : IfSome told (λ shelf. found_in shelf name ≡ Some text)
+    pub accepted : Accepts stack text
+    pub sound : reads_after ≡ reads
 
 -- It found a file that is refused, for this fault.
-pub record AreRefused (stack : List LayerTree) (name : Text) (told : Option Shelved) (reads reads_after : ℕ) (fault : PackFault) : Type 0 where
+pub record AreRefused (stack : List LayerTree) (name : Text) (told : Option Shelved) (reads reads_after : ℕ)
+    (fault : PackFault) : Type 0 where
   pub text : List ℕ
   pub found : IfSome told (λ shelf. found_in shelf name ≡ Some text)
   pub refused : IsFault stack text fault
@@ -56,15 +59,19 @@ pub record AreRefused (stack : List LayerTree) (name : Text) (told : Option Shel
 
 -- A job ends so at its file of traces.
 abbrev pub StopsAtTraces : List LayerTree → Text → Option Shelved → (reads reads_after : ℕ) → Ended → Type 0
-StopsAtTraces stack name told reads reads_after (traces_refused fault) = AreRefused stack name told reads reads_after fault
+StopsAtTraces stack name told reads reads_after (traces_refused fault) =
+    AreRefused stack name told reads reads_after fault
 StopsAtTraces stack name told reads reads_after read_failed = IsMissed name told reads reads_after
 StopsAtTraces stack name told reads reads_after no_memory = Unit {0}
 StopsAtTraces stack name told reads reads_after _ = ⊥
 
 -- The bypasses that were read, which are the stack's, or how the job ends.
-abbrev pub FetchesTraces : List LayerTree → Text → Option Shelved → (reads reads_after : ℕ) → Result Bypasses Ending → Type 0
-FetchesTraces stack name told reads reads_after (Ok b) = AreTraces stack name told reads reads_after × AreOfStack stack (bypasses_tree b)
-FetchesTraces stack name told reads reads_after (Err ending) = StopsAtTraces stack name told reads reads_after (shown ending)
+abbrev pub FetchesTraces : List LayerTree → Text → Option Shelved → (reads reads_after : ℕ) → Result Bypasses Ending →
+    Type 0
+FetchesTraces stack name told reads reads_after (Ok b) = AreTraces stack name told reads reads_after ×
+    AreOfStack stack (bypasses_tree b)
+FetchesTraces stack name told reads reads_after (Err ending) =
+    StopsAtTraces stack name told reads reads_after (shown ending)
 
 -- A script was played over a stack whose members have room, by accepted traces, and what is put out came to something.
 pub record PlayedSo (Came : Type 0) (stack : List LayerTree) (s : Script) (name : Text) (a : Around) : Type 0 where
@@ -88,13 +95,16 @@ pub record HasNoRoom (stack : List LayerTree) (s : Script) (a : Around) : Type 0
   pub sound : a.reads_after ≡ a.reads
   pub untouched : a.output_after ≡ a.output
 
--- How a replay by traces ends over a stack and a script that are good, of which the rows are judged first, and then the traces.
+-- How a replay by traces ends over a stack and a script that are good, of which the rows are judged first, and then the
+-- traces.
 abbrev pub PlaysTraces : List LayerTree → Script → (name : Text) → (wire count : Bool) → Around → Ended → Type 0
-PlaysTraces stack s name wire count a done = PlayedSo (Gains a.output a.output_after (lines_of stack s wire count)) stack s name a
+PlaysTraces stack s name wire count a done = PlayedSo (Gains a.output a.output_after (lines_of stack s wire count))
+    stack s name a
 PlaysTraces stack s name wire count a (second_refused too_many_rows) = HasNoRoom stack s a
 PlaysTraces stack s name wire count a (traces_refused fault) = EndedSo stack s name a (traces_refused fault)
 PlaysTraces stack s name wire count a read_failed = EndedSo stack s name a read_failed
-PlaysTraces stack s name wire count a write_failed = PlayedSo (Fails a.output a.output_after (lines_of stack s wire count)) stack s name a
+PlaysTraces stack s name wire count a write_failed =
+    PlayedSo (Fails a.output a.output_after (lines_of stack s wire count)) stack s name a
 PlaysTraces stack s name wire count a no_memory = (a.output_after ≡ a.output)
     ⊎ PlayedSo (Begins a.output a.output_after (concat (lines_of stack s wire count))) stack s name a
 PlaysTraces stack s name wire count a _ = ⊥

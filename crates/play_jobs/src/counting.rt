@@ -27,8 +27,8 @@ const GROUP: u32 = 1;
 /// The stamp of its group.
 const STAMP: u32 = 1;
 
-/// Plays the script of a workload of 1 to 32 members in the world in which it begins, in a mode, and writes how many lines of each kind its report
-/// has. Each event is made as it is played.
+/// Plays the script of a workload of 1 to 32 members in the world in which it begins, in a mode, and writes how many
+/// lines of each kind its report has. Each event is made as it is played.
 pub(crate) fn play_load<O: Sink>(
     alloc: Global,
     mode: Mode,
@@ -39,7 +39,8 @@ pub(crate) fn play_load<O: Sink>(
     requires runs { CanRun (shown_mode mode) (stack_tree stack) }
     requires members { (1 ≤ workload.members) × (workload.members ≤ most_members) }
     requires few { workload.events ≤ most_events }
-    ensures { Plays (stack_tree stack) workload.members (tally (stack_tree stack) (plans_of (stack_tree stack)) (shown_mode mode) (script_for workload))
+    ensures { Plays (stack_tree stack) workload.members
+        (tally (stack_tree stack) (plans_of (stack_tree stack)) (shown_mode mode) (script_for workload))
         (tells_of O.Sink out.old) (tells_of O.Sink out.new) result }
 {
     match open(alloc, mode, stack, GROUP, STAMP, workload.members) {

@@ -14,8 +14,8 @@ use outside::{Shelf, Sink};
 use std::alloc::Global;
 use std::mem::forget;
 
-/// Plays a script over a stack file by bypasses, and writes why its steps weren't common. The memory of the file's tree goes back with that of the
-/// program.
+/// Plays a script over a stack file by bypasses, and writes why its steps weren't common. The memory of the file's tree
+/// goes back with that of the program.
 pub fn explain_script<S: Shelf, O: Sink>(
     alloc: Global,
     explain: &Explain<'_>,

@@ -20,8 +20,8 @@ use outside::Sink;
 use script_mean::Script;
 use std::alloc::Global;
 
-/// Plays a script by bypasses in the world in which it begins, and writes why its steps weren't common: a line for each, with lines of the file that
-/// the stack is of.
+/// Plays a script by bypasses in the world in which it begins, and writes why its steps weren't common: a line for
+/// each, with lines of the file that the stack is of.
 pub(crate) fn explain_steps<O: Sink>(
     alloc: Global,
     file: &File,
@@ -32,7 +32,8 @@ pub(crate) fn explain_steps<O: Sink>(
     requires sound { IsSound (stack_tree stack) }
     requires runs { IsRunnable script.now }
     requires few { length script.now.events ≤ most_events }
-    ensures { Plays (stack_tree stack) script.now.members (explained_lines (file_tree file.now) (stack_tree stack) (plans_of (stack_tree stack)) script.now)
+    ensures { Plays (stack_tree stack) script.now.members
+        (explained_lines (file_tree file.now) (stack_tree stack) (plans_of (stack_tree stack)) script.now)
         (tells_of O.Sink out.old) (tells_of O.Sink out.new) result }
 {
     match open_examined(alloc, stack, script.group, script.stamp, script.members) {

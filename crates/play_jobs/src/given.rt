@@ -31,7 +31,8 @@ pub fn replay_with<S: Shelf, O: Sink>(
     shelf: &mut S,
     out: &mut O,
 ) -> Ending
-    ensures { Comes (job.replay_with replay.now.file.now replay.now.script.now replay.now.traces.now replay.now.wire replay.now.count)
+    ensures { Comes (job.replay_with replay.now.file.now replay.now.script.now replay.now.traces.now replay.now.wire
+        replay.now.count)
         (around S.Shelf O.Sink shelf.old shelf.new out.old out.new) (shown result) }
 {
     match fetch_stack(alloc, replay.file, shelf) {
@@ -43,8 +44,8 @@ pub fn replay_with<S: Shelf, O: Sink>(
     }
 }
 
-/// The same over a stack and a script that are read. The rows of the members are judged before the traces are read. The memory of bypasses goes back with
-/// that of the program.
+/// The same over a stack and a script that are read. The rows of the members are judged before the traces are read. The
+/// memory of bypasses goes back with that of the program.
 fn play_traces<S: Shelf, O: Sink>(
     alloc: Global,
     replay: &ReplayWith<'_>,

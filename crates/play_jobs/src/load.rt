@@ -17,7 +17,13 @@ use std::alloc::Global;
 
 /// What the script of a load is made from.
 fn workload_of(load: &Load<'_>) -> Workload
-    ensures { result ≡ record { seed = load.now.seed; events = load.now.events; members = load.now.members; raw = load.now.raw } }
+    ensures { result ≡ record {
+      seed = load.now.seed;
+      events = load.now.events;
+      members = load.now.members;
+      raw =
+          load.now.raw;
+    } }
 {
     Workload {
         seed: load.seed,
@@ -34,7 +40,8 @@ pub fn load_stack<S: Shelf, O: Sink>(
     shelf: &mut S,
     out: &mut O,
 ) -> Ending
-    ensures { Comes (job.load load.now.file.now load.now.seed load.now.events load.now.members load.now.raw (shown_mode load.now.mode))
+    ensures { Comes (job.load load.now.file.now load.now.seed load.now.events load.now.members load.now.raw
+        (shown_mode load.now.mode))
         (around S.Shelf O.Sink shelf.old shelf.new out.old out.new) (shown result) }
 {
     match fetch_stack(alloc, load.file, shelf) {

@@ -30,8 +30,8 @@ use stack_play::write_report;
 use std::alloc::Global;
 use trace_core::Bypasses;
 
-/// Plays a script in the world in which it begins, in a mode, and writes its report: with the packets' bytes and the number of visits where these
-/// are wanted.
+/// Plays a script in the world in which it begins, in a mode, and writes its report: with the packets' bytes and the
+/// number of visits where these are wanted.
 pub fn play<O: Sink>(
     alloc: Global,
     mode: Mode,
@@ -44,7 +44,8 @@ pub fn play<O: Sink>(
     requires runs_stack { CanRun (shown_mode mode) (stack_tree stack) }
     requires runs { IsRunnable script.now }
     requires few { length script.now.events ≤ most_events }
-    ensures { Plays (stack_tree stack) script.now.members (output_in (stack_tree stack) (plans_of (stack_tree stack)) script.now (shown_mode mode) wire count)
+    ensures { Plays (stack_tree stack) script.now.members
+        (output_in (stack_tree stack) (plans_of (stack_tree stack)) script.now (shown_mode mode) wire count)
         (tells_of O.Sink out.old) (tells_of O.Sink out.new) result }
 {
     match open(
@@ -74,7 +75,8 @@ pub(crate) fn play_with<O: Sink>(
     requires of_stack { AreOfStack (stack_tree stack) (bypasses_tree bypasses.now) }
     requires runs { IsRunnable script.now }
     requires few { length script.now.events ≤ most_events }
-    ensures { Plays (stack_tree stack) script.now.members (output_in (stack_tree stack) (plans_of (stack_tree stack)) script.now bypass wire count)
+    ensures { Plays (stack_tree stack) script.now.members
+        (output_in (stack_tree stack) (plans_of (stack_tree stack)) script.now bypass wire count)
         (tells_of O.Sink out.old) (tells_of O.Sink out.new) result }
 {
     match open_with(
@@ -99,11 +101,13 @@ fn play_opened<O: Sink>(
     count: bool,
     out: &mut O,
 ) -> Result<(), SinkError>
-    requires first { IsAtFirst opened.group.mode (stack_tree opened.stack) (plans_tree (rc_value opened.plans)) script.now.group script.now.stamp
+    requires first { IsAtFirst opened.group.mode (stack_tree opened.stack) (plans_tree (rc_value opened.plans))
+        script.now.group script.now.stamp
         script.now.members opened.group opened.outputs.places }
     requires runs { IsRunnable script.now }
     requires few { length script.now.events ≤ most_events }
-    ensures { Wrote (output_in (stack_tree opened.stack) (plans_tree (rc_value opened.plans)) script.now opened.group.mode wire count)
+    ensures { Wrote (output_in (stack_tree opened.stack) (plans_tree (rc_value opened.plans)) script.now
+        opened.group.mode wire count)
         (tells_of O.Sink out.old) (tells_of O.Sink out.new) result }
 {
     let Opened {

@@ -19,7 +19,8 @@ pub(crate) fn fetch_script<S: Shelf>(
     name: &str,
     shelf: &mut S,
 ) -> Result<Script, Ending>
-    ensures read { Fetches script_of IsRunnable name.now (S.told shelf.old) (S.faults shelf.old) (S.faults shelf.new) result }
+    ensures read { Fetches script_of IsRunnable name.now (S.told shelf.old) (S.faults shelf.old) (S.faults shelf.new)
+        result }
     ensures kept { S.told shelf.new ≡ option_map after_read (S.told shelf.old) }
 {
     match fetch_second(alloc, name, shelf) {

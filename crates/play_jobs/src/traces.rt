@@ -24,7 +24,8 @@ pub(crate) fn fetch_traces<S: Shelf>(
     shelf: &mut S,
 ) -> Result<Bypasses, Ending>
     requires { IsSound (stack_tree stack.now) }
-    ensures { FetchesTraces (stack_tree stack.now) name.now (S.told shelf.old) (S.faults shelf.old) (S.faults shelf.new) result }
+    ensures { FetchesTraces (stack_tree stack.now) name.now (S.told shelf.old) (S.faults shelf.old) (S.faults shelf.new)
+        result }
 {
     let mut text = Vec::new(alloc);
     match shelf.read(name, &mut text, LONGEST_TRACES) {

@@ -1,5 +1,6 @@
 -- The rows with messages of chained states, cell by cell and layer by layer.
-use Rattle.std.proofs.Common.{◌≡◌, ℕ, suc, ◌*◌, ◌<◌, ◌≤◌, Bool, false, List, [], ◌∷◌, map, length, Option, Some, None, refl, ap, arith, cond}
+use Rattle.std.proofs.Common.{◌≡◌, ℕ, suc, ◌*◌, ◌<◌, ◌≤◌, Bool, false, List, [], ◌∷◌, map, length, Option, Some, None}
+use Rattle.std.proofs.Common.{refl, ap, arith, cond}
 use Rattle.std.specs.Prelude.{slice_index_or}
 use Rattle.std.specs.List.{sum_by, count_by, AllByRecursion, AllZip}
 use Rattle.std.specs.Option.{option_map_or}
@@ -28,7 +29,8 @@ module _ (Above : List Header → Type 0) where
   bare row None is h = rw is refl
   bare row (Some m) is h = absurd h
 
-  no_messages : (items : ItemsTree) → items.message ≡ None → (rows : List Row) → AllByRecursion (IsRow Above items) rows →
+  no_messages : (items : ItemsTree) → items.message ≡ None → (rows : List Row) →
+      AllByRecursion (IsRow Above items) rows →
       count_by has_message rows ≡ 0
   no_messages items none [] h = refl
   no_messages items none (row ∷ rows) h =
@@ -42,11 +44,13 @@ module _ (Above : List Header → Type 0) where
   queue_keeps : (capacity : ℕ) (items : ItemsTree) (rows : List Row) → IsQueue Above capacity items rows →
       count_by has_message rows ≤ capacity_for items capacity
   queue_keeps capacity items rows is = go items.message refl where
-    go : (o : Option (List ℕ × Carried)) → items.message ≡ o → count_by has_message rows ≤ option_map_or (λ carried. capacity) o 0
+    go : (o : Option (List ℕ × Carried)) → items.message ≡ o →
+        count_by has_message rows ≤ option_map_or (λ carried. capacity) o 0
     go None none = let no = no_messages items none rows is.rows_are in omega arith
     go (Some item) some = let all = count_by-le-length has_message rows in let within = is.within in omega arith
 
-  queues_keep : (capacity : ℕ) (items : ItemsTree) (qs : List (List Row)) → AllByRecursion (IsQueue Above capacity items) qs →
+  queues_keep : (capacity : ℕ) (items : ItemsTree) (qs : List (List Row)) →
+      AllByRecursion (IsQueue Above capacity items) qs →
       sum_by (count_by has_message) qs ≤ length qs * capacity_for items capacity
   queues_keep capacity items [] h = omega arith
   queues_keep capacity items (rows ∷ qs) h =
@@ -57,16 +61,20 @@ module _ (Above : List Header → Type 0) where
       omega arith
 
   -- and a cell as its form says
-  form_keeps : (n most : ℕ) → n ≤ most → (form : Form) (held : Contents) → HoldsForm Above n form held → rows_kept held ≤ message_rows most form
+  form_keeps : (n most : ℕ) → n ≤ most → (form : Form) (held : Contents) → HoldsForm Above n form held →
+      rows_kept held ≤ message_rows most form
   form_keeps n most few (numbers shape initial) (state.numbers ns) h = omega arith
   form_keeps n most few (queue capacity items) (state.queues qs) h =
       let all = queues_keep capacity items qs h.1 in
-      let one : length qs * capacity_for items capacity ≡ 1 * capacity_for items capacity = ap (λ k. k * capacity_for items capacity) h.0 in
+      let one : length qs * capacity_for items capacity ≡ 1 * capacity_for items capacity =
+      ap (λ k. k * capacity_for items capacity) h.0 in
       omega arith
   form_keeps n most few (queues capacity items) (state.queues qs) h =
       let all = queues_keep capacity items qs h.1 in
-      let each : length qs * capacity_for items capacity ≡ n * capacity_for items capacity = ap (λ k. k * capacity_for items capacity) h.0 in
-      let more : capacity_for items capacity * n ≤ capacity_for items capacity * most = mul-le-mul_left (capacity_for items capacity) few in
+      let each : length qs * capacity_for items capacity ≡ n * capacity_for items capacity =
+      ap (λ k. k * capacity_for items capacity) h.0 in
+      let more : capacity_for items capacity * n ≤ capacity_for items capacity * most =
+      mul-le-mul_left (capacity_for items capacity) few in
       omega arith
   form_keeps n most few (numbers shape initial) (state.queues qs) h = absurd h
   form_keeps n most few (queue capacity items) (state.numbers ns) h = absurd h
@@ -85,7 +93,8 @@ module _ (Above : List Header → Type 0) where
       let two = sum_by-cons (λ (cell : CellTree). message_rows most cell.form) cell cells in
       omega arith
 
-  state_keeps : (layer : LayerTree) (s : State) (most : ℕ) → IsState Above layer s → s.count ≤ most → messages_kept s ≤ layer_rows most layer
+  state_keeps : (layer : LayerTree) (s : State) (most : ℕ) → IsState Above layer s → s.count ≤ most →
+      messages_kept s ≤ layer_rows most layer
   state_keeps layer s most is few = cells_keep s.count most few layer.cells s.cells is.cells
 
 -- layer by layer
@@ -105,7 +114,8 @@ layers_keep most (layer ∷ stack) (s ∷ states) same h =
 
 pub states_keep_rows : StatesKeepRows
 states_keep_rows stack states most chained few = layers_keep most stack states chained.count (λ place below.
-    state_keeps (IsFrom stack (suc place)) (slice_index_or stack place no_layer) (slice_index_or states place no_state) most
+    state_keeps (IsFrom stack (suc place)) (slice_index_or stack place no_layer) (slice_index_or states place no_state)
+    most
     (chained.states_are place below)
     (each_or (λ (s : State). s.count ≤ most) states place no_state few.within (omega arith)))
 

@@ -10,7 +10,8 @@ use Rattle.layer_stage.specs.Kept.{messages_kept}
 use Rattle.pool_laws.specs.Room.{OwnPool, IsPoolFor}
 use Rattle.pool_laws.proofs.Rows.{states_keep_rows}
 
-module _ {S : Type 0} (refs : S → List ℕ) (state : List Held → S → State) (Ready : List Held → S → Type 0) (p : List Held)
+module _ {S : Type 0} (refs : S → List ℕ) (state : List Held → S → State) (Ready : List Held → S → Type 0)
+    (p : List Held)
     (kept : (s : S) → Ready p s → length (refs s) ≤ messages_kept (state p s)) where
   pub stages_keep_few : (stages : List S) → AllByRecursion (Ready p) stages →
       length (flat_map refs stages) ≤ sum_by messages_kept (map (state p) stages)
@@ -23,7 +24,8 @@ module _ {S : Type 0} (refs : S → List ℕ) (state : List Held → S → State
       let split = sum_by-cons messages_kept (state p s) (map (state p) stages) in
       omega arith
 
-  pub own_pool_is_made : (stack : List LayerTree) (most : ℕ) (stages : List S) → OwnPool refs state Ready stack most p stages →
+  pub own_pool_is_made : (stack : List LayerTree) (most : ℕ) (stages : List S) →
+      OwnPool refs state Ready stack most p stages →
       IsPoolFor (rows_of stack most) p (flat_map refs stages)
   own_pool_is_made stack most stages own = record {
     exact = own.exact;

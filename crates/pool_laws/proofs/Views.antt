@@ -1,5 +1,6 @@
 -- A mask is a sum of powers, and has no more ones than these are.
-use Rattle.std.proofs.Common.{◌≡◌, ◌∙◌, ℕ, zero, suc, ◌+◌, ◌*◌, ◌-◌, ◌/◌, ◌%◌, ◌^◌, ◌<◌, ◌≤◌, Bool, true, false, List, [], ◌∷◌, length, Some, None, refl, sym, ap, subst, arith, add-one}
+use Rattle.std.proofs.Common.{◌≡◌, ◌∙◌, ℕ, zero, suc, ◌+◌, ◌*◌, ◌-◌, ◌/◌, ◌%◌, ◌^◌, ◌<◌, ◌≤◌, Bool, true, false, List}
+use Rattle.std.proofs.Common.{[], ◌∷◌, length, Some, None, refl, sym, ap, subst, arith, add-one}
 use Rattle.std.specs.Prelude.{◌==◌, cond, if◌then◌else◌}
 use Rattle.std.specs.List.{filter, range_with_len, enumerate_from, sum_by}
 use Rattle.std.specs.Int.{bit_at}
@@ -17,7 +18,8 @@ abbrev ids_from : ℕ → ℕ → ℕ → ℕ
 ids_from mask at k = length (filter (λ id. bit_at mask id == 1) (range_with_len at k))
 
 -- one more id counts as its digit
-first_id : (d : ℕ) (set : Bool) (at : ℕ) (ids : List ℕ) → d < 2 → (d == 1) ≡ set → length (cond set (at ∷ ids) ids) ≡ d + length ids
+first_id : (d : ℕ) (set : Bool) (at : ℕ) (ids : List ℕ) → d < 2 → (d == 1) ≡ set → length (cond set (at ∷ ids) ids) ≡
+    d + length ids
 first_id d true at ids small is = let one = eqb-true d 1 is in omega arith
 first_id d false at ids small is = let other = eqb-false d 1 is in omega arith
 
@@ -28,7 +30,8 @@ counted mask at zero q digits = refl
 counted mask at (suc k) q digits =
     let above : mask / 2 ^ (at + 1) ≡ q / 2 = ap (λ n. mask / n) (ap (λ n. 2 ^ n) (add-one at) ∙ pow-suc 2 at)
     ∙ sym (div-div-eq-div-mul mask (2 ^ at) 2) ∙ ap (λ n. n / 2) digits in
-    first_id (mask / 2 ^ at % 2) (mask / 2 ^ at % 2 == 1) at (filter (λ id. bit_at mask id == 1) (range_with_len (at + 1) k))
+    first_id (mask / 2 ^ at % 2) (mask / 2 ^ at % 2 == 1) at
+    (filter (λ id. bit_at mask id == 1) (range_with_len (at + 1) k))
     (mod-lt (mask / 2 ^ at) (omega arith)) refl
     ∙ (λ x. digits x % 2 + counted mask (at + 1) k (q / 2) above x)
 
@@ -43,7 +46,8 @@ ones_add (suc k) a b c few =
     let y = div-add-mod' b 2 in let y_small : b % 2 < 2 = mod-lt b (omega arith) in
     let z = div-add-mod' n 2 in let z_small : n % 2 < 2 = mod-lt n (omega arith) in
     let carried : n / 2 ≡ a / 2 + b / 2 + carry = omega arith in
-    let rest : ones_in k (a / 2 + b / 2 + carry) ≤ ones_in k (a / 2) + ones_in k (b / 2) + carry = ones_add k (a / 2) (b / 2) carry (omega arith) in
+    let rest : ones_in k (a / 2 + b / 2 + carry) ≤ ones_in k (a / 2) + ones_in k (b / 2) + carry =
+    ones_add k (a / 2) (b / 2) carry (omega arith) in
     let same : ones_in k (n / 2) ≡ ones_in k (a / 2 + b / 2 + carry) = ap (ones_in k) carried in
     omega arith
 
@@ -83,19 +87,22 @@ ones_sum k ranks n (x ∷ xs) =
     ones_add k (bit_of ranks (n, x)) others 0 (omega arith) in
     let split : sum_by (bit_of ranks) (enumerate_from n (x ∷ xs)) ≡ bit_of ranks (n, x) + others + 0 =
     omega (arith, sum_by-cons (bit_of ranks) (n, x) (enumerate_from (n + 1) xs)) in
-    let same : ones_in k (sum_by (bit_of ranks) (enumerate_from n (x ∷ xs))) ≡ ones_in k (bit_of ranks (n, x) + others + 0) = ap (ones_in k) split in
+    let same : ones_in k (sum_by (bit_of ranks) (enumerate_from n (x ∷ xs))) ≡ ones_in
+    k (bit_of ranks (n, x) + others + 0) = ap (ones_in k) split in
     omega arith
 
 pub views_shrink : ViewsShrink
 views_shrink view next ranks is = go (view.ltime == last_ltime) is where
   few : member_count (record { ltime = view.ltime + 1; mask = mask_of view ranks }) ≤ member_count view
   few =
-      let all : member_count (record { ltime = view.ltime + 1; mask = mask_of view ranks }) ≡ ones_in 32 (mask_of view ranks) =
+      let all : member_count (record { ltime = view.ltime + 1; mask = mask_of view ranks }) ≡ ones_in
+      32 (mask_of view ranks) =
       counted (mask_of view ranks) 0 32 (mask_of view ranks) (omega arith) in
       let ones : ones_in 32 (mask_of view ranks) ≤ length (ids view) = ones_sum 32 ranks 0 (ids view) in
       omega arith
 
-  go : (b : Bool) → (if b then None else Some record { ltime = view.ltime + 1; mask = mask_of view ranks }) ≡ Some next →
+  go : (b : Bool) → (if b then None else Some record { ltime = view.ltime + 1; mask = mask_of view ranks }) ≡
+      Some next →
       member_count next ≤ member_count view
   go true none = absurd (cc none)
   go false some =

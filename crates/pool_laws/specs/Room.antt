@@ -1,17 +1,20 @@
--- Room in a member's pool: a slot for each row with a message, one for the body of an event, and one for each join of a run.
+-- Room in a member's pool: a slot for each row with a message, one for the body of an event, and one for each join of a
+-- run.
 use Rattle.std.specs.Prelude.{◌≡◌, ℕ, ◌+◌, ◌≤◌, List, [], ◌∷◌, ◌++◌, map, length, Ok}
 use Rattle.std.specs.List.{flat_map, AllByRecursion}
 use Rattle.slot_pool.specs.Held.{Held, spare, IsFull, Puts}
 use Rattle.slot_pool.specs.References.{Exact, Covers}
 use Rattle.layer_mean.specs.Tree.{LayerTree}
 use Rattle.layer_mean.specs.State.{State}
-use Rattle.stack_mean.specs.Acceptance.{rows_of, most_rows, largest_weight, largest_joins, weight_limit, joins_limit, accepted}
+use Rattle.stack_mean.specs.Acceptance.{rows_of, most_rows, largest_weight, largest_joins, weight_limit, joins_limit}
+use Rattle.stack_mean.specs.Acceptance.{accepted}
 use Rattle.chain_laws.specs.Runs.{AreChainedStates}
 use Rattle.layer_stage.specs.Room.{CountsWithin}
 use Rattle.stack_queue.specs.Stages.{most_at_first}
 use Rattle.pool_laws.specs.Rows.{AreWithin}
 
--- The slots that a pool has beyond one for each row: one for the body of the event that begins a run, and one for each of its joins.
+-- The slots that a pool has beyond one for each row: one for the body of the event that begins a run, and one for each
+-- of its joins.
 abbrev pub slots_beyond : ℕ
 slots_beyond = 1025
 
@@ -22,8 +25,8 @@ pub record IsPoolFor (rows : ℕ) (p : List Held) (xs : List ℕ) : Type 0 where
   pub slots : length p ≡ rows + slots_beyond
   pub within : rows ≤ most_rows
 
--- A member's stages are a pool's only users: they are in order in it and have all its references, their states are those of a view of at
--- most so many members, and it is made for as many rows with messages as the stack then keeps.
+-- A member's stages are a pool's only users: they are in order in it and have all its references, their states are
+-- those of a view of at most so many members, and it is made for as many rows with messages as the stack then keeps.
 pub record OwnPool {S : Type 0} (refs : S → List ℕ) (state : List Held → S → State) (Ready : List Held → S → Type 0)
     (stack : List LayerTree) (most : ℕ) (p : List Held) (stages : List S) : Type 0 where
   pub ready : AllByRecursion (Ready p) stages
@@ -33,16 +36,16 @@ pub record OwnPool {S : Type 0} (refs : S → List ℕ) (state : List Held → S
   pub slots : length p ≡ rows_of stack most + slots_beyond
   pub within : rows_of stack most ≤ most_rows
 
--- A run that begins with these references, which are all that there are, finds a slot for each of its joins, and no slot has too many
--- references.
+-- A run that begins with these references, which are all that there are, finds a slot for each of its joins, and no
+-- slot has too many references.
 pub record HasRoom (p : List Held) (xs : List ℕ) : Type 0 where
   pub exact : Exact p xs
   pub covers : Covers p xs
   pub joins : joins_limit ≤ spare p
   pub counts : CountsWithin most_at_first p
 
--- Such a pool isn't full; it has room for a run that begins without a body; and so it has for one that begins with a body, once this is put.
--- (What the run's event refers to stands behind the other references.)
+-- Such a pool isn't full; it has room for a run that begins without a body; and so it has for one that begins with a
+-- body, once this is put. (What the run's event refers to stands behind the other references.)
 abbrev pub NotFull : Type 0
 NotFull = (rows : ℕ) (p : List Held) (xs : List ℕ) → IsPoolFor rows p xs → IsFull p → ⊥
 
@@ -50,8 +53,10 @@ abbrev pub RoomAtFirst : Type 0
 RoomAtFirst = (rows : ℕ) (p : List Held) (xs : List ℕ) → IsPoolFor rows p xs → HasRoom p (xs ++ [])
 
 abbrev pub RoomBehindPut : Type 0
-RoomBehindPut = (rows : ℕ) (p q : List Held) (xs body : List ℕ) (s : ℕ) → IsPoolFor rows p xs → Puts p q body s → HasRoom q (xs ++ s ∷ [])
+RoomBehindPut = (rows : ℕ) (p q : List Held) (xs body : List ℕ) (s : ℕ) → IsPoolFor rows p xs → Puts p q body s →
+    HasRoom q (xs ++ s ∷ [])
 
 -- What an accepted stack's entries weigh and join at most is within the limits.
 abbrev pub AcceptedIsLight : Type 0
-AcceptedIsLight = (stack : List LayerTree) → accepted stack ≡ Ok stack → (largest_weight stack ≤ weight_limit) × (largest_joins stack ≤ joins_limit)
+AcceptedIsLight = (stack : List LayerTree) → accepted stack ≡ Ok stack → (largest_weight stack ≤ weight_limit) ×
+    (largest_joins stack ≤ joins_limit)

@@ -16,7 +16,8 @@ pub record AreWithin (most : ℕ) (states : List State) : Type 0 where
 
 -- The layers of a stack keep at most as many rows with messages as the stack says of a view of so many members.
 abbrev pub StatesKeepRows : Type 0
-StatesKeepRows = (stack : List LayerTree) (states : List State) (most : ℕ) → AreChainedStates stack states → AreWithin most states →
+StatesKeepRows = (stack : List LayerTree) (states : List State) (most : ℕ) → AreChainedStates stack states →
+    AreWithin most states →
     sum_by messages_kept states ≤ rows_of stack most
 
 -- The states with which a member comes into a view are of as many members as the view has.
@@ -26,9 +27,11 @@ FreshAreWithin = (stack : List LayerTree) (me count ltime most : ℕ) → count 
 
 -- A run reads how many members there are, and never changes it.
 abbrev pub RunsKeepCounts : Type 0
-RunsKeepCounts = (turns : ℕ) (stack : List LayerTree) (states : List State) (first : Task Event) (n : ℕ) → AllByRecursion (λ s. s.count ≡ n) states →
+RunsKeepCounts = (turns : ℕ) (stack : List LayerTree) (states : List State) (first : Task Event) (n : ℕ) →
+    AllByRecursion (λ s. s.count ≡ n) states →
     AllByRecursion (λ s. s.count ≡ n) (run turns stack states first).world.states
 
 abbrev pub RunsStayWithin : Type 0
-RunsStayWithin = (turns : ℕ) (stack : List LayerTree) (states : List State) (first : Task Event) (most : ℕ) → AreWithin most states →
+RunsStayWithin = (turns : ℕ) (stack : List LayerTree) (states : List State) (first : Task Event) (most : ℕ) →
+    AreWithin most states →
     AreWithin most (run turns stack states first).world.states

@@ -1,5 +1,5 @@
-//! Laws of room, each the contract of a function that does nothing: the rows with messages that a member keeps are few, and so there are
-//! slots enough in its pool.
+//! Laws of room, each the contract of a function that does nothing: the rows with messages that a member keeps are few,
+//! and so there are slots enough in its pool.
 #![tactic(auto)]
 
 ghost use Rattle.std.specs.Prelude.{ℕ, ◌≤◌, List, length, map};
@@ -31,7 +31,8 @@ pub fn views_shrink()
     ensures { ViewsShrink }
 {}
 
-/// Stages have no more references than their states have rows with messages, so a pool that is theirs alone has as few as it is made for.
+/// Stages have no more references than their states have rows with messages, so a pool that is theirs alone has as few
+/// as it is made for.
 pub fn stages_have_few_references<S: Stage>()
     ensures few { (p : List Held) (stages : List S) → AllByRecursion (S.ready p) stages →
         length (flat_map S.refs stages) ≤ sum_by messages_kept (map (S.state p) stages) }
@@ -39,7 +40,8 @@ pub fn stages_have_few_references<S: Stage>()
         OwnPool S.refs S.state S.ready stack most p stages → IsPoolFor (rows_of stack most) p (flat_map S.refs stages) }
 {}
 
-/// A pool with so many slots more than references isn't full, and has room for a run, with the body of its event and without.
+/// A pool with so many slots more than references isn't full, and has room for a run, with the body of its event and
+/// without.
 pub fn pools_have_room()
     ensures not_full { NotFull }
     ensures first { RoomAtFirst }

@@ -1,11 +1,13 @@
 -- Headers that are put in front, from the last one on.
-use Rattle.std.proofs.Common.{◌≡◌, ℕ, suc, ◌+◌, ◌-◌, ◌<◌, ◌≤◌, List, ◌∷◌, Some, None, map, length, drop, sym, ap, ◌∙◌, arith}
+use Rattle.std.proofs.Common.{◌≡◌, ℕ, suc, ◌+◌, ◌-◌, ◌<◌, ◌≤◌, List, ◌∷◌, Some, None, map, length, drop, sym, ap, ◌∙◌}
+use Rattle.std.proofs.Common.{arith}
 use Rattle.std.proofs.Math.Seq.{drop-cons}
 use Rattle.std.proofs.lemmas.Option.{slice_get-get_or, get_or_from_slice_get}
 use Rattle.std.specs.List.{range_with_len}
 use Rattle.std.specs.Prelude.{slice_get}
 
-pub one_more : {A : Type 0} (xs ys : List A) (k : ℕ) (x : A) → 0 < k → k ≤ length xs → slice_get xs (k - 1) ≡ Some x → ys ≡ drop k xs →
+pub one_more : {A : Type 0} (xs ys : List A) (k : ℕ) (x : A) → 0 < k → k ≤ length xs → slice_get xs (k - 1) ≡ Some x →
+    ys ≡ drop k xs →
     x ∷ ys ≡ drop (k - 1) xs
 one_more xs ys k x some within is front =
     let at : suc (k - 1) ≡ k = omega arith in

@@ -1,20 +1,24 @@
 -- Items of which the first stands by itself.
-use Rattle.std.proofs.Common.{◌≡◌, ℕ, zero, suc, ◌-◌, ◌<◌, ◌≤◌, List, [], ◌∷◌, drop, length, slice_get, refl, sym, ap, arith}
+use Rattle.std.proofs.Common.{◌≡◌, ℕ, zero, suc, ◌-◌, ◌<◌, ◌≤◌, List, [], ◌∷◌, drop, length, slice_get, refl, sym, ap}
+use Rattle.std.proofs.Common.{arith}
 use Rattle.std.specs.Prelude.{◌≢◌, None, Some}
 use Rattle.circular_buffer.specs.Buffer.{last_item}
 use Rattle.pool_message.specs.Lines.{in_line}
 
 module _ {A : Type 0} where
-  pub many : (count : ℕ) (first : A) (others : List A) → length others ≡ count - 1 → count ≡ length (in_line count first others)
+  pub many : (count : ℕ) (first : A) (others : List A) → length others ≡ count - 1 →
+      count ≡ length (in_line count first others)
   many zero first others is = refl
   many (suc n) first others is = omega (arith, is)
 
   -- the first
-  pub first_none : (count : ℕ) (first : A) (others : List A) → count ≡ 0 → None ≡ slice_get (in_line count first others) 0
+  pub first_none : (count : ℕ) (first : A) (others : List A) → count ≡ 0 →
+      None ≡ slice_get (in_line count first others) 0
   first_none zero first others none = refl
   first_none (suc n) first others none = absurd (omega (arith, none))
 
-  pub first_some : (count : ℕ) (first : A) (others : List A) → count ≢ 0 → Some first ≡ slice_get (in_line count first others) 0
+  pub first_some : (count : ℕ) (first : A) (others : List A) → count ≢ 0 →
+      Some first ≡ slice_get (in_line count first others) 0
   first_some zero first others some = absurd (some refl)
   first_some (suc n) first others some = refl
 
@@ -38,7 +42,8 @@ module _ {A : Type 0} where
   got_other count first others zero is behind = absurd (behind refl)
   got_other zero first [] (suc k) is behind = refl
   got_other zero first (x ∷ xs) (suc k) is behind = absurd (omega (arith, is))
-  got_other (suc n) first others (suc k) is behind = let ahead : suc k - 1 ≡ k = omega arith in ap (slice_get others) ahead
+  got_other (suc n) first others (suc k) is behind = let ahead : suc k - 1 ≡ k = omega arith in
+      ap (slice_get others) ahead
 
   -- the first becomes another one
   pub changed : (count : ℕ) (first item : A) (others : List A) → 0 < length (in_line count first others) →
@@ -47,7 +52,8 @@ module _ {A : Type 0} where
   changed (suc n) first item others some = refl
 
   -- none
-  pub none_other : (count : ℕ) (first : A) (others : List A) → length others ≡ count - 1 → in_line count first others ≡ [] → others ≡ []
+  pub none_other : (count : ℕ) (first : A) (others : List A) → length others ≡ count - 1 → in_line count first others ≡
+      [] → others ≡ []
   none_other zero first [] is none = refl
   none_other zero first (x ∷ xs) is none = absurd (omega (arith, is))
   none_other (suc n) first others is none = absurd (cc none)

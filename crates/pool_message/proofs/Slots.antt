@@ -1,5 +1,6 @@
 -- Events come into slots, change there, and go.
-use Rattle.std.proofs.Common.{◌≡◌, ℕ, zero, suc, ◌+◌, ◌-◌, ◌<◌, ◌≤◌, ◌⊎◌, inl, inr, List, [], ◌∷◌, ◌++◌, set, get_or, drop, slice_get, slice_index_or, length, refl, sym, ap, ◌∙◌, subst, arith}
+use Rattle.std.proofs.Common.{◌≡◌, ℕ, zero, suc, ◌+◌, ◌-◌, ◌<◌, ◌≤◌, ◌⊎◌, inl, inr, List, [], ◌∷◌, ◌++◌, set, get_or}
+use Rattle.std.proofs.Common.{drop, slice_get, slice_index_or, length, refl, sym, ap, ◌∙◌, subst, arith}
 use Rattle.std.specs.Prelude.{◌==◌, ◌≢◌, None, Some, true, false}
 use Rattle.std.proofs.lemmas.Bool.{eqb-true, eqb-false}
 use Rattle.std.specs.List.{AllByRecursion}
@@ -13,13 +14,15 @@ use Rattle.pool_message.specs.Slots.{slot_at, standing, first_number, AreParted,
 use Rattle.pool_message.specs.declared.event.PoolEvent.{PoolEvent}
 
 -- a slot is changed, and others stay
-same_at : (xs : List (Dir × PoolEvent)) (k i : ℕ) (y : Dir × PoolEvent) → hit k i ≡ 0 → slot_at (set xs k y) i ≡ slot_at xs i
+same_at : (xs : List (Dir × PoolEvent)) (k i : ℕ) (y : Dir × PoolEvent) → hit k i ≡ 0 →
+    slot_at (set xs k y) i ≡ slot_at xs i
 same_at xs k i y off = go (hit_or_not k i) where
   go : ((k ≡ i) × (hit k i ≡ 1)) ⊎ ((k ≡ i → ⊥) × (hit k i ≡ 0)) → slot_at (set xs k y) i ≡ slot_at xs i
   go (inl (is, one)) = absurd (omega (arith, off, one))
   go (inr (not, none)) = get_or-set_other xs k i y (first_sent []) (λ same. not (sym same))
 
-pub others_stand : (xs : List (Dir × PoolEvent)) (k : ℕ) (y : Dir × PoolEvent) (order : List ℕ) → times k order ≡ 0 → standing (set xs k y) order ≡ standing xs order
+pub others_stand : (xs : List (Dir × PoolEvent)) (k : ℕ) (y : Dir × PoolEvent) (order : List ℕ) → times k order ≡ 0 →
+    standing (set xs k y) order ≡ standing xs order
 others_stand xs k y [] off = refl
 others_stand xs k y (i ∷ order) off =
     let here = same_at xs k i y (omega (arith, off)) in
@@ -27,7 +30,8 @@ others_stand xs k y (i ∷ order) off =
     λ j. here j ∷ rest j
 
 -- a slot more
-more_at : (xs : List (Dir × PoolEvent)) (y : Dir × PoolEvent) (i : ℕ) → i < length xs → slot_at (xs ++ y ∷ []) i ≡ slot_at xs i
+more_at : (xs : List (Dir × PoolEvent)) (y : Dir × PoolEvent) (i : ℕ) → i < length xs →
+    slot_at (xs ++ y ∷ []) i ≡ slot_at xs i
 more_at [] y i lt = absurd (omega (arith, lt))
 more_at (x ∷ xs) y zero lt = refl
 more_at (x ∷ xs) y (suc i) lt = more_at xs y i (omega (arith, lt))
@@ -36,7 +40,8 @@ new_at : (xs : List (Dir × PoolEvent)) (y : Dir × PoolEvent) → slot_at (xs +
 new_at [] y = refl
 new_at (x ∷ xs) y = new_at xs y
 
-more_stand : (xs : List (Dir × PoolEvent)) (y : Dir × PoolEvent) (order : List ℕ) → ((i : ℕ) → 0 < times i order → i < length xs) →
+more_stand : (xs : List (Dir × PoolEvent)) (y : Dir × PoolEvent) (order : List ℕ) →
+    ((i : ℕ) → 0 < times i order → i < length xs) →
     standing (xs ++ y ∷ []) order ≡ standing xs order
 more_stand xs y [] within = refl
 more_stand xs y (k ∷ order) within =
@@ -61,14 +66,33 @@ module _ (xs : List (Dir × PoolEvent)) (order free : List ℕ) (k : ℕ) (y : D
       count = omega (arith, parted.count, length-set xs k y, length-append order (k ∷ []), length-append free (k ∷ []));
       once = λ i. omega (arith, parted.once i, times-append i order (k ∷ []), times-append i free (k ∷ []));
       within = λ i some.
-          omega (arith, length-set xs k y, parted.within i (omega (arith, some, times-append i order (k ∷ []), times-append i free (k ∷ []))));
-      each = λ i lt. omega (arith, parted.each i (omega (arith, lt, length-set xs k y)), times-append i order (k ∷ []), times-append i free (k ∷ []));
+          omega (
+            arith,
+            length-set xs k y,
+            parted.within i (omega (arith, some, times-append i order (k ∷ []), times-append i free (k ∷ []))),
+          );
+      each = λ i lt. omega (
+        arith,
+        parted.each i (omega (arith, lt, length-set xs k y)),
+        times-append i order (k ∷ []),
+        times-append i free (k ∷ []),
+      );
       bare = λ i some. go i some (hit_or_not k i);
     } where
-      go : (i : ℕ) → 0 < times i free → ((k ≡ i) × (hit k i ≡ 1)) ⊎ ((k ≡ i → ⊥) × (hit k i ≡ 0)) → (slot_at (set xs k y) i).1.message ≡ None
-      go i some (inl (is, one)) = absurd (omega (arith, some, ap (λ j. times j free) is, parted.once k, hit_same k, times-append k free (k ∷ [])))
+      go : (i : ℕ) → 0 < times i free → ((k ≡ i) × (hit k i ≡ 1)) ⊎ ((k ≡ i → ⊥) × (hit k i ≡ 0)) →
+          (slot_at (set xs k y) i).1.message ≡ None
+      go i some (inl (is, one)) =
+          absurd (omega (
+            arith,
+            some,
+            ap (λ j. times j free) is,
+            parted.once k,
+            hit_same k,
+            times-append k free (k ∷ []),
+          ))
       go i some (inr (not, none)) =
-          ap (λ (x : Dir × PoolEvent). x.1.message) (same_at xs k i y none) ∙ parted.bare i (omega (arith, some, times-append i free (k ∷ [])))
+          ap (λ (x : Dir × PoolEvent). x.1.message) (same_at xs k i y none) ∙
+          parted.bare i (omega (arith, some, times-append i free (k ∷ [])))
 
     pub used_stands : standing (set xs k y) (order ++ k ∷ []) ≡ standing xs order ++ y ∷ []
     used_stands =
@@ -92,9 +116,11 @@ module _ (xs : List (Dir × PoolEvent)) (order free : List ℕ) (k : ℕ) (y : D
       each = λ i lt. parted.each i (omega (arith, lt, length-set xs k y));
       bare = λ i some. go i some (hit_or_not k i);
     } where
-      go : (i : ℕ) → 0 < times i free → ((k ≡ i) × (hit k i ≡ 1)) ⊎ ((k ≡ i → ⊥) × (hit k i ≡ 0)) → (slot_at (set xs k y) i).1.message ≡ None
+      go : (i : ℕ) → 0 < times i free → ((k ≡ i) × (hit k i ≡ 1)) ⊎ ((k ≡ i → ⊥) × (hit k i ≡ 0)) →
+          (slot_at (set xs k y) i).1.message ≡ None
       go i some (inl (is, one)) = absurd (omega (arith, some, ap (λ j. times j free) is, parted.once k, hit_same k))
-      go i some (inr (not, none)) = ap (λ (x : Dir × PoolEvent). x.1.message) (same_at xs k i y none) ∙ parted.bare i some
+      go i some (inr (not, none)) = ap (λ (x : Dir × PoolEvent). x.1.message) (same_at xs k i y none) ∙
+          parted.bare i some
 
     pub first_stands : standing (set xs k y) (k ∷ order) ≡ y ∷ standing xs order
     first_stands =
@@ -120,7 +146,8 @@ module _ (xs : List (Dir × PoolEvent)) (order free : List ℕ) (k : ℕ) (y : D
       each = λ i lt. omega (arith, parted.each i lt, times-append i free (k ∷ []));
       bare = λ i some. go i some (hit_or_not i k);
     } where
-      go : (i : ℕ) → 0 < times i (free ++ k ∷ []) → ((i ≡ k) × (hit i k ≡ 1)) ⊎ ((i ≡ k → ⊥) × (hit i k ≡ 0)) → (slot_at xs i).1.message ≡ None
+      go : (i : ℕ) → 0 < times i (free ++ k ∷ []) → ((i ≡ k) × (hit i k ≡ 1)) ⊎ ((i ≡ k → ⊥) × (hit i k ≡ 0)) →
+          (slot_at xs i).1.message ≡ None
       go i some (inl (is, one)) = ap (λ j. (slot_at xs j).1.message) is ∙ none
       go i some (inr (not, off)) = parted.bare i (omega (arith, some, off, times-append i free (k ∷ [])))
 
@@ -140,9 +167,19 @@ module _ (xs : List (Dir × PoolEvent)) (order free : List ℕ) (k : ℕ) (y : D
       each = λ i lt. parted.each i (omega (arith, lt, length-set xs k y));
       bare = λ i some. go i some (hit_or_not k i);
     } where
-      go : (i : ℕ) → 0 < times i free → ((k ≡ i) × (hit k i ≡ 1)) ⊎ ((k ≡ i → ⊥) × (hit k i ≡ 0)) → (slot_at (set xs k y) i).1.message ≡ None
-      go i some (inl (is, one)) = absurd (omega (arith, some, ap (λ j. times j free) is, parted.once k, hit_same k, times-append k order (k ∷ [])))
-      go i some (inr (not, none)) = ap (λ (x : Dir × PoolEvent). x.1.message) (same_at xs k i y none) ∙ parted.bare i some
+      go : (i : ℕ) → 0 < times i free → ((k ≡ i) × (hit k i ≡ 1)) ⊎ ((k ≡ i → ⊥) × (hit k i ≡ 0)) →
+          (slot_at (set xs k y) i).1.message ≡ None
+      go i some (inl (is, one)) =
+          absurd (omega (
+            arith,
+            some,
+            ap (λ j. times j free) is,
+            parted.once k,
+            hit_same k,
+            times-append k order (k ∷ []),
+          ))
+      go i some (inr (not, none)) = ap (λ (x : Dir × PoolEvent). x.1.message) (same_at xs k i y none) ∙
+          parted.bare i some
 
     pub last_stands : standing (set xs k y) (order ++ k ∷ []) ≡ standing xs order ++ y ∷ []
     last_stands =
@@ -171,12 +208,18 @@ module _ (xs : List (Dir × PoolEvent)) (order : List ℕ) (y : Dir × PoolEvent
     once i (inr (not, off)) = omega (arith, off, parted.once i, times-append i order (length xs ∷ []))
 
     within : (i : ℕ) → 0 < times i (order ++ length xs ∷ []) + 0 →
-        ((i ≡ length xs) × (hit i (length xs) ≡ 1)) ⊎ ((i ≡ length xs → ⊥) × (hit i (length xs) ≡ 0)) → i < length (xs ++ y ∷ [])
+        ((i ≡ length xs) × (hit i (length xs) ≡ 1)) ⊎ ((i ≡ length xs → ⊥) × (hit i (length xs) ≡ 0)) →
+        i < length (xs ++ y ∷ [])
     within i some (inl (is, one)) = omega (arith, is, length-append xs (y ∷ []))
     within i some (inr (not, off)) =
-        omega (arith, length-append xs (y ∷ []), order_within i (omega (arith, some, off, times-append i order (length xs ∷ []))))
+        omega (
+          arith,
+          length-append xs (y ∷ []),
+          order_within i (omega (arith, some, off, times-append i order (length xs ∷ []))),
+        )
 
-    each : (i : ℕ) → i < length (xs ++ y ∷ []) → ((i ≡ length xs) × (hit i (length xs) ≡ 1)) ⊎ ((i ≡ length xs → ⊥) × (hit i (length xs) ≡ 0)) →
+    each : (i : ℕ) → i < length (xs ++ y ∷ []) → ((i ≡ length xs) × (hit i (length xs) ≡ 1)) ⊎
+        ((i ≡ length xs → ⊥) × (hit i (length xs) ≡ 0)) →
         0 < times i (order ++ length xs ∷ []) + 0
     each i lt (inl (is, one)) = omega (arith, one, times-append i order (length xs ∷ []))
     each i lt (inr (not, off)) =
@@ -184,22 +227,27 @@ module _ (xs : List (Dir × PoolEvent)) (order : List ℕ) (y : Dir × PoolEvent
         omega (arith, parted.each i less, times-append i order (length xs ∷ []))
 
   pub made_stands : standing (xs ++ y ∷ []) (order ++ length xs ∷ []) ≡ standing xs order ++ y ∷ []
-  made_stands = map-append (slot_at (xs ++ y ∷ [])) order (length xs ∷ []) ∙ (λ j. more_stand xs y order order_within j ++ new_at xs y j ∷ [])
+  made_stands = map-append (slot_at (xs ++ y ∷ [])) order (length xs ∷ []) ∙
+      (λ j. more_stand xs y order order_within j ++ new_at xs y j ∷ [])
 
 -- where no event stands, no slot has a message
-by_index : {A : Type 0} (P : A → Type 0) (d : A) (xs : List A) → ((i : ℕ) → i < length xs → P (get_or xs i d)) → AllByRecursion P xs
+by_index : {A : Type 0} (P : A → Type 0) (d : A) (xs : List A) → ((i : ℕ) → i < length xs → P (get_or xs i d)) →
+    AllByRecursion P xs
 by_index P d [] each = tt
 by_index P d (x ∷ xs) each = (each 0 (omega arith), by_index P d xs (λ i lt. each (suc i) (omega (arith, lt))))
 
-pub all_bare : (xs : List (Dir × PoolEvent)) (free : List ℕ) → AreParted xs [] free → AllByRecursion (λ x. x.1.message ≡ None) xs
-all_bare xs free parted = by_index (λ (x : Dir × PoolEvent). x.1.message ≡ None) (first_sent []) xs (λ i lt. parted.bare i (omega (arith, parted.each i lt)))
+pub all_bare : (xs : List (Dir × PoolEvent)) (free : List ℕ) → AreParted xs [] free →
+    AllByRecursion (λ x. x.1.message ≡ None) xs
+all_bare xs free parted = by_index (λ (x : Dir × PoolEvent). x.1.message ≡ None) (first_sent []) xs
+    (λ i lt. parted.bare i (omega (arith, parted.each i lt)))
 
 -- the first of the order, by its number
 front_of : (order : List ℕ) (k : ℕ) → slice_get order 0 ≡ Some k → order ≡ k ∷ drop 1 order
 front_of [] k at = absurd (cc)
 front_of (i ∷ order) k at = let same : i ≡ k = cc in λ j. same j ∷ order
 
-pub front_at : (xs olds : List (Dir × PoolEvent)) (order : List ℕ) (first : ℕ) → IsFirst first order → standing xs order ≡ olds → 0 < length olds → slice_get order 0 ≡ Some first
+pub front_at : (xs olds : List (Dir × PoolEvent)) (order : List ℕ) (first : ℕ) → IsFirst first order →
+    standing xs order ≡ olds → 0 < length olds → slice_get order 0 ≡ Some first
 front_at xs olds [] first is stands some = absurd (omega (arith, some, ap length stands))
 front_at xs olds (k ∷ order) first is stands some = ap Some (sym (is (omega arith)))
 
@@ -216,7 +264,8 @@ pub first_alone : (order : List ℕ) (k : ℕ) → length order ≡ 0 → IsFirs
 first_alone [] k none = λ some. refl
 first_alone (i ∷ order) k none = absurd (omega (arith, none))
 
-pub first_before : (order : List ℕ) (first k : ℕ) → 0 < length order → IsFirst first order → IsFirst first (order ++ k ∷ [])
+pub first_before : (order : List ℕ) (first k : ℕ) → 0 < length order → IsFirst first order →
+    IsFirst first (order ++ k ∷ [])
 first_before [] first k some is = absurd (omega (arith, some))
 first_before (i ∷ order) first k some is = λ more. is some
 
@@ -227,7 +276,8 @@ pub is_some : (order : List ℕ) → false ≡ (length order == 0) → 0 < lengt
 is_some order some = let not : length order ≢ 0 = eqb-false (length order) 0 (sym some) in omega (arith, not)
 
 -- what an index gives
-pub value_at : (xs : List (Dir × PoolEvent)) (k : ℕ) (x : Dir × PoolEvent) → k < length xs → x ≡ slice_index_or xs k x → x ≡ slot_at xs k
+pub value_at : (xs : List (Dir × PoolEvent)) (k : ℕ) (x : Dir × PoolEvent) → k < length xs → x ≡ slice_index_or xs k x →
+    x ≡ slot_at xs k
 value_at [] k x lt is = absurd (omega (arith, lt))
 value_at (y ∷ xs) zero x lt is = is
 value_at (y ∷ xs) (suc k) x lt is = value_at xs k x (omega (arith, lt)) is
@@ -238,19 +288,23 @@ counted [] i k at = absurd (cc)
 counted (n ∷ order) zero k at = let same : n ≡ k = cc in omega (arith, hit_same k, ap (hit k) same)
 counted (n ∷ order) (suc i) k at = omega (arith, counted order i k at)
 
-pub got_within : (xs : List (Dir × PoolEvent)) (order free : List ℕ) (i k : ℕ) → AreParted xs order free → slice_get order i ≡ Some k → k < length xs
+pub got_within : (xs : List (Dir × PoolEvent)) (order free : List ℕ) (i k : ℕ) → AreParted xs order free →
+    slice_get order i ≡ Some k → k < length xs
 got_within xs order free i k parted at = parted.within k (omega (arith, counted order i k at))
 
-pub got_at : (xs : List (Dir × PoolEvent)) (order : List ℕ) (i k : ℕ) → slice_get order i ≡ Some k → slice_get (standing xs order) i ≡ Some (slot_at xs k)
+pub got_at : (xs : List (Dir × PoolEvent)) (order : List ℕ) (i k : ℕ) → slice_get order i ≡ Some k →
+    slice_get (standing xs order) i ≡ Some (slot_at xs k)
 got_at xs [] i k at = absurd (cc)
 got_at xs (n ∷ order) zero k at = let same : n ≡ k = cc in ap (λ m. Some (slot_at xs m)) same
 got_at xs (n ∷ order) (suc i) k at = got_at xs order i k at
 
-pub none_first : (xs : List (Dir × PoolEvent)) (order : List ℕ) → length order ≡ 0 → slice_get (standing xs order) 0 ≡ None
+pub none_first : (xs : List (Dir × PoolEvent)) (order : List ℕ) → length order ≡ 0 → slice_get (standing xs order) 0 ≡
+    None
 none_first xs [] none = refl
 none_first xs (n ∷ order) none = absurd (omega (arith, none))
 
-pub none_behind : (xs : List (Dir × PoolEvent)) (order : List ℕ) (i : ℕ) → slice_get order i ≡ None → length (standing xs order) ≤ i
+pub none_behind : (xs : List (Dir × PoolEvent)) (order : List ℕ) (i : ℕ) → slice_get order i ≡ None →
+    length (standing xs order) ≤ i
 none_behind xs [] i at = omega arith
 none_behind xs (n ∷ order) zero at = absurd (cc)
 none_behind xs (n ∷ order) (suc i) at = omega (arith, none_behind xs order i at)
@@ -268,13 +322,15 @@ none_stand xs [] is = refl
 none_stand xs (k ∷ order) is = absurd (omega (arith, ap length is))
 
 -- the last of slots without messages has none
-pub last_bare : (xs ys : List (Dir × PoolEvent)) (x : Dir × PoolEvent) → xs ≡ ys ++ x ∷ [] → AllByRecursion (λ x. x.1.message ≡ None) xs → x.1.message ≡ None
+pub last_bare : (xs ys : List (Dir × PoolEvent)) (x : Dir × PoolEvent) → xs ≡ ys ++ x ∷ [] →
+    AllByRecursion (λ x. x.1.message ≡ None) xs → x.1.message ≡ None
 last_bare xs ys x is all = go ys (subst (λ zs. AllByRecursion (λ x. x.1.message ≡ None) zs) is all) where
   go : (ys : List (Dir × PoolEvent)) → AllByRecursion (λ x. x.1.message ≡ None) (ys ++ x ∷ []) → x.1.message ≡ None
   go [] all = all.0
   go (y ∷ ys) all = go ys all.1
 
-module _ (xs : List (Dir × PoolEvent)) (order free : List ℕ) (k : ℕ) (parted : AreParted xs order free) (at : slice_get order 0 ≡ Some k) where
+module _ (xs : List (Dir × PoolEvent)) (order free : List ℕ) (k : ℕ) (parted : AreParted xs order free)
+    (at : slice_get order 0 ≡ Some k) where
   ahead : AreParted xs (k ∷ drop 1 order) free
   ahead = subst (λ o. AreParted xs o free) (front_of order k at) parted
 
@@ -291,7 +347,8 @@ module _ (xs : List (Dir × PoolEvent)) (order free : List ℕ) (k : ℕ) (parte
   front_room = omega (arith, parted.count, ap length (front_of order k at))
 
   pub front_changed : (y : Dir × PoolEvent) → AreParted (set xs k y) order free
-  front_changed y = subst (λ o. AreParted (set xs k y) o free) (sym (front_of order k at)) (first_changed xs (drop 1 order) free k y ahead)
+  front_changed y = subst (λ o. AreParted (set xs k y) o free) (sym (front_of order k at))
+      (first_changed xs (drop 1 order) free k y ahead)
 
   pub front_stands : (y : Dir × PoolEvent) → standing (set xs k y) order ≡ y ∷ drop 1 (standing xs order)
   front_stands y =
@@ -306,12 +363,14 @@ module _ (xs : List (Dir × PoolEvent)) (order free : List ℕ) (k : ℕ) (parte
   front_round = goes_round xs (drop 1 order) free k (first_sent []) ahead
 
 -- the last of the order, by its number
-split_at : (order : List ℕ) (n k : ℕ) → n + 1 ≡ length order → slice_get order n ≡ Some k → (olds : List ℕ) × (order ≡ olds ++ k ∷ [])
+split_at : (order : List ℕ) (n k : ℕ) → n + 1 ≡ length order → slice_get order n ≡ Some k →
+    (olds : List ℕ) × (order ≡ olds ++ k ∷ [])
 split_at [] n k is at = absurd (omega (arith, is))
 split_at (i ∷ []) zero k is at = let same : i ≡ k = cc in ([], λ j. same j ∷ [])
 split_at (i ∷ []) (suc n) k is at = absurd (omega (arith, is))
 split_at (i ∷ i' ∷ order) zero k is at = absurd (omega (arith, is))
-split_at (i ∷ i' ∷ order) (suc n) k is at = let rest = split_at (i' ∷ order) n k (omega (arith, is)) at in (i ∷ rest.0, λ j. i ∷ rest.1 j)
+split_at (i ∷ i' ∷ order) (suc n) k is at = let rest = split_at (i' ∷ order) n k (omega (arith, is)) at in
+    (i ∷ rest.0, λ j. i ∷ rest.1 j)
 
 last_of : (order : List ℕ) (k : ℕ) → last_item order ≡ Some k → (olds : List ℕ) × (order ≡ olds ++ k ∷ [])
 last_of [] k at = absurd (cc)
@@ -322,9 +381,11 @@ fronts [] [] x y same = (refl, ap first_sent same)
 fronts [] (y' ∷ ys) x y same = absurd (omega (arith, ap length same, length-append ys (y ∷ [])))
 fronts (x' ∷ xs) [] x y same = absurd (omega (arith, ap length same, length-append xs (x ∷ [])))
 fronts (x' ∷ xs) (y' ∷ ys) x y same =
-    let here : x' ≡ y' = ap first_sent same in let rest = fronts xs ys x y (ap (drop 1) same) in ((λ j. here j ∷ rest.0 j), rest.1)
+    let here : x' ≡ y' = ap first_sent same in let rest = fronts xs ys x y (ap (drop 1) same) in
+    ((λ j. here j ∷ rest.0 j), rest.1)
 
-module _ (xs olds : List (Dir × PoolEvent)) (e : Dir × PoolEvent) (order free : List ℕ) (k : ℕ) (parted : AreParted xs order free)
+module _ (xs olds : List (Dir × PoolEvent)) (e : Dir × PoolEvent) (order free : List ℕ) (k : ℕ)
+    (parted : AreParted xs order free)
     (at : last_item order ≡ Some k) (is : standing xs order ≡ olds ++ e ∷ []) where
   abbrev init : List ℕ
   init = (last_of order k at).0
@@ -336,7 +397,8 @@ module _ (xs olds : List (Dir × PoolEvent)) (e : Dir × PoolEvent) (order free 
   behind = subst (λ o. AreParted xs o free) split parted
 
   both : (standing xs init ≡ olds) × (slot_at xs k ≡ e)
-  both = fronts (standing xs init) olds (slot_at xs k) e (sym (map-append (slot_at xs) init (k ∷ [])) ∙ sym (ap (standing xs) split) ∙ is)
+  both = fronts (standing xs init) olds (slot_at xs k) e
+      (sym (map-append (slot_at xs) init (k ∷ [])) ∙ sym (ap (standing xs) split) ∙ is)
 
   pub back_within : k < length xs
   back_within = last_within xs init free k e behind

@@ -12,8 +12,10 @@ use Rattle.pool_message.specs.declared.event.PoolEvent.{PoolEvent}
 
 -- the first one is the last that was written through r
 abbrev pub lends_first : MutBor (Buffer (Dir × PoolEvent)) → MutBor (Dir × PoolEvent) → Fml
-lends_first es r = Lends the_row (Tuple (dir.the_row ∷ event.the_row ∷ [])) es r (λ w. buffer (w ∷ drop 1 es.now.items) es.now.capacity)
+lends_first es r = Lends the_row (Tuple (dir.the_row ∷ event.the_row ∷ [])) es r
+    (λ w. buffer (w ∷ drop 1 es.now.items) es.now.capacity)
 
 -- the same of the list in its box
 abbrev pub lends_listed : MutBor (Buffer (Dir × PoolEvent)) → MutBor (Dir × PoolEvent) → Fml
-lends_listed es r = Lends list.the_row (Tuple (dir.the_row ∷ event.the_row ∷ [])) es r (λ w. buffer (w ∷ drop 1 es.now.items) es.now.capacity)
+lends_listed es r = Lends list.the_row (Tuple (dir.the_row ∷ event.the_row ∷ [])) es r
+    (λ w. buffer (w ∷ drop 1 es.now.items) es.now.capacity)

@@ -72,7 +72,8 @@ pub record BodyMade (p q : List Held) (from : List ℕ) (bytes : List ℕ) (b : 
   pub shows : body_seen q b ≡ bytes
 
 abbrev pub BodiesJoined : List Held → List Held → Option Part → Option Part → Option (Option Part) → Type 0
-BodiesJoined p q x y (Some b) = BodyMade p q (body_refs x ++ body_refs y) (joined_bytes (body_seen p x) (body_seen p y)) b
+BodiesJoined p q x y (Some b) = BodyMade p q (body_refs x ++ body_refs y) (joined_bytes (body_seen p x) (body_seen p y))
+    b
 BodiesJoined p q x y None = NoSlot p q (body_refs x ++ body_refs y) (body_seen p x) (body_seen p y)
 
 abbrev pub PartsJoined : List Held → List Held → Part → Part → Option Part → Type 0

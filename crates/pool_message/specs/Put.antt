@@ -11,7 +11,8 @@ use Rattle.pool_message.specs.declared.event.PoolEvent.{PoolEvent}
 use Rattle.pool_message.specs.declared.message.PoolMessage.{PoolMessage}
 
 -- In a pool that wasn't full a message was made that shows this, and an event with it is the last.
-pub record PutLast (p : List Held) (old : Buffer (Dir × PoolEvent)) (dir : Dir) (envelope : Envelope) (content : Content) (q : List Held)
+pub record PutLast (p : List Held) (old : Buffer (Dir × PoolEvent)) (dir : Dir) (envelope : Envelope)
+    (content : Content) (q : List Held)
     (new : Buffer (Dir × PoolEvent)) : Type 0 where
   pub message : PoolMessage
   pub made : Made p q [] content message
@@ -19,6 +20,7 @@ pub record PutLast (p : List Held) (old : Buffer (Dir × PoolEvent)) (dir : Dir)
   pub room : IsFull p → ⊥
 
 -- Such an event was put; or the pool is full, and nothing has changed.
-abbrev pub Puts : List Held → Buffer (Dir × PoolEvent) → Dir → Envelope → Content → List Held → Buffer (Dir × PoolEvent) → Bool → Type 0
+abbrev pub Puts : List Held → Buffer (Dir × PoolEvent) → Dir → Envelope → Content → List Held →
+    Buffer (Dir × PoolEvent) → Bool → Type 0
 Puts p old dir envelope content q new true = PutLast p old dir envelope content q new
 Puts p old dir envelope content q new false = IsFull p × (q ≡ p) × (new ≡ old)

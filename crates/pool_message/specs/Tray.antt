@@ -1,5 +1,6 @@
 -- What lies on a tray, on which the event that a layer takes stays in front of those that it sends until it goes on.
-use Rattle.std.specs.Prelude.{◌≡◌, ℕ, ◌<◌, true, List, [], ◌∷◌, ◌++◌, drop, length, slice_index_or, Option, None, option_to_list, is_some}
+use Rattle.std.specs.Prelude.{◌≡◌, ℕ, ◌<◌, true, List, [], ◌∷◌, ◌++◌, drop, length, slice_index_or, Option, None}
+use Rattle.std.specs.Prelude.{option_to_list, is_some}
 use Rattle.circular_buffer.specs.Buffer.{Buffer, buffer}
 use Rattle.layer_ast.specs.declared.tokens.Dir.{Dir}
 use Rattle.layer_mean.specs.declared.envelope.Envelope.{Envelope}

@@ -4,7 +4,8 @@ use crate::place::Place;
 use layer_ast::Kind;
 use layer_mean::Envelope;
 
-/// What travels between adjacent layers. Numbers that its kind doesn't have are 0, and a Cast and a Send alone carry a message.
+/// What travels between adjacent layers. Numbers that its kind doesn't have are 0, and a Cast and a Send alone carry a
+/// message.
 pub struct PoolEvent {
     pub kind: Kind,
     /// The rank that a Cast or a Send names: its sender going up, and going down the one that it is for.

@@ -1,6 +1,7 @@
 //! Events that were sent.
 
-ghost use Rattle.std.specs.Prelude.{◌≡◌, ◌<◌, ◌≤◌, [], ◌∷◌, ◌++◌, length, drop, slice_get, Some, None, option_map, IfOk};
+ghost use Rattle.std.specs.Prelude.{◌≡◌, ◌<◌, ◌≤◌, [], ◌∷◌, ◌++◌, length, drop, slice_get, Some, None, option_map};
+ghost use Rattle.std.specs.Prelude.{IfOk};
 ghost use Rattle.circular_buffer.specs.Buffer.{buffer, last_item};
 ghost use Rattle.slot_pool.specs.References.{Covers};
 ghost use Rattle.msg_core.specs.Parts.{longest_body};
@@ -8,7 +9,8 @@ ghost use Rattle.pool_message.specs.Moves.{CanKeep, Kept, Returned};
 ghost use Rattle.pool_message.specs.Piled.{without_last};
 ghost use Rattle.pool_message.specs.Put.{Puts};
 ghost use Rattle.pool_message.specs.Seen.{refs, event_refs};
-ghost use Rattle.pool_message.specs.Sent.{sent_refs, most_sent, first_sent, sent_behind, message_passed, pool_event, CanPass};
+ghost use Rattle.pool_message.specs.Sent.{sent_refs, most_sent, first_sent, sent_behind, message_passed, pool_event};
+ghost use Rattle.pool_message.specs.Sent.{CanPass};
 
 use crate::event::PoolEvent;
 use crate::list::List;
@@ -25,8 +27,9 @@ use std::marker::Model;
 /// The most places for events.
 pub const MOST_SENT: usize = 1_048_576;
 
-/// The events that were sent, in order, each with its direction. There is a number of places for them, at most `MOST_SENT`, which
-/// is chosen once. Two lists are swapped by their pointers. It can't be let go: it is emptied, and then closed.
+/// The events that were sent, in order, each with its direction. There is a number of places for them, at most
+/// `MOST_SENT`, which is chosen once. Two lists are swapped by their pointers. It can't be let go: it is emptied, and
+/// then closed.
 pub struct Events {
     list: Box<List>,
 }
@@ -112,7 +115,8 @@ impl Events {
     #[inline(always)]
     pub fn push_from(&mut self, direction: Dir, envelope: Envelope, message: &mut Place)
         requires { length self.old.items < self.old.capacity }
-        ensures pushed { self.new ≡ buffer (self.old.items ++ (direction, pool_event envelope message.old) ∷ []) self.old.capacity }
+        ensures pushed { self.new ≡ buffer (self.old.items ++ (direction, pool_event envelope message.old) ∷ [])
+            self.old.capacity }
         ensures left { message.new ≡ None }
     {
         self.list.push_from(direction, envelope, message);
@@ -126,19 +130,22 @@ impl Events {
         self.list.push_bare(direction, envelope);
     }
 
-    /// Puts an event with this envelope and with the last of some messages, if there is one, behind the others. That message is
-    /// taken out.
+    /// Puts an event with this envelope and with the last of some messages, if there is one, behind the others. That
+    /// message is taken out.
     #[inline(always)]
     pub fn push_last(&mut self, direction: Dir, envelope: Envelope, messages: &mut Messages)
         requires { length self.old.items < self.old.capacity }
-        ensures pushed { self.new ≡ buffer (self.old.items ++ (direction, pool_event envelope (last_item messages.old.items)) ∷ []) self.old.capacity }
+        ensures pushed { self.new ≡
+            buffer (self.old.items ++ (direction, pool_event envelope (last_item messages.old.items)) ∷ [])
+            self.old.capacity }
         ensures rest { messages.new ≡ buffer (without_last messages.old.items) messages.old.capacity }
     {
         self.list.push_last(direction, envelope, messages);
     }
 
-    /// Puts an event with this envelope and with a message of these headers and a copy of these bytes, behind the others: the
-    /// bytes in a slot that was unused, and the headers where the event stands. False where the pool is full, and then nothing has changed.
+    /// Puts an event with this envelope and with a message of these headers and a copy of these bytes, behind the
+    /// others: the bytes in a slot that was unused, and the headers where the event stands. False where the pool is
+    /// full, and then nothing has changed.
     #[inline(always)]
     pub fn push_put(
         &mut self,
@@ -150,14 +157,15 @@ impl Events {
     ) -> bool
         requires room { length self.old.items < self.old.capacity }
         requires fits { length bytes.now ≤ longest_body }
-        ensures { Puts pool.old self.old direction envelope (record { headers = headers.now; body = bytes.now }) pool.new self.new result }
+        ensures { Puts pool.old self.old direction envelope (record { headers = headers.now; body = bytes.now })
+            pool.new self.new result }
     {
         self.list
             .push_put(direction, envelope, headers, bytes, pool)
     }
 
-    /// Puts an event with this envelope and with a message once more, which goes down behind this header, behind the others. The
-    /// two share the message's bytes, to which there is one more reference.
+    /// Puts an event with this envelope and with a message once more, which goes down behind this header, behind the
+    /// others. The two share the message's bytes, to which there is one more reference.
     pub fn push_kept(
         &mut self,
         direction: Dir,
@@ -170,7 +178,9 @@ impl Events {
         requires room { CanPass direction (Some message.now) }
         requires there { Covers pool.old (refs message.now) }
         requires keeps { CanKeep pool.old (refs message.now) }
-        ensures pushed { self.new ≡ buffer (self.old.items ++ (direction, pool_event envelope (Some (sent_behind direction header message.now))) ∷ []) self.old.capacity }
+        ensures pushed { self.new ≡
+            buffer (self.old.items ++ (direction, pool_event envelope (Some (sent_behind direction header message.now)))
+            ∷ []) self.old.capacity }
         ensures kept { Kept pool.old pool.new (refs message.now) }
     {
         self.list
@@ -232,7 +242,8 @@ impl Events {
     }
 }
 
-/// A message passes a layer, if there is one: going down it gets this header in front, and going up it loses its first one.
+/// A message passes a layer, if there is one: going down it gets this header in front, and going up it loses its first
+/// one.
 pub fn pass_message(direction: Dir, header: Header, message: &mut Place)
     requires { CanPass direction message.old }
     ensures { message.new ≡ option_map (message_passed direction header) message.old }

@@ -1,5 +1,5 @@
-//! Messages, rows and events whose bodies stand in a pool: headers in place, and a body that is a range of a slot's bytes.
-//! Nothing here takes memory.
+//! Messages, rows and events whose bodies stand in a pool: headers in place, and a body that is a range of a slot's
+//! bytes. Nothing here takes memory.
 #![tactic(auto)]
 
 mod event;

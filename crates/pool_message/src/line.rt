@@ -1,14 +1,15 @@
 //! Rings of which the first item stands by itself.
 
-ghost use Rattle.std.specs.Prelude.{◌≡◌, ◌==◌, ◌<◌, ◌≤◌, [], ◌∷◌, ◌++◌, length, drop, slice_get, option_copied, IfOk, IfErr, OnOk, IsOk, ◌↔◌};
+ghost use Rattle.std.specs.Prelude.{◌≡◌, ◌==◌, ◌<◌, ◌≤◌, [], ◌∷◌, ◌++◌, length, drop, slice_get, option_copied, IfOk};
+ghost use Rattle.std.specs.Prelude.{IfErr, OnOk, IsOk, ◌↔◌};
 ghost use Rattle.circular_buffer.specs.Buffer.{buffer, last_item};
 
 use circular_buffer::HeapCircularBuffer;
 use std::alloc::{AllocError, Global};
 use std::marker::Model;
 
-/// Items in order, of which there is a most. The first stands by itself, and those behind it in a ring: mostly there is no other, and it is looked
-/// up and changed far more often than one comes behind it.
+/// Items in order, of which there is a most. The first stands by itself, and those behind it in a ring: mostly there is
+/// no other, and it is looked up and changed far more often than one comes behind it.
 #[derive(Drop)]
 pub struct Line<T> {
     count: usize,

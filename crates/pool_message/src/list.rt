@@ -1,6 +1,7 @@
 //! The list of events that were sent, as it lies in its box.
 
-ghost use Rattle.std.specs.Prelude.{◌≡◌, ◌<◌, ◌≤◌, [], ◌∷◌, ◌++◌, length, drop, slice_get, Some, None, option_map, IfOk};
+ghost use Rattle.std.specs.Prelude.{◌≡◌, ◌<◌, ◌≤◌, [], ◌∷◌, ◌++◌, length, drop, slice_get, Some, None, option_map};
+ghost use Rattle.std.specs.Prelude.{IfOk};
 ghost use Rattle.circular_buffer.specs.Buffer.{buffer, last_item};
 ghost use Rattle.slot_pool.specs.References.{Covers};
 ghost use Rattle.msg_core.specs.Parts.{longest_body};
@@ -24,9 +25,9 @@ use slot_pool::{Memory, Pool};
 use std::alloc::Global;
 use std::marker::Model;
 
-/// The events that were sent, in order, each with its direction. There is a number of places for them, at most `MOST_SENT`, which
-/// is chosen once. An event stays in its slot while the order moves on, and its slot is used again when it is gone, so few slots are ever
-/// touched. It can't be let go: it is emptied, and then closed.
+/// The events that were sent, in order, each with its direction. There is a number of places for them, at most
+/// `MOST_SENT`, which is chosen once. An event stays in its slot while the order moves on, and its slot is used again
+/// when it is gone, so few slots are ever touched. It can't be let go: it is emptied, and then closed.
 pub(crate) struct List {
     slots: Vec<(Dir, PoolEvent)>,
     /// The numbers of the slots in which events stand.
@@ -50,7 +51,8 @@ impl Model for List {
     ghost view = { λ e. buffer (standing e.slots.items e.order.items) e.order.capacity };
 
     ghost invariant = { λ e. AreParted e.slots.items e.order.items e.free.items × (e.order.capacity ≤ most_sent)
-        × (e.order.capacity ≤ vec_capacity e.slots) × (e.order.capacity ≤ vec_capacity e.free) × (length e.slots.items ≤ e.order.capacity) × IsFirst e.first e.order.items };
+        × (e.order.capacity ≤ vec_capacity e.slots) × (e.order.capacity ≤ vec_capacity e.free) ×
+        (length e.slots.items ≤ e.order.capacity) × IsFirst e.first e.order.items };
 }
 
 impl List {
@@ -130,7 +132,8 @@ impl List {
     #[inline(always)]
     pub fn push_from(&mut self, direction: Dir, envelope: Envelope, message: &mut Place)
         requires { length self.old.items < self.old.capacity }
-        ensures pushed { self.new ≡ buffer (self.old.items ++ (direction, pool_event envelope message.old) ∷ []) self.old.capacity }
+        ensures pushed { self.new ≡ buffer (self.old.items ++ (direction, pool_event envelope message.old) ∷ [])
+            self.old.capacity }
         ensures left { message.new ≡ None }
     {
         self.push_bare(direction, envelope);
@@ -167,12 +170,14 @@ impl List {
         }
     }
 
-    /// Puts an event with this envelope and with the last of some messages, if there is one, behind the others. That message is
-    /// taken out.
+    /// Puts an event with this envelope and with the last of some messages, if there is one, behind the others. That
+    /// message is taken out.
     #[inline(always)]
     pub fn push_last(&mut self, direction: Dir, envelope: Envelope, messages: &mut Messages)
         requires { length self.old.items < self.old.capacity }
-        ensures pushed { self.new ≡ buffer (self.old.items ++ (direction, pool_event envelope (last_item messages.old.items)) ∷ []) self.old.capacity }
+        ensures pushed { self.new ≡
+            buffer (self.old.items ++ (direction, pool_event envelope (last_item messages.old.items)) ∷ [])
+            self.old.capacity }
         ensures rest { messages.new ≡ buffer (without_last messages.old.items) messages.old.capacity }
     {
         self.push_bare(direction, envelope);
@@ -182,8 +187,9 @@ impl List {
         fill_last(&mut self.slots[*k as usize], messages);
     }
 
-    /// Puts an event with this envelope and with a message of these headers and a copy of these bytes, behind the others: the
-    /// bytes in a slot that was unused, and the headers where the event stands. False where the pool is full, and then nothing has changed.
+    /// Puts an event with this envelope and with a message of these headers and a copy of these bytes, behind the
+    /// others: the bytes in a slot that was unused, and the headers where the event stands. False where the pool is
+    /// full, and then nothing has changed.
     #[inline(always)]
     pub fn push_put(
         &mut self,
@@ -195,7 +201,8 @@ impl List {
     ) -> bool
         requires room { length self.old.items < self.old.capacity }
         requires fits { length bytes.now ≤ longest_body }
-        ensures { Puts pool.old self.old direction envelope (record { headers = headers.now; body = bytes.now }) pool.new self.new result }
+        ensures { Puts pool.old self.old direction envelope (record { headers = headers.now; body = bytes.now })
+            pool.new self.new result }
     {
         let Some(slot) = pool.put(bytes) else {
             return false
@@ -213,7 +220,11 @@ impl List {
     #[inline(always)]
     fn push_made(&mut self, direction: Dir, envelope: Envelope, headers: &Headers, body: Part)
         requires { length self.old.items < self.old.capacity }
-        ensures { self.new ≡ buffer (self.old.items ++ (direction, pool_event envelope (Some (record { headers = headers.now; body = Some body }))) ∷ []) self.old.capacity }
+        ensures { self.new ≡ buffer
+            (self.old.items ++ (
+              direction,
+              pool_event envelope (Some (record { headers = headers.now; body = Some body })),
+            ) ∷ []) self.old.capacity }
     {
         self.push_bare(direction, envelope);
         let Some(k) = self.order.back() else {
@@ -222,8 +233,8 @@ impl List {
         fill_made(&mut self.slots[*k as usize], headers, body);
     }
 
-    /// Puts an event with this envelope and with a message once more, which goes down behind this header, behind the others. The
-    /// two share the message's bytes, to which there is one more reference.
+    /// Puts an event with this envelope and with a message once more, which goes down behind this header, behind the
+    /// others. The two share the message's bytes, to which there is one more reference.
     pub fn push_kept(
         &mut self,
         direction: Dir,
@@ -236,7 +247,9 @@ impl List {
         requires room { CanPass direction (Some message.now) }
         requires there { Covers pool.old (refs message.now) }
         requires keeps { CanKeep pool.old (refs message.now) }
-        ensures pushed { self.new ≡ buffer (self.old.items ++ (direction, pool_event envelope (Some (sent_behind direction header message.now))) ∷ []) self.old.capacity }
+        ensures pushed { self.new ≡
+            buffer (self.old.items ++ (direction, pool_event envelope (Some (sent_behind direction header message.now)))
+            ∷ []) self.old.capacity }
         ensures kept { Kept pool.old pool.new (refs message.now) }
     {
         self.push_bare(direction, envelope);
@@ -357,7 +370,10 @@ fn fill_from(sent: &mut (Dir, PoolEvent), message: &mut Place)
 /// An event without a message gets one of these headers before this body.
 fn fill_made(sent: &mut (Dir, PoolEvent), headers: &Headers, body: Part)
     requires { sent.old.1.message ≡ None }
-    ensures { sent.new ≡ (sent.old.0, record sent.old.1 { message = Some (record { headers = headers.now; body = Some body }) }) }
+    ensures { sent.new ≡ (
+      sent.old.0,
+      record sent.old.1 { message = Some (record { headers = headers.now; body = Some body }) },
+    ) }
 {
     sent.1.message.make(headers, body);
 }
@@ -383,7 +399,8 @@ fn fill_kept(
     requires room { CanPass direction (Some message.now) }
     requires there { Covers pool.old (refs message.now) }
     requires keeps { CanKeep pool.old (refs message.now) }
-    ensures filled { sent.new ≡ (sent.old.0, record sent.old.1 { message = Some (sent_behind direction header message.now) }) }
+    ensures filled { sent.new ≡
+        (sent.old.0, record sent.old.1 { message = Some (sent_behind direction header message.now) }) }
     ensures kept { Kept pool.old pool.new (refs message.now) }
 {
     let place = &mut sent.1.message;

@@ -7,8 +7,8 @@ use msg_core::{Fields, Header, Headers};
 use slot_pool::Pool;
 use std::mem;
 
-/// At most 24 headers, in place, before a body that is nothing or a part of a slot. It can't be let go: its reference goes back
-/// to the pool.
+/// At most 24 headers, in place, before a body that is nothing or a part of a slot. It can't be let go: its reference
+/// goes back to the pool.
 pub struct PoolMessage {
     pub(crate) headers: Headers,
     pub(crate) body: Option<Part>,
@@ -186,7 +186,8 @@ impl PoolMessage {
         self.set_body(Some(body));
     }
 
-    /// Becomes the same message once more. It has no bytes itself; then the two share theirs, to which there is one more reference.
+    /// Becomes the same message once more. It has no bytes itself; then the two share theirs, to which there is one
+    /// more reference.
     pub fn keep_from(&mut self, other: &PoolMessage, pool: &mut Pool)
         requires bare { self.old.body ≡ None }
         requires there { Covers pool.old (refs other.now) }
@@ -253,9 +254,9 @@ impl PoolMessage {
         }
     }
 
-    /// The bytes of `first` in front of those of `second`, behind the headers of `second`; `second` alone where they would be more
-    /// than a body has. A slot is taken only where both have bytes, and there is none where the pool is full then: both are given
-    /// back.
+    /// The bytes of `first` in front of those of `second`, behind the headers of `second`; `second` alone where they
+    /// would be more than a body has. A slot is taken only where both have bytes, and there is none where the pool is
+    /// full then: both are given back.
     pub fn join(first: PoolMessage, second: PoolMessage, pool: &mut Pool) -> Option<PoolMessage>
         requires there { Covers pool.old (refs first ++ refs second) }
         requires front { Lies pool.old first }

@@ -10,8 +10,9 @@ use slot_pool::{Memory, Pool};
 use std::alloc::Global;
 use std::marker::Model;
 
-/// Messages in order, the newest last, in as many places as are chosen once. Their places stay when they go, so that a message is made and
-/// taken over where it lies, and a place is first touched when it is used. It can't be let go: it is emptied, and then closed.
+/// Messages in order, the newest last, in as many places as are chosen once. Their places stay when they go, so that a
+/// message is made and taken over where it lies, and a place is first touched when it is used. It can't be let go: it
+/// is emptied, and then closed.
 pub struct Messages {
     places: Vec<PoolMessage>,
     count: usize,
@@ -27,11 +28,13 @@ impl Model for Messages {
 
     ghost view = { λ m. buffer (take m.count m.places.items) (vec_capacity m.places) };
 
-    ghost invariant = { λ m. (m.count ≤ length m.places.items) × AllByRecursion (λ x. x.body ≡ None) (drop m.count m.places.items) };
+    ghost invariant = { λ m. (m.count ≤ length m.places.items) ×
+        AllByRecursion (λ x. x.body ≡ None) (drop m.count m.places.items) };
 }
 
 impl Messages {
-    ghost use Rattle.std.specs.Prelude.{◌≡◌, ◌==◌, ◌<◌, ◌≤◌, [], ◌∷◌, ◌++◌, length, slice_get, slice_index_or, slice_set, option_copied, IfOk, Some, None};
+    ghost use Rattle.std.specs.Prelude.{◌≡◌, ◌==◌, ◌<◌, ◌≤◌, [], ◌∷◌, ◌++◌, length, slice_get, slice_index_or};
+    ghost use Rattle.std.specs.Prelude.{slice_set, option_copied, IfOk, Some, None};
     ghost use Rattle.circular_buffer.specs.Buffer.{buffer, last_item};
     ghost use Rattle.slot_pool.specs.References.{Covers};
     ghost use Rattle.msg_core.specs.Headers.{most_headers};
@@ -120,8 +123,8 @@ impl Messages {
         self.places[last].keep_from(message, pool);
     }
 
-    /// Puts a message without headers and with a copy of these bytes behind the others, in a slot that was unused. False where the pool is full,
-    /// and then nothing has changed.
+    /// Puts a message without headers and with a copy of these bytes behind the others, in a slot that was unused.
+    /// False where the pool is full, and then nothing has changed.
     pub fn push_put(&mut self, bytes: &[u8], pool: &mut Pool) -> bool
         requires room { length self.old.items < self.old.capacity }
         requires fits { length bytes.now ≤ longest_body }
@@ -184,7 +187,8 @@ impl Messages {
         }
     }
 
-    /// A message takes the place of the message number `k`, whose reference goes back; where there is none, its own goes back.
+    /// A message takes the place of the message number `k`, whose reference goes back; where there is none, its own
+    /// goes back.
     pub fn replace(&mut self, k: usize, message: PoolMessage, pool: &mut Pool)
         requires { Covers pool.old (refs (slice_index_or self.old.items k message)) }
         ensures set { self.new ≡ buffer (slice_set self.old.items k message) self.old.capacity }

@@ -8,8 +8,8 @@ use msg_core::{Fields, Header, Headers};
 use slot_pool::Pool;
 use std::marker::Model;
 
-/// A place in which there is a message or none. A message has room for 24 headers, of which most have few: so it isn't moved by value from
-/// place to place, but taken over with the headers that there are.
+/// A place in which there is a message or none. A message has room for 24 headers, of which most have few: so it isn't
+/// moved by value from place to place, but taken over with the headers that there are.
 pub struct Place {
     message: PoolMessage,
     is_full: bool,
@@ -79,7 +79,8 @@ impl Place {
         self.is_full = true;
     }
 
-    /// Becomes full of a message once more. The place was empty; the two share their bytes, to which there is one more reference.
+    /// Becomes full of a message once more. The place was empty; the two share their bytes, to which there is one more
+    /// reference.
     pub fn keep_from(&mut self, message: &PoolMessage, pool: &mut Pool)
         requires empty { self.old ≡ None }
         requires there { Covers pool.old (refs message.now) }

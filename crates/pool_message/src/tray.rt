@@ -1,6 +1,7 @@
 //! What a layer has before it of the events that it takes and sends.
 
-ghost use Rattle.std.specs.Prelude.{◌≡◌, ◌<◌, [], ◌∷◌, ◌++◌, drop, length, Some, None, option_map, option_copied, is_some, true};
+ghost use Rattle.std.specs.Prelude.{◌≡◌, ◌<◌, [], ◌∷◌, ◌++◌, drop, length, Some, None, option_map, option_copied};
+ghost use Rattle.std.specs.Prelude.{is_some, true};
 ghost use Rattle.circular_buffer.specs.Buffer.{buffer};
 ghost use Rattle.slot_pool.specs.References.{Covers};
 ghost use Rattle.pool_message.specs.Moves.{CanKeep, Kept, Returned};
@@ -33,9 +34,9 @@ enum Front {
     Bound,
 }
 
-/// The event that a layer takes, the messages of the scope of its handler's block, and what the layer sends. The event stays where it stands
-/// in the list, in front of the others, and its message with it: so nothing is moved where the layer sends it on. A tray can't be let go: it
-/// is emptied, and then closed.
+/// The event that a layer takes, the messages of the scope of its handler's block, and what the layer sends. The event
+/// stays where it stands in the list, in front of the others, and its message with it: so nothing is moved where the
+/// layer sends it on. A tray can't be let go: it is emptied, and then closed.
 pub struct Tray {
     front: Front,
     events: Events,
@@ -60,13 +61,16 @@ impl Model for Tray {
 }
 
 impl Tray {
-    ghost use Rattle.std.specs.Prelude.{◌≡◌, nat_lt, ◌+◌, ◌-◌, ◌<◌, ◌≤◌, [], ◌∷◌, ◌++◌, drop, length, slice_get, slice_index_or, slice_set, Some, None, option_copied, option_map, option_to_list, IfOk, IfSome};
+    ghost use Rattle.std.specs.Prelude.{◌≡◌, nat_lt, ◌+◌, ◌-◌, ◌<◌, ◌≤◌, [], ◌∷◌, ◌++◌, drop, length, slice_get};
+    ghost use Rattle.std.specs.Prelude.{slice_index_or, slice_set, Some, None, option_copied, option_map};
+    ghost use Rattle.std.specs.Prelude.{option_to_list, IfOk, IfSome};
     ghost use Rattle.circular_buffer.specs.Buffer.{buffer, last_item};
     ghost use Rattle.slot_pool.specs.References.{Covers};
     ghost use Rattle.layer_mean.specs.Headers.{said_tag, said_fields};
     ghost use Rattle.msg_core.specs.Headers.{most_headers};
     ghost use Rattle.pool_message.specs.Seen.{refs, refs_if, bodiless};
-    ghost use Rattle.pool_message.specs.Sent.{first_sent, most_sent, first_header, with_header, without_first, sent_behind, envelope_of, CanPass};
+    ghost use Rattle.pool_message.specs.Sent.{first_sent, most_sent, first_header, with_header, without_first};
+    ghost use Rattle.pool_message.specs.Sent.{sent_behind, envelope_of, CanPass};
     ghost use Rattle.pool_message.specs.Moves.{CanKeep, Kept, Returned};
     ghost use Rattle.pool_message.specs.Piled.{pile_refs, without_last};
     ghost use Rattle.pool_message.specs.Tray.{also_sent, message_at};
@@ -89,8 +93,8 @@ impl Tray {
         }
     }
 
-    /// Takes the first of some events, behind which what is sent will come, and says its direction and its envelope. What was sent before goes
-    /// there. Nothing has arrived, and the scope is empty.
+    /// Takes the first of some events, behind which what is sent will come, and says its direction and its envelope.
+    /// What was sent before goes there. Nothing has arrived, and the scope is empty.
     pub fn begin(&mut self, events: &mut Events) -> (Dir, Envelope)
         requires some { 0 < length events.old.items }
         requires within { length events.old.items ≤ events.old.capacity }
@@ -109,7 +113,8 @@ impl Tray {
         way_of(&self.events)
     }
 
-    /// Gives what was sent back, and has these events in its place. Nothing has arrived that didn't go, and the scope is empty.
+    /// Gives what was sent back, and has these events in its place. Nothing has arrived that didn't go, and the scope
+    /// is empty.
     pub fn end(&mut self, events: &mut Events)
         requires places { 1 ≤ events.old.capacity }
         requires idle { (self.old.arrived ≡ None) × (self.old.messages.items ≡ []) }
@@ -142,7 +147,8 @@ impl Tray {
         }
     }
 
-    /// Takes the first header off the message that arrived, if there is one: says its tag, 0 where there is none, and its fields.
+    /// Takes the first header off the message that arrived, if there is one: says its tag, 0 where there is none, and
+    /// its fields.
     pub fn pop_header(&mut self, fields: &mut Fields) -> u8
         requires none { fields.old ≡ [] }
         ensures tag { result ≡ said_tag (first_header self.old.arrived) }
@@ -159,7 +165,8 @@ impl Tray {
     pub fn bind(&mut self)
         requires empty { self.old.messages.items ≡ [] }
         requires room { 1 ≤ self.old.messages.capacity }
-        ensures { self.new ≡ record self.old { arrived = None; messages = buffer (option_to_list self.old.arrived) self.old.messages.capacity } }
+        ensures { self.new ≡ record self.old
+            { arrived = None; messages = buffer (option_to_list self.old.arrived) self.old.messages.capacity } }
     {
         if self.arrived().is_some() {
             self.front = Front::Bound;
@@ -207,15 +214,20 @@ impl Tray {
     /// Puts a message without headers and bytes behind those of the scope.
     pub fn push_message(&mut self)
         requires { length self.old.messages.items < self.old.messages.capacity }
-        ensures { self.new ≡ record self.old { messages = buffer (self.old.messages.items ++ bodiless [] ∷ []) self.old.messages.capacity } }
+        ensures { self.new ≡ record self.old
+            { messages = buffer (self.old.messages.items ++ bodiless [] ∷ []) self.old.messages.capacity } }
     {
         self.messages.push_bare();
     }
 
-    /// A message takes the place of the message number `k` of the scope, whose reference goes back; where there is none, its own goes back.
+    /// A message takes the place of the message number `k` of the scope, whose reference goes back; where there is
+    /// none, its own goes back.
     pub fn replace(&mut self, k: usize, message: PoolMessage, pool: &mut Pool)
         requires { Covers pool.old (refs (slice_index_or self.old.messages.items k message)) }
-        ensures set { self.new ≡ record self.old { messages = buffer (slice_set self.old.messages.items k message) self.old.messages.capacity } }
+        ensures set { self.new ≡
+            record self.old {
+              messages = buffer (slice_set self.old.messages.items k message) self.old.messages.capacity;
+            } }
         ensures returned { Returned pool.old pool.new (refs (slice_index_or self.old.messages.items k message)) }
     {
         let mut message = message;
@@ -226,7 +238,11 @@ impl Tray {
     /// The same with a message that stays where it lies, without headers and bytes.
     pub fn replace_from(&mut self, k: usize, message: &mut PoolMessage, pool: &mut Pool)
         requires { Covers pool.old (refs (slice_index_or self.old.messages.items k message.old)) }
-        ensures set { self.new ≡ record self.old { messages = buffer (slice_set self.old.messages.items k message.old) self.old.messages.capacity } }
+        ensures set { self.new ≡
+            record self.old {
+              messages = buffer (slice_set self.old.messages.items k message.old)
+                  self.old.messages.capacity;
+            } }
         ensures left { message.new ≡ bodiless [] }
         ensures returned { Returned pool.old pool.new (refs (slice_index_or self.old.messages.items k message.old)) }
     {
@@ -294,7 +310,8 @@ impl Tray {
         self.events.push_from(direction, envelope, message);
     }
 
-    /// Sends an event with this envelope and with the last of some messages, if there is one. That message is taken out.
+    /// Sends an event with this envelope and with the last of some messages, if there is one. That message is taken
+    /// out.
     pub fn send_last(&mut self, direction: Dir, envelope: Envelope, messages: &mut Messages)
         requires { length self.old.sent.items < self.old.sent.capacity }
         ensures sent { self.new ≡ also_sent direction envelope (last_item messages.old.items) self.old }
@@ -317,8 +334,8 @@ impl Tray {
         }
     }
 
-    /// Sends an event with this envelope and with the message number `k` of the scope once more, which goes down behind this
-    /// header. The two share the message's bytes, to which there is one more reference.
+    /// Sends an event with this envelope and with the message number `k` of the scope once more, which goes down behind
+    /// this header. The two share the message's bytes, to which there is one more reference.
     pub fn send_message(
         &mut self,
         direction: Dir,
@@ -332,7 +349,8 @@ impl Tray {
         requires room { CanPass direction (Some (message_at k self.old)) }
         requires there { Covers pool.old (refs (message_at k self.old)) }
         requires keeps { CanKeep pool.old (refs (message_at k self.old)) }
-        ensures sent { self.new ≡ also_sent direction envelope (Some (sent_behind direction header (message_at k self.old))) self.old }
+        ensures sent { self.new ≡
+            also_sent direction envelope (Some (sent_behind direction header (message_at k self.old))) self.old }
         ensures kept { Kept pool.old pool.new (refs (message_at k self.old)) }
     {
         let place = match self.front {
@@ -363,7 +381,8 @@ impl Tray {
         );
     }
 
-    /// The same where the scope isn't wanted any more: the other messages go, and one that is bound goes on from where it lies.
+    /// The same where the scope isn't wanted any more: the other messages go, and one that is bound goes on from where
+    /// it lies.
     #[tactic(auto, using(crate::proofs::Piles::covers_at))]
     pub fn send_and_clear(
         &mut self,
@@ -378,7 +397,8 @@ impl Tray {
         requires room { CanPass direction (Some (message_at k self.old)) }
         requires there { Covers pool.old (pile_refs self.old.messages.items) }
         requires keeps { CanKeep pool.old (refs (message_at k self.old)) }
-        ensures sent { self.new ≡ record (also_sent direction envelope (Some (sent_behind direction header (message_at k self.old))) self.old)
+        ensures sent { self.new ≡
+            record (also_sent direction envelope (Some (sent_behind direction header (message_at k self.old))) self.old)
             { messages = buffer [] self.old.messages.capacity } }
         ensures returned { Returned pool.old pool.new (pile_refs (slice_set self.old.messages.items k (bodiless []))) }
     {
@@ -436,7 +456,9 @@ fn way_of(events: &Events) -> (Dir, Envelope)
 /// The first event goes on as the last, in this direction, with this envelope and with its message.
 fn send_first(events: &mut Events, direction: Dir, envelope: Envelope)
     requires { 0 < length events.old.items }
-    ensures { events.new ≡ buffer (drop 1 events.old.items ++ (direction, pool_event envelope (first_message events.old.items)) ∷ []) events.old.capacity }
+    ensures { events.new ≡
+        buffer (drop 1 events.old.items ++ (direction, pool_event envelope (first_message events.old.items)) ∷ [])
+        events.old.capacity }
 {
     begin_event(events.first_mut(), direction, envelope);
     events.go_round();
@@ -446,7 +468,10 @@ fn send_first(events: &mut Events, direction: Dir, envelope: Envelope)
 fn send_first_behind(events: &mut Events, direction: Dir, envelope: Envelope, header: Header)
     requires some { 0 < length events.old.items }
     requires room { CanPass direction (first_message events.old.items) }
-    ensures { events.new ≡ buffer (drop 1 events.old.items ++ (direction, pool_event envelope (option_map (sent_behind direction header) (first_message events.old.items))) ∷ []) events.old.capacity }
+    ensures { events.new ≡
+        buffer (drop 1 events.old.items ++
+        (direction, pool_event envelope (option_map (sent_behind direction header) (first_message events.old.items))) ∷
+        []) events.old.capacity }
 {
     begin_behind(events.first_mut(), direction, envelope, header);
     events.go_round();
@@ -464,7 +489,8 @@ fn begin_behind(sent: &mut (Dir, PoolEvent), direction: Dir, envelope: Envelope,
     }
 }
 
-/// The message of the first event, which there is, goes once more, and down behind a header. Meanwhile it lies in a spare place.
+/// The message of the first event, which there is, goes once more, and down behind a header. Meanwhile it lies in a
+/// spare place.
 #[tactic(auto, using(crate::proofs::Piles::last_more, crate::proofs::Piles::rest_more))]
 fn send_first_again(
     events: &mut Events,
@@ -480,7 +506,10 @@ fn send_first_again(
     requires room { CanPass direction (first_message events.old.items) }
     requires there { Covers pool.old (refs_if (first_message events.old.items)) }
     requires keeps { CanKeep pool.old (refs_if (first_message events.old.items)) }
-    ensures sent { events.new ≡ buffer (events.old.items ++ (direction, pool_event envelope (option_map (sent_behind direction header) (first_message events.old.items))) ∷ []) events.old.capacity }
+    ensures sent { events.new ≡
+        buffer (events.old.items ++
+        (direction, pool_event envelope (option_map (sent_behind direction header) (first_message events.old.items))) ∷
+        []) events.old.capacity }
     ensures same { spare.new ≡ spare.old }
     ensures kept { Kept pool.old pool.new (refs_if (first_message events.old.items)) }
 {
@@ -504,7 +533,8 @@ fn keep_behind(
     requires room { CanPass direction (Some message.now) }
     requires there { Covers pool.old (refs message.now) }
     requires keeps { CanKeep pool.old (refs message.now) }
-    ensures pushed { others.new ≡ buffer (others.old.items ++ sent_behind direction header message.now ∷ []) others.old.capacity }
+    ensures pushed { others.new ≡ buffer (others.old.items ++ sent_behind direction header message.now ∷ [])
+        others.old.capacity }
     ensures kept { Kept pool.old pool.new (refs message.now) }
 {
     others.push_kept(message, pool);
@@ -537,7 +567,10 @@ fn send_listed(
     requires room { CanPass direction (Some (message_in k messages.now.items)) }
     requires there { Covers pool.old (refs (message_in k messages.now.items)) }
     requires keeps { CanKeep pool.old (refs (message_in k messages.now.items)) }
-    ensures sent { events.new ≡ buffer (events.old.items ++ (direction, pool_event envelope (Some (sent_behind direction header (message_in k messages.now.items)))) ∷ []) events.old.capacity }
+    ensures sent { events.new ≡
+        buffer (events.old.items ++
+        (direction, pool_event envelope (Some (sent_behind direction header (message_in k messages.now.items)))) ∷ [])
+        events.old.capacity }
     ensures kept { Kept pool.old pool.new (refs (message_in k messages.now.items)) }
 {
     match messages.get(k) {
@@ -548,7 +581,8 @@ fn send_listed(
     }
 }
 
-/// The message of an event goes, whose reference goes back, and another takes its place, which is left without headers and bytes.
+/// The message of an event goes, whose reference goes back, and another takes its place, which is left without headers
+/// and bytes.
 fn refill(sent: &mut (Dir, PoolEvent), message: &mut PoolMessage, pool: &mut Pool)
     requires { Covers pool.old (refs_if sent.old.1.message) }
     ensures filled { sent.new ≡ (sent.old.0, record sent.old.1 { message = Some message.old }) }

@@ -1,5 +1,6 @@
 -- The ends of a run exclude each other.
-use Rattle.std.proofs.Common.{arith, ◌≡◌, refl, sym, ◌∙◌, ap, subst, ℕ, ◌+◌, ◌<◌, true, List, [], ◌∷◌, ◌++◌, length, Option, Some, None, inl, inr}
+use Rattle.std.proofs.Common.{arith, ◌≡◌, refl, sym, ◌∙◌, ap, subst, ℕ, ◌+◌, ◌<◌, true, List, [], ◌∷◌, ◌++◌, length}
+use Rattle.std.proofs.Common.{Option, Some, None, inl, inr}
 use Rattle.std.specs.Prelude.{nat_lt, IsSomeAnd, Result, Ok, Err, if◌then◌else◌}
 use Rattle.clap.specs.Walk.{Text}
 use Rattle.layer_mean.specs.Tree.{LayerTree}
@@ -11,7 +12,9 @@ use Rattle.std.proofs.lemmas.Bool.{le-leb, lt-ltb}
 use Rattle.std.proofs.lemmas.List.Elements.{All-head, All-tail}
 use Rattle.std.specs.List.{All, fold, list_all}
 use Rattle.job_mean.specs.Job.{Job, check, synth, pack, replay, replay_with, explain, load, node, audit, job_of_words}
-use Rattle.end_mean.specs.Status.{FileFault, SecondFault, Ended, done, breached, file_refused, report_refused, words_refused, second_refused, traces_refused, read_failed, write_failed, link_failed, no_memory, status_number}
+use Rattle.end_mean.specs.Status.{FileFault, SecondFault, Ended, done, breached, file_refused, report_refused}
+use Rattle.end_mean.specs.Status.{words_refused, second_refused, traces_refused, read_failed, write_failed, link_failed}
+use Rattle.end_mean.specs.Status.{no_memory, status_number}
 use Rattle.audit_mean.specs.Finding.{AuditFault, audit_of}
 use Rattle.audit_mean.specs.declared.law.Law.{Law}
 use Rattle.audit_mean.specs.declared.law.Finding.{Finding}
@@ -22,8 +25,14 @@ use Rattle.group_mean.specs.Node.{is_failure, failures}
 use Rattle.group_mean.specs.Room.{HasRoom}
 use Rattle.output_mean.specs.Output.{IsNode}
 use Rattle.program_mean.specs.Second.{crowded, after_script, after_plan, second_fault}
-use Rattle.program_mean.specs.Headline.{Printer, Counted, Run, Fails, IsSound, RoseBy, second_for, third_for, TakesTraces, WritesOf, OfJob, whole_end, WritesWhole, gone_on, HeardAll, Began, ReadsStack, RefusesFile, ReadsTraces, IsNoReport, RefusesReport, RefusesSecond, AreGood, RefusesTraces, Unread, ReadsFailed, LinksFail, Ends, Says, whole, cut_off, out_of_memory}
-use Rattle.program_laws.specs.OneEnd.{Counts, CountsAll, OneEnd, Came, WordsAreDue, FilesAreDue, ReportsAreDue, MissesAreDue, IsAlone, GoodAreDue, SecondMissesAreDue, SecondsAreDue, TracesAreDue, ThirdMissesAreDue}
+use Rattle.program_mean.specs.Headline.{Printer, Counted, Run, Fails, IsSound, RoseBy, second_for, third_for}
+use Rattle.program_mean.specs.Headline.{TakesTraces, WritesOf, OfJob, whole_end, WritesWhole, gone_on, HeardAll, Began}
+use Rattle.program_mean.specs.Headline.{ReadsStack, RefusesFile, ReadsTraces, IsNoReport, RefusesReport, RefusesSecond}
+use Rattle.program_mean.specs.Headline.{AreGood, RefusesTraces, Unread, ReadsFailed, LinksFail, Ends, Says, whole}
+use Rattle.program_mean.specs.Headline.{cut_off, out_of_memory}
+use Rattle.program_laws.specs.OneEnd.{Counts, CountsAll, OneEnd, Came, WordsAreDue, FilesAreDue, ReportsAreDue}
+use Rattle.program_laws.specs.OneEnd.{MissesAreDue, IsAlone, GoodAreDue, SecondMissesAreDue, SecondsAreDue}
+use Rattle.program_laws.specs.OneEnd.{TracesAreDue, ThirdMissesAreDue}
 use Rattle.program_laws.proofs.Files.{one_meaning, one_refusal, good_or_refused}
 use Rattle.program_laws.proofs.Traces.{one_traces_fault, accepted_or_refused}
 
@@ -75,7 +84,11 @@ both_of r P Q m n =
       is_file = m.is_file;
       second = m.second;
       is_second = m.is_second;
-      holds = (m.holds, subst {A = Job × List ℕ × List ℕ} (λ x. Q x.0 x.1 x.2) (λ k. (job k, file k, second k)) n.holds);
+      holds = (
+        m.holds,
+        subst {A = Job × List ℕ × List ℕ} (λ x. Q x.0 x.1 x.2) (λ k. (job k, file k, second k))
+            n.holds,
+      );
     }
 
 -- What holds of a run's job and files, held against what else holds of them.
@@ -95,7 +108,8 @@ Good third (replay_with name script given wire count) file second =
     AreGood (replay_with name script given wire count) file second × TakesTraces file third
 Good third job file second = AreGood job file second
 
-good_stack : (third : Option (List ℕ)) (job : Job) (file second : List ℕ) → ReadsStack job → Good third job file second → AreGood job file second
+good_stack : (third : Option (List ℕ)) (job : Job) (file second : List ℕ) → ReadsStack job →
+    Good third job file second → AreGood job file second
 good_stack third (check name) file second reads good = good
 good_stack third (synth name) file second reads good = good
 good_stack third (pack name) file second reads good = good
@@ -107,7 +121,8 @@ good_stack third (audit name law) file second reads good = absurd reads
 good_stack third (replay_with name script given wire count) file second reads good = good.0
 
 -- A job that is refused for its second file or its members reads a stack.
-reads_stack : (job : Job) (stack : List LayerTree) (second : List ℕ) (fault : SecondFault) → second_fault job stack second ≡ Some fault →
+reads_stack : (job : Job) (stack : List LayerTree) (second : List ℕ) (fault : SecondFault) →
+    second_fault job stack second ≡ Some fault →
     ReadsStack job
 reads_stack (check name) stack second fault refused = tt
 reads_stack (synth name) stack second fault refused = tt
@@ -136,7 +151,8 @@ node_fine file text me n =
     ap (after_plan n.stack me) n.spelled
     ∙ rw (below_all (length n.plan.peers) me n.members) (roomy n.stack (length n.plan.peers) n.room)
 
-writes_good : (print : Printer) (job : Job) (r : Run) (file second out : List ℕ) → WritesOf print job r file second out →
+writes_good : (print : Printer) (job : Job) (r : Run) (file second out : List ℕ) →
+    WritesOf print job r file second out →
     Good r.third job file second
 writes_good print (check name) r file second out w = record { stack = w.0.stack; means = w.0.means; fine = refl }
 writes_good print (synth name) r file second out w = record { stack = w.0.stack; means = w.0.means; fine = refl }
@@ -183,7 +199,8 @@ links_good (audit name law) r file second w = absurd w
 abbrev Reached : Run → Type 0
 Reached r = Met r (Good r.third)
 
-reached_by : (r : Run) (Holds : Job → (file second : List ℕ) → Type 0) → ((job : Job) (file second : List ℕ) → Holds job file second → Good r.third job file second) →
+reached_by : (r : Run) (Holds : Job → (file second : List ℕ) → Type 0) →
+    ((job : Job) (file second : List ℕ) → Holds job file second → Good r.third job file second) →
     OfJob r Holds → Reached r
 reached_by r Holds goods h = let m = met r Holds h in record {
   job = m.job;
@@ -197,12 +214,14 @@ reached_by r Holds goods h = let m = met r Holds h in record {
 }
 
 whole_reached : (print : Printer) (r : Run) (end : Ended) → WritesWhole print r end → Reached r
-whole_reached print r end h = reached_by r _ (λ job file second w. writes_good print job r file second r.written w.0) h.0
+whole_reached print r end h = reached_by r _ (λ job file second w. writes_good print job r file second r.written w.0)
+    h.0
 
 began_reached : (print : Printer) (r : Run) → Began print r → Reached r
 began_reached print r b =
     let m = reached_by (gone_on r b.clock b.heard b.sent) _
-    (λ job file second. writes_good print job (gone_on r b.clock b.heard b.sent) file second (r.written ++ b.rest)) b.whole in record {
+    (λ job file second. writes_good print job (gone_on r b.clock b.heard b.sent) file second (r.written ++ b.rest))
+    b.whole in record {
       job = m.job;
       is_job = m.is_job;
       sound = m.sound;
@@ -217,7 +236,8 @@ links_reached : (r : Run) → OfJob r (λ job file second. LinksFail job r file 
 links_reached r h = reached_by r _ (λ job file second. links_good job r file second) h
 
 -- The words of a run whose job reads a stack.
-stack_job : (r : Run) (job : Job) → job_of_words r.words ≡ Some job → IsSomeAnd (job_of_words r.words) ReadsStack → ReadsStack job
+stack_job : (r : Run) (job : Job) → job_of_words r.words ≡ Some job → IsSomeAnd (job_of_words r.words) ReadsStack →
+    ReadsStack job
 stack_job r job is h = subst (λ o. IsSomeAnd o ReadsStack) is h
 
 -- A refused file isn't reached as good.
@@ -233,19 +253,23 @@ second_or_fine : (job : Job) (file second : List ℕ) (stack : List LayerTree) (
     second_fault job stack second ≡ Some fault → AreGood job file second → ⊥
 second_or_fine job file second stack fault means refused g =
     let same : stack ≡ g.stack = one_meaning file stack g.stack means g.means in
-    let both : ◌≡◌ {A = Option SecondFault} (Some fault) None = sym refused ∙ ap (λ s. second_fault job s second) same ∙ g.fine in cc
+    let both : ◌≡◌ {A = Option SecondFault} (Some fault) None = sym refused ∙ ap (λ s. second_fault job s second) same ∙
+    g.fine in cc
 
-second_or_good : (third : Option (List ℕ)) (job : Job) (file second : List ℕ) (stack : List LayerTree) (fault : SecondFault) → Means file stack →
+second_or_good : (third : Option (List ℕ)) (job : Job) (file second : List ℕ) (stack : List LayerTree)
+    (fault : SecondFault) → Means file stack →
     second_fault job stack second ≡ Some fault → Good third job file second → ⊥
 second_or_good third job file second stack fault means refused good =
-    second_or_fine job file second stack fault means refused (good_stack third job file second (reads_stack job stack second fault refused) good)
+    second_or_fine job file second stack fault means refused
+    (good_stack third job file second (reads_stack job stack second fault refused) good)
 
 second_not_reached : (r : Run) (fault : SecondFault) → Reached r → RefusesSecond r fault → ⊥
 second_not_reached r fault m h = against r _ (Good r.third) ⊥ (met r _ h.refused) m (λ job file second refused good.
     second_or_good r.third job file second h.stack fault refused.0 refused.1 good)
 
 -- A file that is no report isn't reached as one, nor as a stack.
-no_report_or_good : (third : Option (List ℕ)) (job : Job) (file second : List ℕ) (fault : AuditFault) → IsNoReport job file fault →
+no_report_or_good : (third : Option (List ℕ)) (job : Job) (file second : List ℕ) (fault : AuditFault) →
+    IsNoReport job file fault →
     Good third job file second → ⊥
 no_report_or_good third (audit name law) file second fault none good =
     let both : ◌≡◌ {A = Result Finding AuditFault} (Err fault) (Ok good.finding) = sym none ∙ good.found in cc
@@ -271,17 +295,21 @@ no_report_or_stack (node name plan turns me patience mode) file fault none reads
 
 report_not_reached : (r : Run) (fault : AuditFault) → Reached r → RefusesReport r fault → ⊥
 report_not_reached r fault m h =
-    against r _ (Good r.third) ⊥ (met r _ h.refused) m (λ job file second. no_report_or_good r.third job file second fault)
+    against r _ (Good r.third) ⊥ (met r _ h.refused) m
+    (λ job file second. no_report_or_good r.third job file second fault)
 
 -- Traces that are taken aren't refused.
-taken_or_refused : (file : List ℕ) (third : Option (List ℕ)) (stack : List LayerTree) (fault : PackFault) → Means file stack →
+taken_or_refused : (file : List ℕ) (third : Option (List ℕ)) (stack : List LayerTree) (fault : PackFault) →
+    Means file stack →
     IsSomeAnd third (λ text. IsFault stack text fault) → TakesTraces file third → ⊥
 taken_or_refused file third stack fault means refused t =
     known third (λ text. IsFault stack text fault) ⊥ refused (λ text is x.
     accepted_or_refused stack text fault
-    (subst (λ s. Accepts s text) (one_meaning file t.stack stack t.means means) (subst (λ o. IsSomeAnd o (Accepts t.stack)) is t.accepted)) x)
+    (subst (λ s. Accepts s text) (one_meaning file t.stack stack t.means means)
+    (subst (λ o. IsSomeAnd o (Accepts t.stack)) is t.accepted)) x)
 
-traces_or_good : (third : Option (List ℕ)) (job : Job) (file second : List ℕ) (stack : List LayerTree) (fault : PackFault) → ReadsTraces job →
+traces_or_good : (third : Option (List ℕ)) (job : Job) (file second : List ℕ) (stack : List LayerTree)
+    (fault : PackFault) → ReadsTraces job →
     Means file stack → IsSomeAnd third (λ text. IsFault stack text fault) → Good third job file second → ⊥
 traces_or_good third (replay_with name script given wire count) file second stack fault reads means refused good =
     taken_or_refused file third stack fault means refused good.1
@@ -345,7 +373,8 @@ served_or_deaf print (node name plan turns me patience mode) r file second count
     (λ same. let none = ap failures x.0.answers in let both : 0 ≡ 1 = sym none ∙ same in cc)
 served_or_deaf print (node name plan turns me patience mode) r file second counts heard w (inr x) =
     let borne = w.borne in
-    let all : failures r.surroundings.heard ≡ patience + 1 = ap failures x.0.last ∙ one_failure x.0.before ∙ ap (λ n. n + 1) x.0.borne in
+    let all : failures r.surroundings.heard ≡ patience + 1 = ap failures x.0.last ∙ one_failure x.0.before ∙
+    ap (λ n. n + 1) x.0.borne in
     absurd (omega (arith, borne, all))
 served_or_deaf print (check name) r file second counts heard w x = x
 served_or_deaf print (synth name) r file second counts heard w x = x
@@ -383,9 +412,11 @@ file_once r a b h i =
 second_once : (r : Run) (a b : SecondFault) → RefusesSecond r a → RefusesSecond r b → a ≡ b
 second_once r a b h i = against r _ _ (a ≡ b) (met r _ h.refused) (met r _ i.refused) (λ job file second x y.
     let stack : h.stack ≡ i.stack = one_meaning file h.stack i.stack x.0 y.0 in
-    let both : ◌≡◌ {A = Option SecondFault} (Some a) (Some b) = sym x.1 ∙ ap (λ s. second_fault job s second) stack ∙ y.1 in cc)
+    let both : ◌≡◌ {A = Option SecondFault} (Some a) (Some b) = sym x.1 ∙ ap (λ s. second_fault job s second) stack ∙
+    y.1 in cc)
 
-one_report_fault : (job : Job) (file : List ℕ) (a b : AuditFault) → IsNoReport job file a → IsNoReport job file b → a ≡ b
+one_report_fault : (job : Job) (file : List ℕ) (a b : AuditFault) → IsNoReport job file a → IsNoReport job file b →
+    a ≡ b
 one_report_fault (audit name law) file a b x y =
     let both : ◌≡◌ {A = Result Finding AuditFault} (Err a) (Err b) = sym x ∙ y in cc
 one_report_fault (check name) file a b x y = absurd x
@@ -605,19 +636,22 @@ words_are_due print r ran none = go ran.end (way print r ran.end ran.ends) (said
   go end (wanted is) came = want_of r end 2 is came
 
 -- A read that failed, of a run whose file was read and is refused.
-read_or_refused : (r : Run) (file : List ℕ) (fault : FileFault) → r.file ≡ Some file → Refuses file fault → ReadsFailed r → ⊥
+read_or_refused : (r : Run) (file : List ℕ) (fault : FileFault) → r.file ≡ Some file → Refuses file fault →
+    ReadsFailed r → ⊥
 read_or_refused r file fault is refuses h = known (job_of_words r.words) _ ⊥ h.unread (λ job is_job x. go job x) where
   go : (job : Job) → Unread r job → ⊥
   go job (inl none) = let both : ◌≡◌ {A = Option (List ℕ)} None (Some file) = sym none ∙ is in cc
   go job (inr (inl x)) = known r.file IsGood ⊥ x.1 (λ other too good.
       let same : other ≡ file = some_once other file (sym too ∙ is) in
       good_or_refused file good.stack fault (subst (λ text. Means text good.stack) same good.means) refuses)
-  go job (inr (inr x)) = known r.file _ ⊥ x.1 (λ other too y. known (second_for job r.second) (AreGood job other) ⊥ y (λ second there good.
+  go job (inr (inr x)) =
+      known r.file _ ⊥ x.1 (λ other too y. known (second_for job r.second) (AreGood job other) ⊥ y (λ second there good.
       let same : other ≡ file = some_once other file (sym too ∙ is) in
       good_or_refused file good.stack fault (subst (λ text. Means text good.stack) same good.means) refuses))
 
 -- A job that was named and its files that were read.
-met_at : (r : Run) (job : Job) (file : List ℕ) (P : Job → Type 0) (Q : List ℕ → Type 0) → job_of_words r.words ≡ Some job → r.file ≡ Some file →
+met_at : (r : Run) (job : Job) (file : List ℕ) (P : Job → Type 0) (Q : List ℕ → Type 0) →
+    job_of_words r.words ≡ Some job → r.file ≡ Some file →
     P job → Q file → IsSomeAnd (job_of_words r.words) P × IsSomeAnd r.file Q
 met_at r job file P Q is_job is_file p q =
     (subst (λ o. IsSomeAnd o P) (sym is_job) p, subst (λ o. IsSomeAnd o Q) (sym is_file) q)
@@ -626,39 +660,42 @@ named : (r : Run) (job : Job) → job_of_words r.words ≡ Some job → job_of_w
 named r job is none = let both : ◌≡◌ {A = Option Job} None (Some job) = sym none ∙ is in cc
 
 pub files_are_due : FilesAreDue
-files_are_due print r job file fault ran is_job reads is_file refuses = go ran.end (way print r ran.end ran.ends) (said r ran.end ran.says) where
-  at_job : IsSomeAnd (job_of_words r.words) ReadsStack × IsSomeAnd r.file (λ text. Refuses text fault)
-  at_job = met_at r job file ReadsStack (λ text. Refuses text fault) is_job is_file reads refuses
+files_are_due print r job file fault ran is_job reads is_file refuses =
+    go ran.end (way print r ran.end ran.ends) (said r ran.end ran.says) where
+      at_job : IsSomeAnd (job_of_words r.words) ReadsStack × IsSomeAnd r.file (λ text. Refuses text fault)
+      at_job = met_at r job file ReadsStack (λ text. Refuses text fault) is_job is_file reads refuses
 
-  no_report : (b : AuditFault) → RefusesReport r b → ⊥
-  no_report b i = let m = met r _ i.refused in no_report_or_stack m.job m.file b m.holds (stack_job r m.job m.is_job at_job.0)
+      no_report : (b : AuditFault) → RefusesReport r b → ⊥
+      no_report b i = let m = met r _ i.refused in
+          no_report_or_stack m.job m.file b m.holds (stack_job r m.job m.is_job at_job.0)
 
-  looked_on : (b : SecondFault) → RefusesSecond r b → ⊥
-  looked_on b i = let n = met r _ i.refused in
-      let same : n.file ≡ file = some_once n.file file (sym n.is_file ∙ is_file) in
-      good_or_refused file i.stack fault (subst (λ text. Means text i.stack) same n.holds.0) refuses
+      looked_on : (b : SecondFault) → RefusesSecond r b → ⊥
+      looked_on b i = let n = met r _ i.refused in
+          let same : n.file ≡ file = some_once n.file file (sym n.is_file ∙ is_file) in
+          good_or_refused file i.stack fault (subst (λ text. Means text i.stack) same n.holds.0) refuses
 
-  read_on : (b : PackFault) → RefusesTraces r b → ⊥
-  read_on b i = let n = others_good r b i in
-      let same : n.file ≡ file = some_once n.file file (sym n.is_file ∙ is_file) in
-      good_or_refused file n.holds.stack fault (subst (λ text. Means text n.holds.stack) same n.holds.means) refuses
+      read_on : (b : PackFault) → RefusesTraces r b → ⊥
+      read_on b i = let n = others_good r b i in
+          let same : n.file ≡ file = some_once n.file file (sym n.is_file ∙ is_file) in
+          good_or_refused file n.holds.stack fault (subst (λ text. Means text n.holds.stack) same n.holds.means) refuses
 
-  stops : (end : Ended) → Stops r end → Came r (status_number end) → Came r 1
-  stops words_refused h came = absurd (named r job is_job h)
-  stops (file_refused other) h came = came
-  stops (report_refused other) h came = came
-  stops (second_refused other) h came = absurd (looked_on other h)
-  stops (traces_refused other) h came = absurd (read_on other h)
-  stops read_failed h came = absurd (read_or_refused r file fault is_file refuses h)
-  stops _ h came = absurd h
+      stops : (end : Ended) → Stops r end → Came r (status_number end) → Came r 1
+      stops words_refused h came = absurd (named r job is_job h)
+      stops (file_refused other) h came = came
+      stops (report_refused other) h came = came
+      stops (second_refused other) h came = absurd (looked_on other h)
+      stops (traces_refused other) h came = absurd (read_on other h)
+      stops read_failed h came = absurd (read_or_refused r file fault is_file refuses h)
+      stops _ h came = absurd h
 
-  go : (end : Ended) → Way print r end → Came r (status_number end) → Came r 1
-  go end (stopped h) came = stops end h came
-  go end (went_on h m) came = absurd (refused_not_reached r fault m at_job.0 at_job.1)
-  go end (wanted is) came = want_of r end 1 is came
+      go : (end : Ended) → Way print r end → Came r (status_number end) → Came r 1
+      go end (stopped h) came = stops end h came
+      go end (went_on h m) came = absurd (refused_not_reached r fault m at_job.0 at_job.1)
+      go end (wanted is) came = want_of r end 1 is came
 
 -- A read that failed, of an audit whose file was read.
-read_or_audited : (r : Run) (name : Text) (law : Law) (file : List ℕ) → job_of_words r.words ≡ Some (audit name law) → r.file ≡ Some file →
+read_or_audited : (r : Run) (name : Text) (law : Law) (file : List ℕ) → job_of_words r.words ≡ Some (audit name law) →
+    r.file ≡ Some file →
     ReadsFailed r → ⊥
 read_or_audited r name law file is_job is_file h =
     go (subst (λ o. IsSomeAnd o (Unread r)) is_job h.unread) where
@@ -668,43 +705,46 @@ read_or_audited r name law file is_job is_file h =
       go (inr (inr x)) = let both : ◌≡◌ {A = Option (List ℕ)} (Some []) None = x.0 in cc
 
 pub reports_are_due : ReportsAreDue
-reports_are_due print r name law file fault ran is_job is_file refused = go ran.end (way print r ran.end ran.ends) (said r ran.end ran.says) where
-  no_stack : IsSomeAnd (job_of_words r.words) ReadsStack → ⊥
-  no_stack reads = stack_job r (audit name law) is_job reads
+reports_are_due print r name law file fault ran is_job is_file refused =
+    go ran.end (way print r ran.end ran.ends) (said r ran.end ran.says) where
+      no_stack : IsSomeAnd (job_of_words r.words) ReadsStack → ⊥
+      no_stack reads = stack_job r (audit name law) is_job reads
 
-  reached : Reached r → ⊥
-  reached m =
-      let job : m.job ≡ audit name law = some_once m.job (audit name law) (sym m.is_job ∙ is_job) in
-      let same : m.file ≡ file = some_once m.file file (sym m.is_file ∙ is_file) in
-      let good : IsReport law file = subst {A = Job × List ℕ} (λ x. Good r.third x.0 x.1 m.second) (λ k. (job k, same k)) m.holds in
-      let both : ◌≡◌ {A = Result Finding AuditFault} (Err fault) (Ok good.finding) = sym refused ∙ good.found in cc
+      reached : Reached r → ⊥
+      reached m =
+          let job : m.job ≡ audit name law = some_once m.job (audit name law) (sym m.is_job ∙ is_job) in
+          let same : m.file ≡ file = some_once m.file file (sym m.is_file ∙ is_file) in
+          let good : IsReport law file = subst {A = Job × List ℕ} (λ x. Good r.third x.0 x.1 m.second)
+          (λ k. (job k, same k)) m.holds in
+          let both : ◌≡◌ {A = Result Finding AuditFault} (Err fault) (Ok good.finding) = sym refused ∙ good.found in cc
 
-  no_second : (b : SecondFault) → RefusesSecond r b → ⊥
-  no_second b i = let n = met r _ i.refused in
-      let job : n.job ≡ audit name law = some_once n.job (audit name law) (sym n.is_job ∙ is_job) in
-      subst ReadsStack job (reads_stack n.job i.stack n.second b n.holds.1)
+      no_second : (b : SecondFault) → RefusesSecond r b → ⊥
+      no_second b i = let n = met r _ i.refused in
+          let job : n.job ≡ audit name law = some_once n.job (audit name law) (sym n.is_job ∙ is_job) in
+          subst ReadsStack job (reads_stack n.job i.stack n.second b n.holds.1)
 
-  no_third : (b : PackFault) → RefusesTraces r b → ⊥
-  no_third b i = let n = met r _ i.others in
-      let job : n.job ≡ audit name law = some_once n.job (audit name law) (sym n.is_job ∙ is_job) in
-      subst ReadsTraces job n.holds.0
+      no_third : (b : PackFault) → RefusesTraces r b → ⊥
+      no_third b i = let n = met r _ i.others in
+          let job : n.job ≡ audit name law = some_once n.job (audit name law) (sym n.is_job ∙ is_job) in
+          subst ReadsTraces job n.holds.0
 
-  stops : (end : Ended) → Stops r end → Came r (status_number end) → Came r 1
-  stops words_refused h came = absurd (named r (audit name law) is_job h)
-  stops (file_refused other) h came = came
-  stops (report_refused other) h came = came
-  stops (second_refused other) h came = absurd (no_second other h)
-  stops (traces_refused other) h came = absurd (no_third other h)
-  stops read_failed h came = absurd (read_or_audited r name law file is_job is_file h)
-  stops _ h came = absurd h
+      stops : (end : Ended) → Stops r end → Came r (status_number end) → Came r 1
+      stops words_refused h came = absurd (named r (audit name law) is_job h)
+      stops (file_refused other) h came = came
+      stops (report_refused other) h came = came
+      stops (second_refused other) h came = absurd (no_second other h)
+      stops (traces_refused other) h came = absurd (no_third other h)
+      stops read_failed h came = absurd (read_or_audited r name law file is_job is_file h)
+      stops _ h came = absurd h
 
-  go : (end : Ended) → Way print r end → Came r (status_number end) → Came r 1
-  go end (stopped h) came = stops end h came
-  go end (went_on h m) came = absurd (reached m)
-  go end (wanted is) came = want_of r end 1 is came
+      go : (end : Ended) → Way print r end → Came r (status_number end) → Came r 1
+      go end (stopped h) came = stops end h came
+      go end (went_on h m) came = absurd (reached m)
+      go end (wanted is) came = want_of r end 1 is came
 
 -- What a run met, at the job and the files that are told.
-holds_there : (r : Run) (P : Job → (file second : List ℕ) → Type 0) (job : Job) (file second : List ℕ) → job_of_words r.words ≡ Some job →
+holds_there : (r : Run) (P : Job → (file second : List ℕ) → Type 0) (job : Job) (file second : List ℕ) →
+    job_of_words r.words ≡ Some job →
     r.file ≡ Some file → second_for job r.second ≡ Some second → OfJob r P → P job file second
 holds_there r P job file second is_job is_file is_second h =
     let m = met r P h in
@@ -727,7 +767,8 @@ no_links (load name seed events members raw mode) r file second alone fails = fa
 no_links (audit name law) r file second alone fails = fails
 
 -- A third file that a job has, and that is there.
-third_there : (third : Option (List ℕ)) (job : Job) (file second : List ℕ) → Good third job file second → third_for job third ≡ None → ⊥
+third_there : (third : Option (List ℕ)) (job : Job) (file second : List ℕ) → Good third job file second →
+    third_for job third ≡ None → ⊥
 third_there None (replay_with name script given wire count) file second good none = good.1.accepted
 third_there (Some third) (replay_with name script given wire count) file second good none = cc none
 third_there third (check name) file second good none = cc none
@@ -742,14 +783,16 @@ third_there third (audit name law) file second good none = cc none
 -- A read that failed behind the first, where the first two files are there: it was that of the third.
 unread_third : (r : Run) (job : Job) (file second : List ℕ) → job_of_words r.words ≡ Some job → r.file ≡ Some file →
     second_for job r.second ≡ Some second → ReadsFailed r → (third_for job r.third ≡ None) × AreGood job file second
-unread_third r job file second is_job is_file is_second h = go (subst (λ o. IsSomeAnd o (Unread r)) is_job h.unread) where
-  go : Unread r job → (third_for job r.third ≡ None) × AreGood job file second
-  go (inl none) = absurd (let both : ◌≡◌ {A = Option (List ℕ)} None (Some file) = sym none ∙ is_file in cc)
-  go (inr (inl x)) = absurd (let both : ◌≡◌ {A = Option (List ℕ)} None (Some second) = sym x.0 ∙ is_second in cc)
-  go (inr (inr x)) = (
-    x.0,
-    subst (λ o. IsSomeAnd o (AreGood job file)) is_second (subst (λ o. IsSomeAnd o (λ f. IsSomeAnd (second_for job r.second) (AreGood job f))) is_file x.1),
-  )
+unread_third r job file second is_job is_file is_second h = go (subst (λ o. IsSomeAnd o (Unread r)) is_job h.unread)
+  where
+    go : Unread r job → (third_for job r.third ≡ None) × AreGood job file second
+    go (inl none) = absurd (let both : ◌≡◌ {A = Option (List ℕ)} None (Some file) = sym none ∙ is_file in cc)
+    go (inr (inl x)) = absurd (let both : ◌≡◌ {A = Option (List ℕ)} None (Some second) = sym x.0 ∙ is_second in cc)
+    go (inr (inr x)) = (
+      x.0,
+      subst (λ o. IsSomeAnd o (AreGood job file)) is_second
+          (subst (λ o. IsSomeAnd o (λ f. IsSomeAnd (second_for job r.second) (AreGood job f))) is_file x.1),
+    )
 
 pub good_are_due : GoodAreDue
 good_are_due print r job file second out ran puts alone is_job is_file is_second writes =
@@ -767,10 +810,12 @@ good_are_due print r job file second out ran puts alone is_job is_file is_second
           good_or_refused file g.stack other g.means (subst (λ t. Refuses t other) same x))
 
       at_second : (other : SecondFault) → RefusesSecond r other → ⊥
-      at_second other h = let x = at_job _ h.refused in second_or_good r.third job file second h.stack other x.0 x.1 good
+      at_second other h = let x = at_job _ h.refused in second_or_good r.third job file second h.stack other x.0 x.1
+          good
 
       at_third : (other : PackFault) → RefusesTraces r other → ⊥
-      at_third other h = let x = at_job _ h.others in traces_or_good r.third job file second h.stack other x.0 x.1 h.refused good
+      at_third other h = let x = at_job _ h.others in traces_or_good r.third job file second h.stack other x.0 x.1
+          h.refused good
 
       unread : ReadsFailed r → ⊥
       unread h = third_there r.third job file second good (unread_third r job file second is_job is_file is_second h).0
@@ -831,7 +876,8 @@ seconds_are_due print r job file second stack fault ran is_job is_file is_second
           let same_second : m.second ≡ second =
           some_once m.second second (sym m.is_second ∙ ap (λ j. second_for j r.second) same_job ∙ is_second) in
           second_or_good r.third job file second stack fault means refuses
-          (subst {A = Job × List ℕ × List ℕ} (λ x. Good r.third x.0 x.1 x.2) (λ k. (same_job k, same_file k, same_second k)) m.holds)
+          (subst {A = Job × List ℕ × List ℕ} (λ x. Good r.third x.0 x.1 x.2)
+          (λ k. (same_job k, same_file k, same_second k)) m.holds)
 
       at_file : (other : FileFault) → RefusesFile r other → ⊥
       at_file other h = known r.file (λ text. Refuses text other) ⊥ h.refused (λ text is x.
@@ -839,10 +885,12 @@ seconds_are_due print r job file second stack fault ran is_job is_file is_second
           good_or_refused file stack other means (subst (λ t. Refuses t other) same x))
 
       no_report : (b : AuditFault) → RefusesReport r b → ⊥
-      no_report b i = let m = met r _ i.refused in no_report_or_stack m.job m.file b m.holds (stack_job r m.job m.is_job reads)
+      no_report b i = let m = met r _ i.refused in
+          no_report_or_stack m.job m.file b m.holds (stack_job r m.job m.is_job reads)
 
       unread : ReadsFailed r → ⊥
-      unread h = second_or_fine job file second stack fault means refuses (unread_third r job file second is_job is_file is_second h).1
+      unread h = second_or_fine job file second stack fault means refuses
+          (unread_third r job file second is_job is_file is_second h).1
 
       at_third : (other : PackFault) → RefusesTraces r other → ⊥
       at_third other h = let x = holds_there r _ job file second is_job is_file is_second h.others in
@@ -873,7 +921,8 @@ second_misses_are_due print r job file stack ran is_job is_file means none =
       met_none : (P : Job → (file second : List ℕ) → Type 0) → Met r P → ⊥
       met_none P m =
           let same : m.job ≡ job = some_once m.job job (sym m.is_job ∙ is_job) in
-          let both : ◌≡◌ {A = Option (List ℕ)} None (Some m.second) = sym none ∙ ap (λ j. second_for j r.second) (sym same) ∙ m.is_second in cc
+          let both : ◌≡◌ {A = Option (List ℕ)} None (Some m.second) = sym none ∙
+          ap (λ j. second_for j r.second) (sym same) ∙ m.is_second in cc
 
       stops : (end : Ended) → Stops r end → Came r (status_number end) → Came r 4
       stops words_refused h came = absurd (named r job is_job h)
@@ -890,8 +939,10 @@ second_misses_are_due print r job file stack ran is_job is_file means none =
       go end (wanted is) came = want_of r end 4 is came
 
 -- A run over first files that are good, and not at its end over all: what may have stopped it in front of its third.
-module _ (r : Run) (job : Job) (file second : List ℕ) (stack : List LayerTree) (is_job : job_of_words r.words ≡ Some job) (is_file : r.file ≡ Some file)
-    (is_second : second_for job r.second ≡ Some second) (means : Means file stack) (fine : second_fault job stack second ≡ None) where
+module _ (r : Run) (job : Job) (file second : List ℕ) (stack : List LayerTree)
+    (is_job : job_of_words r.words ≡ Some job) (is_file : r.file ≡ Some file)
+    (is_second : second_for job r.second ≡ Some second) (means : Means file stack)
+    (fine : second_fault job stack second ≡ None) where
   there : (P : Job → (file second : List ℕ) → Type 0) → OfJob r P → P job file second
   there P h = holds_there r P job file second is_job is_file is_second h
 
@@ -905,7 +956,8 @@ module _ (r : Run) (job : Job) (file second : List ℕ) (stack : List LayerTree)
       second_or_fine job file second h.stack other x.0 x.1 (record { stack = stack; means = means; fine = fine })
 
 pub traces_are_due : TracesAreDue
-traces_are_due print r job file second third stack fault ran is_job reads is_file is_second means fine is_third refused =
+traces_are_due print r job file second third stack fault ran is_job reads is_file is_second means fine is_third
+    refused =
     go ran.end (way print r ran.end ran.ends) (said r ran.end ran.says) where
       refused_there : IsSomeAnd r.third (λ text. IsFault stack text fault)
       refused_there = subst (λ o. IsSomeAnd o (λ text. IsFault stack text fault)) (sym is_third) refused
@@ -923,13 +975,16 @@ traces_are_due print r job file second third stack fault ran is_job reads is_fil
       unread (audit name law) reads none = reads
 
       no_report : (b : AuditFault) → RefusesReport r b → ⊥
-      no_report b i = no_report_or_stack job file b (there r job file second stack is_job is_file is_second means fine _ i.refused) (traces_stack job reads)
+      no_report b i = no_report_or_stack job file b
+          (there r job file second stack is_job is_file is_second means fine _ i.refused) (traces_stack job reads)
 
       stops : (end : Ended) → Stops r end → Came r (status_number end) → Came r 9
       stops words_refused h came = absurd (named r job is_job h)
-      stops (file_refused other) h came = absurd (no_bad_file r job file second stack is_job is_file is_second means fine other h)
+      stops (file_refused other) h came =
+          absurd (no_bad_file r job file second stack is_job is_file is_second means fine other h)
       stops (report_refused other) h came = absurd (no_report other h)
-      stops (second_refused other) h came = absurd (no_bad_second r job file second stack is_job is_file is_second means fine other h)
+      stops (second_refused other) h came =
+          absurd (no_bad_second r job file second stack is_job is_file is_second means fine other h)
       stops (traces_refused other) h came = came
       stops read_failed h came = absurd (unread job reads (unread_third r job file second is_job is_file is_second h).0)
       stops _ h came = absurd h
@@ -965,16 +1020,19 @@ third_misses_are_due print r job file second stack ran is_job is_file is_second 
       reads = (has_third r.third job none).0
 
       no_report : (b : AuditFault) → RefusesReport r b → ⊥
-      no_report b i = no_report_or_stack job file b (there r job file second stack is_job is_file is_second means fine _ i.refused) (traces_stack job reads)
+      no_report b i = no_report_or_stack job file b
+          (there r job file second stack is_job is_file is_second means fine _ i.refused) (traces_stack job reads)
 
       at_third : (P : List ℕ → Type 0) → IsSomeAnd r.third P → ⊥
       at_third P h = subst (λ o. IsSomeAnd o P) (has_third r.third job none).1 h
 
       stops : (end : Ended) → Stops r end → Came r (status_number end) → Came r 4
       stops words_refused h came = absurd (named r job is_job h)
-      stops (file_refused other) h came = absurd (no_bad_file r job file second stack is_job is_file is_second means fine other h)
+      stops (file_refused other) h came =
+          absurd (no_bad_file r job file second stack is_job is_file is_second means fine other h)
       stops (report_refused other) h came = absurd (no_report other h)
-      stops (second_refused other) h came = absurd (no_bad_second r job file second stack is_job is_file is_second means fine other h)
+      stops (second_refused other) h came =
+          absurd (no_bad_second r job file second stack is_job is_file is_second means fine other h)
       stops (traces_refused other) h came = absurd (at_third _ h.refused)
       stops read_failed h came = came
       stops _ h came = absurd h

@@ -13,15 +13,18 @@ use Rattle.grammar_laws.proofs.Together.{fits_together}
 use Rattle.grammar_laws.specs.Verdict.{Verdict, a_file, bad, inside, at_end, Holds}
 use Rattle.grammar_laws.proofs.Texts.{each_decided}
 use Rattle.file_mean.specs.Library.{SpellsLayer, called_for, IsFile}
-use Rattle.end_mean.specs.Status.{FileFault, too_large, bad_token, unexpected, unknown, twice, over_limit, wrong_kind, arity, direction, header, initial, cycle, too_many, too_many_joins}
+use Rattle.end_mean.specs.Status.{FileFault, too_large, bad_token, unexpected, unknown, twice, over_limit, wrong_kind}
+use Rattle.end_mean.specs.Status.{arity, direction, header, initial, cycle, too_many, too_many_joins}
 use Rattle.layer_ast.specs.Spells.{longest_file}
 use Rattle.output_mean.specs.Judged.{judged, Means, Condemns, Refuses}
 use Rattle.program_laws.specs.OneEnd.{OneFile, OneMeaning, OneRefusal, GoodOrRefused}
 
 layers_are_one : (text : List ℕ) (a b : LayerTree) → SpellsLayer text a → SpellsLayer text b → a ≡ b
-layers_are_one text a b x y = (layer_once a b [] [] (fits_together (print.layer a []) (print.layer b []) _ x.fits y.fits)).0
+layers_are_one text a b x y =
+    (layer_once a b [] [] (fits_together (print.layer a []) (print.layer b []) _ x.fits y.fits)).0
 
-libraries_are_one : (texts : List (List ℕ)) (a b : List LayerTree) → AllZip SpellsLayer texts a → AllZip SpellsLayer texts b → a ≡ b
+libraries_are_one : (texts : List (List ℕ)) (a b : List LayerTree) → AllZip SpellsLayer texts a →
+    AllZip SpellsLayer texts b → a ≡ b
 libraries_are_one [] [] [] x y = refl
 libraries_are_one (t ∷ texts) (l ∷ a) (m ∷ b) x y =
     λ i. layers_are_one t l m x.0 y.0 i ∷ libraries_are_one texts a b x.1 y.1 i
@@ -41,7 +44,8 @@ one_file text f g a b =
     (record { good = b.spelled.good; fits = b.spelled.fits; within = b.spelled.within; placed = b.spelled.placed }) in
     let called : called_for f ≡ called_for g = ap called_for same in
     let library : f.library ≡ g.library =
-    libraries_are_one (called_for g) f.library g.library (subst (λ texts. AllZip SpellsLayer texts f.library) called a.library) b.library in
+    libraries_are_one (called_for g) f.library g.library
+    (subst (λ texts. AllZip SpellsLayer texts f.library) called a.library) b.library in
     λ i. record { layers = (same i).layers; places = (same i).places; library = library i }
 
 pub one_meaning : OneMeaning
@@ -50,7 +54,8 @@ one_meaning text s t a b =
     let both : Ok s ≡ Ok t = sym a.accepted ∙ ap judged file ∙ b.accepted in cc
 
 -- What a judged file comes to, and that it isn't refused for what lies outside a file.
-said_once : (f g : FileTree) (s : List run.LayerTree) (fault : FileFault) → f ≡ g → judged f ≡ Ok s → judged g ≡ Err fault → ⊥
+said_once : (f g : FileTree) (s : List run.LayerTree) (fault : FileFault) → f ≡ g → judged f ≡ Ok s →
+    judged g ≡ Err fault → ⊥
 said_once f g s fault same a b = let both : Ok s ≡ Err fault = sym a ∙ ap judged same ∙ b in cc
 
 -- A text that is a file is no text that stops.
@@ -64,14 +69,17 @@ no_stop : (text : List ℕ) (f : FileTree) (v : Verdict) → IsFile text f → H
 no_stop text f v is holds = one_verdict text a_file v (spells text f is) holds
 
 -- The causes for which a file is refused that a text spells.
-condemns_not_means : (text : List ℕ) (s : List run.LayerTree) (fault : FileFault) → Means text s → Condemns text fault → ⊥
+condemns_not_means : (text : List ℕ) (s : List run.LayerTree) (fault : FileFault) → Means text s → Condemns text fault →
+    ⊥
 condemns_not_means text s fault m c =
     said_once m.file c.file s fault (one_file text m.file c.file m.is_file c.is_file) m.accepted c.refused
 
-stops_not_means : (text : List ℕ) (s : List run.LayerTree) (v : Verdict) → Means text s → Holds text v → (a_file ≡ v → ⊥) → ⊥
+stops_not_means : (text : List ℕ) (s : List run.LayerTree) (v : Verdict) → Means text s → Holds text v →
+    (a_file ≡ v → ⊥) → ⊥
 stops_not_means text s v m holds other = other (no_stop text m.file v m.is_file holds)
 
-either_stops : (text : List ℕ) (s : List run.LayerTree) (at : At) → Means text s → StopsInside text at ⊎ StopsAtEnd text at → ⊥
+either_stops : (text : List ℕ) (s : List run.LayerTree) (at : At) → Means text s →
+    StopsInside text at ⊎ StopsAtEnd text at → ⊥
 either_stops text s at m (inl h) = stops_not_means text s (inside at) m h (λ e. cc e)
 either_stops text s at m (inr h) = stops_not_means text s (at_end at) m h (λ e. cc e)
 
@@ -101,10 +109,12 @@ refused_as (at_end at) = unexpected at
 -- A cause of refusal in one of three forms: by size, at the place where the text stops, or of the file that it spells.
 data Cause (text : List ℕ) (fault : FileFault) : Type 0 where
   by_size : fault ≡ too_large → longest_file < length text → Cause text fault
-  by_stop : (v : Verdict) → fault ≡ refused_as v → length text ≤ longest_file → Holds text v → (a_file ≡ v → ⊥) → Cause text fault
+  by_stop : (v : Verdict) → fault ≡ refused_as v → length text ≤ longest_file → Holds text v → (a_file ≡ v → ⊥) →
+      Cause text fault
   by_file : Condemns text fault → Cause text fault
 
-either_way : (text : List ℕ) (at : At) → length text ≤ longest_file → StopsInside text at ⊎ StopsAtEnd text at → Cause text (unexpected at)
+either_way : (text : List ℕ) (at : At) → length text ≤ longest_file → StopsInside text at ⊎ StopsAtEnd text at →
+    Cause text (unexpected at)
 either_way text at small (inl h) = by_stop (inside at) refl small h (λ e. cc e)
 either_way text at small (inr h) = by_stop (at_end at) refl small h (λ e. cc e)
 
@@ -132,7 +142,8 @@ causes_are_one text a b (by_size e h) (by_size f i) = e ∙ sym f
 causes_are_one text a b (by_size e h) (by_stop v f small i other) = absurd (omega (arith, h, small))
 causes_are_one text a b (by_size e h) (by_file c) = let small = c.small in absurd (omega (arith, h, small))
 causes_are_one text a b (by_stop v e small h other) (by_size f i) = absurd (omega (arith, i, small))
-causes_are_one text a b (by_stop v e small h other) (by_stop w f small_too i more) = e ∙ ap refused_as (one_verdict text v w h i) ∙ sym f
+causes_are_one text a b (by_stop v e small h other) (by_stop w f small_too i more) = e ∙
+    ap refused_as (one_verdict text v w h i) ∙ sym f
 causes_are_one text a b (by_stop v e small h other) (by_file c) = absurd (other (no_stop text c.file v c.is_file h))
 causes_are_one text a b (by_file c) (by_size f i) = let small = c.small in absurd (omega (arith, i, small))
 causes_are_one text a b (by_file c) (by_stop v f small i other) = absurd (other (no_stop text c.file v c.is_file i))

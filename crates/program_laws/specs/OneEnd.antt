@@ -12,9 +12,11 @@ use Rattle.pack_mean.specs.Accepted.{PackFault, Accepts, IsFault}
 use Rattle.end_mean.specs.Status.{FileFault, SecondFault, Ended, no_memory, status_number}
 use Rattle.output_mean.specs.Judged.{Means, Refuses}
 use Rattle.program_mean.specs.Second.{second_fault}
-use Rattle.program_mean.specs.Headline.{Printer, Counted, Run, Fails, second_for, third_for, WritesOf, whole_end, ReadsStack, ReadsTraces, Ends, Ran}
+use Rattle.program_mean.specs.Headline.{Printer, Counted, Run, Fails, second_for, third_for, WritesOf, whole_end}
+use Rattle.program_mean.specs.Headline.{ReadsStack, ReadsTraces, Ends, Ran}
 
--- A text is one file at most, means one stack at most, and is refused for one cause at most; and what means a stack isn't refused.
+-- A text is one file at most, means one stack at most, and is refused for one cause at most; and what means a stack
+-- isn't refused.
 abbrev pub OneFile : Type 0
 OneFile = (text : List ℕ) (f g : FileTree) → IsFile text f → IsFile text g → f ≡ g
 
@@ -29,10 +31,12 @@ GoodOrRefused = (text : List ℕ) (s : List LayerTree) (fault : FileFault) → M
 
 -- For a stack a file of traces is refused for one cause at most, and what is accepted isn't refused.
 abbrev pub OneTracesFault : Type 0
-OneTracesFault = (stack : List LayerTree) (text : List ℕ) (a b : PackFault) → IsFault stack text a → IsFault stack text b → a ≡ b
+OneTracesFault = (stack : List LayerTree) (text : List ℕ) (a b : PackFault) → IsFault stack text a →
+    IsFault stack text b → a ≡ b
 
 abbrev pub AcceptedOrRefused : Type 0
-AcceptedOrRefused = (stack : List LayerTree) (text : List ℕ) (fault : PackFault) → Accepts stack text → IsFault stack text fault → ⊥
+AcceptedOrRefused = (stack : List LayerTree) (text : List ℕ) (fault : PackFault) → Accepts stack text →
+    IsFault stack text fault → ⊥
 
 -- A count that doesn't stand at its last value behind the run, and so tells each failure.
 abbrev pub Counts : Counted → Type 0
@@ -63,12 +67,14 @@ FilesAreDue = (print : Printer) (r : Run) (job : Job) (file : List ℕ) (fault :
 
 -- An audit whose file is read and is no report ends with 1.
 abbrev pub ReportsAreDue : Type 0
-ReportsAreDue = (print : Printer) (r : Run) (name : Text) (law : Law) (file : List ℕ) (fault : AuditFault) → Ran print r →
+ReportsAreDue = (print : Printer) (r : Run) (name : Text) (law : Law) (file : List ℕ) (fault : AuditFault) →
+    Ran print r →
     job_of_words r.words ≡ Some (audit name law) → r.file ≡ Some file → audit_of law file ≡ Err fault → Came r 1
 
 -- A job whose file isn't there ends with 4.
 abbrev pub MissesAreDue : Type 0
-MissesAreDue = (print : Printer) (r : Run) (job : Job) → Ran print r → job_of_words r.words ≡ Some job → r.file ≡ None → Came r 4
+MissesAreDue = (print : Printer) (r : Run) (job : Job) → Ran print r → job_of_words r.words ≡ Some job → r.file ≡ None →
+    Came r 4
 
 -- No write of the output failed, nor does its count stand at its last value.
 abbrev pub PutsAll : Run → Type 0
@@ -79,10 +85,13 @@ abbrev pub IsAlone : Job → Type 0
 IsAlone (node name plan turns me patience mode) = ⊥
 IsAlone _ = Unit {0}
 
--- A job without a network whose files are read and that has a whole output over them ends with the status of that, if no write failed.
+-- A job without a network whose files are read and that has a whole output over them ends with the status of that, if
+-- no write failed.
 abbrev pub GoodAreDue : Type 0
-GoodAreDue = (print : Printer) (r : Run) (job : Job) (file second out : List ℕ) → Ran print r → PutsAll r → IsAlone job →
-    job_of_words r.words ≡ Some job → r.file ≡ Some file → second_for job r.second ≡ Some second → WritesOf print job r file second out →
+GoodAreDue = (print : Printer) (r : Run) (job : Job) (file second out : List ℕ) → Ran print r → PutsAll r →
+    IsAlone job →
+    job_of_words r.words ≡ Some job → r.file ≡ Some file → second_for job r.second ≡ Some second →
+    WritesOf print job r file second out →
     Came r (status_number (whole_end job file))
 
 -- A job whose file is good, and whose second file isn't there, ends with 4.
@@ -92,18 +101,24 @@ SecondMissesAreDue = (print : Printer) (r : Run) (job : Job) (file : List ℕ) (
 
 -- A job whose file is good, and whose second file is read and refused or whose members have too many rows, ends with 3.
 abbrev pub SecondsAreDue : Type 0
-SecondsAreDue = (print : Printer) (r : Run) (job : Job) (file second : List ℕ) (stack : List LayerTree) (fault : SecondFault) →
-    Ran print r → job_of_words r.words ≡ Some job → r.file ≡ Some file → second_for job r.second ≡ Some second → Means file stack →
+SecondsAreDue = (print : Printer) (r : Run) (job : Job) (file second : List ℕ) (stack : List LayerTree)
+    (fault : SecondFault) →
+    Ran print r → job_of_words r.words ≡ Some job → r.file ≡ Some file → second_for job r.second ≡ Some second →
+    Means file stack →
     second_fault job stack second ≡ Some fault → Came r 3
 
--- A replay by the traces of a file, whose other files are good and whose file of traces is read and refused, ends with 9.
+-- A replay by the traces of a file, whose other files are good and whose file of traces is read and refused, ends with
+-- 9.
 abbrev pub TracesAreDue : Type 0
-TracesAreDue = (print : Printer) (r : Run) (job : Job) (file second third : List ℕ) (stack : List LayerTree) (fault : PackFault) → Ran print r →
-    job_of_words r.words ≡ Some job → ReadsTraces job → r.file ≡ Some file → second_for job r.second ≡ Some second → Means file stack →
+TracesAreDue = (print : Printer) (r : Run) (job : Job) (file second third : List ℕ) (stack : List LayerTree)
+    (fault : PackFault) → Ran print r →
+    job_of_words r.words ≡ Some job → ReadsTraces job → r.file ≡ Some file → second_for job r.second ≡ Some second →
+    Means file stack →
     second_fault job stack second ≡ None → r.third ≡ Some third → IsFault stack third fault → Came r 9
 
 -- A job whose first two files are good, and whose third isn't there, ends with 4.
 abbrev pub ThirdMissesAreDue : Type 0
-ThirdMissesAreDue = (print : Printer) (r : Run) (job : Job) (file second : List ℕ) (stack : List LayerTree) → Ran print r →
+ThirdMissesAreDue = (print : Printer) (r : Run) (job : Job) (file second : List ℕ) (stack : List LayerTree) →
+    Ran print r →
     job_of_words r.words ≡ Some job → r.file ≡ Some file → second_for job r.second ≡ Some second → Means file stack →
     second_fault job stack second ≡ None → third_for job r.third ≡ None → Came r 4

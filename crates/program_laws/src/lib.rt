@@ -75,7 +75,8 @@ pub fn misses_are_due()
     ensures { MissesAreDue }
 {}
 
-/// A job without a network that has a whole output and of which no write failed ends with the status of that, or memory ran out.
+/// A job without a network that has a whole output and of which no write failed ends with the status of that, or memory
+/// ran out.
 pub fn good_are_due()
     ensures { GoodAreDue }
 {}

@@ -1,5 +1,6 @@
 -- The program as a whole: from the words and the bytes of the files to what it writes, what it says and its status.
-use Rattle.std.specs.Prelude.{◌≡◌, ℕ, ◌+◌, List, [], ◌++◌, length, Option, Some, None, IsSomeAnd, Result, Ok, Err, ◌⊎◌, false}
+use Rattle.std.specs.Prelude.{◌≡◌, ℕ, ◌+◌, List, [], ◌++◌, length, Option, Some, None, IsSomeAnd, Result, Ok, Err, ◌⊎◌}
+use Rattle.std.specs.Prelude.{false}
 use Rattle.clap.specs.Walk.{Text}
 use Rattle.outside.specs.Count.{last_count, Rose}
 use Rattle.layer_mean.specs.Tree.{LayerTree}
@@ -11,7 +12,9 @@ use Rattle.audit_mean.specs.declared.law.Finding.TheVariants.{Breach}
 use Rattle.run_mean.specs.Mode.{Mode, layered, bypass}
 use Rattle.pack_mean.specs.Accepted.{Accepts, PackFault, IsFault}
 use Rattle.job_mean.specs.Job.{Job, check, synth, pack, replay, replay_with, explain, load, node, audit, job_of_words}
-use Rattle.end_mean.specs.Status.{FileFault, SecondFault, Ended, done, breached, file_refused, report_refused, words_refused, second_refused, traces_refused, read_failed, write_failed, link_failed, no_memory, status_number, error_line}
+use Rattle.end_mean.specs.Status.{FileFault, SecondFault, Ended, done, breached, file_refused, report_refused}
+use Rattle.end_mean.specs.Status.{words_refused, second_refused, traces_refused, read_failed, write_failed, link_failed}
+use Rattle.end_mean.specs.Status.{no_memory, status_number, error_line}
 use Rattle.run_mean.specs.Journal.{Heard, Handed}
 use Rattle.run_mean.specs.Report.{report_lines, output_in}
 use Rattle.output_mean.specs.Judged.{Means, IsGood, Refuses}
@@ -24,9 +27,10 @@ pub record Counted : Type 0 where
   pub before : ℕ
   pub after : ℕ
 
--- All that surrounded a run of the program: its words; the bytes of the job's file, of its second and of its third, each where a read met it; what a
--- node's clock and network told and were handed; the counts of faults of the shelf, of the output, of the network's listens and
--- receives, of its sends and of the standard error; what the output and the standard error gained, and the status.
+-- All that surrounded a run of the program: its words; the bytes of the job's file, of its second and of its third,
+-- each where a read met it; what a node's clock and network told and were handed; the counts of faults of the shelf, of
+-- the output, of the network's listens and receives, of its sends and of the standard error; what the output and the
+-- standard error gained, and the status.
 pub record Run : Type 0 where
   pub words : List Text
   pub file : Option (List ℕ)
@@ -97,7 +101,8 @@ abbrev pub WritesOf : Printer → Job → Run → (file second out : List ℕ) �
 WritesOf print (check name) r file second out = Checks file out × HandsNothing r
 WritesOf print (synth name) r file second out = Prints (print handlers) file out × HandsNothing r
 WritesOf print (pack name) r file second out = Prints (print traces) file out × HandsNothing r
-WritesOf print (replay name script mode wire count) r file second out = Replays file second mode wire count out × HandsNothing r
+WritesOf print (replay name script mode wire count) r file second out = Replays file second mode wire count out ×
+    HandsNothing r
 WritesOf print (replay_with name script given wire count) r file second out =
     Replays file second bypass wire count out × TakesTraces file r.third × HandsNothing r
 WritesOf print (explain name script) r file second out = Explains file second out × HandsNothing r
@@ -132,7 +137,8 @@ HeardAll r = RoseBy r.links (failures r.surroundings.heard)
 -- What was written is the whole output of a run's job, whose end this is, and no write failed.
 abbrev pub WritesWhole : Printer → Run → Ended → Type 0
 WritesWhole print r end =
-    OfJob r (λ job file second. WritesOf print job r file second r.written × (whole_end job file ≡ end)) × IsSound r.puts × HeardAll r
+    OfJob r (λ job file second. WritesOf print job r file second r.written × (whole_end job file ≡ end)) ×
+    IsSound r.puts × HeardAll r
 
 -- A run whose clock and network told more, and to whose network more was handed.
 abbrev pub gone_on : Run → List ℕ → List Heard → List Handed → Run
@@ -141,8 +147,8 @@ gone_on r clock heard sent = record r {
   sent = r.sent ++ sent;
 }
 
--- A run was broken off: what was written is a prefix of a whole output, and what was handed to the network one of what is handed on then,
--- where a node's clock and network, had they been asked further, told this.
+-- A run was broken off: what was written is a prefix of a whole output, and what was handed to the network one of what
+-- is handed on then, where a node's clock and network, had they been asked further, told this.
 pub record Began (print : Printer) (r : Run) : Type 0 where
   pub clock : List ℕ
   pub heard : List Heard
@@ -184,8 +190,8 @@ pub record RefusesReport (r : Run) (fault : AuditFault) : Type 0 where
   pub refused : OfJob r (λ job file second. IsNoReport job file fault)
   pub nothing : WroteNothing r
 
--- The words are a job whose file is good; its second file, if it has one, was read without a fault; and that or the job's members are
--- refused.
+-- The words are a job whose file is good; its second file, if it has one, was read without a fault; and that or the
+-- job's members are refused.
 pub record RefusesSecond (r : Run) (fault : SecondFault) : Type 0 where
   pub stack : List LayerTree
   pub refused : OfJob r (λ job file second. Means file stack × (second_fault job stack second ≡ Some fault))
@@ -197,17 +203,20 @@ pub record AreGood (job : Job) (file second : List ℕ) : Type 0 where
   pub means : Means file stack
   pub fine : second_fault job stack second ≡ None
 
--- The words are a replay by the traces of a file whose other files are good; that file was read without a fault, and is refused.
+-- The words are a replay by the traces of a file whose other files are good; that file was read without a fault, and is
+-- refused.
 pub record RefusesTraces (r : Run) (fault : PackFault) : Type 0 where
   pub stack : List LayerTree
   pub others : OfJob r (λ job file second. ReadsTraces job × Means file stack × (second_fault job stack second ≡ None))
   pub refused : IsSomeAnd r.third (λ text. IsFault stack text fault)
   pub nothing : WroteNothing r
 
--- A job's files up to one that couldn't be read: its first; or its second, where the first is good; or its third, where both are.
+-- A job's files up to one that couldn't be read: its first; or its second, where the first is good; or its third, where
+-- both are.
 abbrev pub Unread : Run → Job → Type 0
 Unread r job = (r.file ≡ None) ⊎ ((second_for job r.second ≡ None) × IsSomeAnd r.file IsGood)
-    ⊎ ((third_for job r.third ≡ None) × IsSomeAnd r.file (λ file. IsSomeAnd (second_for job r.second) (AreGood job file)))
+    ⊎ ((third_for job r.third ≡ None) ×
+    IsSomeAnd r.file (λ file. IsSomeAnd (second_for job r.second) (AreGood job file)))
 
 -- The words are a job of which a read failed: that of its first file, or one behind files that are good.
 pub record ReadsFailed (r : Run) : Type 0 where
@@ -236,7 +245,8 @@ Ends print r write_failed = Fails r.puts × Began print r
 Ends print r link_failed = IsSound r.puts × OfJob r (λ job file second. LinksFail job r file second)
 Ends print r no_memory = WroteNothing r ⊎ Began print r
 
--- The line of a cause was said whole, or a prefix of it where the standard error failed or memory ran out, which is status 7.
+-- The line of a cause was said whole, or a prefix of it where the standard error failed or memory ran out, which is
+-- status 7.
 pub record Begins (whole part : List ℕ) : Type 0 where
   pub rest : List ℕ
   pub is : whole ≡ part ++ rest
@@ -253,8 +263,8 @@ pub record Ran (print : Printer) (r : Run) : Type 0 where
   pub says : Says r end
   pub lost : RoseBy r.sends (length r.surroundings.lost)
 
--- Whatever stack a file means and whatever script is replayed over it, the run with bypasses writes exactly the report of the layered
--- meaning.
+-- Whatever stack a file means and whatever script is replayed over it, the run with bypasses writes exactly the report
+-- of the layered meaning.
 abbrev pub BypassesReportAsLayers : Type 0
 BypassesReportAsLayers = (file script_text out : List ℕ) →
     Replays file script_text bypass false false out → Replays file script_text layered false false out

@@ -23,9 +23,11 @@ after_script stack (Ok script) = crowded stack script.members
 abbrev pub after_plan : List LayerTree → List ℕ → Result NodePlan ScriptFault → Option SecondFault
 after_plan stack me (Err fault) = Some (misspelled fault)
 after_plan stack me (Ok plan) =
-    if list_all (λ id. nat_lt id (length plan.peers)) me then crowded stack (length plan.peers) else Some (misspelled (no_member 1))
+    if list_all (λ id. nat_lt id (length plan.peers)) me then crowded stack (length plan.peers) else Some
+    (misspelled (no_member 1))
 
--- Why a job is refused for its second file or its members, whose stack is accepted and whose second file has these bytes.
+-- Why a job is refused for its second file or its members, whose stack is accepted and whose second file has these
+-- bytes.
 abbrev pub second_fault : Job → List LayerTree → List ℕ → Option SecondFault
 second_fault (check file) stack text = None
 second_fault (synth file) stack text = None

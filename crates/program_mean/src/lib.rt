@@ -1,4 +1,5 @@
-//! What the program does, over the bytes of its files and its words, as definitions: what each job writes, and why it refuses.
+//! What the program does, over the bytes of its files and its words, as definitions: what each job writes, and why it
+//! refuses.
 #![tactic(auto)]
 
 ghost use Rattle.program_mean.specs.Headline.{BypassesReportAsLayers, OneReport};

@@ -1,4 +1,5 @@
--- A file whose layer has two common cases, the first of which goes round a loop and so has no shape: casts of even numbers alone are common.
+-- A file whose layer has two common cases, the first of which goes round a loop and so has no shape: casts of even
+-- numbers alone are common.
 use Rattle.std.specs.Prelude.{ℕ, List, ◌++◌, codes}
 use Rattle.layer_ast.specs.Reader.{file_of}
 use Rattle.layer_ast.specs.Tree.{FileTree}

@@ -17,7 +17,8 @@ report = codes "packet 1 0 all cnt.num(0) 6869\n" ++ codes "deliver 1 cast 0 686
 
 -- The counter layer's file and this script are replayed to this report, in either mode.
 abbrev pub ReplaysCounter : Type 0
-ReplaysCounter = Replays counter.text script layered false false report × Replays counter.text script bypass false false report
+ReplaysCounter = Replays counter.text script layered false false report ×
+    Replays counter.text script bypass false false report
 
 -- With bypasses, and with the packet's bytes and the number of visits.
 abbrev pub short_report : List ℕ
@@ -32,7 +33,8 @@ ReplaysShort = Replays counter.text script bypass true true short_report
 abbrev pub ChecksLibrary : Type 0
 ChecksLibrary = Checks whole.text (codes "accepted 15\n")
 
--- Three casts of a layer with two common cases: each is a common step, and its packet is short under the plan of its case.
+-- Three casts of a layer with two common cases: each is a common step, and its packet is short under the plan of its
+-- case.
 abbrev pub flips : List ℕ
 flips = codes "group 1 stamp 1 members 2\n" ++ codes "cast 0 -\n" ++ codes "cast 0 -\n" ++ codes "cast 0 -\n"
 
@@ -46,24 +48,29 @@ flip_report =
 abbrev pub ReplaysFlips : Type 0
 ReplaysFlips = Replays flip.text flips bypass true true flip_report
 
--- A packet of the counter layer that is given again isn't the one that is due: the condition in line 9 of its file fails.
+-- A packet of the counter layer that is given again isn't the one that is due: the condition in line 9 of its file
+-- fails.
 abbrev pub twice : List ℕ
-twice = codes "group 1 stamp 7 members 3\n" ++ codes "cast 0 6869\n" ++ codes "give 1 1\n" ++ codes "give 1 1\n" ++ codes "state 1\n"
+twice = codes "group 1 stamp 7 members 3\n" ++ codes "cast 0 6869\n" ++ codes "give 1 1\n" ++ codes "give 1 1\n" ++
+    codes "state 1\n"
 
 abbrev pub ExplainsCounter : Type 0
 ExplainsCounter = Explains counter.text twice (codes "miss 3 1 plan 0 visit 1 place 0 cnt line 9\n" ++ codes "end 4\n")
 
--- Of two casts the first is odd: it lacks a shape in the first case, and the second goes another way in line 7 of its file.
+-- Of two casts the first is odd: it lacks a shape in the first case, and the second goes another way in line 7 of its
+-- file.
 abbrev pub casts : List ℕ
 casts = codes "group 1 stamp 1 members 1\n" ++ codes "cast 0 -\n" ++ codes "cast 0 -\n"
 
 abbrev pub ExplainsLate : Type 0
-ExplainsLate = Explains late.text casts (codes "miss 1 0 cast absent loop 0 or visit 1 place 0 late line 7\n" ++ codes "end 2\n")
+ExplainsLate = Explains late.text casts (codes "miss 1 0 cast absent loop 0 or visit 1 place 0 late line 7\n" ++
+    codes "end 2\n")
 
--- A report in which two members deliver two casts in another order: that is a breach of the one order of all casts, and none of each
--- peer's.
+-- A report in which two members deliver two casts in another order: that is a breach of the one order of all casts, and
+-- none of each peer's.
 abbrev pub crossed : List ℕ
-crossed = codes "deliver 0 cast 0 61\n" ++ codes "deliver 1 cast 1 62\n" ++ codes "deliver 1 cast 0 61\n" ++ codes "end 3\n"
+crossed = codes "deliver 0 cast 0 61\n" ++ codes "deliver 1 cast 1 62\n" ++ codes "deliver 1 cast 0 61\n" ++
+    codes "end 3\n"
 
 abbrev pub AuditsCrossed : Type 0
 AuditsCrossed = Audits crossed Total (codes "breach 1 2\n") × Audits crossed Sender (codes "holds\n")

@@ -3,7 +3,8 @@
 
 ghost use Rattle.program_rows.specs.Refused.{RefusesBadByte, RefusesCycle, RefusesEmpty, RefusesUnknown, RefusesWeight};
 ghost use Rattle.program_rows.specs.Node.{EndsThere, GoesOn};
-ghost use Rattle.program_rows.specs.Written.{AuditsCrossed, ChecksLibrary, ExplainsCounter, ExplainsLate, ReplaysCounter, ReplaysFlips, ReplaysShort};
+ghost use Rattle.program_rows.specs.Written.{AuditsCrossed, ChecksLibrary, ExplainsCounter, ExplainsLate};
+ghost use Rattle.program_rows.specs.Written.{ReplaysCounter, ReplaysFlips, ReplaysShort};
 
 /// Files that are refused, with their causes.
 pub fn refuses()

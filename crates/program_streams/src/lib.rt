@@ -1,4 +1,5 @@
-//! What programs over the system's command line and streams share: their words, and streams that are handed what was put.
+//! What programs over the system's command line and streams share: their words, and streams that are handed what was
+//! put.
 #![tactic(auto)]
 
 mod streams;

@@ -10,8 +10,10 @@ use std::io::Write;
 /// Hands on to the stream what is gathered for it, and answers whether it got all.
 pub fn hand_on<W: Write + Drop>(sink: &mut StdSink<W>) -> bool
     ensures { HandsOn
-        (tells (⟦<StdSink<W> as Sink>⟧.contents sink.old) (⟦<StdSink<W> as Sink>⟧.failures sink.old) (⟦<StdSink<W> as Sink>⟧.faults sink.old))
-        (tells (⟦<StdSink<W> as Sink>⟧.contents sink.new) (⟦<StdSink<W> as Sink>⟧.failures sink.new) (⟦<StdSink<W> as Sink>⟧.faults sink.new))
+        (tells (⟦<StdSink<W> as Sink>⟧.contents sink.old) (⟦<StdSink<W> as Sink>⟧.failures sink.old)
+        (⟦<StdSink<W> as Sink>⟧.faults sink.old))
+        (tells (⟦<StdSink<W> as Sink>⟧.contents sink.new) (⟦<StdSink<W> as Sink>⟧.failures sink.new)
+        (⟦<StdSink<W> as Sink>⟧.faults sink.new))
         (W.contents (stream_of sink.new)) result }
 {
     match sink.finish() {

@@ -6,8 +6,8 @@ use std::env;
 use std::io::{self, ErrorKind};
 use std::rt::Env;
 
-/// The words of the command line, without the program's name. Where one of them isn't UTF-8 there are none, since such words ask for nothing. An error
-/// says that memory ran out.
+/// The words of the command line, without the program's name. Where one of them isn't UTF-8 there are none, since such
+/// words ask for nothing. An error says that memory ran out.
 pub fn command_words<R: AllocGlobal + Env>(system: &R) -> io::Result<Vec<String>> {
     match env::args(system) {
         Ok(all) => {

@@ -30,8 +30,8 @@ fn tells(alloc: Global, file: &[u8], script: &[u8], told: &[u8]) -> Result<bool,
     leaves(alloc, EXPLAIN, file, script, 0, told, b"")
 }
 
-/// A decision of a layer of the file and of one of the library, with its line; no plan; and what isn't told of: common steps, what is refused, ticks,
-/// members that left.
+/// A decision of a layer of the file and of one of the library, with its line; no plan; and what isn't told of: common
+/// steps, what is refused, ticks, members that left.
 #[test]
 fn decisions_are_told_by_their_lines(rt: HostRuntime) -> Result<(), Fail> {
     let alloc = rt.alloc();

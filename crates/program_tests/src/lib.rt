@@ -1,5 +1,5 @@
-//! What no clause says of the program: that its jobs are done where there is memory, and what they then write; and what each line of a node's
-//! journal is where the outside fails.
+//! What no clause says of the program: that its jobs are done where there is memory, and what they then write; and what
+//! each line of a node's journal is where the outside fails.
 #![tactic(auto)]
 
 #[cfg(test)]

@@ -1,5 +1,5 @@
-//! Replays in both modes: what is written was told by an independent reading of the rules. The reports are equal; packets of common steps go short
-//! by bypasses, and their visits aren't made.
+//! Replays in both modes: what is written was told by an independent reading of the rules. The reports are equal;
+//! packets of common steps go short by bypasses, and their visits aren't made.
 
 use crate::jobs::{FLIP, REPEATER};
 use crate::runs::{COUNTER, leaves};
@@ -91,7 +91,8 @@ fn common_steps_visit_no_layer(rt: HostRuntime) -> Result<(), Fail> {
     Ok(())
 }
 
-/// A guard over what the handler has written; a second case where the first misses; a second case alone; and a step without code.
+/// A guard over what the handler has written; a second case where the first misses; a second case alone; and a step
+/// without code.
 #[test]
 fn cases_are_tried_in_order(rt: HostRuntime) -> Result<(), Fail> {
     let alloc = rt.alloc();
@@ -127,7 +128,8 @@ fn cases_are_tried_in_order(rt: HostRuntime) -> Result<(), Fail> {
     Ok(())
 }
 
-/// Rows that are taken and pushed, a view that a common step installs, datagrams that are refused, and a group without a common step.
+/// Rows that are taken and pushed, a view that a common step installs, datagrams that are refused, and a group without
+/// a common step.
 #[test]
 fn rows_and_views_move(rt: HostRuntime) -> Result<(), Fail> {
     let alloc = rt.alloc();

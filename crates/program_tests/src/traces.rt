@@ -1,4 +1,5 @@
-//! Replays by the traces of a file: these are run where they do what the stack's own do, and else refused with the place.
+//! Replays by the traces of a file: these are run where they do what the stack's own do, and else refused with the
+//! place.
 
 use crate::runs::{COUNTER, ROWS, left_by, named, pair};
 use outside::MemShelf;

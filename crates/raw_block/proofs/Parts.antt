@@ -1,4 +1,5 @@
--- The parts of a block at a type parameter: their rows, their machine values, and what is false of them at null. Assumes `Logic`.
+-- The parts of a block at a type parameter: their rows, their machine values, and what is false of them at null.
+-- Assumes `Logic`.
 use mathlib.Core.Path.{refl}
 use mathlib.Core.List.{List, [], ◌∷◌}
 use Prim.Native.Nat.{ℕ}
@@ -59,18 +60,23 @@ module _ (E : El) where
   -- the one field of `Filled` or of `Lease` owns nothing, so it is made of nothing
   pub mark_made : {M : Type 1} {𝓤 : Ura M} (𝓛 : Logic 𝓤) → ent 𝓤 (emp 𝓤) (sem 𝓛 (Mark.own_val (tt, tt) (mark ∷ [])))
   mark_made 𝓛 =
-      let inner = plain_shape (marker.the_type RawPtr) in let of_marker = λ (x : Unit {0}) (vs : List Val). Struct-Pure inner tt x vs in
-      Struct-Makes 𝓛 (shape (filled.the_type (R E))) (of_marker, tt) (tt, tt) (mark ∷ []) ((vstruct vnil ∷ [], tt), (refl, ((tt, (refl, tt)), tt)))
+      let inner = plain_shape (marker.the_type RawPtr) in let of_marker = λ (x : Unit {0}) (vs : List Val).
+      Struct-Pure inner tt x vs in
+      Struct-Makes 𝓛 (shape (filled.the_type (R E))) (of_marker, tt) (tt, tt) (mark ∷ [])
+      ((vstruct vnil ∷ [], tt), (refl, ((tt, (refl, tt)), tt)))
 
-  pub start_made : {M : Type 1} {𝓤 : Ura M} (𝓛 : Logic 𝓤) → Makes 𝓛 (Struct (plain_shape (start.the_type (R E)))) (Is (Struct (plain_shape (start.the_type (R E)))))
+  pub start_made : {M : Type 1} {𝓤 : Ura M} (𝓛 : Logic 𝓤) →
+      Makes 𝓛 (Struct (plain_shape (start.the_type (R E)))) (Is (Struct (plain_shape (start.the_type (R E)))))
   start_made 𝓛 = Struct-Makes 𝓛 (plain_shape (start.the_type (R E))) (start-laws.the_plain (R E))
 
   module _ {M : Type 1} {𝓤 : Ura M} (𝓛 : Logic 𝓤) (xs : List (el_x E)) (n : ℕ) where
     pub no_values_at_null : (κ : Lft) → ent 𝓤 (sem 𝓛 (filled_lends (R E) null_ptr xs n κ)) (never 𝓤)
-    no_values_at_null κ = qed 𝓛 (‵ (filled_lends (R E) null_ptr xs n κ) ∷ []) ∵ fsplit ! $ drop ! $ fsplit ! $ keep ! (0 ∷ []) $ done !
+    no_values_at_null κ = qed 𝓛 (‵ (filled_lends (R E) null_ptr xs n κ) ∷ []) ∵ fsplit ! $ drop ! $ fsplit ! $ keep !
+        (0 ∷ []) $ done !
 
     pub no_memory_at_null : ent 𝓤 (sem 𝓛 (filled_owns (R E) null_ptr xs n)) (never 𝓤)
-    no_memory_at_null = qed 𝓛 (‵ (filled_owns (R E) null_ptr xs n) ∷ []) ∵ fsplit ! $ drop ! $ fsplit ! $ keep ! (0 ∷ []) $ done !
+    no_memory_at_null = qed 𝓛 (‵ (filled_owns (R E) null_ptr xs n) ∷ []) ∵ fsplit ! $ drop ! $ fsplit ! $ keep !
+        (0 ∷ []) $ done !
 
 module _ (E : El) (Z : Al) where
   abbrev pub Lr : RattleType
@@ -85,8 +91,11 @@ triple_val u v w = vstruct (vcons u (vcons v (vcons w vnil)))
 
 module _ {M : Type 1} {𝓤 : Ura M} {𝓛 : Logic 𝓤} {K : Type 0} {Γ : List (Item 𝓤)} {G : Goal 𝓤 𝓛.H} where
   pub triple_made : K → (R S T : RattleType) (x : R.Denot) (y : S.Denot) (z : T.Denot) (u v w : Val)
-      → Step K 𝓛 (‵ ((Tuple (R ∷ S ∷ T ∷ [])).own_val (x, y, z) (triple_val u v w ∷ [])) ∷ Γ) G (‵ (R.own_val x (u ∷ [])) ∷ ‵ (S.own_val y (v ∷ [])) ∷ ‵ (T.own_val z (w ∷ [])) ∷ Γ) G
+      → Step K 𝓛 (‵ ((Tuple (R ∷ S ∷ T ∷ [])).own_val (x, y, z) (triple_val u v w ∷ [])) ∷ Γ) G
+      (‵ (R.own_val x (u ∷ [])) ∷ ‵ (S.own_val y (v ∷ [])) ∷ ‵ (T.own_val z (w ∷ [])) ∷ Γ) G
   triple_made t R S T x y z u v w = step (λ s.
       let all = R ∷ S ∷ T ∷ [] in let vs = triple_val u v w ∷ [] in
-      move t (2 ∷ []) $ nothing t $ move t (1 ∷ 0 ∷ []) $ fjoin t $ move t (2 ∷ 0 ∷ []) $ fjoin t $ move t (1 ∷ 0 ∷ []) $ fjoin t $ feq_i t (List Val) vs vs refl $ fjoin t $
-      fpack t (Valss all) (within (plain_shape (tuple_type all)) (x, (y, (z, tt))) vs) (u ∷ [], (v ∷ [], (w ∷ [], tt))) $ s)
+      move t (2 ∷ []) $ nothing t $ move t (1 ∷ 0 ∷ []) $ fjoin t $ move t (2 ∷ 0 ∷ []) $ fjoin
+      t $ move t (1 ∷ 0 ∷ []) $ fjoin t $ feq_i t (List Val) vs vs refl $ fjoin t $
+      fpack t (Valss all) (within (plain_shape (tuple_type all)) (x, (y, (z, tt))) vs) (u ∷ [], (v ∷ [], (w ∷ [], tt)))
+      $ s)

@@ -18,7 +18,8 @@ module _ (R : RattleType) where
 
   -- the values lie one behind the other from p on, and behind them is room for n more
   abbrev pub filled_owns : Ptr → List R.Denot → ℕ → Fml
-  filled_owns p xs n = fsep (within xs n) (fsep (lies_at (Array R (length xs)) full_share p xs) (room_for (array_of R n) (p +ₚ length xs * type_size R)))
+  filled_owns p xs n = fsep (within xs n)
+      (fsep (lies_at (Array R (length xs)) full_share p xs) (room_for (array_of R n) (p +ₚ length xs * type_size R)))
 
   -- a `&` lends the values, and not the room
   abbrev pub filled_lends : Ptr → List R.Denot → ℕ → Lft → Fml

@@ -12,4 +12,5 @@ module _ {X : Type 0} where
   run xs n = record { values = xs; capacity = n }
 
   abbrev pub run_code : Coded X → Coded (Run X)
-  run_code c = code_by (List X × ℕ) (coded× (coded_list c) coded_ℕ) (λ b. (b.values, b.capacity)) (λ p. run p.0 p.1) (λ _. refl)
+  run_code c = code_by (List X × ℕ) (coded× (coded_list c) coded_ℕ) (λ b. (b.values, b.capacity)) (λ p. run p.0 p.1)
+      (λ _. refl)

@@ -1,4 +1,5 @@
-//! The memory of a block: values lie in its first places, and the rest is room. Only the functions here follow a pointer.
+//! The memory of a block: values lie in its first places, and the rest is room. Only the functions here follow a
+//! pointer.
 ghost use Rattle.std.specs.Prelude.{◌≡◌, ℕ, ◌+◌, ◌-◌, ◌<◌, List, [], ◌∷◌, ◌++◌, length, slice_index_or, IfOk, ⊤};
 ghost use Rattle.std.specs.Borrow.{sem};
 ghost use Rattle.std.specs.Vec.Ownership.{FitsInBlock};
@@ -61,7 +62,8 @@ pub(crate) fn take_block<T, A: Allocator>(
     places: usize,
 ) -> Result<(Start<T>, Filled<T>, Lease<T, A>), AllocError>
     requires { FitsInBlock T.row places }
-    ensures { IfOk result (λ r. (r.1.at ≡ r.0.first) × (r.1.values ≡ []) × (r.1.room ≡ places) × (r.2.at ≡ r.0.first) × (r.2.places ≡ places) × (r.2.alloc ≡ alloc.now)) }
+    ensures { IfOk result (λ r. (r.1.at ≡ r.0.first) × (r.1.values ≡ []) × (r.1.room ≡ places) × (r.2.at ≡ r.0.first) ×
+        (r.2.places ≡ places) × (r.2.alloc ≡ alloc.now)) }
 {
     match alloc.allocate(places * size_of::<T>(), align_of::<T>()) {
         Ok(memory) => {
@@ -86,7 +88,8 @@ pub(crate) fn return_block<T, A: Allocator>(
     filled: Filled<T>,
     lease: Lease<T, A>,
 )
-    requires { (filled.at ≡ start.first) × (length filled.values + filled.room ≡ places) × (lease.at ≡ start.first) × (lease.places ≡ places) × (lease.alloc ≡ alloc.now) }
+    requires { (filled.at ≡ start.first) × (length filled.values + filled.room ≡ places) × (lease.at ≡ start.first) ×
+        (lease.places ≡ places) × (lease.alloc ≡ alloc.now) }
 {
     let Filled { mark: _ } = filled;
     let Lease { mark: _ } = lease;
@@ -105,7 +108,8 @@ impl<T> Filled<T> {
     /// Fills the place at `index`, the first that has no value yet.
     pub(crate) fn fill(&mut self, start: Start<T>, index: usize, value: T)
         requires { (start.first ≡ self.old.at) × (index ≡ length self.old.values) × (0 < self.old.room) }
-        ensures { (self.new.at ≡ self.old.at) × (self.new.values ≡ self.old.values ++ value ∷ []) × (self.new.room ≡ self.old.room - 1) }
+        ensures { (self.new.at ≡ self.old.at) × (self.new.values ≡ self.old.values ++ value ∷ []) ×
+            (self.new.room ≡ self.old.room - 1) }
     {
         unsafe { start.first.add(index).write(value) }
     }

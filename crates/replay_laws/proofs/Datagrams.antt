@@ -1,5 +1,6 @@
 -- The datagrams of a run are those of its packets, and its lines are the report's with their bytes between.
-use Rattle.std.proofs.Common.{◌≡◌, ◌∙◌, ℕ, zero, suc, ◌+◌, List, [], ◌∷◌, ◌++◌, map, length, Option, Some, None, refl, sym, ap, subst, arith}
+use Rattle.std.proofs.Common.{◌≡◌, ◌∙◌, ℕ, zero, suc, ◌+◌, List, [], ◌∷◌, ◌++◌, map, length, Option, Some, None, refl}
+use Rattle.std.proofs.Common.{sym, ap, subst, arith}
 use Rattle.std.specs.Prelude.{slice_get, Result, Ok, Err, option_to_list}
 use Rattle.std.specs.List.{AllByRecursion, filter_map, flat_map, range_with_len, sum_by}
 use Rattle.std.proofs.lemmas.List.{append-nil, append_assoc, map-append}
@@ -17,11 +18,16 @@ use Rattle.script_mean.specs.declared.event.ScriptEvent.TheVariants as script
 use Rattle.run_mean.specs.Mode.{Mode}
 use Rattle.run_mean.specs.Common.{plan_for, plan_behind, with_plans, short_from, as_sent, wire}
 use Rattle.run_mean.specs.Lines.{packet_line, wire_line}
-use Rattle.run_mean.specs.Member.{Member, inside, out, Input, cast, send, leave, tick, datagram, Refusal, Entered, entered, Output, deliver_cast, deliver_send, block, announce, packet, nowhere, timer, quiet, packet_in, step_from}
-use Rattle.run_mean.specs.World.{World, Did, taken, refused, absent, shown, Happening, member_at, packet_number, here_of, stepped_inside, stepped_of, stepped, given, happens}
-use Rattle.run_mean.specs.Report.{Moment, moments, first_number, no_annex, wire_annex, lines_of_outputs, step_lines, lines_of, moment_lines, installed_line, end_line, visits_line, visits_of}
+use Rattle.run_mean.specs.Member.{Member, inside, out, Input, cast, send, leave, tick, datagram, Refusal, Entered}
+use Rattle.run_mean.specs.Member.{entered, Output, deliver_cast, deliver_send, block, announce, packet, nowhere, timer}
+use Rattle.run_mean.specs.Member.{quiet, packet_in, step_from}
+use Rattle.run_mean.specs.World.{World, Did, taken, refused, absent, shown, Happening, member_at, packet_number}
+use Rattle.run_mean.specs.World.{here_of, stepped_inside, stepped_of, stepped, given, happens}
+use Rattle.run_mean.specs.Report.{Moment, moments, first_number, no_annex, wire_annex, lines_of_outputs, step_lines}
+use Rattle.run_mean.specs.Report.{lines_of, moment_lines, installed_line, end_line, visits_line, visits_of}
 use Rattle.member_laws.proofs.Lists.{behind}
-use Rattle.replay_laws.specs.Datagrams.{Datagram, datagrams_from, did_send, datagrams, world_after, DatagramsAreNumbered, Said, with_bytes, IsSaid, AreWoven, LinesAreWoven}
+use Rattle.replay_laws.specs.Datagrams.{Datagram, datagrams_from, did_send, datagrams, world_after}
+use Rattle.replay_laws.specs.Datagrams.{DatagramsAreNumbered, Said, with_bytes, IsSaid, AreWoven, LinesAreWoven}
 
 -- the packets of datagrams
 
@@ -53,10 +59,12 @@ numbers_from plans id k ((timer n, plan) ∷ sent) = numbers_from plans id k sen
 numbers_from plans id k ((quiet dir e, plan) ∷ sent) = numbers_from plans id k sent
 
 -- what an event sends is numbered on from the packets before it, and stands after these
-record Sends (mode : Mode) (stack : List LayerTree) (plans : List Plan) (w : World) (id : ℕ) (h : Happening) : Type 0 where
-  packets : h.world.packets ≡ w.packets ++ map (λ d. d.packet) (did_send mode stack plans id (length w.packets + 1) h.did)
-  numbers : numbers_of (did_send mode stack plans id (length w.packets + 1) h.did)
-      ≡ range_with_len (length w.packets + 1) (length (did_send mode stack plans id (length w.packets + 1) h.did))
+record Sends (mode : Mode) (stack : List LayerTree) (plans : List Plan) (w : World) (id : ℕ) (h : Happening) : Type 0
+  where
+    packets : h.world.packets ≡ w.packets ++
+        map (λ d. d.packet) (did_send mode stack plans id (length w.packets + 1) h.did)
+    numbers : numbers_of (did_send mode stack plans id (length w.packets + 1) h.did)
+        ≡ range_with_len (length w.packets + 1) (length (did_send mode stack plans id (length w.packets + 1) h.did))
 
 module _ (mode : Mode) (stack : List LayerTree) (plans : List Plan) (w : World) where
   nothing : (id : ℕ) → Sends mode stack plans w id (record { world = w; did = absent })
@@ -66,13 +74,16 @@ module _ (mode : Mode) (stack : List LayerTree) (plans : List Plan) (w : World) 
       Sends mode stack plans w id (stepped_inside stack w id view states r)
   inside_sends id view states (Err refusal) = record { packets = sym (append-nil w.packets); numbers = refl }
   inside_sends id view states (Ok what) = let s = step_from stack (here_of w view id) id states what in record {
-    packets = ap (λ ps. w.packets ++ ps) (sym (packets_from plans id (length w.packets + 1) (short_from mode stack plans s) s.outputs));
+    packets = ap (λ ps. w.packets ++ ps)
+        (sym (packets_from plans id (length w.packets + 1) (short_from mode stack plans s) s.outputs));
     numbers = numbers_from plans id (length w.packets + 1) (as_sent mode stack plans s);
   }
 
-  member_sends : (id : ℕ) (input : Input) (m : Member) → Sends mode stack plans w id (stepped_of stack plans w id input m)
+  member_sends : (id : ℕ) (input : Input) (m : Member) →
+      Sends mode stack plans w id (stepped_of stack plans w id input m)
   member_sends id input out = record { packets = sym (append-nil w.packets); numbers = refl }
-  member_sends id input (inside view states) = inside_sends id view states (entered stack plans (here_of w view id) input)
+  member_sends id input (inside view states) =
+      inside_sends id view states (entered stack plans (here_of w view id) input)
 
   stepped_sends : (id : ℕ) (input : Input) → Sends mode stack plans w id (stepped stack plans w id input)
   stepped_sends id input = member_sends id input (member_at w id)
@@ -105,7 +116,8 @@ ranges k (suc m) n j e =
 
 length_append : {A : Type 0} (xs ys : List A) → length (xs ++ ys) ≡ length xs + length ys
 length_append [] ys = let e : length ys ≡ 0 + length ys = omega arith in e
-length_append (x ∷ xs) ys = let e : suc (length xs + length ys) ≡ suc (length xs) + length ys = omega arith in ap suc (length_append xs ys) ∙ e
+length_append (x ∷ xs) ys = let e : suc (length xs + length ys) ≡ suc (length xs) + length ys = omega arith in
+    ap suc (length_append xs ys) ∙ e
 
 length_map : {A B : Type 0} (f : A → B) (xs : List A) → length (map f xs) ≡ length xs
 length_map f [] = refl
@@ -135,13 +147,16 @@ go_on a b c ds es first second =
     }
 
 continues : (mode : Mode) (stack : List LayerTree) (plans : List Plan) (w : World) (events : List ScriptEvent) →
-    Continues w (world_after w (moments stack plans w events)) (datagrams mode stack plans (moments stack plans w events))
+    Continues w (world_after w (moments stack plans w events))
+    (datagrams mode stack plans (moments stack plans w events))
 continues mode stack plans w [] = record { packets = sym (append-nil w.packets); numbers = refl }
 continues mode stack plans w (e ∷ events) =
     let h = happens stack plans w e in
     let sends = event_sends mode stack plans w e in
-    go_on w h.world (world_after h.world (moments stack plans h.world events)) (did_send mode stack plans (member_of e) (length w.packets + 1) h.did)
-    (datagrams mode stack plans (moments stack plans h.world events)) (record { packets = sends.packets; numbers = sends.numbers })
+    go_on w h.world (world_after h.world (moments stack plans h.world events))
+    (did_send mode stack plans (member_of e) (length w.packets + 1) h.did)
+    (datagrams mode stack plans (moments stack plans h.world events))
+    (record { packets = sends.packets; numbers = sends.numbers })
     (continues mode stack plans h.world events)
 
 -- each has its own packet's number
@@ -155,12 +170,14 @@ each_numbered after k (d ∷ ds) numbers there = (
       let plain : k + 1 ≡ suc (k + 0) = omega arith in
       ap (packet_number after) (first ∙ plain) ∙ there 0
       ),
-  each_numbered after (k + 1) ds (tails numbers) (λ i. let same : k + 1 + i ≡ k + suc i = omega arith in ap (slice_get after.packets) same ∙ there (suc i)),
+  each_numbered after (k + 1) ds (tails numbers)
+      (λ i. let same : k + 1 + i ≡ k + suc i = omega arith in ap (slice_get after.packets) same ∙ there (suc i)),
 ) where
   heads : d.number ∷ numbers_of ds ≡ (k + 1) ∷ range_with_len (k + 1 + 1) (length ds) → d.number ≡ k + 1
   heads e = cc e
 
-  tails : d.number ∷ numbers_of ds ≡ (k + 1) ∷ range_with_len (k + 1 + 1) (length ds) → numbers_of ds ≡ range_with_len (k + 1 + 1) (length ds)
+  tails : d.number ∷ numbers_of ds ≡ (k + 1) ∷ range_with_len (k + 1 + 1) (length ds) →
+      numbers_of ds ≡ range_with_len (k + 1 + 1) (length ds)
   tails e = cc e
 
 pub datagrams_are_numbered : DatagramsAreNumbered
@@ -177,11 +194,13 @@ datagrams_are_numbered mode stack plans w events =
 
 -- lines
 
-each_append : {A : Type 0} (P : A → Type 0) (xs ys : List A) → AllByRecursion P xs → AllByRecursion P ys → AllByRecursion P (xs ++ ys)
+each_append : {A : Type 0} (P : A → Type 0) (xs ys : List A) → AllByRecursion P xs → AllByRecursion P ys →
+    AllByRecursion P (xs ++ ys)
 each_append P [] ys h i = i
 each_append P (x ∷ xs) ys h i = (h.0, each_append P xs ys h.1 i)
 
-woven_both : (stack : List LayerTree) (r s v w : List (List ℕ)) (ds es : List Datagram) → AreWoven stack r v ds → AreWoven stack s w es →
+woven_both : (stack : List LayerTree) (r s v w : List (List ℕ)) (ds es : List Datagram) → AreWoven stack r v ds →
+    AreWoven stack s w es →
     AreWoven stack (r ++ s) (v ++ w) (ds ++ es)
 woven_both stack r s v w ds es a b = record {
   lines = a.lines ++ b.lines;
@@ -215,32 +234,43 @@ one_line stack line r v ds a = record {
 
 outputs_woven : (stack : List LayerTree) (plans : List Plan) (id k : ℕ) (next : Option ℕ) (outputs : List Output) →
     AreWoven stack (lines_of_outputs stack no_annex id k (with_plans plans None outputs))
-    (lines_of_outputs stack (wire_annex plans) id k (with_plans plans next outputs)) (datagrams_from plans id k (with_plans plans next outputs))
+    (lines_of_outputs stack (wire_annex plans) id k (with_plans plans next outputs))
+    (datagrams_from plans id k (with_plans plans next outputs))
 outputs_woven stack plans id k next [] = plain_lines stack []
 outputs_woven stack plans id k next (packet p ∷ outputs) =
     let a = outputs_woven stack plans id (k + 1) (plan_behind next (packet p)) outputs in
-    let d : Datagram = record { number = k; member = id; packet = p; bytes = wire plans p (plan_for plans next (packet p)) } in record {
+    let d : Datagram = record
+    { number = k; member = id; packet = p; bytes = wire plans p (plan_for plans next (packet p)) } in record {
       lines = (packet_line stack k id p, Some d) ∷ a.lines;
       report_is = ap (λ ls. packet_line stack k id p ∷ ls) a.report_is;
       written_is = ap (λ ls. packet_line stack k id p ∷ wire_line k d.bytes ∷ ls) a.written_is;
       datagrams_are = ap (λ ds. d ∷ ds) a.datagrams_are;
       said = (refl, a.said);
     }
-outputs_woven stack plans id k next (deliver_cast peer body ∷ outputs) = one_line stack _ _ _ _ (outputs_woven stack plans id k next outputs)
-outputs_woven stack plans id k next (deliver_send peer body ∷ outputs) = one_line stack _ _ _ _ (outputs_woven stack plans id k next outputs)
-outputs_woven stack plans id k next (block n ∷ outputs) = one_line stack _ _ _ _ (outputs_woven stack plans id k next outputs)
-outputs_woven stack plans id k next (announce n ∷ outputs) = one_line stack _ _ _ _ (outputs_woven stack plans id k next outputs)
-outputs_woven stack plans id k next (nowhere ∷ outputs) = outputs_woven stack plans id k (plan_behind next nowhere) outputs
-outputs_woven stack plans id k next (timer n ∷ outputs) = one_line stack _ _ _ _ (outputs_woven stack plans id k next outputs)
+outputs_woven stack plans id k next (deliver_cast peer body ∷ outputs) =
+    one_line stack _ _ _ _ (outputs_woven stack plans id k next outputs)
+outputs_woven stack plans id k next (deliver_send peer body ∷ outputs) =
+    one_line stack _ _ _ _ (outputs_woven stack plans id k next outputs)
+outputs_woven stack plans id k next (block n ∷ outputs) =
+    one_line stack _ _ _ _ (outputs_woven stack plans id k next outputs)
+outputs_woven stack plans id k next (announce n ∷ outputs) =
+    one_line stack _ _ _ _ (outputs_woven stack plans id k next outputs)
+outputs_woven stack plans id k next (nowhere ∷ outputs) = outputs_woven stack plans id k (plan_behind next nowhere)
+    outputs
+outputs_woven stack plans id k next (timer n ∷ outputs) =
+    one_line stack _ _ _ _ (outputs_woven stack plans id k next outputs)
 outputs_woven stack plans id k next (quiet dir e ∷ outputs) = outputs_woven stack plans id k next outputs
 
 did_woven : (mode : Mode) (stack : List LayerTree) (plans : List Plan) (m : Moment) (d : Did) →
     AreWoven stack (lines_of stack (step_lines stack plans None (member_of m.event) (first_number m)) m d)
-    (lines_of stack (step_lines stack plans (Some mode) (member_of m.event) (first_number m)) m d) (did_send mode stack plans (member_of m.event) (first_number m) d)
+    (lines_of stack (step_lines stack plans (Some mode) (member_of m.event) (first_number m)) m d)
+    (did_send mode stack plans (member_of m.event) (first_number m) d)
 did_woven mode stack plans m (taken s) =
     let views = map (installed_line (member_of m.event)) (option_to_list s.installs) in
-    subst (AreWoven stack _ _) (append-nil (datagrams_from plans (member_of m.event) (first_number m) (as_sent mode stack plans s)))
-    (woven_both stack _ views _ views _ [] (outputs_woven stack plans (member_of m.event) (first_number m) (short_from mode stack plans s) s.outputs)
+    subst (AreWoven stack _ _)
+    (append-nil (datagrams_from plans (member_of m.event) (first_number m) (as_sent mode stack plans s)))
+    (woven_both stack _ views _ views _ []
+    (outputs_woven stack plans (member_of m.event) (first_number m) (short_from mode stack plans s) s.outputs)
     (plain_lines stack views))
 did_woven mode stack plans m (refused refusal) = plain_lines stack _
 did_woven mode stack plans m absent = plain_lines stack _
@@ -250,10 +280,12 @@ run_woven : (mode : Mode) (stack : List LayerTree) (plans : List Plan) (run : Li
     AreWoven stack (flat_map (moment_lines stack plans None) run) (flat_map (moment_lines stack plans (Some mode)) run)
     (datagrams mode stack plans run)
 run_woven mode stack plans [] = plain_lines stack []
-run_woven mode stack plans (m ∷ run) = woven_both stack _ _ _ _ _ _ (did_woven mode stack plans m m.happening.did) (run_woven mode stack plans run)
+run_woven mode stack plans (m ∷ run) = woven_both stack _ _ _ _ _ _ (did_woven mode stack plans m m.happening.did)
+    (run_woven mode stack plans run)
 
 pub lines_are_woven : LinesAreWoven
 lines_are_woven mode count stack plans script run =
-    let last = end_line (length script.events) ∷ map (λ mode. visits_line (sum_by (visits_of mode stack plans) run)) (option_to_list count) in
+    let last = end_line (length script.events) ∷ map (λ mode. visits_line (sum_by (visits_of mode stack plans) run))
+    (option_to_list count) in
     subst (AreWoven stack _ _) (append-nil (datagrams mode stack plans run))
     (woven_both stack _ last _ last _ [] (run_woven mode stack plans run) (plain_lines stack last))

@@ -1,6 +1,8 @@
 -- The decisions of a run are those of its entry's shape, as far as they go as predicted.
-use Rattle.std.proofs.Common.{◌≡◌, ◌∙◌, ℕ, zero, suc, ◌+◌, ◌-◌, Bool, true, false, ◌&&◌, List, [], ◌∷◌, ◌++◌, map, length, Option, Some, None, refl, sym, ap, subst, arith}
-use Rattle.std.specs.Prelude.{MatchBool, bytes_eq, if◌then◌else◌, nat_lt, replicate, slice_get, slice_index_or, option_map, Result, Ok, Err}
+use Rattle.std.proofs.Common.{◌≡◌, ◌∙◌, ℕ, zero, suc, ◌+◌, ◌-◌, Bool, true, false, ◌&&◌, List, [], ◌∷◌, ◌++◌, map}
+use Rattle.std.proofs.Common.{length, Option, Some, None, refl, sym, ap, subst, arith}
+use Rattle.std.specs.Prelude.{MatchBool, bytes_eq, if◌then◌else◌, nat_lt, replicate, slice_get, slice_index_or}
+use Rattle.std.specs.Prelude.{option_map, Result, Ok, Err}
 use Rattle.std.specs.List.{sum_by}
 use Rattle.std.specs.Option.{option_and_then, option_map_or}
 use Rattle.std.proofs.lemmas.List.{append-nil, map-append}
@@ -22,7 +24,8 @@ use Rattle.layer_mean.specs.Tree.{LayerTree}
 use Rattle.layer_mean.specs.State.{State}
 use Rattle.layer_mean.specs.Effect.{Decision}
 use Rattle.layer_mean.specs.Visit.{step}
-use Rattle.layer_mean.specs.Queue.{Task, Line, Player, Work, taken_turn, layers, layer_at, state_at, is_place, next_of, run_for, run}
+use Rattle.layer_mean.specs.Queue.{Task, Line, Player, Work, taken_turn, layers, layer_at, state_at, is_place, next_of}
+use Rattle.layer_mean.specs.Queue.{run_for, run}
 use Rattle.layer_mean.specs.Marked.{Logged, Marked, Log, marked, marked_start}
 use Rattle.packet_mean.specs.Chained.{IsChain}
 use Rattle.packet_mean.specs.Plan.{agree, fields_of, fits, kind_of, least_fit, tags_of}
@@ -33,10 +36,13 @@ use Rattle.stack_mean.specs.NoShape as no_shape
 use Rattle.stack_mean.specs.Drawn.{DrawnEvent, DrawnVisit, drawn_visit}
 use Rattle.stack_mean.specs.Plan.{Plan}
 use Rattle.stack_mean.specs.Plans.{plans_of}
-use Rattle.stack_mean.specs.Shape.{Progress, visits_limit, drawn_turn, shaper, undrawn, Known, entry_headers, entry_task, has_second_case, Shape, ShapeVisit, shape_visit, shape_with, shape_of, drawn_shape, shape}
+use Rattle.stack_mean.specs.Shape.{Progress, visits_limit, drawn_turn, shaper, undrawn, Known, entry_headers}
+use Rattle.stack_mean.specs.Shape.{entry_task, has_second_case, Shape, ShapeVisit, shape_visit, shape_with, shape_of}
+use Rattle.stack_mean.specs.Shape.{drawn_shape, shape}
 use Rattle.stack_mean.specs.Shape as entry
 use Rattle.run_mean.specs.Common.{entry_of, plan_entry}
-use Rattle.run_mean.specs.Member.{Entered, app_cast, app_send, app_leave, clock_tick, from_peer, from_below, first_task, step_from}
+use Rattle.run_mean.specs.Member.{Entered, app_cast, app_send, app_leave, clock_tick, from_peer, from_below, first_task}
+use Rattle.run_mean.specs.Member.{step_from}
 use Rattle.chain_laws.proofs.Lists.{there}
 use Rattle.shape_laws.specs.Bare.{BareNext, BareRun}
 use Rattle.shape_laws.specs.Known.{Pairwise, IsKnownAs, HeadersAre, EventIs, TaskIs, BeginsAs}
@@ -58,8 +64,10 @@ total_more : (case : Case) (stack : List LayerTree) (visits : List (Logged Drawn
 total_more case stack visits x =
     let f = visit_decisions case stack in
     let one : sum_by f (shape_visit x ∷ []) ≡ f (shape_visit x) =
-    let nothing : f (shape_visit x) + 0 ≡ f (shape_visit x) = omega arith in sum_by-cons f (shape_visit x) [] ∙ nothing in
-    ap (sum_by f) (map-append shape_visit visits (x ∷ [])) ∙ sum_by-append f (map shape_visit visits) (shape_visit x ∷ [])
+    let nothing : f (shape_visit x) + 0 ≡ f (shape_visit x) = omega arith in sum_by-cons f (shape_visit x) [] ∙
+    nothing in
+    ap (sum_by f) (map-append shape_visit visits (x ∷ [])) ∙
+    sum_by-append f (map shape_visit visits) (shape_visit x ∷ [])
     ∙ ap (λ n. sum_by f (map shape_visit visits) + n) one
 
 -- where the drawing goes on, the decisions of the run are so many
@@ -71,11 +79,13 @@ abbrev GoesOn : Result Progress NoShape → Type 0
 GoesOn (Err reason) = ⊥
 GoesOn (Ok p) = Unit {0}
 
-counts_if : (case : Case) (x : Result Progress NoShape) (ds : List Decision) (d : ℕ) → (GoesOn x → Counts case ds d) → CountsIf case x ds d
+counts_if : (case : Case) (x : Result Progress NoShape) (ds : List Decision) (d : ℕ) → (GoesOn x → Counts case ds d) →
+    CountsIf case x ds d
 counts_if case (Err reason) ds d h = tt
 counts_if case (Ok p) ds d h = h tt
 
-abbrev drawn_next : Case → List LayerTree → List (Task (Marked DrawnEvent)) → Log (Result Progress NoShape) DrawnEvent → DrawnLine
+abbrev drawn_next : Case → List LayerTree → List (Task (Marked DrawnEvent)) → Log (Result Progress NoShape) DrawnEvent →
+    DrawnLine
 drawn_next case stack tasks log = next_of (length stack) (marked (shaper case stack)) tasks log
 
 abbrev run_next : List LayerTree → List (Task (Marked Event)) → Log Work Event → RunLine
@@ -113,20 +123,25 @@ decided_grows stack (u ∷ us) log = go (is_place (length stack) u.at) where
   go true = refl
   go false = sym (append-nil log.world.decided)
 
-visits_grow : (case : Case) (stack : List LayerTree) (zs : List (Task (Marked DrawnEvent))) (log : Log (Result Progress NoShape) DrawnEvent) →
-    total case stack (drawn_next case stack zs log).world.visits ≡ total case stack log.visits + turn_counted case stack zs
-visits_grow case stack [] log = let none : total case stack log.visits ≡ total case stack log.visits + 0 = omega arith in none
+visits_grow : (case : Case) (stack : List LayerTree) (zs : List (Task (Marked DrawnEvent)))
+    (log : Log (Result Progress NoShape) DrawnEvent) →
+    total case stack (drawn_next case stack zs log).world.visits ≡ total case stack log.visits + turn_counted case stack
+    zs
+visits_grow case stack [] log = let none : total case stack log.visits ≡ total case stack log.visits + 0 =
+    omega arith in none
 visits_grow case stack (t ∷ rest) log = go (is_place (length stack) t.at) where
   go : (b : Bool) → total case stack (turned (marked (shaper case stack)) t rest log b).world.visits
       ≡ total case stack log.visits + visit_counted case stack t b
   go true = total_more case stack log.visits (logged t)
   go false = let none : total case stack log.visits ≡ total case stack log.visits + 0 = omega arith in none
 
-abbrev drawing : Progress → List (Logged DrawnEvent) → List (Logged DrawnEvent) → Log (Result Progress NoShape) DrawnEvent
+abbrev drawing : Progress → List (Logged DrawnEvent) → List (Logged DrawnEvent) →
+    Log (Result Progress NoShape) DrawnEvent
 drawing p visits outs = record { world = Ok p; visits = visits; outs = outs }
 
 -- a turn that both take: where the drawing goes on, its visit has the decisions of the run's
-visit_adds : (case : Case) (stack : List LayerTree) (t : Task (Marked DrawnEvent)) (rest : List (Task (Marked DrawnEvent))) (p : Progress)
+visit_adds : (case : Case) (stack : List LayerTree) (t : Task (Marked DrawnEvent))
+    (rest : List (Task (Marked DrawnEvent))) (p : Progress)
     (visits outs : List (Logged DrawnEvent)) (w : Work) (e : Event) → EventIs t.event.event e → (b : Bool) →
     GoesOn (turned (marked (shaper case stack)) t rest (drawing p visits outs) b).world.world →
     Counts case (visit_decided stack w t.at t.dir e b) (visit_counted case stack t b)
@@ -140,15 +155,19 @@ visit_adds case stack t rest p visits outs w e same true on = looked (nat_lt p.v
   drawn (Err reason) on = absurd on
 
   looked : (c : Bool) →
-      GoesOn (if c then drawn_turn p (drawn_visit case (t.at - 1) (layer_at stack t.at) t.dir d) else record { world = Err no_shape.long; sent = [] }).world →
-      Counts case (step (t.at - 1) (layer_at stack t.at) (state_at w t.at) t.dir e).decided (visit_decisions case stack (shape_visit (logged t)))
+      GoesOn (if c then drawn_turn p (drawn_visit case (t.at - 1) (layer_at stack t.at) t.dir d) else record
+      { world = Err no_shape.long; sent = [] }).world →
+      Counts case (step (t.at - 1) (layer_at stack t.at) (state_at w t.at) t.dir e).decided
+      (visit_decisions case stack (shape_visit (logged t)))
   looked true on = visit_counts case (t.at - 1) (layer_at stack t.at) (state_at w t.at) t.dir e d same
       (drawn (drawn_visit case (t.at - 1) (layer_at stack t.at) t.dir d) on)
   looked false on = absurd on
 
-turn_adds : (case : Case) (stack : List LayerTree) (zs : List (Task (Marked DrawnEvent))) (us : List (Task (Marked Event))) (p : Progress)
+turn_adds : (case : Case) (stack : List LayerTree) (zs : List (Task (Marked DrawnEvent)))
+    (us : List (Task (Marked Event))) (p : Progress)
     (visits outs : List (Logged DrawnEvent)) (w : Work) → Pairwise TaskIs zs us →
-    GoesOn (drawn_next case stack zs (drawing p visits outs)).world.world → Counts case (turn_decided stack us w) (turn_counted case stack zs)
+    GoesOn (drawn_next case stack zs (drawing p visits outs)).world.world →
+    Counts case (turn_decided stack us w) (turn_counted case stack zs)
 turn_adds case stack [] [] p visits outs w same on = refl
 turn_adds case stack (t ∷ rest) (u ∷ us) p visits outs w same on =
     let head = same.0 in
@@ -160,10 +179,13 @@ turn_adds case stack (t ∷ rest) [] p visits outs w same on = absurd same
 
 -- a drawing that has failed doesn't go on
 stays_failed : (case : Case) (stack : List LayerTree) (zs : List (Task (Marked DrawnEvent))) (reason : NoShape)
-    (visits outs : List (Logged DrawnEvent)) → GoesOn (drawn_next case stack zs (record { world = Err reason; visits = visits; outs = outs })).world.world → ⊥
+    (visits outs : List (Logged DrawnEvent)) →
+    GoesOn (drawn_next case stack zs (record { world = Err reason; visits = visits; outs = outs })).world.world → ⊥
 stays_failed case stack [] reason visits outs on = on
 stays_failed case stack (t ∷ rest) reason visits outs on = go (is_place (length stack) t.at) on where
-  go : (b : Bool) → GoesOn (turned (marked (shaper case stack)) t rest (record { world = Err reason; visits = visits; outs = outs }) b).world.world → ⊥
+  go : (b : Bool) → GoesOn
+      (turned (marked (shaper case stack)) t rest (record { world = Err reason; visits = visits; outs = outs })
+      b).world.world → ⊥
   go true on = on
   go false on = on
 
@@ -177,19 +199,29 @@ next_counts case stack z r = go z.world.world where
   log x = record { world = x; visits = z.world.visits; outs = z.world.outs }
 
   go : (x : Result Progress NoShape) →
-      InStep case x (record { world = record { world = x; visits = z.world.visits; outs = z.world.outs }; tasks = z.tasks }) r →
+      InStep case x (record {
+        world = record { world = x; visits = z.world.visits; outs = z.world.outs };
+        tasks =
+            z.tasks;
+      }) r →
       CountsIf case x r.world.world.decided (total case stack z.world.visits) →
       let y = drawn_next case stack z.tasks (record { world = x; visits = z.world.visits; outs = z.world.outs }) in
       CountsIf case y.world.world (run_next stack r.tasks r.world).world.world.decided (total case stack y.world.visits)
   go (Err reason) alike h =
-      let y = drawn_next case stack z.tasks (record { world = Err reason; visits = z.world.visits; outs = z.world.outs }) in
-      counts_if case y.world.world _ _ (λ on. absurd (stays_failed case stack z.tasks reason z.world.visits z.world.outs on))
+      let y = drawn_next case stack z.tasks
+      (record { world = Err reason; visits = z.world.visits; outs = z.world.outs }) in
+      counts_if case y.world.world _ _
+      (λ on. absurd (stays_failed case stack z.tasks reason z.world.visits z.world.outs on))
   go (Ok p) alike h =
       let y = drawn_next case stack z.tasks (drawing p z.world.visits z.world.outs) in
       counts_if case y.world.world _ _ (λ on.
       subst {A = List Decision × ℕ} (λ x. Counts case x.0 x.1)
-      (λ i. (sym (decided_grows stack r.tasks r.world) i, sym (visits_grow case stack z.tasks (drawing p z.world.visits z.world.outs)) i))
-      (counts_both case r.world.world.decided (turn_decided stack r.tasks r.world.world) (total case stack z.world.visits)
+      (λ i. (
+        sym (decided_grows stack r.tasks r.world) i,
+        sym (visits_grow case stack z.tasks (drawing p z.world.visits z.world.outs)) i,
+      ))
+      (counts_both case r.world.world.decided (turn_decided stack r.tasks r.world.world)
+      (total case stack z.world.visits)
       (turn_counted case stack z.tasks) h
       (λ all. turn_adds case stack z.tasks r.tasks p z.world.visits z.world.outs r.world.world (alike all).tasks on)))
 
@@ -197,14 +229,19 @@ next_counts case stack z r = go z.world.world where
 abbrev CountsLine : Case → List LayerTree → DrawnLine × RunLine → Type 0
 CountsLine case stack x = CountsIf case x.0.world.world x.1.world.world.decided (total case stack x.0.world.visits)
 
-runs_count : (case : Case) (stack : List LayerTree) (k : ℕ) (z : DrawnLine) (r : RunLine) → InStep case z.world.world z r → BareRun case stack r →
+runs_count : (case : Case) (stack : List LayerTree) (k : ℕ) (z : DrawnLine) (r : RunLine) →
+    InStep case z.world.world z r → BareRun case stack r →
     CountsLine case stack (z, r) →
-    CountsLine case stack (run_for (length stack) (marked (shaper case stack)) k z, run_for (length stack) (marked (layers stack)) k r)
+    CountsLine case stack (
+      run_for (length stack) (marked (shaper case stack)) k z,
+      run_for (length stack) (marked (layers stack)) k r,
+    )
 runs_count case stack zero z r step bare h = h
 runs_count case stack (suc k) z r step bare h =
     let shapes = λ (j : ℕ). first_turn (length stack) (marked (shaper case stack)) j z.tasks z.world in
     let runs = λ (j : ℕ). first_turn (length stack) (marked (layers stack)) j r.tasks r.world in
-    let next : InStep case (drawn_next case stack z.tasks z.world).world.world (drawn_next case stack z.tasks z.world) (run_next stack r.tasks r.world) =
+    let next : InStep case (drawn_next case stack z.tasks z.world).world.world (drawn_next case stack z.tasks z.world)
+    (run_next stack r.tasks r.world) =
     subst {A = DrawnLine × RunLine} (λ x. InStep case x.0.world.world x.0 x.1) (λ i. (shapes zero i, runs zero i))
     (runs_in_step case stack (suc zero) z r step bare) in
     subst {A = DrawnLine × RunLine} (CountsLine case stack) (λ i. (sym (shapes k) i, sym (runs k) i))
@@ -214,39 +251,51 @@ runs_count case stack (suc k) z r step bare h =
 
 -- shapes
 
-was_drawn : (stack : List LayerTree) (k : Known) (case : Case) (s : Shape) → shape stack k case ≡ Ok s → drawn_shape stack k case ≡ Ok s
+was_drawn : (stack : List LayerTree) (k : Known) (case : Case) (s : Shape) → shape stack k case ≡ Ok s →
+    drawn_shape stack k case ≡ Ok s
 was_drawn stack k First s made = made
 was_drawn stack k Second s made = go (has_second_case stack k) made where
-  go : (b : Bool) → (if b then drawn_shape stack k Second else Err no_shape.same) ≡ Ok s → drawn_shape stack k Second ≡ Ok s
+  go : (b : Bool) → (if b then drawn_shape stack k Second else Err no_shape.same) ≡ Ok s → drawn_shape stack k Second ≡
+      Ok s
   go true made = made
   go false made = absurd (cc made)
 
-shape_counts : (case : Case) (stack : List LayerTree) (log : Log (Result Progress NoShape) DrawnEvent) (s : Shape) (ds : List Decision) →
-    shape_of log ≡ Ok s → CountsIf case log.world ds (total case stack log.visits) → Counts case ds (shape_decisions case stack s)
+shape_counts : (case : Case) (stack : List LayerTree) (log : Log (Result Progress NoShape) DrawnEvent) (s : Shape)
+    (ds : List Decision) →
+    shape_of log ≡ Ok s → CountsIf case log.world ds (total case stack log.visits) →
+    Counts case ds (shape_decisions case stack s)
 shape_counts case stack log s ds made h = go log.world made h where
-  go : (x : Result Progress NoShape) → drawn_from (λ p. Ok (shape_with log p)) x ≡ Ok s → CountsIf case x ds (total case stack log.visits) →
+  go : (x : Result Progress NoShape) → drawn_from (λ p. Ok (shape_with log p)) x ≡ Ok s →
+      CountsIf case x ds (total case stack log.visits) →
       Counts case ds (shape_decisions case stack s)
   go (Err reason) made h = absurd (cc made)
   go (Ok p) made h =
       let same : shape_with log p ≡ s = cc made in
       subst (λ (t : Shape). Counts case ds (shape_decisions case stack t)) same h
 
-counts_after : (case : Case) (most : ℕ) (stack : List LayerTree) (k : Known) (s : Shape) (states : List State) (task : Task Event) →
-    shape_of (run_for (length stack) (marked (shaper case stack)) most (marked_start undrawn (entry_task stack k))).world ≡ Ok s →
+counts_after : (case : Case) (most : ℕ) (stack : List LayerTree) (k : Known) (s : Shape) (states : List State)
+    (task : Task Event) →
+    shape_of (run_for (length stack) (marked (shaper case stack)) most
+    (marked_start undrawn (entry_task stack k))).world ≡ Ok s →
     BeginsAs (entry_task stack k) task → BareRun case stack (run_start states task) →
     Counts case (run most stack states task).world.decided (shape_decisions case stack s)
 counts_after case most stack k s states task made begins bare =
     let z : DrawnLine = marked_start undrawn (entry_task stack k) in
     let r : RunLine = run_start states task in
-    subst (λ (w : Work). Counts case w.decided (shape_decisions case stack s)) (logs_tell_runs stack states task most).world
+    subst (λ (w : Work). Counts case w.decided (shape_decisions case stack s))
+    (logs_tell_runs stack states task most).world
     (shape_counts case stack (run_for (length stack) (marked (shaper case stack)) most z).world s _ made
     (runs_count case stack most z r (λ usual. record {
-      tasks = (record { at = begins.at; dir = begins.dir; marked = record { event = begins.event; made_by = refl } }, tt);
+      tasks = (
+        record { at = begins.at; dir = begins.dir; marked = record { event = begins.event; made_by = refl } },
+        tt,
+      );
       visits = tt;
       outs = tt;
     }) bare refl))
 
-drawn_counts : (case : Case) (stack : List LayerTree) (k : Known) (s : Shape) (states : List State) (task : Task Event) →
+drawn_counts : (case : Case) (stack : List LayerTree) (k : Known) (s : Shape) (states : List State)
+    (task : Task Event) →
     drawn_shape stack k case ≡ Ok s → BeginsAs (entry_task stack k) task → BareRun case stack (run_start states task) →
     Counts case (run weight_limit stack states task).world.decided (shape_decisions case stack s)
 unfolding drawn_shape
@@ -268,7 +317,8 @@ headers_begin (layer ∷ above) place [] h = absurd h
 headers_begin (layer ∷ above) place (header ∷ headers) h = there (declared layer header.tag) _ h (λ d is chain. (
   record {
     tag = refl;
-    fields = subst (λ n. Pairwise IsKnownAs (replicate n None) header.fields) (sym (ap (λ o. option_map_or (λ x. x.fields) o 0) is))
+    fields = subst (λ n. Pairwise IsKnownAs (replicate n None) header.fields)
+        (sym (ap (λ o. option_map_or (λ x. x.fields) o 0) is))
         (none_known d.fields header.fields chain.1);
   },
   ends d.ends chain.2 (headers_begin above (suc place) headers),
@@ -285,7 +335,8 @@ and_three true true z e = (refl, refl)
 and_three true false z e = absurd (cc e)
 and_three false y z e = absurd (cc e)
 
-packet_begins : (stack : List LayerTree) (me : ℕ) (p : Packet) (plan : Plan) → fits plan p ≡ true → IsChain stack 0 p.message.headers →
+packet_begins : (stack : List LayerTree) (me : ℕ) (p : Packet) (plan : Plan) → fits plan p ≡ true →
+    IsChain stack 0 p.message.headers →
     BeginsAs (entry_task stack (plan_entry plan)) (first_task stack me (from_peer p))
 packet_begins stack me p plan fit chain =
     let parts = and_three (sameb kind_row.the_type plan.kind (kind_of p.dest)) (bytes_eq plan.tags (tags_of p.message))
@@ -295,7 +346,8 @@ packet_begins stack me p plan fit chain =
       at = refl;
       dir = refl;
       event = go p.dest (same_true kind_row.the_type tt plan.kind (kind_of p.dest) parts.0)
-          (subst (λ ts. HeadersAre (entry_headers stack ts) p.message.headers) (sym tags) (headers_begin stack 0 p.message.headers chain));
+          (subst (λ ts. HeadersAre (entry_headers stack ts) p.message.headers) (sym tags)
+          (headers_begin stack 0 p.message.headers chain));
     }
   where
     go : (to : Dest) → plan.kind ≡ kind_of to → HeadersAre (entry_headers stack plan.tags) p.message.headers →
@@ -309,7 +361,8 @@ packet_begins stack me p plan fit chain =
 some_same : {A : Type 0} (x y : A) → Some x ≡ Some y → x ≡ y
 some_same x y e = cc e
 
-found : (plans : List Plan) (p : Packet) (k : ℕ) (plan : Plan) → least_fit plans p ≡ Some k → slice_get plans k ≡ Some plan → fits plan p ≡ true
+found : (plans : List Plan) (p : Packet) (k : ℕ) (plan : Plan) → least_fit plans p ≡ Some k →
+    slice_get plans k ≡ Some plan → fits plan p ≡ true
 found plans p k plan least at =
     let is = position-Some (λ plan. fits plan p) plans k plan least in
     let same : slice_index_or plans k plan ≡ plan = get_same plans k plan at in
@@ -320,13 +373,17 @@ found plans p k plan least at =
     get_same (x ∷ qs) zero q e = some_same x q e
     get_same (x ∷ qs) (suc i) q e = get_same qs i q e
 
-packet_entry_begins : (stack : List LayerTree) (me : ℕ) (p : Packet) (known : Known) → IsChain stack 0 p.message.headers →
-    entry_of (plans_of stack) (from_peer p) ≡ Some known → BeginsAs (entry_task stack known) (first_task stack me (from_peer p))
+packet_entry_begins : (stack : List LayerTree) (me : ℕ) (p : Packet) (known : Known) →
+    IsChain stack 0 p.message.headers →
+    entry_of (plans_of stack) (from_peer p) ≡ Some known →
+    BeginsAs (entry_task stack known) (first_task stack me (from_peer p))
 packet_entry_begins stack me p known chain is = fitted (least_fit (plans_of stack) p) refl is where
-  planned : (k : ℕ) → least_fit (plans_of stack) p ≡ Some k → (o : Option Plan) → slice_get (plans_of stack) k ≡ o → option_map plan_entry o ≡ Some known →
+  planned : (k : ℕ) → least_fit (plans_of stack) p ≡ Some k → (o : Option Plan) → slice_get (plans_of stack) k ≡ o →
+      option_map plan_entry o ≡ Some known →
       BeginsAs (entry_task stack known) (first_task stack me (from_peer p))
   planned k least None at is = absurd (cc is)
-  planned k least (Some plan) at is = subst (λ x. BeginsAs (entry_task stack x) (first_task stack me (from_peer p))) (some_same (plan_entry plan) known is)
+  planned k least (Some plan) at is = subst (λ x. BeginsAs (entry_task stack x) (first_task stack me (from_peer p)))
+      (some_same (plan_entry plan) known is)
       (packet_begins stack me p plan (found (plans_of stack) p k plan least at) chain)
 
   fitted : (o : Option ℕ) → least_fit (plans_of stack) p ≡ o →
@@ -335,24 +392,30 @@ packet_entry_begins stack me p known chain is = fitted (least_fit (plans_of stac
   fitted None least is = absurd (cc is)
   fitted (Some k) least is = planned k least (slice_get (plans_of stack) k) refl is
 
-entry_begins : (stack : List LayerTree) (here : Here) (states : List State) (what : Entered) (known : Known) → IsStep stack here states what →
+entry_begins : (stack : List LayerTree) (here : Here) (states : List State) (what : Entered) (known : Known) →
+    IsStep stack here states what →
     entry_of (plans_of stack) what ≡ Some known → BeginsAs (entry_task stack known) (first_task stack here.rank what)
 entry_begins stack here states (app_cast body) known h is =
-    subst (λ x. BeginsAs (entry_task stack x) (first_task stack here.rank (app_cast body))) (some_same entry.app_cast known is)
+    subst (λ x. BeginsAs (entry_task stack x) (first_task stack here.rank (app_cast body)))
+    (some_same entry.app_cast known is)
     (record { at = refl; dir = refl; event = record { kind = refl; message = tt } })
 entry_begins stack here states (app_send to body) known h is =
-    subst (λ x. BeginsAs (entry_task stack x) (first_task stack here.rank (app_send to body))) (some_same entry.app_send known is)
+    subst (λ x. BeginsAs (entry_task stack x) (first_task stack here.rank (app_send to body)))
+    (some_same entry.app_send known is)
     (record { at = refl; dir = refl; event = record { kind = refl; message = tt } })
 entry_begins stack here states app_leave known h is = absurd (cc is)
 entry_begins stack here states (clock_tick moment) known h is = absurd (cc is)
-entry_begins stack here states (from_peer p) known h is = packet_entry_begins stack here.rank p known h.input.chained.chain is
+entry_begins stack here states (from_peer p) known h is =
+    packet_entry_begins stack here.rank p known h.input.chained.chain is
 
-step_counts : (case : Case) (stack : List LayerTree) (here : Here) (id : ℕ) (states : List State) (what : Entered) (known : Known) (s : Shape) →
+step_counts : (case : Case) (stack : List LayerTree) (here : Here) (id : ℕ) (states : List State) (what : Entered)
+    (known : Known) (s : Shape) →
     IsStep stack here states what → entry_of (plans_of stack) what ≡ Some known → shape stack known case ≡ Ok s →
     Counts case (step_from stack here id states what).work.decided (shape_decisions case stack s)
 step_counts case stack here id states what known s h is made =
     let task = first_task stack here.rank what in
-    drawn_counts case stack known s states task (was_drawn stack known case s made) (entry_begins stack here states what known h is)
+    drawn_counts case stack known s states task (was_drawn stack known case s made)
+    (entry_begins stack here states what known h is)
     (typed_runs_are_bare case stack states task h.typed h.states_are (first_is_chained stack here states what h))
 
 pub missed_is_on_the_way : MissedIsOnTheWay

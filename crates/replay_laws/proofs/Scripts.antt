@@ -1,6 +1,8 @@
 -- What the lines of a script say is made of bytes and numbers.
-use Rattle.std.proofs.Common.{◌≡◌, ℕ, ◌-◌, ◌<◌, ◌≤◌, Bool, true, false, List, [], ◌∷◌, Option, Some, None, refl, subst, arith}
-use Rattle.std.specs.Prelude.{◌==◌, ◌&&◌, ◌||◌, nat_le, nat_lt, length, codes, bytes_eq, if◌then◌else◌, option_map, Result, Ok, Err}
+use Rattle.std.proofs.Common.{◌≡◌, ℕ, ◌-◌, ◌<◌, ◌≤◌, Bool, true, false, List, [], ◌∷◌, Option, Some, None, refl, subst}
+use Rattle.std.proofs.Common.{arith}
+use Rattle.std.specs.Prelude.{◌==◌, ◌&&◌, ◌||◌, nat_le, nat_lt, length, codes, bytes_eq, if◌then◌else◌, option_map}
+use Rattle.std.specs.Prelude.{Result, Ok, Err}
 use Rattle.std.specs.List.{AllByRecursion}
 use Rattle.std.specs.Option.{option_and_then}
 use Rattle.std.specs.Str.Parse.{digits_value}
@@ -11,11 +13,14 @@ use Rattle.packet_mean.specs.Spelling.{AreBytes}
 use Rattle.chain_laws.proofs.Lists.{Where}
 use Rattle.member_laws.specs.Members.{IsGivenEvent}
 use Rattle.member_laws.proofs.Members.{all_of}
-use Rattle.script_mean.specs.Words.{Word, words_of, is_plain, within, number_within, number_of, hex_digit, hex_bytes, most_digits, body_of}
+use Rattle.script_mean.specs.Words.{Word, words_of, is_plain, within, number_within, number_of, hex_digit, hex_bytes}
+use Rattle.script_mean.specs.Words.{most_digits, body_of}
 use Rattle.script_mean.specs.Form.{Form, one, a_word, the_word, a_number, a_body, ends}
-use Rattle.script_mean.specs.Event.{group_line, cast_line, send_line, leave_line, tick_line, give_line, raw_line, state_line, event_behind, event_line, said_by, member_of}
+use Rattle.script_mean.specs.Event.{group_line, cast_line, send_line, leave_line, tick_line, give_line, raw_line}
+use Rattle.script_mean.specs.Event.{state_line, event_behind, event_line, said_by, member_of}
 use Rattle.script_mean.specs.Lines.{is_too_long, said_lines}
-use Rattle.script_mean.specs.Script.{ScriptFault, too_long, no_member, ◌>>=◌, in_form, of_member, event_of, events_of, script_of_lines}
+use Rattle.script_mean.specs.Script.{ScriptFault, too_long, no_member, ◌>>=◌, in_form, of_member, event_of, events_of}
+use Rattle.script_mean.specs.Script.{script_of_lines}
 use Rattle.script_mean.specs.declared.script.GroupLine.{GroupLine}
 use Rattle.script_mean.specs.declared.event.ScriptEvent.{ScriptEvent}
 use Rattle.replay_laws.specs.Scripts.{IsGivenScript, ScriptsAreGiven}
@@ -42,10 +47,12 @@ so P Q f None h = tt
 so P Q f (Some x) h = f x h
 
 number_small : (word : Word) → Where IsNumber (number_of word)
-number_small word = so (λ n. (0 ≤ n) × (n ≤ 4294967295)) IsNumber (λ n h. omega (arith, h.1)) (number_of word) (number_bounds 0 4294967295 word)
+number_small word = so (λ n. (0 ≤ n) × (n ≤ 4294967295)) IsNumber (λ n h. omega (arith, h.1)) (number_of word)
+    (number_bounds 0 4294967295 word)
 
 -- a step, and the one after it
-then_so : {A B : Type 0} (P : A → Type 0) (Q : B → Type 0) (f : A → Option B) (o : Option A) → Where P o → ((x : A) → P x → Where Q (f x)) →
+then_so : {A B : Type 0} (P : A → Type 0) (Q : B → Type 0) (f : A → Option B) (o : Option A) → Where P o →
+    ((x : A) → P x → Where Q (f x)) →
     Where Q (option_and_then f o)
 then_so P Q f None h k = tt
 then_so P Q f (Some x) h k = k x h
@@ -87,7 +94,8 @@ body_is word = so Bytes AreBytes (all_of (λ b. b < 256)) (body_of word)
 abbrev Said : {A : Type 0} → (A → Type 0) → Option (A × List Word) → Type 0
 Said P o = Where (λ taken. P taken.0) o
 
-one_so : {A : Type 0} (P : A → Type 0) (spelled : Word → Option A) → ((w : Word) → Where P (spelled w)) → (ws : List Word) → Said P (one spelled ws)
+one_so : {A : Type 0} (P : A → Type 0) (spelled : Word → Option A) → ((w : Word) → Where P (spelled w)) →
+    (ws : List Word) → Said P (one spelled ws)
 one_so P spelled h [] = tt
 one_so P spelled h (word ∷ rest) = go (spelled word) (h word) where
   go : (o : Option _) → Where P o → Said P (option_map (λ value. (value, rest)) o)
@@ -128,25 +136,30 @@ group_is ws =
     next_so IsNumber IsGroup _ _ (one_so IsNumber number_of number_small ws) (λ stamp stamp_small ws.
     next_so Any IsGroup _ _ (any_so (the_word (codes "members")) ws) (λ _ _ ws.
     next_so (λ n. (1 ≤ n) × (n ≤ most_members)) IsGroup _ _
-    (one_so (λ n. (1 ≤ n) × (n ≤ most_members)) (number_within 1 most_members) (number_bounds 1 most_members) ws) (λ members bounds ws.
+    (one_so (λ n. (1 ≤ n) × (n ≤ most_members)) (number_within 1 most_members) (number_bounds 1 most_members) ws)
+    (λ members bounds ws.
     ends_so IsGroup (record { group = group; stamp = stamp; members = members }) ws
     (record { group = group_small; stamp = stamp_small; some_member = bounds.0; most = bounds.1 })))))))
 
 rank_small : (word : Word) → Where IsNumber (number_within 0 last_member word)
-rank_small word = so (λ n. (0 ≤ n) × (n ≤ last_member)) IsNumber (λ n h. omega (arith, h.1)) (number_within 0 last_member word)
+rank_small word = so (λ n. (0 ≤ n) × (n ≤ last_member)) IsNumber (λ n h. omega (arith, h.1))
+    (number_within 0 last_member word)
     (number_bounds 0 last_member word)
 
 -- one number, and what follows it
-numbered : {B : Type 0} (Q : B → Type 0) (next : ℕ → Form B) → ((n : ℕ) → IsNumber n → (ws : List Word) → Said Q (next n ws)) → (ws : List Word) →
+numbered : {B : Type 0} (Q : B → Type 0) (next : ℕ → Form B) →
+    ((n : ℕ) → IsNumber n → (ws : List Word) → Said Q (next n ws)) → (ws : List Word) →
     Said Q (option_and_then (λ taken. next taken.0 taken.1) (a_number ws))
 numbered Q next k ws = next_so IsNumber Q next (a_number ws) (one_so IsNumber number_of number_small ws) k
 
-bodied : {B : Type 0} (Q : B → Type 0) (next : List ℕ → Form B) → ((body : List ℕ) → AreBytes body → (ws : List Word) → Said Q (next body ws)) →
+bodied : {B : Type 0} (Q : B → Type 0) (next : List ℕ → Form B) →
+    ((body : List ℕ) → AreBytes body → (ws : List Word) → Said Q (next body ws)) →
     (ws : List Word) → Said Q (option_and_then (λ taken. next taken.0 taken.1) (a_body ws))
 bodied Q next k ws = next_so AreBytes Q next (a_body ws) (one_so AreBytes body_of body_is ws) k
 
 cast_is : (ws : List Word) → Said IsGivenEvent (cast_line ws)
-cast_is ws = numbered IsGivenEvent _ (λ m _ ws. bodied IsGivenEvent _ (λ body are ws. ends_so IsGivenEvent _ ws are) ws) ws
+cast_is ws = numbered IsGivenEvent _ (λ m _ ws. bodied IsGivenEvent _ (λ body are ws. ends_so IsGivenEvent _ ws are) ws)
+    ws
 
 send_is : (ws : List Word) → Said IsGivenEvent (send_line ws)
 send_is ws = numbered IsGivenEvent _ (λ m _ ws.
@@ -157,22 +170,27 @@ leave_is : (ws : List Word) → Said IsGivenEvent (leave_line ws)
 leave_is ws = numbered IsGivenEvent _ (λ m _ ws. ends_so IsGivenEvent _ ws tt) ws
 
 tick_is : (ws : List Word) → Said IsGivenEvent (tick_line ws)
-tick_is ws = numbered IsGivenEvent _ (λ m _ ws. numbered IsGivenEvent _ (λ time small ws. ends_so IsGivenEvent _ ws small) ws) ws
+tick_is ws = numbered IsGivenEvent _
+    (λ m _ ws. numbered IsGivenEvent _ (λ time small ws. ends_so IsGivenEvent _ ws small) ws) ws
 
 give_is : (ws : List Word) → Said IsGivenEvent (give_line ws)
 give_is ws = numbered IsGivenEvent _ (λ k _ ws. numbered IsGivenEvent _ (λ m _ ws. ends_so IsGivenEvent _ ws tt) ws) ws
 
 raw_is : (ws : List Word) → Said IsGivenEvent (raw_line ws)
-raw_is ws = numbered IsGivenEvent _ (λ m _ ws. bodied IsGivenEvent _ (λ body are ws. ends_so IsGivenEvent _ ws are) ws) ws
+raw_is ws = numbered IsGivenEvent _ (λ m _ ws. bodied IsGivenEvent _ (λ body are ws. ends_so IsGivenEvent _ ws are) ws)
+    ws
 
 state_is : (ws : List Word) → Said IsGivenEvent (state_line ws)
 state_is ws = numbered IsGivenEvent _ (λ m _ ws. ends_so IsGivenEvent _ ws tt) ws
 
 behind_is : (verb : Word) (ws : List Word) → Said IsGivenEvent (event_behind verb ws)
-behind_is verb ws = go (bytes_eq verb (codes "cast")) (bytes_eq verb (codes "send")) (bytes_eq verb (codes "leave")) (bytes_eq verb (codes "tick"))
+behind_is verb ws = go (bytes_eq verb (codes "cast")) (bytes_eq verb (codes "send")) (bytes_eq verb (codes "leave"))
+    (bytes_eq verb (codes "tick"))
     (bytes_eq verb (codes "give")) (bytes_eq verb (codes "raw")) (bytes_eq verb (codes "state"))
   where
-    go : (a b c d e f g : Bool) → Said IsGivenEvent ((if a then cast_line else if b then send_line else if c then leave_line else if d then tick_line
+    go : (a b c d e f g : Bool) →
+        Said IsGivenEvent ((if a then cast_line else if b then send_line else if c then leave_line else if d
+        then tick_line
         else if e then give_line else if f then raw_line else if g then state_line else (λ words. None)) ws)
     go true b c d e f g = cast_is ws
     go false true c d e f g = send_is ws
@@ -186,7 +204,8 @@ behind_is verb ws = go (bytes_eq verb (codes "cast")) (bytes_eq verb (codes "sen
 event_is : (ws : List Word) → Said IsGivenEvent (event_line ws)
 event_is ws = next_so Any IsGivenEvent event_behind (a_word ws) (any_so a_word ws) (λ verb _ ws. behind_is verb ws)
 
-said_so : {A : Type 0} (P : A → Type 0) (form : Form A) → ((ws : List Word) → Said P (form ws)) → (line : List ℕ) → Where P (said_by form line)
+said_so : {A : Type 0} (P : A → Type 0) (form : Form A) → ((ws : List Word) → Said P (form ws)) → (line : List ℕ) →
+    Where P (said_by form line)
 said_so P form h line = go (form (words_of line)) (h (words_of line)) where
   go : (o : Option _) → Said P o → Where P (option_map (λ taken. taken.0) o)
   go None h = tt
@@ -199,7 +218,8 @@ abbrev Good : {A : Type 0} → (A → Type 0) → Result A ScriptFault → Type 
 Good P (Ok x) = P x
 Good P (Err fault) = Unit {0}
 
-after_so : {A B : Type 0} (P : A → Type 0) (Q : B → Type 0) (r : Result A ScriptFault) (f : A → Result B ScriptFault) → Good P r →
+after_so : {A B : Type 0} (P : A → Type 0) (Q : B → Type 0) (r : Result A ScriptFault) (f : A → Result B ScriptFault) →
+    Good P r →
     ((x : A) → P x → Good Q (f x)) → Good Q (r >>= f)
 after_so P Q (Ok x) f h k = k x h
 after_so P Q (Err fault) f h k = tt
@@ -213,30 +233,38 @@ record IsEvent (members : ℕ) (event : ScriptEvent) : Type 0 where
   member : member_of event < members
   given : IsGivenEvent event
 
-of_member_so : (members line : ℕ) (event : ScriptEvent) → IsGivenEvent event → Good (IsEvent members) (of_member members line event)
+of_member_so : (members line : ℕ) (event : ScriptEvent) → IsGivenEvent event →
+    Good (IsEvent members) (of_member members line event)
 of_member_so members line event h = go (nat_lt (member_of event) members) refl where
-  go : (b : Bool) → nat_lt (member_of event) members ≡ b → Good (IsEvent members) (if b then Ok event else Err (no_member line))
+  go : (b : Bool) → nat_lt (member_of event) members ≡ b →
+      Good (IsEvent members) (if b then Ok event else Err (no_member line))
   go true is = record { member = ltb-true (member_of event) members is; given = h }
   go false is = tt
 
 event_of_so : (members : ℕ) (line : ℕ × List ℕ) → Good (IsEvent members) (event_of members line)
-event_of_so members line = after_so IsGivenEvent (IsEvent members) (in_form line.0 (said_by event_line line.1)) (of_member members line.0)
+event_of_so members line = after_so IsGivenEvent (IsEvent members) (in_form line.0 (said_by event_line line.1))
+    (of_member members line.0)
     (in_form_so IsGivenEvent line.0 (said_by event_line line.1) (said_so IsGivenEvent event_line event_is line.1))
     (λ event h. of_member_so members line.0 event h)
 
-events_of_so : (members : ℕ) (lines : List (ℕ × List ℕ)) → Good (AllByRecursion (IsEvent members)) (events_of members lines)
+events_of_so : (members : ℕ) (lines : List (ℕ × List ℕ)) →
+    Good (AllByRecursion (IsEvent members)) (events_of members lines)
 events_of_so members [] = tt
 events_of_so members (line ∷ lines) = go (events_of_so members lines) where
-  go : Good (AllByRecursion (IsEvent members)) (events_of members lines) → Good (AllByRecursion (IsEvent members)) (events_of members (line ∷ lines))
-  go rest = after_so (IsEvent members) (AllByRecursion (IsEvent members)) (event_of members line) _ (event_of_so members line) (λ event is.
-      after_so (AllByRecursion (IsEvent members)) (AllByRecursion (IsEvent members)) (events_of members lines) _ rest (λ events are. (is, are)))
+  go : Good (AllByRecursion (IsEvent members)) (events_of members lines) →
+      Good (AllByRecursion (IsEvent members)) (events_of members (line ∷ lines))
+  go rest = after_so (IsEvent members) (AllByRecursion (IsEvent members)) (event_of members line) _
+      (event_of_so members line) (λ event is.
+      after_so (AllByRecursion (IsEvent members)) (AllByRecursion (IsEvent members)) (events_of members lines) _ rest
+      (λ events are. (is, are)))
 
 each_member : (members : ℕ) (events : List ScriptEvent) → AllByRecursion (IsEvent members) events →
     AllByRecursion (λ event. member_of event < members) events
 each_member members [] h = tt
 each_member members (event ∷ events) h = (h.0.member, each_member members events h.1)
 
-each_given : (members : ℕ) (events : List ScriptEvent) → AllByRecursion (IsEvent members) events → AllByRecursion IsGivenEvent events
+each_given : (members : ℕ) (events : List ScriptEvent) → AllByRecursion (IsEvent members) events →
+    AllByRecursion IsGivenEvent events
 each_given members [] h = tt
 each_given members (event ∷ events) h = (h.0.given, each_given members events h.1)
 
@@ -244,15 +272,18 @@ script_so : (lines : List (ℕ × List ℕ)) → Good IsGivenScript (script_of_l
 script_so [] = tt
 script_so (first ∷ lines) =
     after_so IsGroup IsGivenScript (in_form first.0 (said_by group_line first.1)) _
-    (in_form_so IsGroup first.0 (said_by group_line first.1) (said_so IsGroup group_line group_is first.1)) (λ opening is.
-    after_so (AllByRecursion (IsEvent opening.members)) IsGivenScript (events_of opening.members lines) _ (events_of_so opening.members lines)
+    (in_form_so IsGroup first.0 (said_by group_line first.1) (said_so IsGroup group_line group_is first.1))
+    (λ opening is.
+    after_so (AllByRecursion (IsEvent opening.members)) IsGivenScript (events_of opening.members lines) _
+    (events_of_so opening.members lines)
     (λ events are. record {
       group = is.group;
       stamp = is.stamp;
       runs = record {
         some_member = is.some_member;
         most_members = is.most;
-        of_members = all_of (λ event. member_of event < opening.members) events (each_member opening.members events are);
+        of_members = all_of (λ event. member_of event < opening.members) events
+            (each_member opening.members events are);
       };
       events = each_given opening.members events are;
     }))

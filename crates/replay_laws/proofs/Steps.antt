@@ -1,5 +1,6 @@
 -- Each moment of a replay is a step of the definition.
-use Rattle.std.proofs.Common.{◌≡◌, ◌∙◌, ℕ, zero, suc, ◌<◌, ◌≤◌, Bool, true, false, List, [], ◌∷◌, length, Option, Some, None, refl, sym, subst, arith}
+use Rattle.std.proofs.Common.{◌≡◌, ◌∙◌, ℕ, zero, suc, ◌<◌, ◌≤◌, Bool, true, false, List, [], ◌∷◌, length, Option, Some}
+use Rattle.std.proofs.Common.{None, refl, sym, subst, arith}
 use Rattle.std.specs.Prelude.{◌==◌, cond, if◌then◌else◌, nat_lt, Result, Ok, Err}
 use Rattle.std.specs.Int.{bit_at}
 use Rattle.std.specs.List.{filter, position, position_or_len, range_with_len}
@@ -20,7 +21,8 @@ use Rattle.packet_mean.specs.Reading.{preamble_of}
 use Rattle.packet_mean.specs.Received.{◌>>=◌, meant_for, received}
 use Rattle.packet_mean.specs.Spelling.{full_form, full_bytes, IsSpellable}
 use Rattle.packet_mean.specs.declared.here.Here.{Here}
-use Rattle.stack_mean.specs.Acceptance.{accepted, too_many, too_many_joins, held_at_most, without_cycle, largest_weight, largest_joins, weight_limit, joins_limit}
+use Rattle.stack_mean.specs.Acceptance.{accepted, too_many, too_many_joins, held_at_most, without_cycle, largest_weight}
+use Rattle.stack_mean.specs.Acceptance.{largest_joins, weight_limit, joins_limit}
 use Rattle.stack_mean.specs.Graph.{Node, first_on_cycle}
 use Rattle.stack_mean.specs.Plan.{Plan}
 use Rattle.stack_mean.specs.Plans.{plans_of}
@@ -32,8 +34,10 @@ use Rattle.file_laws.proofs.Texts.{texts_are_typed}
 use Rattle.script_mean.specs.Event.{member_of}
 use Rattle.script_mean.specs.declared.event.ScriptEvent.{ScriptEvent}
 use Rattle.script_mean.specs.declared.event.ScriptEvent.TheVariants as script
-use Rattle.run_mean.specs.Member.{Member, inside, out, Input, cast, send, leave, tick, datagram, Refusal, Entered, from_peer, from_datagram, entered}
-use Rattle.run_mean.specs.World.{World, Happening, first_world, member_at, packet_number, here_of, stepped_inside, stepped_of, stepped, given, happens}
+use Rattle.run_mean.specs.Member.{Member, inside, out, Input, cast, send, leave, tick, datagram, Refusal, Entered}
+use Rattle.run_mean.specs.Member.{from_peer, from_datagram, entered}
+use Rattle.run_mean.specs.World.{World, Happening, first_world, member_at, packet_number, here_of, stepped_inside}
+use Rattle.run_mean.specs.World.{stepped_of, stepped, given, happens}
 use Rattle.run_mean.specs.Report.{Moment}
 use Rattle.output_mean.specs.Judged.{Means, judged_by, said_accepted}
 use Rattle.member_laws.specs.Members.{IsView, IsHere, IsChainedMember, IsInput, IsEntered, IsGivenEvent, IsChainedWorld}
@@ -48,7 +52,8 @@ use Rattle.replay_laws.proofs.Standing.{first_world_is_standing, events_keep_sta
 
 position_below : {A : Type 0} (p : A → Bool) (xs : List A) (k : ℕ) → position p xs ≡ Some k → k < length xs
 position_below p xs k is = go (nat_lt (position_or_len p xs) (length xs)) refl is where
-  go : (b : Bool) → nat_lt (position_or_len p xs) (length xs) ≡ b → cond b (Some (position_or_len p xs)) None ≡ Some k → k < length xs
+  go : (b : Bool) → nat_lt (position_or_len p xs) (length xs) ≡ b → cond b (Some (position_or_len p xs)) None ≡ Some k →
+      k < length xs
   go true below is =
       let e : position_or_len p xs ≡ k = cc is in
       omega (arith, e, ltb-true (position_or_len p xs) (length xs) below)
@@ -57,18 +62,25 @@ position_below p xs k is = go (nat_lt (position_or_len p xs) (length xs)) refl i
 filter_le : {A : Type 0} (p : A → Bool) (xs : List A) → length (filter p xs) ≤ length xs
 filter_le p [] = omega arith
 filter_le p (x ∷ xs) = go (p x) (filter_le p xs) where
-  go : (b : Bool) → length (filter p xs) ≤ length xs → length (if b then x ∷ filter p xs else filter p xs) ≤ suc (length xs)
+  go : (b : Bool) → length (filter p xs) ≤ length xs →
+      length (if b then x ∷ filter p xs else filter p xs) ≤ suc (length xs)
   go true h = omega (arith, h)
   go false h = omega (arith, h)
 
 members_few : (view : View) → member_count view ≤ 32
-members_few view = omega (arith, filter_le (λ id. bit_at view.mask id == 1) (range_with_len 0 32), length-range_with_len 0 32)
+members_few view = omega (
+  arith,
+  filter_le (λ id. bit_at view.mask id == 1) (range_with_len 0 32),
+  length-range_with_len 0 32,
+)
 
-here_is : (stack : List LayerTree) (w : World) (view : View) (id : ℕ) → IsChainedWorld stack w → IsView view → IsHere (here_of w view id)
-here_is stack w view id h is = record { group = h.group; stamp = h.stamp; view = is; rank = go (rank view id) refl } where
-  go : (o : Option ℕ) → rank view id ≡ o → option_map_or (λ r. r) o 0 < 32
-  go None at = omega arith
-  go (Some me) at = omega (arith, position_below (λ other. other == id) (ids view) me at, members_few view)
+here_is : (stack : List LayerTree) (w : World) (view : View) (id : ℕ) → IsChainedWorld stack w → IsView view →
+    IsHere (here_of w view id)
+here_is stack w view id h is = record { group = h.group; stamp = h.stamp; view = is; rank = go (rank view id) refl }
+  where
+    go : (o : Option ℕ) → rank view id ≡ o → option_map_or (λ r. r) o 0 < 32
+    go None at = omega arith
+    go (Some me) at = omega (arith, position_below (λ other. other == id) (ids view) me at, members_few view)
 
 -- a packet that is given, as its full spelling, is this packet or stray
 
@@ -84,24 +96,30 @@ meant_same : (r : Result (Unit {0}) Stray) (p q : Packet) → (r >>= λ _. Ok p)
 meant_same (Ok x) p q e = cc e
 meant_same (Err cause) p q e = absurd (cc e)
 
-given_enters : (stack : List LayerTree) (plans : List Plan) (p : Packet) → IsSpellable stack p → (here : Here) (what : Entered) →
+given_enters : (stack : List LayerTree) (plans : List Plan) (p : Packet) → IsSpellable stack p →
+    (here : Here) (what : Entered) →
     entered stack plans here (datagram (full_bytes p)) ≡ Ok what → IsEntered stack what
-given_enters stack plans p h here what is = packet_entered stack (received stack plans here (full_bytes p)) what is (λ q taken.
+given_enters stack plans p h here what is = packet_entered stack (received stack plans here (full_bytes p)) what is
+    (λ q taken.
     let as_meant = received_as_meant stack plans here (full_bytes p) p (one_full_spelling stack plans p h).0 in
     subst (IsSpellable stack) (meant_same (meant_for here (preamble_of full_form p)) p q (sym as_meant ∙ taken)) h)
 
 -- a moment
 
-module _ (stack : List LayerTree) (w : World) (typed : TypedStack stack) (world : IsChainedWorld stack w) (standing : IsStandingWorld w)
+module _ (stack : List LayerTree) (w : World) (typed : TypedStack stack) (world : IsChainedWorld stack w)
+    (standing : IsStandingWorld w)
     (e : ScriptEvent) where
   abbrev moment : Happening → Moment
   moment h = record { before = w; event = e; happening = h }
 
-  inside_is : (view : View) (states : List State) → member_at w (member_of e) ≡ inside view states → (r : Result Entered Refusal) →
-      ((what : Entered) → r ≡ Ok what → IsEntered stack what) → IsMoment stack (moment (stepped_inside stack w (member_of e) view states r))
+  inside_is : (view : View) (states : List State) → member_at w (member_of e) ≡ inside view states →
+      (r : Result Entered Refusal) →
+      ((what : Entered) → r ≡ Ok what → IsEntered stack what) →
+      IsMoment stack (moment (stepped_inside stack w (member_of e) view states r))
   inside_is view states at (Err refusal) enters = refl
   inside_is view states at (Ok what) enters =
-      let chained = subst (IsChainedMember stack) at (each_or (IsChainedMember stack) w.members (member_of e) out world.members tt) in
+      let chained = subst (IsChainedMember stack) at
+      (each_or (IsChainedMember stack) w.members (member_of e) out world.members tt) in
       record {
         view = view;
         states = states;
@@ -122,34 +140,44 @@ module _ (stack : List LayerTree) (w : World) (typed : TypedStack stack) (world 
       IsMoment stack (moment (stepped_of stack (plans_of stack) w (member_of e) input m))
   member_is input out at enters = refl
   member_is input (inside view states) at enters = inside_is view states at
-      (entered stack (plans_of stack) (here_of w view (member_of e)) input) (λ what. enters (here_of w view (member_of e)) what)
+      (entered stack (plans_of stack) (here_of w view (member_of e)) input)
+      (λ what. enters (here_of w view (member_of e)) what)
 
   stepped_is : (input : Input) →
       ((here : Here) (what : Entered) → entered stack (plans_of stack) here input ≡ Ok what → IsEntered stack what) →
       IsMoment stack (moment (stepped stack (plans_of stack) w (member_of e) input))
   stepped_is input enters = member_is input (member_at w (member_of e)) refl enters
 
-  input_is : (input : Input) → IsInput input → IsMoment stack (moment (stepped stack (plans_of stack) w (member_of e) input))
+  input_is : (input : Input) → IsInput input →
+      IsMoment stack (moment (stepped stack (plans_of stack) w (member_of e) input))
   input_is input h = stepped_is input (λ here what. inputs_are_in_range stack here input what typed h)
 
-  given_is : (p : Option Packet) → Where (IsSpellable stack) p → IsMoment stack (moment (given stack (plans_of stack) w (member_of e) p))
+  given_is : (p : Option Packet) → Where (IsSpellable stack) p →
+      IsMoment stack (moment (given stack (plans_of stack) w (member_of e) p))
   given_is None h = refl
   given_is (Some p) h = stepped_is (datagram (full_bytes p)) (given_enters stack (plans_of stack) p h)
 
-numbered : (stack : List LayerTree) (w : World) (k : ℕ) → IsChainedWorld stack w → Where (IsSpellable stack) (packet_number w k)
+numbered : (stack : List LayerTree) (w : World) (k : ℕ) → IsChainedWorld stack w →
+    Where (IsSpellable stack) (packet_number w k)
 numbered stack w zero world = tt
 numbered stack w (suc k) world = each_where (IsSpellable stack) w.packets k world.packets
 
-event_is : (stack : List LayerTree) (w : World) (e : ScriptEvent) → TypedStack stack → IsGivenEvent e → IsChainedWorld stack w → IsStandingWorld w →
+event_is : (stack : List LayerTree) (w : World) (e : ScriptEvent) → TypedStack stack → IsGivenEvent e →
+    IsChainedWorld stack w → IsStandingWorld w →
     IsMoment stack (record { before = w; event = e; happening = happens stack (plans_of stack) w e })
 unfolding happens
-event_is stack w (script.Cast id body) typed h world standing = input_is stack w typed world standing (script.Cast id body) (cast body) h
-event_is stack w (script.Send id to body) typed h world standing = input_is stack w typed world standing (script.Send id to body) (send to body) h
-event_is stack w (script.Leave id) typed h world standing = input_is stack w typed world standing (script.Leave id) leave tt
-event_is stack w (script.Tick id now) typed h world standing = input_is stack w typed world standing (script.Tick id now) (tick now) h
+event_is stack w (script.Cast id body) typed h world standing =
+    input_is stack w typed world standing (script.Cast id body) (cast body) h
+event_is stack w (script.Send id to body) typed h world standing =
+    input_is stack w typed world standing (script.Send id to body) (send to body) h
+event_is stack w (script.Leave id) typed h world standing = input_is stack w typed world standing (script.Leave id)
+    leave tt
+event_is stack w (script.Tick id now) typed h world standing =
+    input_is stack w typed world standing (script.Tick id now) (tick now) h
 event_is stack w (script.Give k id) typed h world standing =
     given_is stack w typed world standing (script.Give k id) (packet_number w k) (numbered stack w k world)
-event_is stack w (script.Raw id bytes) typed h world standing = input_is stack w typed world standing (script.Raw id bytes) (datagram bytes) h
+event_is stack w (script.Raw id bytes) typed h world standing =
+    input_is stack w typed world standing (script.Raw id bytes) (datagram bytes) h
 event_is stack w (script.Show id) typed h world standing = refl
 
 pub moments_are_steps : MomentsAreSteps
@@ -164,14 +192,20 @@ moments_are_steps stack w (e ∷ events) typed h world standing = (
 -- what a file means
 
 -- an accepted stack is the one that was judged
-accepted_same : (s t : List LayerTree) (o : Option Node) → said_accepted (without_cycle s o) ≡ Ok t → (without_cycle s o ≡ Ok s) × (s ≡ t)
+accepted_same : (s t : List LayerTree) (o : Option Node) → said_accepted (without_cycle s o) ≡ Ok t →
+    (without_cycle s o ≡ Ok s) × (s ≡ t)
 accepted_same s t (Some node) is = absurd (cc is)
-accepted_same s t None is = heavy (nat_lt weight_limit (largest_weight s)) (nat_lt joins_limit (largest_joins s)) is where
-  heavy : (a b : Bool) → said_accepted (if a then Err (too_many (held_at_most (largest_weight s))) else if b then Err too_many_joins else Ok s) ≡ Ok t →
-      ((if a then Err (too_many (held_at_most (largest_weight s))) else if b then Err too_many_joins else Ok s) ≡ Ok s) × (s ≡ t)
-  heavy true b is = absurd (cc is)
-  heavy false true is = absurd (cc is)
-  heavy false false is = (refl, cc is)
+accepted_same s t None is = heavy (nat_lt weight_limit (largest_weight s)) (nat_lt joins_limit (largest_joins s)) is
+  where
+    heavy : (a b : Bool) →
+        said_accepted (if a then Err (too_many (held_at_most (largest_weight s))) else if b then Err too_many_joins else
+        Ok s) ≡ Ok t →
+        ((if a then Err (too_many (held_at_most (largest_weight s))) else if b then Err too_many_joins else Ok s) ≡
+        Ok s)
+        × (s ≡ t)
+    heavy true b is = absurd (cc is)
+    heavy false true is = absurd (cc is)
+    heavy false false is = (refl, cc is)
 
 -- the stack of a file without faults
 record IsOwn (file : FileTree) (t : List LayerTree) : Type 0 where
@@ -179,14 +213,16 @@ record IsOwn (file : FileTree) (t : List LayerTree) : Type 0 where
   accepts : accepted (stack_of file) ≡ Ok (stack_of file)
   is : stack_of file ≡ t
 
-own_stack : (file : FileTree) (t : List LayerTree) (fault : Option faults.FileFault) → file_fault file ≡ fault → judged_by file fault ≡ Ok t →
+own_stack : (file : FileTree) (t : List LayerTree) (fault : Option faults.FileFault) → file_fault file ≡ fault →
+    judged_by file fault ≡ Ok t →
     IsOwn file t
 own_stack file t (Some fault) found is = absurd (cc is)
 own_stack file t None none is =
     let same = accepted_same (stack_of file) t (first_on_cycle (stack_of file)) is in
     record { faultless = none; accepts = same.0; is = same.1 }
 
-accepts_and_typed : (text : List ℕ) (stack : List LayerTree) → Means text stack → (accepted stack ≡ Ok stack) × TypedStack stack
+accepts_and_typed : (text : List ℕ) (stack : List LayerTree) → Means text stack → (accepted stack ≡ Ok stack) ×
+    TypedStack stack
 accepts_and_typed text stack m =
     let f = own_stack m.file stack (file_fault m.file) refl m.accepted in (
       subst (λ (s : List LayerTree). accepted s ≡ Ok s) f.is f.accepts,
@@ -198,7 +234,8 @@ replays_are_played file script_text stack script h =
     let means = accepts_and_typed file stack h.means in
     let script_is = scripts_are_given script_text script h.spelled in
     let w = first_world stack script.group script.stamp script.members in
-    let chained = first_world_is_chained stack script.group script.stamp script.members means.1 script_is.group script_is.stamp
+    let chained = first_world_is_chained stack script.group script.stamp script.members means.1 script_is.group
+    script_is.stamp
     script_is.runs.most_members in
     let standing = first_world_is_standing stack script.group script.stamp script.members in
     record {

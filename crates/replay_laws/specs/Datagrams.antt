@@ -44,15 +44,17 @@ abbrev pub world_after : World → List Moment → World
 world_after w [] = w
 world_after w (m ∷ run) = world_after m.happening.world run
 
--- Datagrams go from a world to one after it: the packets of the second are those of the first and then the datagrams', in order; the numbers go on
--- from those of the first; and each datagram has the number of its own packet. So have the datagrams of a run, in whatever mode.
+-- Datagrams go from a world to one after it: the packets of the second are those of the first and then the datagrams',
+-- in order; the numbers go on from those of the first; and each datagram has the number of its own packet. So have the
+-- datagrams of a run, in whatever mode.
 pub record AreNumbered (before after : World) (ds : List Datagram) : Type 0 where
   pub packets : after.packets ≡ before.packets ++ map (λ d. d.packet) ds
   pub numbers : map (λ d. d.number) ds ≡ range_with_len (length before.packets + 1) (length ds)
   pub each : AllByRecursion (λ d. packet_number after d.number ≡ Some d.packet) ds
 
 abbrev pub DatagramsAreNumbered : Type 0
-DatagramsAreNumbered = (mode : Mode) (stack : List LayerTree) (plans : List Plan) (w : World) (events : List ScriptEvent) →
+DatagramsAreNumbered = (mode : Mode) (stack : List LayerTree) (plans : List Plan) (w : World)
+    (events : List ScriptEvent) →
     let run = moments stack plans w events in AreNumbered w (world_after w run) (datagrams mode stack plans run)
 
 -- A line, and the datagram whose packet it says, if it says one.
@@ -69,7 +71,8 @@ abbrev pub IsSaid : List LayerTree → Said → Type 0
 IsSaid stack (line, None) = Unit {0}
 IsSaid stack (line, Some d) = line ≡ packet_line stack d.number d.member d.packet
 
--- Some lines are others with the line of a datagram's bytes after that of its packet, for each of these datagrams in order.
+-- Some lines are others with the line of a datagram's bytes after that of its packet, for each of these datagrams in
+-- order.
 pub record AreWoven (stack : List LayerTree) (report written : List (List ℕ)) (ds : List Datagram) : Type 0 where
   pub lines : List Said
   pub report_is : map (λ x. x.0) lines ≡ report
@@ -79,6 +82,7 @@ pub record AreWoven (stack : List LayerTree) (report written : List (List ℕ)) 
 
 -- So are the lines of a run with its packets' bytes in a mode, and those without, whatever is counted.
 abbrev pub LinesAreWoven : Type 0
-LinesAreWoven = (mode : Mode) (count : Option Mode) (stack : List LayerTree) (plans : List Plan) (script : Script) (run : List Moment) →
+LinesAreWoven = (mode : Mode) (count : Option Mode) (stack : List LayerTree) (plans : List Plan) (script : Script)
+    (run : List Moment) →
     AreWoven stack (wanted_lines stack plans (record { wires = None; count = count }) script run)
     (wanted_lines stack plans (record { wires = Some mode; count = count }) script run) (datagrams mode stack plans run)

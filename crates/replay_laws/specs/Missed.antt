@@ -1,5 +1,6 @@
 -- A decision that doesn't go as predicted, the first of a step, is one on the way of the entry's shape.
-use Rattle.std.specs.Prelude.{◌≡◌, ℕ, ◌<◌, Bool, true, false, List, count_by, length, slice_index_or, Option, Some, None, Ok}
+use Rattle.std.specs.Prelude.{◌≡◌, ℕ, ◌<◌, Bool, true, false, List, count_by, length, slice_index_or, Option, Some}
+use Rattle.std.specs.Prelude.{None, Ok}
 use Rattle.std.specs.List.{sum_by}
 use Rattle.std.specs.Option.{option_and_then}
 use Rattle.layer_mean.specs.declared.run.Case.{Case}
@@ -40,15 +41,18 @@ visit_decisions case stack v = way_decisions (option_and_then (handler_way case)
 abbrev pub shape_decisions : Case → List LayerTree → Shape → ℕ
 shape_decisions case stack s = sum_by (visit_decisions case stack) s.visits
 
--- Where a decision of a step whose entry has a shape in a case doesn't go as predicted in it, the number of the first that doesn't is below how many
--- decisions the shape has; and where all do, they are as many.
+-- Where a decision of a step whose entry has a shape in a case doesn't go as predicted in it, the number of the first
+-- that doesn't is below how many decisions the shape has; and where all do, they are as many.
 abbrev pub MissedIsOnTheWay : Type 0
-MissedIsOnTheWay = (case : Case) (stack : List LayerTree) (here : Here) (id : ℕ) (states : List State) (what : Entered) (known : Known) (s : Shape) →
-    IsStep stack here states what → entry_of (plans_of stack) what ≡ Some known → shape stack known case ≡ Ok s → (n : ℕ) →
+MissedIsOnTheWay = (case : Case) (stack : List LayerTree) (here : Here) (id : ℕ) (states : List State) (what : Entered)
+    (known : Known) (s : Shape) →
+    IsStep stack here states what → entry_of (plans_of stack) what ≡ Some known → shape stack known case ≡ Ok s →
+    (n : ℕ) →
     first_missed case (step_from stack here id states what) ≡ Some n → n < shape_decisions case stack s
 
 abbrev pub PredictedDecideAll : Type 0
-PredictedDecideAll = (case : Case) (stack : List LayerTree) (here : Here) (id : ℕ) (states : List State) (what : Entered) (known : Known) (s : Shape) →
+PredictedDecideAll = (case : Case) (stack : List LayerTree) (here : Here) (id : ℕ) (states : List State)
+    (what : Entered) (known : Known) (s : Shape) →
     IsStep stack here states what → entry_of (plans_of stack) what ≡ Some known → shape stack known case ≡ Ok s →
     is_predicted case (step_from stack here id states what).work ≡ true →
     length (step_from stack here id states what).work.decided ≡ shape_decisions case stack s

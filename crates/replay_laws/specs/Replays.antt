@@ -1,6 +1,7 @@
--- What is so of a replay from its bytes to what is written: the report is the layered one, its datagrams expand to the layered packets, and they are
--- short exactly where it is due.
-use Rattle.std.specs.Prelude.{◌≡◌, ◌↔◌, ℕ, ◌<◌, Bool, true, false, List, ◌++◌, map, slice_get, Option, Some, option_to_list, Ok}
+-- What is so of a replay from its bytes to what is written: the report is the layered one, its datagrams expand to the
+-- layered packets, and they are short exactly where it is due.
+use Rattle.std.specs.Prelude.{◌≡◌, ◌↔◌, ℕ, ◌<◌, Bool, true, false, List, ◌++◌, map, slice_get, Option, Some}
+use Rattle.std.specs.Prelude.{option_to_list, Ok}
 use Rattle.std.specs.List.{AllByRecursion, concat, sum_by}
 use Rattle.layer_mean.specs.declared.run.Case.{Case}
 use Rattle.layer_mean.specs.Tree.{LayerTree}
@@ -24,7 +25,8 @@ use Rattle.replay_laws.specs.Short.{IsDueShort, AreShort}
 use Rattle.replay_laws.specs.Standing.{IsStandingWorld}
 use Rattle.replay_laws.specs.Steps.{IsReplay}
 
--- A datagram is that of an output of a step of a run: which moment's, by its member, at which position, and under which plan it is sent, if it is.
+-- A datagram is that of an output of a step of a run: which moment's, by its member, at which position, and under which
+-- plan it is sent, if it is.
 pub record IsSent (mode : Mode) (stack : List LayerTree) (run : List Moment) (d : Datagram) : Type 0 where
   pub event : ℕ
   pub moment : Moment
@@ -37,22 +39,27 @@ pub record IsSent (mode : Mode) (stack : List LayerTree) (run : List Moment) (d 
   pub stands : slice_get (as_sent mode stack (plans_of stack) step) position ≡ Some (packet d.packet, plan)
   pub bytes_are : d.bytes ≡ wire (plans_of stack) d.packet plan
 
--- A datagram expands to the layered packet of its number: it spells it, short or in full. It is short exactly where the mode is that of bypasses, its
--- step is a common cast or send of an application, and the output's position has a plan.
-pub record Expands (mode : Mode) (stack : List LayerTree) (after : World) (run : List Moment) (d : Datagram) : Type 0 where
-  pub numbered : packet_number after d.number ≡ Some d.packet
-  pub spells : SpellsPacket stack (plans_of stack) d.bytes d.packet
-  pub sent : IsSent mode stack run d
-  pub short : AreShort d.bytes ↔ IsDueShort mode stack sent.step sent.position
+-- A datagram expands to the layered packet of its number: it spells it, short or in full. It is short exactly where the
+-- mode is that of bypasses, its step is a common cast or send of an application, and the output's position has a plan.
+pub record Expands (mode : Mode) (stack : List LayerTree) (after : World) (run : List Moment) (d : Datagram) : Type 0
+  where
+    pub numbered : packet_number after d.number ≡ Some d.packet
+    pub spells : SpellsPacket stack (plans_of stack) d.bytes d.packet
+    pub sent : IsSent mode stack run d
+    pub short : AreShort d.bytes ↔ IsDueShort mode stack sent.step sent.position
 
--- There is one datagram for each packet of a run from a world, in order, and each expands to its own. (The world and the moments know of no mode.)
+-- There is one datagram for each packet of a run from a world, in order, and each expands to its own. (The world and
+-- the moments know of no mode.)
 pub record RunExpands (mode : Mode) (stack : List LayerTree) (w : World) (run : List Moment) : Type 0 where
-  pub packets : (world_after w run).packets ≡ w.packets ++ map (λ d. d.packet) (datagrams mode stack (plans_of stack) run)
+  pub packets : (world_after w run).packets ≡ w.packets ++
+      map (λ d. d.packet) (datagrams mode stack (plans_of stack) run)
   pub each : AllByRecursion (Expands mode stack (world_after w run) run) (datagrams mode stack (plans_of stack) run)
 
--- So it is in each run of events that are made of bytes and numbers, from a chained world whose members stand in their views.
+-- So it is in each run of events that are made of bytes and numbers, from a chained world whose members stand in their
+-- views.
 abbrev pub RunsExpand : Type 0
-RunsExpand = (mode : Mode) (stack : List LayerTree) (w : World) (events : List ScriptEvent) → TypedStack stack → AllByRecursion IsGivenEvent events →
+RunsExpand = (mode : Mode) (stack : List LayerTree) (w : World) (events : List ScriptEvent) → TypedStack stack →
+    AllByRecursion IsGivenEvent events →
     IsChainedWorld stack w → IsStandingWorld w → RunExpands mode stack w (moments stack (plans_of stack) w events)
 
 -- And so in a replay.
@@ -60,20 +67,25 @@ abbrev pub script_world : List LayerTree → Script → World
 script_world stack script = first_world stack script.group script.stamp script.members
 
 abbrev pub ScriptExpands : Mode → List LayerTree → Script → Type 0
-ScriptExpands mode stack script = RunExpands mode stack (script_world stack script) (run_of stack (plans_of stack) script)
+ScriptExpands mode stack script =
+    RunExpands mode stack (script_world stack script) (run_of stack (plans_of stack) script)
 
 abbrev pub PacketsExpand : Type 0
-PacketsExpand = (file script_text : List ℕ) (stack : List LayerTree) (script : Script) (mode : Mode) → IsReplay file script_text stack script →
+PacketsExpand = (file script_text : List ℕ) (stack : List LayerTree) (script : Script) (mode : Mode) →
+    IsReplay file script_text stack script →
     ScriptExpands mode stack script
 
 -- The line with the number of visits that a mode counts, where it is wanted.
 abbrev pub count_lines : List LayerTree → Script → Mode → Bool → List (List ℕ)
-count_lines stack script mode count = map (λ counting. visits_line (sum_by (visits_of counting stack (plans_of stack)) (run_of stack (plans_of stack) script)))
+count_lines stack script mode count =
+    map (λ counting. visits_line
+    (sum_by (visits_of counting stack (plans_of stack)) (run_of stack (plans_of stack) script)))
     (option_to_list (mode_if count mode))
 
 -- What a replay writes, in whatever mode, without its packets' bytes: the report of the layered meaning, and that line.
 abbrev pub ReplaysWriteTheReport : Type 0
-ReplaysWriteTheReport = (file script_text out : List ℕ) (mode : Mode) (count : Bool) (r : Replays file script_text mode false count out) →
+ReplaysWriteTheReport = (file script_text out : List ℕ) (mode : Mode) (count : Bool)
+    (r : Replays file script_text mode false count out) →
     out ≡ concat (report_lines r.stack (plans_of r.stack) r.script ++ count_lines r.stack r.script mode count)
 
 -- And with them: the same lines, and after the line of each packet the bytes of its datagram, which expands to it.
@@ -88,15 +100,19 @@ pub record WritesDatagrams (file script_text : List ℕ) (mode : Mode) (count : 
   pub expand : ScriptExpands mode stack script
 
 abbrev pub ReplaysWriteDatagrams : Type 0
-ReplaysWriteDatagrams = (file script_text out : List ℕ) (mode : Mode) (count : Bool) → Replays file script_text mode true count out →
+ReplaysWriteDatagrams = (file script_text out : List ℕ) (mode : Mode) (count : Bool) →
+    Replays file script_text mode true count out →
     WritesDatagrams file script_text mode count out
 
--- Along a replay the first decision of a step that doesn't go as predicted in a case is one on the way of the entry's shape, if the entry has one.
+-- Along a replay the first decision of a step that doesn't go as predicted in a case is one on the way of the entry's
+-- shape, if the entry has one.
 abbrev pub MissesOnTheWay : List LayerTree → Did → Type 0
-MissesOnTheWay stack (taken s) = (case : Case) (known : Known) (shape_is : Shape) (n : ℕ) → entry_of (plans_of stack) s.entered ≡ Some known →
+MissesOnTheWay stack (taken s) = (case : Case) (known : Known) (shape_is : Shape) (n : ℕ) →
+    entry_of (plans_of stack) s.entered ≡ Some known →
     shape stack known case ≡ Ok shape_is → first_missed case s ≡ Some n → n < shape_decisions case stack shape_is
 MissesOnTheWay stack _ = Unit {0}
 
 abbrev pub ReplaysMissOnTheWay : Type 0
-ReplaysMissOnTheWay = (file script_text : List ℕ) (stack : List LayerTree) (script : Script) → IsReplay file script_text stack script →
+ReplaysMissOnTheWay = (file script_text : List ℕ) (stack : List LayerTree) (script : Script) →
+    IsReplay file script_text stack script →
     AllByRecursion (λ m. MissesOnTheWay stack m.happening.did) (run_of stack (plans_of stack) script)

@@ -35,7 +35,8 @@ abbrev pub decisions_of : Result Shape NoShape → ℕ
 decisions_of (Ok s) = shape_decisions First counter.stack s
 decisions_of (Err reason) = 0
 
--- The one datagram is short in bypass mode and full where all is layered; the packet's shape has one decision, which the second give misses.
+-- The one datagram is short in bypass mode and full where all is layered; the packet's shape has one decision, which
+-- the second give misses.
 abbrev pub GivenTwice : Type 0
 GivenTwice =
     (forms bypass ≡ (1, Some short_form) ∷ []) × (forms layered ≡ (1, Some full_form) ∷ []) ×

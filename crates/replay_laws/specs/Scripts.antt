@@ -6,7 +6,8 @@ use Rattle.script_mean.specs.Script.{IsRunnable, script_of}
 use Rattle.script_mean.specs.declared.script.Script.{Script}
 use Rattle.member_laws.specs.Members.{IsGivenEvent}
 
--- Its numbers are below 2^32, it has 1 to 32 members, its events are of these, and what they say is made of bytes and numbers.
+-- Its numbers are below 2^32, it has 1 to 32 members, its events are of these, and what they say is made of bytes and
+-- numbers.
 pub record IsGivenScript (script : Script) : Type 0 where
   pub group : IsNumber script.group
   pub stamp : IsNumber script.stamp

@@ -22,23 +22,27 @@ pub record StandsAs (me count ltime : ℕ) (s : State) : Type 0 where
 
 -- So are the states of the member of an id, which has a rank in the view.
 abbrev pub StandIn : View → ℕ → List State → Type 0
-StandIn view id states = IsSomeAnd (rank view id) (λ me. AllByRecursion (StandsAs me (member_count view) view.ltime) states)
+StandIn view id states =
+    IsSomeAnd (rank view id) (λ me. AllByRecursion (StandsAs me (member_count view) view.ltime) states)
 
 abbrev pub IsStanding : ℕ → Member → Type 0
 IsStanding id (inside view states) = StandIn view id states
 IsStanding id out = Unit {0}
 
--- A run, of however many turns and whatever stack, keeps them so; a member that comes into a view has such states; and so has one that
--- took a step, in its view or in the one that it installed.
+-- A run, of however many turns and whatever stack, keeps them so; a member that comes into a view has such states; and
+-- so has one that took a step, in its view or in the one that it installed.
 abbrev pub RunsKeepStanding : Type 0
-RunsKeepStanding = (turns : ℕ) (stack : List LayerTree) (states : List State) (first : Task Event) (me count ltime : ℕ) →
-    AllByRecursion (StandsAs me count ltime) states → AllByRecursion (StandsAs me count ltime) (run turns stack states first).world.states
+RunsKeepStanding = (turns : ℕ) (stack : List LayerTree) (states : List State) (first : Task Event)
+    (me count ltime : ℕ) →
+    AllByRecursion (StandsAs me count ltime) states →
+    AllByRecursion (StandsAs me count ltime) (run turns stack states first).world.states
 
 abbrev pub OpenedIsStanding : Type 0
 OpenedIsStanding = (stack : List LayerTree) (view : View) (id : ℕ) → IsStanding id (opened stack view id)
 
 abbrev pub StepsKeepStanding : Type 0
-StepsKeepStanding = (stack : List LayerTree) (here : Here) (id : ℕ) (states : List State) (what : Entered) → StandIn here.view id states →
+StepsKeepStanding = (stack : List LayerTree) (here : Here) (id : ℕ) (states : List State) (what : Entered) →
+    StandIn here.view id states →
     IsStanding id (member_behind here.view (step_from stack here id states what))
 
 -- Each member of a world stands in its view; so it is at first, and before and after each event.
@@ -49,12 +53,14 @@ abbrev pub FirstWorldIsStanding : Type 0
 FirstWorldIsStanding = (stack : List LayerTree) (group stamp n : ℕ) → IsStandingWorld (first_world stack group stamp n)
 
 abbrev pub EventsKeepStanding : Type 0
-EventsKeepStanding = (stack : List LayerTree) (plans : List Plan) (w : World) (event : ScriptEvent) → IsStandingWorld w →
+EventsKeepStanding = (stack : List LayerTree) (plans : List Plan) (w : World) (event : ScriptEvent) →
+    IsStandingWorld w →
     IsStandingWorld (happens stack plans w event).world
 
 abbrev pub IsStandingMoment : Moment → Type 0
 IsStandingMoment m = IsStandingWorld m.before × IsStandingWorld m.happening.world
 
 abbrev pub MomentsAreStanding : Type 0
-MomentsAreStanding = (stack : List LayerTree) (plans : List Plan) (w : World) (events : List ScriptEvent) → IsStandingWorld w →
+MomentsAreStanding = (stack : List LayerTree) (plans : List Plan) (w : World) (events : List ScriptEvent) →
+    IsStandingWorld w →
     AllByRecursion IsStandingMoment (moments stack plans w events)

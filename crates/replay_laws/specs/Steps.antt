@@ -20,8 +20,9 @@ use Rattle.member_laws.specs.Steps.{IsStep}
 use Rattle.replay_laws.specs.Scripts.{IsGivenScript}
 use Rattle.replay_laws.specs.Standing.{StandIn, IsStandingWorld, IsStandingMoment}
 
--- The step that an event's member took: it was in a view, with chained states that stand in this view, and something entered in range; the
--- step is that of the definition from there, and the world after it is the one that the step leaves.
+-- The step that an event's member took: it was in a view, with chained states that stand in this view, and something
+-- entered in range; the step is that of the definition from there, and the world after it is the one that the step
+-- leaves.
 pub record IsStepOf (stack : List LayerTree) (m : Moment) (s : Step) : Type 0 where
   pub view : View
   pub states : List State
@@ -39,18 +40,21 @@ ComesTo stack m _ = m.happening.world ≡ m.before
 abbrev pub IsMoment : List LayerTree → Moment → Type 0
 IsMoment stack m = ComesTo stack m m.happening.did
 
--- So it is in each run of events that are made of bytes and numbers, from a chained world whose members stand in their views.
+-- So it is in each run of events that are made of bytes and numbers, from a chained world whose members stand in their
+-- views.
 abbrev pub MomentsAreSteps : Type 0
-MomentsAreSteps = (stack : List LayerTree) (w : World) (events : List ScriptEvent) → TypedStack stack → AllByRecursion IsGivenEvent events →
-    IsChainedWorld stack w → IsStandingWorld w → AllByRecursion (IsMoment stack) (moments stack (plans_of stack) w events)
+MomentsAreSteps = (stack : List LayerTree) (w : World) (events : List ScriptEvent) → TypedStack stack →
+    AllByRecursion IsGivenEvent events →
+    IsChainedWorld stack w → IsStandingWorld w →
+    AllByRecursion (IsMoment stack) (moments stack (plans_of stack) w events)
 
 -- The bytes of a file mean an accepted stack, and other bytes spell a script.
 pub record IsReplay (file script_text : List ℕ) (stack : List LayerTree) (script : Script) : Type 0 where
   pub means : Means file stack
   pub spelled : script_of script_text ≡ Ok script
 
--- Then the stack is accepted and typed, the script is made of bytes and numbers, and along its run each world is chained, each member stands in its
--- view, and each moment is such a step.
+-- Then the stack is accepted and typed, the script is made of bytes and numbers, and along its run each world is
+-- chained, each member stands in its view, and each moment is such a step.
 pub record IsPlayed (stack : List LayerTree) (script : Script) : Type 0 where
   pub accepts : accepted stack ≡ Ok stack
   pub typed : TypedStack stack
@@ -60,5 +64,6 @@ pub record IsPlayed (stack : List LayerTree) (script : Script) : Type 0 where
   pub moments : AllByRecursion (IsMoment stack) (run_of stack (plans_of stack) script)
 
 abbrev pub ReplaysArePlayed : Type 0
-ReplaysArePlayed = (file script_text : List ℕ) (stack : List LayerTree) (script : Script) → IsReplay file script_text stack script →
+ReplaysArePlayed = (file script_text : List ℕ) (stack : List LayerTree) (script : Script) →
+    IsReplay file script_text stack script →
     IsPlayed stack script

@@ -1,16 +1,18 @@
-//! Laws of whole replays, each the contract of a function that does nothing: from the bytes of a stack and of a script to each step of their run,
-//! to the datagrams that are sent and to what is written.
+//! Laws of whole replays, each the contract of a function that does nothing: from the bytes of a stack and of a script
+//! to each step of their run, to the datagrams that are sent and to what is written.
 #![tactic(auto)]
 
 pub mod samples;
 
 ghost use Rattle.replay_laws.specs.Scripts.{ScriptsAreGiven};
-ghost use Rattle.replay_laws.specs.Standing.{EventsKeepStanding, FirstWorldIsStanding, MomentsAreStanding, OpenedIsStanding, RunsKeepStanding, StepsKeepStanding};
+ghost use Rattle.replay_laws.specs.Standing.{EventsKeepStanding, FirstWorldIsStanding, MomentsAreStanding};
+ghost use Rattle.replay_laws.specs.Standing.{OpenedIsStanding, RunsKeepStanding, StepsKeepStanding};
 ghost use Rattle.replay_laws.specs.Steps.{MomentsAreSteps, ReplaysArePlayed};
 ghost use Rattle.replay_laws.specs.Short.{LayeredIsFull, ShortExactlyWhere, WiresAreShortWhereDue};
 ghost use Rattle.replay_laws.specs.Datagrams.{DatagramsAreNumbered, LinesAreWoven};
 ghost use Rattle.replay_laws.specs.Missed.{MissedIsOnTheWay, PredictedDecideAll};
-ghost use Rattle.replay_laws.specs.Replays.{PacketsExpand, ReplaysMissOnTheWay, ReplaysWriteDatagrams, ReplaysWriteTheReport, RunsExpand};
+ghost use Rattle.replay_laws.specs.Replays.{PacketsExpand, ReplaysMissOnTheWay, ReplaysWriteDatagrams};
+ghost use Rattle.replay_laws.specs.Replays.{ReplaysWriteTheReport, RunsExpand};
 
 /// A script that a text spells is made of bytes and numbers, and can be run.
 pub fn scripts_are_given()
@@ -57,7 +59,8 @@ pub fn replays_are_played()
     ensures { ReplaysArePlayed }
 {}
 
-/// An output is sent short exactly where its step is a common cast or send of an application and its position in the shape has a plan.
+/// An output is sent short exactly where its step is a common cast or send of an application and its position in the
+/// shape has a plan.
 pub fn short_exactly_where()
     ensures { ShortExactlyWhere }
 {}
@@ -77,7 +80,8 @@ pub fn datagrams_are_numbered()
     ensures { DatagramsAreNumbered }
 {}
 
-/// The lines of a run with its packets' bytes are those without, with the bytes of each packet's datagram after the packet's line.
+/// The lines of a run with its packets' bytes are those without, with the bytes of each packet's datagram after the
+/// packet's line.
 pub fn lines_are_woven()
     ensures { LinesAreWoven }
 {}
@@ -92,7 +96,8 @@ pub fn predicted_decide_all()
     ensures { PredictedDecideAll }
 {}
 
-/// Each datagram of a run spells the layered packet of its number, in whatever mode, and is short exactly where it is due; there is one for each packet.
+/// Each datagram of a run spells the layered packet of its number, in whatever mode, and is short exactly where it is
+/// due; there is one for each packet.
 pub fn runs_expand()
     ensures { RunsExpand }
 {}
@@ -102,12 +107,14 @@ pub fn packets_expand()
     ensures { PacketsExpand }
 {}
 
-/// What a replay writes without its packets' bytes is the layered report, in whatever mode, and the number of visits where it is wanted.
+/// What a replay writes without its packets' bytes is the layered report, in whatever mode, and the number of visits
+/// where it is wanted.
 pub fn replays_write_the_report()
     ensures { ReplaysWriteTheReport }
 {}
 
-/// What a replay with its packets' bytes writes is the layered report, and after the line of each packet the bytes of a datagram that spells it.
+/// What a replay with its packets' bytes writes is the layered report, and after the line of each packet the bytes of a
+/// datagram that spells it.
 pub fn replays_write_datagrams()
     ensures { ReplaysWriteDatagrams }
 {}

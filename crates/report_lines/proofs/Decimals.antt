@@ -4,7 +4,8 @@ use Rattle.std.proofs.lemmas.Fmt.{decimal_digit, decimal_step}
 use Rattle.std.specs.Fmt.{decimal}
 
 -- the last digit stands behind the others
-step : (n : ℕ) (front : List ℕ) → 10 ≤ n → n < 10000 → decimal (n / 10) ≡ front → decimal n ≡ front ++ (48 + n % 10) ∷ []
+step : (n : ℕ) (front : List ℕ) → 10 ≤ n → n < 10000 → decimal (n / 10) ≡ front → decimal n ≡ front ++ (48 + n % 10) ∷
+    []
 step n front least most is = decimal_step n least (omega (arith, most)) ∙ ap (λ ds. ds ++ (48 + n % 10) ∷ []) is
 
 one : (n : ℕ) → n < 10 → decimal n ≡ (48 + n % 10) ∷ []
@@ -21,7 +22,8 @@ three n least most =
 four : (n : ℕ) → 1000 ≤ n → n < 10000 →
     decimal n ≡ (48 + n / 10 / 10 / 10 % 10) ∷ (48 + n / 10 / 10 % 10) ∷ (48 + n / 10 % 10) ∷ (48 + n % 10) ∷ []
 four n least most =
-    step n ((48 + n / 10 / 10 / 10 % 10) ∷ (48 + n / 10 / 10 % 10) ∷ (48 + n / 10 % 10) ∷ []) (omega (arith, least)) most
+    step n ((48 + n / 10 / 10 / 10 % 10) ∷ (48 + n / 10 / 10 % 10) ∷ (48 + n / 10 % 10) ∷ []) (omega (arith, least))
+    most
     (three (n / 10) (omega (arith, least)) (omega (arith, most)))
 
 -- the digits of a number, pushed one by one behind what stands there
@@ -34,18 +36,22 @@ push_two n b a old first new least most tens ones put then =
     then ∙ ap (λ xs. xs ++ a ∷ []) put ∙ append_assoc old (b ∷ []) (a ∷ [])
     ∙ (λ i. old ++ tens i ∷ ones i ∷ []) ∙ ap (λ ds. old ++ ds) (sym (two n least most))
 
-pub push_three : (n c b a : ℕ) (old first second new : List ℕ) → 100 ≤ n → n < 1000 → c ≡ 48 + n / 10 / 10 % 10 → b ≡ 48 + n / 10 % 10 →
+pub push_three : (n c b a : ℕ) (old first second new : List ℕ) → 100 ≤ n → n < 1000 → c ≡ 48 + n / 10 / 10 % 10 →
+    b ≡ 48 + n / 10 % 10 →
     a ≡ 48 + n % 10 → first ≡ old ++ c ∷ [] → second ≡ first ++ b ∷ [] → new ≡ second ++ a ∷ [] → new ≡ old ++ decimal n
 push_three n c b a old first second new least most hundreds tens ones put then last =
     last ∙ ap (λ xs. xs ++ a ∷ []) (then ∙ ap (λ xs. xs ++ b ∷ []) put ∙ append_assoc old (c ∷ []) (b ∷ []))
     ∙ append_assoc old (c ∷ b ∷ []) (a ∷ [])
     ∙ (λ i. old ++ hundreds i ∷ tens i ∷ ones i ∷ []) ∙ ap (λ ds. old ++ ds) (sym (three n least most))
 
-pub push_four : (n d c b a : ℕ) (old first second third new : List ℕ) → 1000 ≤ n → n < 10000 → d ≡ 48 + n / 10 / 10 / 10 % 10 →
-    c ≡ 48 + n / 10 / 10 % 10 → b ≡ 48 + n / 10 % 10 → a ≡ 48 + n % 10 → first ≡ old ++ d ∷ [] → second ≡ first ++ c ∷ [] →
+pub push_four : (n d c b a : ℕ) (old first second third new : List ℕ) → 1000 ≤ n → n < 10000 →
+    d ≡ 48 + n / 10 / 10 / 10 % 10 →
+    c ≡ 48 + n / 10 / 10 % 10 → b ≡ 48 + n / 10 % 10 → a ≡ 48 + n % 10 → first ≡ old ++ d ∷ [] →
+    second ≡ first ++ c ∷ [] →
     third ≡ second ++ b ∷ [] → new ≡ third ++ a ∷ [] → new ≡ old ++ decimal n
 push_four n d c b a old first second third new least most thousands hundreds tens ones put then third_is last =
-    last ∙ ap (λ xs. xs ++ a ∷ []) (third_is ∙ ap (λ xs. xs ++ b ∷ []) (then ∙ ap (λ xs. xs ++ c ∷ []) put ∙ append_assoc old (d ∷ []) (c ∷ []))
+    last ∙ ap (λ xs. xs ++ a ∷ [])
+    (third_is ∙ ap (λ xs. xs ++ b ∷ []) (then ∙ ap (λ xs. xs ++ c ∷ []) put ∙ append_assoc old (d ∷ []) (c ∷ []))
     ∙ append_assoc old (d ∷ c ∷ []) (b ∷ []))
     ∙ append_assoc old (d ∷ c ∷ b ∷ []) (a ∷ [])
     ∙ (λ i. old ++ thousands i ∷ hundreds i ∷ tens i ∷ ones i ∷ []) ∙ ap (λ ds. old ++ ds) (sym (four n least most))

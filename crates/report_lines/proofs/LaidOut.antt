@@ -1,5 +1,7 @@
 -- The texts in front of the numbers of declared headers, one behind the other.
-use Rattle.std.proofs.Common.{◌≡◌, ◌≢◌, ◌++◌, ◌∷◌, ◌+◌, ◌-◌, ◌<◌, ◌≤◌, ℕ, zero, suc, Bool, true, false, List, [], arith, length, get_or, take, drop, refl, sym, ap, subst, ◌∙◌, append_assoc, append-nil, add-zero, zero-add}
+use Rattle.std.proofs.Common.{◌≡◌, ◌≢◌, ◌++◌, ◌∷◌, ◌+◌, ◌-◌, ◌<◌, ◌≤◌, ℕ, zero, suc, Bool, true, false, List, [], arith}
+use Rattle.std.proofs.Common.{length, get_or, take, drop, refl, sym, ap, subst, ◌∙◌, append_assoc, append-nil, add-zero}
+use Rattle.std.proofs.Common.{zero-add}
 use Rattle.std.proofs.lemmas.Grind.{flat_map-append}
 use Rattle.std.proofs.lemmas.Bool.{ltb-true, ltb-false, lt-ltb}
 use Rattle.std.proofs.lemmas.List.{get_or_append_left, length-append, length-map, take_more, take-append-drop}
@@ -12,7 +14,8 @@ use Rattle.run_mean.specs.Text.{layer_number}
 use Rattle.typed_layer.specs.View.{header_tree, layer_tree}
 use Rattle.typed_layer.specs.declared.tree.TypedLayer.{TypedLayer}
 use Rattle.report_lines.specs.Nones.{header_front}
-use Rattle.report_lines.specs.Fronts.{AddFronts, AreAllFronts, AreFronts, below, declared, ends_from, header_of, headers_at, tagged, tags_at}
+use Rattle.report_lines.specs.Fronts.{AddFronts, AreAllFronts, AreFronts, below, declared, ends_from, header_of}
+use Rattle.report_lines.specs.Fronts.{headers_at, tagged, tags_at}
 use Rattle.report_lines.proofs.Nones.{cut_parts, suc_is}
 
 ends_count : {X Y : Type 0} (f : X → List Y) (from : ℕ) (xs : List X) → length (ends_from f from xs) ≡ length xs + 1
@@ -44,18 +47,22 @@ pub record Piece (texts : List ℕ) (from to : ℕ) (piece : List ℕ) : Type 0 
   pub inside : to ≤ length texts
   pub is : take (to - from) (drop from texts) ≡ piece
 
-pub piece_at : {X : Type 0} (f : X → List ℕ) (xs : List X) (k : ℕ) (d : X) (texts ends : List ℕ) (from to e e' : ℕ) → texts ≡ flat_map f xs →
-    ends ≡ ends_from f 0 xs → k < length xs → from ≡ get_or ends k e → to ≡ get_or ends (k + 1) e' → Piece texts from to (f (get_or xs k d))
+pub piece_at : {X : Type 0} (f : X → List ℕ) (xs : List X) (k : ℕ) (d : X) (texts ends : List ℕ) (from to e e' : ℕ) →
+    texts ≡ flat_map f xs →
+    ends ≡ ends_from f 0 xs → k < length xs → from ≡ get_or ends k e → to ≡ get_or ends (k + 1) e' →
+    Piece texts from to (f (get_or xs k d))
 piece_at f xs k d texts ends from to e e' are ended lt begin end =
     let x = get_or xs k d in
     let a = flat_map f (take k xs) in
     let c = flat_map f (drop (suc k) xs) in
     let more : flat_map f (take (k + 1) xs) ≡ a ++ f x =
-    ap (flat_map f) (take_more xs k d lt) ∙ flat_map-append f (take k xs) (x ∷ []) ∙ ap (λ ys. a ++ ys) (append-nil (f x)) in
+    ap (flat_map f) (take_more xs k d lt) ∙ flat_map-append f (take k xs) (x ∷ []) ∙
+    ap (λ ys. a ++ ys) (append-nil (f x)) in
     let whole : texts ≡ (a ++ f x) ++ c =
     are ∙ ap (flat_map f) (sym (take-append-drop k xs)) ∙ flat_map-append f (take k xs) (drop k xs)
     ∙ ap (λ ys. a ++ flat_map f ys) (drop-cons xs k d lt) ∙ sym (append_assoc a (f x) c) in
-    let is_from : from ≡ length a = begin ∙ ap (λ es. get_or es k e) ended ∙ ends_at f 0 xs k e (omega (arith, lt)) ∙ zero-add (length a) in
+    let is_from : from ≡ length a = begin ∙ ap (λ es. get_or es k e) ended ∙ ends_at f 0 xs k e (omega (arith, lt)) ∙
+    zero-add (length a) in
     let is_to : to ≡ length (a ++ f x) =
     end ∙ ap (λ es. get_or es (k + 1) e') ended ∙ ends_at f 0 xs (k + 1) e' (omega (arith, lt))
     ∙ zero-add (length (flat_map f (take (k + 1) xs))) ∙ ap length more in
@@ -74,29 +81,35 @@ pub fronts_more : (stack : List LayerTree) (h : Header) (texts begins new_texts 
 fronts_more stack h texts begins new_texts new_begins count put counted push = λ hs are.
     let all : new_texts ≡ flat_map (header_front stack) (hs ++ h ∷ []) =
     put ∙ ap (λ ts. ts ++ header_front stack h) are.0
-    ∙ sym (flat_map-append (header_front stack) hs (h ∷ []) ∙ ap (λ ys. flat_map (header_front stack) hs ++ ys) (append-nil (header_front stack h))) in (
+    ∙ sym (flat_map-append (header_front stack) hs (h ∷ []) ∙
+    ap (λ ys. flat_map (header_front stack) hs ++ ys) (append-nil (header_front stack h))) in (
       all,
       push ∙ (λ i. are.1 i ++ counted i ∷ []) ∙ ap (λ ts. ends_from (header_front stack) 0 hs ++ length ts ∷ []) all
-          ∙ ap (λ end. ends_from (header_front stack) 0 hs ++ end ∷ []) (sym (zero-add (length (flat_map (header_front stack) (hs ++ h ∷ [])))))
+          ∙ ap (λ end. ends_from (header_front stack) 0 hs ++ end ∷ [])
+          (sym (zero-add (length (flat_map (header_front stack) (hs ++ h ∷ [])))))
           ∙ sym (ends_last (header_front stack) 0 hs h),
     )
 
 -- the headers of one more place
-pub place_more : (stack : List LayerTree) (place tags : ℕ) (texts begins firsts new_texts new_begins new_firsts : List ℕ) (count : ℕ) →
-    tags ≡ tags_at stack place → AddFronts stack (tagged place tags) texts begins new_texts new_begins → count ≡ length new_begins - 1 →
+pub place_more : (stack : List LayerTree) (place tags : ℕ)
+    (texts begins firsts new_texts new_begins new_firsts : List ℕ) (count : ℕ) →
+    tags ≡ tags_at stack place → AddFronts stack (tagged place tags) texts begins new_texts new_begins →
+    count ≡ length new_begins - 1 →
     new_firsts ≡ firsts ++ count ∷ [] → AreAllFronts stack place texts begins firsts →
     AreAllFronts stack (place + 1) new_texts new_begins new_firsts
 place_more stack place tags texts begins firsts new_texts new_begins new_firsts count is add counted push are =
     let more : declared stack place ++ tagged place tags ≡ declared stack (suc place) =
     ap (λ n. declared stack place ++ tagged place n) is
-    ∙ sym (flat_map-append (headers_at stack) (below place) (place ∷ []) ∙ ap (λ ys. declared stack place ++ ys) (append-nil (headers_at stack place))) in
+    ∙ sym (flat_map-append (headers_at stack) (below place) (place ∷ []) ∙
+    ap (λ ys. declared stack place ++ ys) (append-nil (headers_at stack place))) in
     let fronts : AreFronts stack (declared stack (suc place)) new_texts new_begins =
     subst (λ hs. AreFronts stack hs new_texts new_begins) more (add (declared stack place) are.0) in
     let all = ap length fronts.1 ∙ ends_count (header_front stack) 0 (declared stack (suc place)) in
     let number : count ≡ length (declared stack (suc place)) = omega (arith, counted, all) in
     let firsts : new_firsts ≡ ends_from (headers_at stack) 0 (below (suc place)) =
     push ∙ (λ i. are.1 i ++ number i ∷ [])
-    ∙ ap (λ end. ends_from (headers_at stack) 0 (below place) ++ end ∷ []) (sym (zero-add (length (declared stack (suc place)))))
+    ∙ ap (λ end. ends_from (headers_at stack) 0 (below place) ++ end ∷ [])
+    (sym (zero-add (length (declared stack (suc place)))))
     ∙ sym (ends_last (headers_at stack) 0 (below place) place) in
     subst (λ n. AreAllFronts stack n new_texts new_begins new_firsts) (suc_is place) (fronts, firsts)
 
@@ -110,7 +123,8 @@ tagged_count place (suc n) =
 
 below_count : (n : ℕ) → length (below n) ≡ n
 below_count zero = refl
-below_count (suc n) = let all = length-append (below n) (n ∷ []) in let before = below_count n in omega (arith, all, before)
+below_count (suc n) = let all = length-append (below n) (n ∷ []) in let before = below_count n in
+    omega (arith, all, before)
 
 -- the places from k on
 others : (k r : ℕ) → List ℕ
@@ -121,7 +135,8 @@ parted : (k r : ℕ) → below (k + r) ≡ below k ++ others k r
 unfolding others
 parted k zero = ap below (add-zero k) ∙ sym (append-nil (below k))
 parted k (suc r) =
-    ap below (add-suc k r) ∙ ap (λ ps. ps ++ (k + r) ∷ []) (parted k r) ∙ append_assoc (below k) (others k r) ((k + r) ∷ [])
+    ap below (add-suc k r) ∙ ap (λ ps. ps ++ (k + r) ∷ []) (parted k r) ∙
+    append_assoc (below k) (others k r) ((k + r) ∷ [])
   where
     add-suc : (k r : ℕ) → k + suc r ≡ suc (k + r)
     add-suc k r = omega arith
@@ -144,7 +159,8 @@ tagged_at place (suc n) i d lt = by_test (nat_lt i n) refl (tagged_at place n i 
     by_test true is before =
         let less = ltb-true i n is in
         let count = tagged_count place n in
-        get_or_append_left (tagged place n) (header_of place (suc n) ∷ []) d i (omega (arith, less, count)) ∙ before less
+        get_or_append_left (tagged place n) (header_of place (suc n) ∷ []) d i (omega (arith, less, count)) ∙
+        before less
     by_test false is before =
         let most = ltb-false i n is in
         let count = tagged_count place n in
@@ -154,7 +170,8 @@ tagged_at place (suc n) i d lt = by_test (nat_lt i n) refl (tagged_at place n i 
         ∙ get_or-append_seam (tagged place n) (header_of place (suc n)) [] d
         ∙ ap (λ k. header_of place (suc k)) (sym same)
 
-module _ (stack : List LayerTree) (n : ℕ) (texts begins firsts : List ℕ) (are : AreAllFronts stack n texts begins firsts) where
+module _ (stack : List LayerTree) (n : ℕ) (texts begins firsts : List ℕ)
+    (are : AreAllFronts stack n texts begins firsts) where
   pub firsts_count : length firsts ≡ n + 1
   firsts_count = ap length are.1 ∙ ends_count (headers_at stack) 0 (below n) ∙ ap (λ k. k + 1) (below_count n)
 
@@ -171,21 +188,27 @@ module _ (stack : List LayerTree) (n : ℕ) (texts begins firsts : List ℕ) (ar
       ∙ ap (λ i. get_or (ends_from (headers_at stack) 0 (below k ++ others k rest)) i d) (sym count)
       ∙ ends_seam (headers_at stack) 0 (below k) (others k rest) d ∙ zero-add (length (declared stack k))
 
-  pub front_at : (k e e' from to : ℕ) → k < length (declared stack n) → from ≡ get_or begins k e → to ≡ get_or begins (k + 1) e' →
+  pub front_at : (k e e' from to : ℕ) → k < length (declared stack n) → from ≡ get_or begins k e →
+      to ≡ get_or begins (k + 1) e' →
       Piece texts from to (header_front stack (get_or (declared stack n) k (header_of 0 0)))
   front_at k e e' from to lt begin end =
-      piece_at (header_front stack) (declared stack n) k (header_of 0 0) texts begins from to e e' are.0.0 are.0.1 lt begin end
+      piece_at (header_front stack) (declared stack n) k (header_of 0 0) texts begins from to e e' are.0.0 are.0.1 lt
+      begin end
 
 -- the headers of a place among those of all
-next_first : (stack : List LayerTree) (place : ℕ) → declared stack (place + 1) ≡ declared stack place ++ headers_at stack place
+next_first : (stack : List LayerTree) (place : ℕ) → declared stack (place + 1) ≡ declared stack place ++
+    headers_at stack place
 next_first stack place =
     ap (declared stack) (sym (suc_is place))
-    ∙ flat_map-append (headers_at stack) (below place) (place ∷ []) ∙ ap (λ ys. declared stack place ++ ys) (append-nil (headers_at stack place))
+    ∙ flat_map-append (headers_at stack) (below place) (place ∷ []) ∙
+    ap (λ ys. declared stack place ++ ys) (append-nil (headers_at stack place))
 
-all_parted : (stack : List LayerTree) (n k : ℕ) → k ≤ n → declared stack n ≡ declared stack k ++ flat_map (headers_at stack) (others k (n - k))
+all_parted : (stack : List LayerTree) (n k : ℕ) → k ≤ n → declared stack n ≡ declared stack k ++
+    flat_map (headers_at stack) (others k (n - k))
 all_parted stack n k le =
     let whole : n ≡ k + (n - k) = omega (arith, le) in
-    ap (declared stack) whole ∙ ap (flat_map (headers_at stack)) (parted k (n - k)) ∙ flat_map-append (headers_at stack) (below k) (others k (n - k))
+    ap (declared stack) whole ∙ ap (flat_map (headers_at stack)) (parted k (n - k)) ∙
+    flat_map-append (headers_at stack) (below k) (others k (n - k))
 
 pub firsts_ordered : (stack : List LayerTree) (place first next : ℕ) → first ≡ length (declared stack place) →
     next ≡ length (declared stack (place + 1)) → first ≤ next
@@ -193,9 +216,11 @@ firsts_ordered stack place first next is is_next =
     let all = ap length (next_first stack place) ∙ length-append (declared stack place) (headers_at stack place) in
     omega (arith, is, is_next, all)
 
-pub number_is : (stack : List LayerTree) (n place tag first next behind : ℕ) → place < n → tag ≢ 0 → first ≡ length (declared stack place) →
+pub number_is : (stack : List LayerTree) (n place tag first next behind : ℕ) → place < n → tag ≢ 0 →
+    first ≡ length (declared stack place) →
     next ≡ length (declared stack (place + 1)) → behind ≡ tag - 1 → behind < next - first →
-    (first + behind < length (declared stack n)) × (get_or (declared stack n) (first + behind) (header_of 0 0) ≡ header_of place tag)
+    (first + behind < length (declared stack n)) ×
+    (get_or (declared stack n) (first + behind) (header_of 0 0) ≡ header_of place tag)
 number_is stack n place tag first next behind lt some is is_next back less =
     let a = declared stack place in
     let b = headers_at stack place in
@@ -218,11 +243,14 @@ number_is stack n place tag first next behind lt some is is_next back less =
     )
 
 -- how many headers of a place are laid out
-pub tags_all : (stack : List LayerTree) (place count : ℕ) → count ≡ length (layer_number stack place).headers → count < 255 → count ≡ tags_at stack place
+pub tags_all : (stack : List LayerTree) (place count : ℕ) → count ≡ length (layer_number stack place).headers →
+    count < 255 → count ≡ tags_at stack place
 tags_all stack place count is lt =
-    sym (ap (λ n. if nat_lt n 255 then n else 255) (sym is) ∙ ap (λ few. if few then count else 255) (lt-ltb count 255 lt))
+    sym (ap (λ n. if nat_lt n 255 then n else 255) (sym is) ∙
+    ap (λ few. if few then count else 255) (lt-ltb count 255 lt))
 
-pub tags_most : (stack : List LayerTree) (place count : ℕ) → count ≡ length (layer_number stack place).headers → 255 ≤ count → 255 ≡ tags_at stack place
+pub tags_most : (stack : List LayerTree) (place count : ℕ) → count ≡ length (layer_number stack place).headers →
+    255 ≤ count → 255 ≡ tags_at stack place
 tags_most stack place count is most =
     sym (ap (λ n. if nat_lt n 255 then n else 255) (sym is) ∙ by_test (nat_lt count 255) refl)
   where
@@ -230,18 +258,22 @@ tags_most stack place count is most =
     by_test true is = let lt = ltb-true count 255 is in absurd (omega (arith, lt, most))
     by_test false is = refl
 
-pub headers_count : (stack : List LayerTree) (place : ℕ) (layer : TypedLayer) (count : ℕ) → layer_tree layer ≡ layer_number stack place →
+pub headers_count : (stack : List LayerTree) (place : ℕ) (layer : TypedLayer) (count : ℕ) →
+    layer_tree layer ≡ layer_number stack place →
     count ≡ length layer.headers.items → count ≡ length (layer_number stack place).headers
 headers_count stack place layer count is counted =
     counted ∙ sym (length-map layer.headers.items header_tree) ∙ ap (λ l. length l.headers) is
 
 -- the stack that a type's invariant speaks of is the one that contracts see
-pub seen : (s stack : List LayerTree) (texts begins firsts : List ℕ) → s ≡ stack → AreAllFronts s (length s) texts begins firsts →
+pub seen : (s stack : List LayerTree) (texts begins firsts : List ℕ) → s ≡ stack →
+    AreAllFronts s (length s) texts begins firsts →
     AreAllFronts stack (length stack) texts begins firsts
 seen s stack texts begins firsts same are = subst (λ t. AreAllFronts t (length t) texts begins firsts) same are
 
-pub place_seen : (s stack : List LayerTree) (place : ℕ) (texts begins firsts new_texts new_begins new_firsts : List ℕ) → s ≡ stack →
+pub place_seen : (s stack : List LayerTree) (place : ℕ) (texts begins firsts new_texts new_begins new_firsts : List ℕ) →
+    s ≡ stack →
     (AreAllFronts s place texts begins firsts → AreAllFronts s (place + 1) new_texts new_begins new_firsts) →
     AreAllFronts stack place texts begins firsts → AreAllFronts stack (place + 1) new_texts new_begins new_firsts
 place_seen s stack place texts begins firsts new_texts new_begins new_firsts same more =
-    subst (λ t. AreAllFronts t place texts begins firsts → AreAllFronts t (place + 1) new_texts new_begins new_firsts) same more
+    subst (λ t. AreAllFronts t place texts begins firsts → AreAllFronts t (place + 1) new_texts new_begins new_firsts)
+    same more

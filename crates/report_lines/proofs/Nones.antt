@@ -1,5 +1,6 @@
 -- Headers with the separator behind them, and the headers `none` of adjacent places.
-use Rattle.std.proofs.Common.{◌≡◌, ◌≢◌, ◌++◌, ◌∷◌, ◌+◌, ◌-◌, ◌<◌, ◌≤◌, ℕ, zero, suc, Bool, true, false, List, [], arith, Some, length, get_or, take, drop, refl, sym, ap, ◌∙◌, append_assoc, append-nil}
+use Rattle.std.proofs.Common.{◌≡◌, ◌≢◌, ◌++◌, ◌∷◌, ◌+◌, ◌-◌, ◌<◌, ◌≤◌, ℕ, zero, suc, Bool, true, false, List, [], arith}
+use Rattle.std.proofs.Common.{Some, length, get_or, take, drop, refl, sym, ap, ◌∙◌, append_assoc, append-nil}
 use Rattle.std.specs.Prelude.{slice_get, OnOk, Result, Ok, Err, nat_lt}
 use Rattle.std.proofs.lemmas.Bool.{ltb-true, ltb-false}
 use Rattle.std.proofs.lemmas.Grind.{flat_map-append}
@@ -18,7 +19,8 @@ no_fields [] none = refl
 no_fields (f ∷ fields) none = absurd (omega arith)
 
 -- one more header behind others
-chained_more : (stack : List LayerTree) (hs : List Header) (h : Header) → chained stack (hs ++ h ∷ []) ≡ chained stack hs ++ slashed stack h
+chained_more : (stack : List LayerTree) (hs : List Header) (h : Header) → chained stack (hs ++ h ∷ []) ≡
+    chained stack hs ++ slashed stack h
 chained_more stack hs h =
     flat_map-append (slashed stack) hs (h ∷ []) ∙ ap (λ last. chained stack hs ++ last) (append-nil (slashed stack h))
 
@@ -40,7 +42,8 @@ plus_suc : (n m : ℕ) → n + suc m ≡ suc (n + m)
 plus_suc n m = omega arith
 
 -- the headers of the first places are those of fewer, and the others
-parted : (stack : List LayerTree) (first n : ℕ) → first_nones stack (first + n) ≡ first_nones stack first ++ chained stack (nones first n)
+parted : (stack : List LayerTree) (first n : ℕ) → first_nones stack (first + n) ≡ first_nones stack first ++
+    chained stack (nones first n)
 parted stack first zero = ap (first_nones stack) (plus_zero first) ∙ sym (append-nil (first_nones stack first))
 parted stack first (suc n) =
     ap (first_nones stack) (plus_suc first n)
@@ -62,7 +65,8 @@ ends_at stack zero zero d le = refl
 ends_at stack zero (suc k) d le = absurd (omega (arith, le))
 ends_at stack (suc n) k d le = by_test (nat_lt n k) refl (ends_at stack n k d)
   where
-    by_test : (last : Bool) → nat_lt n k ≡ last → (k ≤ n → get_or (ends_of stack n) k d ≡ length (first_nones stack k)) →
+    by_test : (last : Bool) → nat_lt n k ≡ last →
+        (k ≤ n → get_or (ends_of stack n) k d ≡ length (first_nones stack k)) →
         get_or (ends_of stack n ++ length (first_nones stack (suc n)) ∷ []) k d ≡ length (first_nones stack k)
     by_test true is before =
         let lt = ltb-true n k is in
@@ -78,24 +82,28 @@ ends_at stack (suc n) k d le = by_test (nat_lt n k) refl (ends_at stack n k d)
         get_or_append_left (ends_of stack n) (length (first_nones stack (suc n)) ∷ []) d k (omega (arith, le, count))
         ∙ before (omega (arith, le))
 
-pub ends_more : (stack : List LayerTree) (n : ℕ) (ends new text : List ℕ) (count : ℕ) → ends ≡ ends_of stack n → text ≡ first_nones stack (n + 1) →
+pub ends_more : (stack : List LayerTree) (n : ℕ) (ends new text : List ℕ) (count : ℕ) → ends ≡ ends_of stack n →
+    text ≡ first_nones stack (n + 1) →
     new ≡ ends ++ count ∷ [] → count ≡ length text → new ≡ ends_of stack (n + 1)
 ends_more stack n ends new text count before is put all =
     put ∙ (λ i. before i ++ all i ∷ []) ∙ ap (λ t. ends_of stack n ++ length t ∷ []) is
     ∙ ap (λ m. ends_of stack n ++ length (first_nones stack m) ∷ []) (sym (suc_is n)) ∙ ap (ends_of stack) (suc_is n)
 
 -- each place has a beginning
-pub within : (s stack : List LayerTree) (texts places : List ℕ) (k : ℕ) → s ≡ stack → AreLaidOut s texts places → k ≤ length stack → k < length places
+pub within : (s stack : List LayerTree) (texts places : List ℕ) (k : ℕ) → s ≡ stack → AreLaidOut s texts places →
+    k ≤ length stack → k < length places
 within s stack texts places k same laid le =
     let count = ap length laid.1 ∙ ends_count s (length s) in
     let same_length = ap length same in
     omega (arith, le, count, same_length)
 
-pub begins : (s stack : List LayerTree) (texts places : List ℕ) (k d : ℕ) → s ≡ stack → AreLaidOut s texts places → k ≤ length stack →
+pub begins : (s stack : List LayerTree) (texts places : List ℕ) (k d : ℕ) → s ≡ stack → AreLaidOut s texts places →
+    k ≤ length stack →
     get_or places k d ≡ length (first_nones stack k)
 begins s stack texts places k d same laid le =
     let same_length = ap length same in
-    ap (λ xs. get_or xs k d) laid.1 ∙ ends_at s (length s) k d (omega (arith, le, same_length)) ∙ ap (λ t. length (first_nones t k)) same
+    ap (λ xs. get_or xs k d) laid.1 ∙ ends_at s (length s) k d (omega (arith, le, same_length)) ∙
+    ap (λ t. length (first_nones t k)) same
 
 -- what lies between two places: the texts between them
 pub record Cut (stack : List LayerTree) (texts : List ℕ) (first n from to : ℕ) : Type 0 where
@@ -111,8 +119,10 @@ cut_parts a b c =
     ∙ ap (λ i. take i (b ++ c)) (omega (arith, e))
     ∙ take-append_seam b c
 
-pub cut : (s stack : List LayerTree) (texts places : List ℕ) (first n from to : ℕ) → s ≡ stack → AreLaidOut s texts places → first + n ≤ length stack →
-    from ≡ length (first_nones stack first) → to ≡ length (first_nones stack (first + n)) → Cut stack texts first n from to
+pub cut : (s stack : List LayerTree) (texts places : List ℕ) (first n from to : ℕ) → s ≡ stack →
+    AreLaidOut s texts places → first + n ≤ length stack →
+    from ≡ length (first_nones stack first) → to ≡ length (first_nones stack (first + n)) →
+    Cut stack texts first n from to
 cut s stack texts places first n from to same laid le begin is_to =
     let a = first_nones stack first in
     let b = chained stack (nones first n) in
@@ -134,28 +144,33 @@ cut s stack texts places first n from to same laid le begin is_to =
 -- what is left begins with the next header
 first_dropped : (hs : List Header) (k : ℕ) (h : Header) → Some h ≡ slice_get hs k → drop k hs ≡ h ∷ drop (k + 1) hs
 first_dropped hs k h is =
-    drop-cons hs k h (slice_get_within hs k h (sym is)) ∙ ap (λ x. x ∷ drop (suc k) hs) (get_or_from_slice_get hs k h h (sym is)) ∙ ap (λ i. h ∷ drop i hs) (suc_is k)
+    drop-cons hs k h (slice_get_within hs k h (sym is)) ∙
+    ap (λ x. x ∷ drop (suc k) hs) (get_or_from_slice_get hs k h h (sym is)) ∙ ap (λ i. h ∷ drop i hs) (suc_is k)
 
 -- a header with tag 0 and without numbers is that of its place
 pub none_is : (h : Header) → h.tag ≡ 0 → length h.fields ≡ 0 → h ≡ none_of h.layer
 none_is h tagged empty = λ i. record { layer = h.layer; tag = tagged i; fields = sym (no_fields h.fields empty) i }
 
-pub none_at : (hs : List Header) (k place : ℕ) (h : Header) → Some h ≡ slice_get hs k → h.layer ≡ place → h ≡ none_of h.layer →
+pub none_at : (hs : List Header) (k place : ℕ) (h : Header) → Some h ≡ slice_get hs k → h.layer ≡ place →
+    h ≡ none_of h.layer →
     drop k hs ≡ none_of place ∷ drop (k + 1) hs
 none_at hs k place h is placed none =
     first_dropped hs k h is ∙ ap (λ x. x ∷ drop (k + 1) hs) (none ∙ ap none_of placed)
 
 -- one more of them
 pub nones_next : (hs : List Header) (k first n : ℕ) → drop k hs ≡ nones first n ++ drop (k + n) hs →
-    drop (k + n) hs ≡ none_of (first + n) ∷ drop (k + n + 1) hs → drop k hs ≡ nones first (n + 1) ++ drop (k + (n + 1)) hs
+    drop (k + n) hs ≡ none_of (first + n) ∷ drop (k + n + 1) hs → drop k hs ≡ nones first (n + 1) ++
+    drop (k + (n + 1)) hs
 nones_next hs k first n before next =
     let one : suc n ≡ n + 1 = omega arith in
     let behind : k + n + 1 ≡ k + (n + 1) = omega arith in
-    before ∙ ap (λ rest. nones first n ++ rest) next ∙ sym (append_assoc (nones first n) (none_of (first + n) ∷ []) (drop (k + n + 1) hs))
+    before ∙ ap (λ rest. nones first n ++ rest) next ∙
+    sym (append_assoc (nones first n) (none_of (first + n) ∷ []) (drop (k + n + 1) hs))
     ∙ (λ i. nones first (one i) ++ drop (behind i) hs)
 
 -- behind headers that were put the others follow
-pub put_front : (stack : List LayerTree) (hs front rest : List Header) (line new : List ℕ) → new ≡ line ++ chained stack front → hs ≡ front ++ rest →
+pub put_front : (stack : List LayerTree) (hs front rest : List Header) (line new : List ℕ) →
+    new ≡ line ++ chained stack front → hs ≡ front ++ rest →
     new ++ chained stack rest ≡ line ++ chained stack hs
 put_front stack hs front rest line new put is =
     ap (λ text. text ++ chained stack rest) put ∙ append_assoc line (chained stack front) (chained stack rest)
@@ -189,7 +204,8 @@ some_headers hs some is = some (ap length is)
 
 -- once all headers are put, the last separator goes
 pub all_put : (stack : List LayerTree) (hs : List Header) (k n : ℕ) (line now new : List ℕ) →
-    now ++ chained stack (drop k hs) ≡ line ++ chained stack hs → n ≡ length hs → n ≤ k → n ≢ 0 → new ≡ take (length now - 1) now →
+    now ++ chained stack (drop k hs) ≡ line ++ chained stack hs → n ≡ length hs → n ≤ k → n ≢ 0 →
+    new ≡ take (length now - 1) now →
     new ≡ line ++ chain_text stack hs
 all_put stack hs k n line now new put all past some last =
     let none = drop_of_length-le hs (omega (arith, all, past)) in
@@ -201,13 +217,16 @@ all_put stack hs k n line now new put all past some last =
 
 -- a header that was put with its separator
 pub one_put : (stack : List LayerTree) (hs : List Header) (k : ℕ) (h : Header) (line new : List ℕ) →
-    Some h ≡ slice_get hs k → new ≡ line ++ slashed stack h → new ++ chained stack (drop (k + 1) hs) ≡ line ++ chained stack (drop k hs)
+    Some h ≡ slice_get hs k → new ≡ line ++ slashed stack h → new ++ chained stack (drop (k + 1) hs) ≡ line ++
+    chained stack (drop k hs)
 one_put stack hs k h line new is put =
-    put_front stack (drop k hs) (h ∷ []) (drop (k + 1) hs) line new (put ∙ ap (λ text. line ++ text) (sym (append-nil (slashed stack h))))
+    put_front stack (drop k hs) (h ∷ []) (drop (k + 1) hs) line new
+    (put ∙ ap (λ text. line ++ text) (sym (append-nil (slashed stack h))))
     (first_dropped hs k h is)
 
 -- a text whose last byte is put together with the separator
-pub closed : {E : Type 0} (r : Result (Unit {0}) E) (line front numbers a b new : List ℕ) → a ≡ line ++ front → b ≡ a ++ numbers →
+pub closed : {E : Type 0} (r : Result (Unit {0}) E) (line front numbers a b new : List ℕ) → a ≡ line ++ front →
+    b ≡ a ++ numbers →
     OnOk r (new ≡ b ++ 41 ∷ 47 ∷ []) → OnOk r (new ≡ line ++ ((front ++ numbers ++ 41 ∷ []) ++ 47 ∷ []))
 closed (Ok done) line front numbers a b new is_a is_b put =
     put ∙ sym (append_assoc b (41 ∷ []) (47 ∷ []))

@@ -16,7 +16,8 @@ delivery_text Send = codes "send"
 
 -- What stands in front of the body in the line of a delivery.
 abbrev pub delivery_front : ℕ → (word : List ℕ) → ℕ → List ℕ
-delivery_front id word peer = codes "deliver " ++ decimal id ++ codes " " ++ word ++ codes " " ++ decimal peer ++ codes " "
+delivery_front id word peer = codes "deliver " ++ decimal id ++ codes " " ++ word ++ codes " " ++ decimal peer ++
+    codes " "
 
 -- What a packet's line ends with.
 abbrev pub contents_text : List LayerTree → List Header → List ℕ → List ℕ

@@ -1,5 +1,6 @@
 -- The texts in front of the numbers of declared headers, one behind the other.
-use Rattle.std.specs.Prelude.{◌≡◌, ℕ, zero, suc, ◌+◌, ◌<◌, List, [], ◌∷◌, ◌++◌, length, nat_lt, if◌then◌else◌, slice_index_or, Option, Some, None}
+use Rattle.std.specs.Prelude.{◌≡◌, ℕ, zero, suc, ◌+◌, ◌<◌, List, [], ◌∷◌, ◌++◌, length, nat_lt, if◌then◌else◌}
+use Rattle.std.specs.Prelude.{slice_index_or, Option, Some, None}
 use Rattle.std.specs.List.{flat_map}
 use denote.Ref.{Bor}
 use Rattle.msg_core.specs.declared.message.Header.{Header}
@@ -39,14 +40,16 @@ ends_from f from (x ∷ xs) = from ∷ ends_from f (from + length (f x)) xs
 
 -- These texts and beginnings are those of the headers.
 abbrev pub AreFronts : List LayerTree → List Header → (texts begins : List ℕ) → Type 0
-AreFronts stack hs texts begins = (texts ≡ flat_map (header_front stack) hs) × (begins ≡ ends_from (header_front stack) 0 hs)
+AreFronts stack hs texts begins = (texts ≡ flat_map (header_front stack) hs) ×
+    (begins ≡ ends_from (header_front stack) 0 hs)
 
 -- More headers are laid out behind any others.
 abbrev pub AddFronts : List LayerTree → List Header → (texts begins new_texts new_begins : List ℕ) → Type 0
 AddFronts stack more texts begins new_texts new_begins =
     (hs : List Header) → AreFronts stack hs texts begins → AreFronts stack (hs ++ more) new_texts new_begins
 
--- They are those of the headers of the places below n, and these are the numbers of the first header of each place, and that of all.
+-- They are those of the headers of the places below n, and these are the numbers of the first header of each place, and
+-- that of all.
 abbrev pub AreAllFronts : List LayerTree → ℕ → (texts begins firsts : List ℕ) → Type 0
 AreAllFronts stack n texts begins firsts =
     AreFronts stack (declared stack n) texts begins × (firsts ≡ ends_from (headers_at stack) 0 (below n))

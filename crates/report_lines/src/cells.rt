@@ -48,7 +48,8 @@ fn push_message(
     headers: &Headers,
     body: &[u8],
 ) -> Result<(), Memory>
-    ensures { OnOk result (line.new ≡ line.old ++ message_text (stack_tree stack.now) (record { headers = headers.now; body = body.now })) }
+    ensures { OnOk result
+        (line.new ≡ line.old ++ message_text (stack_tree stack.now) (record { headers = headers.now; body = body.now })) }
 {
     push_chain(line, stack, headers)?;
     line.text(b":")?;
@@ -70,7 +71,8 @@ pub fn push_numbers_row(
     _stack: &NamedStack,
     numbers: &Fields,
 ) -> Result<(), Memory>
-    ensures { OnOk result (line.new ≡ line.old ++ row_text (stack_tree _stack.now) (record { numbers = numbers.now; message = None })) }
+    ensures { OnOk result
+        (line.new ≡ line.old ++ row_text (stack_tree _stack.now) (record { numbers = numbers.now; message = None })) }
 {
     push_in_brackets(line, numbers)
 }

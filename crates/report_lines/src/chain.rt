@@ -1,6 +1,7 @@
 //! Headers by name.
 
-ghost use Rattle.std.specs.Prelude.{◌≡◌, ◌+◌, ◌^◌, ◌++◌, ◌<◌, ◌≤◌, true, IfOk, OnOk, ◌∷◌, [], Some, drop, length, slice_get};
+ghost use Rattle.std.specs.Prelude.{◌≡◌, ◌+◌, ◌^◌, ◌++◌, ◌<◌, ◌≤◌, true, IfOk, OnOk, ◌∷◌, [], Some, drop, length};
+ghost use Rattle.std.specs.Prelude.{slice_get};
 ghost use Rattle.msg_core.specs.Headers.{most_headers};
 ghost use Rattle.std.specs.List.{join_by};
 ghost use Rattle.std.specs.Fmt.{decimal};
@@ -56,7 +57,8 @@ fn is_none_of(headers: &Headers, k: u32, place: u8) -> bool
     is_none(&header)
 }
 
-/// How many headers from number `k` on are `none`, of one place behind the other from `first` on: that one, and at most so many.
+/// How many headers from number `k` on are `none`, of one place behind the other from `first` on: that one, and at most
+/// so many.
 fn count_nones(headers: &Headers, k: u32, first: u8, most: u8) -> u8
     requires few { (k ≤ most_headers) × (0 < most) × (first + most < 2 ^ 8) }
     requires first { drop k headers.now ≡ none_of first ∷ drop (k + 1) headers.now }
@@ -90,7 +92,8 @@ fn push_header(line: &mut Line, stack: &NamedStack, header: &Header) -> Result<(
     line.text(b")/")
 }
 
-/// Appends the headers `none` of adjacent places from number `k` on, each with `/` behind it, and answers how many these are.
+/// Appends the headers `none` of adjacent places from number `k` on, each with `/` behind it, and answers how many
+/// these are.
 fn push_nones(
     line: &mut Line,
     stack: &NamedStack,
@@ -100,7 +103,8 @@ fn push_nones(
 ) -> Result<u8, Memory>
     requires few { (k ≤ most_headers) × (first < length (stack_tree stack.now)) }
     requires first { drop k headers.now ≡ none_of first ∷ drop (k + 1) headers.now }
-    ensures { IfOk result (λ count. (0 < count) × (line.new ++ chained (stack_tree stack.now) (drop (k + count) headers.now)
+    ensures { IfOk result
+        (λ count. (0 < count) × (line.new ++ chained (stack_tree stack.now) (drop (k + count) headers.now)
         ≡ line.old ++ chained (stack_tree stack.now) (drop k headers.now))) }
 {
     let count = count_nones(headers, k, first, stack.places() - first);
@@ -118,7 +122,8 @@ fn push_from(
 ) -> Result<u8, Memory>
     requires few { k ≤ most_headers }
     requires header { Some header.now ≡ slice_get headers.now k }
-    ensures { IfOk result (λ count. (0 < count) × (line.new ++ chained (stack_tree stack.now) (drop (k + count) headers.now)
+    ensures { IfOk result
+        (λ count. (0 < count) × (line.new ++ chained (stack_tree stack.now) (drop (k + count) headers.now)
         ≡ line.old ++ chained (stack_tree stack.now) (drop k headers.now))) }
 {
     if header.layer < stack.places() {
@@ -130,11 +135,12 @@ fn push_from(
     Ok(1)
 }
 
-/// Appends the headers from number `k` on that go in one piece, each with `/` behind it, and answers how many these are: those that are `none`
-/// of adjacent places, or else one.
+/// Appends the headers from number `k` on that go in one piece, each with `/` behind it, and answers how many these
+/// are: those that are `none` of adjacent places, or else one.
 fn push_next(line: &mut Line, stack: &NamedStack, headers: &Headers, k: u32) -> Result<u8, Memory>
     requires { (k < length headers.now) × (k ≤ most_headers) }
-    ensures { IfOk result (λ count. (0 < count) × (line.new ++ chained (stack_tree stack.now) (drop (k + count) headers.now)
+    ensures { IfOk result
+        (λ count. (0 < count) × (line.new ++ chained (stack_tree stack.now) (drop (k + count) headers.now)
         ≡ line.old ++ chained (stack_tree stack.now) (drop k headers.now))) }
 {
     match headers.at(k) {

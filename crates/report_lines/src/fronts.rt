@@ -10,8 +10,8 @@ use event_graph::Stack;
 use msg_core::{Fields, Header, Memory};
 use std::alloc::Global;
 
-/// The texts `LAYER.HEADER(` of the declared headers of a stack, one behind the other: where each begins, and where the last one ends. Of each
-/// place the number of its first header, and behind the last one that of all.
+/// The texts `LAYER.HEADER(` of the declared headers of a stack, one behind the other: where each begins, and where the
+/// last one ends. Of each place the number of its first header, and behind the last one that of all.
 #[derive(Drop)]
 pub(crate) struct Fronts {
     pub(crate) texts: Line,
@@ -31,7 +31,8 @@ fn tags_of(stack: &Stack, place: u8) -> u8
 impl Fronts {
     /// Those of no place.
     pub(crate) fn none(alloc: Global) -> Result<Fronts, Memory>
-        ensures { IfOk result (λ fronts. (fronts.texts ≡ []) × (fronts.begins.items ≡ 0 ∷ []) × (fronts.firsts.items ≡ 0 ∷ [])) }
+        ensures { IfOk result (λ fronts. (fronts.texts ≡ []) × (fronts.begins.items ≡ 0 ∷ []) ×
+            (fronts.firsts.items ≡ 0 ∷ [])) }
     {
         let mut begins = Vec::new(alloc);
         let mut firsts = Vec::new(alloc);
@@ -46,7 +47,8 @@ impl Fronts {
 
     /// Lays a header out.
     fn push(&mut self, stack: &Stack, header: &Header) -> Result<(), Memory>
-        ensures fronts { OnOk result (AddFronts (stack_tree stack.now) (header.now ∷ []) self.old.texts self.old.begins.items
+        ensures fronts { OnOk result
+            (AddFronts (stack_tree stack.now) (header.now ∷ []) self.old.texts self.old.begins.items
             self.new.texts self.new.begins.items) }
         ensures firsts { self.new.firsts ≡ self.old.firsts }
     {

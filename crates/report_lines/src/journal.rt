@@ -1,4 +1,5 @@
-//! The lines of a node's journal that a report doesn't have: its events, sendings that failed, and members that couldn't hear.
+//! The lines of a node's journal that a report doesn't have: its events, sendings that failed, and members that
+//! couldn't hear.
 
 ghost use Rattle.std.specs.Prelude.{◌≡◌, ◌++◌, ◌∷◌, [], OnOk, codes};
 ghost use Rattle.std.specs.Fmt.{decimal};

@@ -1,5 +1,5 @@
-//! The lines of a report, each put behind what a line holds: what is delivered, announced and sent, views, refusals, headers by name, and
-//! what cells hold; and those that a node's journal has besides.
+//! The lines of a report, each put behind what a line holds: what is delivered, announced and sent, views, refusals,
+//! headers by name, and what cells hold; and those that a node's journal has besides.
 #![tactic(auto)]
 
 mod cells;

@@ -144,7 +144,8 @@ pub fn packet_line(
     headers: &Headers,
     body: &[u8],
 ) -> Result<(), Memory>
-    ensures { OnOk result (line.new ≡ line.old ++ packet_text (stack_tree stack.now) number id dest headers.now body.now) }
+    ensures { OnOk result
+        (line.new ≡ line.old ++ packet_text (stack_tree stack.now) number id dest headers.now body.now) }
 {
     line.text(b"packet ")?;
     line.number(number)?;

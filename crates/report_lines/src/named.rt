@@ -16,8 +16,8 @@ use std::marker::Model;
 use std::rc::Rc;
 use typed_layer::TypedLayer;
 
-/// A stack, which contracts see, and the texts `LAYER.none()/` of its layers one behind the other: where each begins, and where the last one
-/// ends. Those in front of the numbers of its declared headers are laid out in the same way.
+/// A stack, which contracts see, and the texts `LAYER.none()/` of its layers one behind the other: where each begins,
+/// and where the last one ends. Those in front of the numbers of its declared headers are laid out in the same way.
 #[derive(Drop)]
 pub struct NamedStack {
     stack: Rc<Stack>,
@@ -43,7 +43,8 @@ impl Model for NamedStack {
     ghost view = { λ n. rc_value n.stack };
 
     ghost invariant = { λ n. AreLaidOut (stack_tree (rc_value n.stack)) n.texts.items n.places.items
-        × AreAllFronts (stack_tree (rc_value n.stack)) (length (stack_tree (rc_value n.stack))) n.fronts.texts n.fronts.begins.items
+        × AreAllFronts (stack_tree (rc_value n.stack)) (length (stack_tree (rc_value n.stack))) n.fronts.texts
+        n.fronts.begins.items
         n.fronts.firsts.items };
 }
 

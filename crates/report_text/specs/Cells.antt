@@ -22,21 +22,25 @@ index_if false i = []
 index_if true i = index_text i
 
 -- The line of a queue of a cell.
-abbrev pub queue_line : List LayerTree → (id place : ℕ) → LayerTree → (is_array : Bool) → (name : List ℕ) → ℕ × List Row → List ℕ
-queue_line stack id place layer is_array name q = cell_line id place layer (queue_named is_array name q.0) (rows_text stack q.1)
+abbrev pub queue_line : List LayerTree → (id place : ℕ) → LayerTree → (is_array : Bool) → (name : List ℕ) →
+    ℕ × List Row → List ℕ
+queue_line stack id place layer is_array name q = cell_line id place layer (queue_named is_array name q.0)
+    (rows_text stack q.1)
 
 -- What is read where there is no row.
 abbrev pub no_row : Row
 no_row = record { numbers = []; message = None }
 
-abbrev pub one_queue : List LayerTree → (id place : ℕ) → LayerTree → (is_array : Bool) → (name : List ℕ) → ℕ × List Row → List (List ℕ)
+abbrev pub one_queue : List LayerTree → (id place : ℕ) → LayerTree → (is_array : Bool) → (name : List ℕ) →
+    ℕ × List Row → List (List ℕ)
 one_queue stack id place layer is_array name q = queue_line stack id place layer is_array name q ∷ []
 
 -- The lines of a cell of numbers, and of one of queues, by what it holds.
 abbrev pub numbers_lines : (id place : ℕ) → LayerTree → (name : List ℕ) → Contents → List (List ℕ)
 numbers_lines id place layer name held = cell_line id place layer name (numbers_text (numbers_in held)) ∷ []
 
-abbrev pub queue_lines : List LayerTree → (id place : ℕ) → LayerTree → (is_array : Bool) → (name : List ℕ) → Contents → List (List ℕ)
+abbrev pub queue_lines : List LayerTree → (id place : ℕ) → LayerTree → (is_array : Bool) → (name : List ℕ) → Contents →
+    List (List ℕ)
 queue_lines stack id place layer is_array name held =
     flat_map (one_queue stack id place layer is_array name) (enumerate_from 0 (queues_in held))
 

@@ -18,7 +18,20 @@ use Rattle.view_core.specs.declared.step.Stepped.TheVariants.{Taken, Refused}
 use Rattle.report_text.specs.declared.counts.Counts.{Counts}
 
 abbrev pub no_counts : Counts
-no_counts = record { deliver = 0; packet = 0; timer = 0; block = 0; announce = 0; view = 0; out = 0; refused = 0; absent = 0; short = 0; events = 0 }
+no_counts = record {
+  deliver = 0;
+  packet = 0;
+  timer = 0;
+  block = 0;
+  announce = 0;
+  view = 0;
+  out = 0;
+  refused =
+      0;
+  absent = 0;
+  short = 0;
+  events = 0;
+}
 
 -- One more line of an output's kind, and one more short packet where a plan stands beside a packet.
 abbrev pub output_counted : Counts → Output × Option ℕ → Counts
@@ -26,7 +39,8 @@ output_counted c (deliver_cast peer body, plan) = record c { deliver = c.deliver
 output_counted c (deliver_send peer body, plan) = record c { deliver = c.deliver + 1 }
 output_counted c (block a, plan) = record c { block = c.block + 1 }
 output_counted c (announce a, plan) = record c { announce = c.announce + 1 }
-output_counted c (packet p, plan) = record c { packet = c.packet + 1; short = c.short + (if is_some plan then 1 else 0) }
+output_counted c (packet p, plan) =
+    record c { packet = c.packet + 1; short = c.short + (if is_some plan then 1 else 0) }
 output_counted c (nowhere, plan) = c
 output_counted c (timer a, plan) = record c { timer = c.timer + 1 }
 output_counted c (quiet dir event, plan) = c
@@ -79,8 +93,10 @@ count_text word n = word ++ codes " " ++ decimal n ++ codes " "
 -- The two lines that tell counts: the lines of each kind and the events, and the packets that are sent short.
 abbrev pub kinds_line : Counts → List ℕ
 kinds_line c = line (
-    codes "deliver" ∷ decimal c.deliver ∷ codes "packet" ∷ decimal c.packet ∷ codes "timer" ∷ decimal c.timer ∷ codes "block" ∷ decimal c.block
-    ∷ codes "announce" ∷ decimal c.announce ∷ codes "view" ∷ decimal c.view ∷ codes "out" ∷ decimal c.out ∷ codes "refused" ∷ decimal c.refused
+    codes "deliver" ∷ decimal c.deliver ∷ codes "packet" ∷ decimal c.packet ∷ codes "timer" ∷ decimal c.timer ∷
+    codes "block" ∷ decimal c.block
+    ∷ codes "announce" ∷ decimal c.announce ∷ codes "view" ∷ decimal c.view ∷ codes "out" ∷ decimal c.out ∷
+    codes "refused" ∷ decimal c.refused
     ∷ codes "absent" ∷ decimal c.absent ∷ codes "end" ∷ decimal c.events ∷ [])
 
 abbrev pub short_line : Counts → List ℕ

@@ -29,7 +29,8 @@ abbrev pub change_lines : ℕ → Option Change → List (List ℕ)
 change_lines id change = map (change_line id) (option_to_list change)
 
 -- The lines of a step that was taken.
-abbrev pub taken_lines : List LayerTree → Annex → (id first : ℕ) → List (Output × Option ℕ) → Option Change → List (List ℕ)
+abbrev pub taken_lines : List LayerTree → Annex → (id first : ℕ) → List (Output × Option ℕ) → Option Change →
+    List (List ℕ)
 taken_lines stack annex id first outs change = lines_of_outputs stack annex id first outs ++ change_lines id change
 
 -- The lines of a step, taken or refused.
@@ -37,9 +38,10 @@ abbrev pub stepped_lines : List LayerTree → Annex → (id first : ℕ) → Lis
 stepped_lines stack annex id first outs (Taken common change) = taken_lines stack annex id first outs change
 stepped_lines stack annex id first outs (Refused refusal) = refused_line id (refusal_meant refusal) ∷ []
 
--- The lines of an event of a member: what it came to, the outputs of its step with the plans under which packets are sent short, the member
--- that is shown, and the number of the first packet.
-abbrev pub told_lines : List LayerTree → List Plan → (wire : Bool) → ScriptEvent → Did → List (Output × Option ℕ) → Member → (first : ℕ) →
+-- The lines of an event of a member: what it came to, the outputs of its step with the plans under which packets are
+-- sent short, the member that is shown, and the number of the first packet.
+abbrev pub told_lines : List LayerTree → List Plan → (wire : Bool) → ScriptEvent → Did → List (Output × Option ℕ) →
+    Member → (first : ℕ) →
     List (List ℕ)
 told_lines stack plans wire event (did.Stepped stepped) outs shown first =
     stepped_lines stack (annex_of wire plans) (member_of event) first outs stepped

@@ -49,7 +49,8 @@ fn push_cell_numbers<S: Shows>(
 ) -> Result<(), Memory>
     ensures { OnOk result (line.new ≡ line.old
         ++ (cell_front spot.id spot.place (layer_tree layer.now).name name.now ++ codes " "
-        ++ numbers_text (numbers_in (cell_at (state_at (S.group group.now) spot.id spot.place) spot.cell)) ++ codes "\n")) }
+        ++ numbers_text (numbers_in (cell_at (state_at (S.group group.now) spot.id spot.place) spot.cell)) ++
+        codes "\n")) }
 {
     push_cell(line, spot.id, spot.place, layer.name.bytes(), name.bytes())?;
     line.text(b" ")?;
@@ -95,7 +96,8 @@ fn push_row_at<S: Shows>(
 ) -> Result<(), Memory>
     requires { k < length (rows_at (state_at (S.group group.now) spot.id spot.place) spot.cell queue) }
     ensures { OnOk result (line.new ≡ line.old ++ lead (codes " ") k
-        ++ row_text (stack_tree stack.now) (slice_index_or (rows_at (state_at (S.group group.now) spot.id spot.place) spot.cell queue) k no_row)) }
+        ++ row_text (stack_tree stack.now)
+        (slice_index_or (rows_at (state_at (S.group group.now) spot.id spot.place) spot.cell queue) k no_row)) }
 {
     push_lead(line, b" ", k)?;
     match group.row(spot, queue, k) {
@@ -146,7 +148,8 @@ fn push_queue<S: Shows>(
     queue: u32,
 ) -> Result<(), Memory>
     ensures { OnOk result (line.new ≡ line.old
-        ++ (cell_front spot.id spot.place (layer_tree queues.entry.layer.now).name queues.entry.name.now ++ index_if queues.entry.is_array queue
+        ++ (cell_front spot.id spot.place (layer_tree queues.entry.layer.now).name queues.entry.name.now ++
+        index_if queues.entry.is_array queue
         ++ codes " " ++ rows_text (stack_tree stack.now) (rows_at (state_at (S.group group.now) spot.id spot.place) spot.cell queue) ++ codes "\n")) }
 {
     let layer = queues.layer.name.bytes();
@@ -167,7 +170,8 @@ pub(crate) fn build_queue<S: Shows>(
     queue: u32,
 ) -> Result<(), Memory>
     ensures { OnOk result (line.new ≡ line.old
-        ++ queue_line (stack_tree stack.now) spot.id spot.place (layer_tree queues.entry.layer.now) queues.entry.is_array queues.entry.name.now
+        ++ queue_line (stack_tree stack.now) spot.id spot.place (layer_tree queues.entry.layer.now)
+        queues.entry.is_array queues.entry.name.now
         (queue, rows_at (state_at (S.group group.now) spot.id spot.place) spot.cell queue)) }
 {
     push_queue(line, stack, group, queues, spot, queue)

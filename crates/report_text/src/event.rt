@@ -70,7 +70,8 @@ fn write_taken<O: Sink>(
     out: &mut O,
 ) -> Result<(), SinkError>
     requires { issue.first + length issue.outputs.now.outputs < 2 ^ 64 }
-    ensures { Wrote (taken_lines (stack_tree manner.entry.stack.now) (annex_of manner.entry.wire (plans_tree manner.entry.plans.now))
+    ensures { Wrote (taken_lines (stack_tree manner.entry.stack.now)
+        (annex_of manner.entry.wire (plans_tree manner.entry.plans.now))
         issue.entry.id issue.entry.first issue.entry.outputs.now.outputs change)
         (tells_of O.Sink out.old) (tells_of O.Sink out.new) result }
 {
@@ -104,7 +105,8 @@ fn write_stepped<O: Sink>(
     out: &mut O,
 ) -> Result<(), SinkError>
     requires { issue.first + length issue.outputs.now.outputs < 2 ^ 64 }
-    ensures { Wrote (stepped_lines (stack_tree manner.entry.stack.now) (annex_of manner.entry.wire (plans_tree manner.entry.plans.now))
+    ensures { Wrote (stepped_lines (stack_tree manner.entry.stack.now)
+        (annex_of manner.entry.wire (plans_tree manner.entry.plans.now))
         issue.entry.id issue.entry.first issue.entry.outputs.now.outputs stepped)
         (tells_of O.Sink out.old) (tells_of O.Sink out.new) result }
 {
@@ -126,9 +128,9 @@ fn write_absent<O: Sink>(pen: &mut Pen, id: u8, number: u32, out: &mut O) -> Res
     }
 }
 
-/// Puts the lines of what an event came to, one by one: those of a step's outputs, and of where the member is then; a refusal; a packet that
-/// isn't there; or the member that is shown, as the group has it. Where it is wanted, the bytes of each packet stand
-/// behind its line, as it is sent: short under the plan beside it, or in full.
+/// Puts the lines of what an event came to, one by one: those of a step's outputs, and of where the member is then; a
+/// refusal; a packet that isn't there; or the member that is shown, as the group has it. Where it is wanted, the bytes
+/// of each packet stand behind its line, as it is sent: short under the plan beside it, or in full.
 pub fn write_event<S: Shows, O: Sink>(
     pen: &mut Pen,
     manner: Manner<'_>,
@@ -137,7 +139,8 @@ pub fn write_event<S: Shows, O: Sink>(
     out: &mut O,
 ) -> Result<(), SinkError>
     requires { outcome.now.first + length outcome.now.outputs.now.outputs < 2 ^ 64 }
-    ensures { Wrote (told_lines (stack_tree manner.entry.stack.now) (plans_tree manner.entry.plans.now) manner.entry.wire outcome.now.event.now
+    ensures { Wrote (told_lines (stack_tree manner.entry.stack.now) (plans_tree manner.entry.plans.now)
+        manner.entry.wire outcome.now.event.now
         outcome.now.did outcome.now.outputs.now.outputs (shown_in (S.group group.now) (member_of outcome.now.event.now))
         outcome.now.first)
         (tells_of O.Sink out.old) (tells_of O.Sink out.new) result }

@@ -18,7 +18,8 @@ ghost use Rattle.report_text.specs.Told.{told_lines};
 
 /// What is told of a moment in a mode, from what the code has of it, are its lines.
 pub fn told_is_the_moment()
-    ensures { (mode : Mode) → (stack : List LayerTree) → (plans : List Plan) → (wire : Bool) → (m : Moment) → (outs : List (Output × Option ℕ)) →
+    ensures { (mode : Mode) → (stack : List LayerTree) → (plans : List Plan) → (wire : Bool) → (m : Moment) →
+        (outs : List (Output × Option ℕ)) →
         (before : ℕ) → (after : ℕ) → (d : code.Did) → (shown : Member) → (first : ℕ) →
         DidIs mode stack plans m.happening.did outs before after d →
         (d ≡ did.Shown → shown ≡ member_at m.before (member_of m.event)) → first ≡ first_number m →

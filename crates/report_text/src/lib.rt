@@ -1,4 +1,5 @@
-//! What a run writes: the lines of each event, put one by one on a sink, the last lines of a report, and counts of lines in place of them.
+//! What a run writes: the lines of each event, put one by one on a sink, the last lines of a report, and counts of
+//! lines in place of them.
 #![tactic(auto)]
 
 mod cells;

@@ -6,8 +6,8 @@ use stack_shapes::Plans;
 use step_outputs::Outputs;
 use view_core::Did;
 
-/// How the lines of a run are written: by the names of its stack, and where it is wanted with the bytes of each packet behind its line, as it is sent
-/// with these plans.
+/// How the lines of a run are written: by the names of its stack, and where it is wanted with the bytes of each packet
+/// behind its line, as it is sent with these plans.
 #[derive(Clone, Copy)]
 pub struct Manner<'a> {
     pub stack: &'a NamedStack,

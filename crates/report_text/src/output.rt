@@ -36,7 +36,9 @@ fn build_output(
     output: &OutputView<'_>,
 ) -> Result<bool, Memory>
     requires { line.old ≡ [] }
-    ensures { IfOk result (λ has. line_if has line.new ≡ output_lines (stack_tree stack.now) id number (output_meant _here.now output.now).0) }
+    ensures { IfOk result
+        (λ has. line_if has line.new ≡
+        output_lines (stack_tree stack.now) id number (output_meant _here.now output.now).0) }
 {
     match output {
         OutputView::Cast(peer, body) => deliver_line(line, id, Delivery::Cast, *peer, body)?,
@@ -90,7 +92,8 @@ fn build_wire(
     packet: &PacketView<'_>,
 ) -> Result<(), Memory>
     ensures { OnOk result (line.new ≡ line.old ++ report.wire_line number
-        (wire (plans_tree plans.now) (sent_packet here.now packet.now.dest packet.now.headers.now packet.now.body.now) packet.now.plan)) }
+        (wire (plans_tree plans.now) (sent_packet here.now packet.now.dest packet.now.headers.now packet.now.body.now)
+        packet.now.plan)) }
 {
     spell(bytes, plans, here, packet)?;
     wire_line(line, number, bytes.as_slice())
@@ -160,7 +163,8 @@ pub(crate) fn write_outputs<O: Sink>(
     out: &mut O,
 ) -> Result<(), SinkError>
     requires { issue.first + length issue.outputs.now.outputs < 2 ^ 64 }
-    ensures { Wrote (lines_of_outputs (stack_tree manner.entry.stack.now) (annex_of manner.entry.wire (plans_tree manner.entry.plans.now))
+    ensures { Wrote (lines_of_outputs (stack_tree manner.entry.stack.now)
+        (annex_of manner.entry.wire (plans_tree manner.entry.plans.now))
         issue.entry.id issue.entry.first issue.entry.outputs.now.outputs)
         (tells_of O.Sink out.old) (tells_of O.Sink out.new) result }
 {

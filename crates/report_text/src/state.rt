@@ -32,7 +32,8 @@ fn write_numbers<S: Shows, O: Sink>(
     spot: Spot,
     out: &mut O,
 ) -> Result<(), SinkError>
-    ensures { Wrote (numbers_lines spot.id spot.place (layer_tree layer.now) name.now (cell_at (state_at (S.group group.now) spot.id spot.place) spot.cell))
+    ensures { Wrote (numbers_lines spot.id spot.place (layer_tree layer.now) name.now
+        (cell_at (state_at (S.group group.now) spot.id spot.place) spot.cell))
         (tells_of O.Sink out.old) (tells_of O.Sink out.new) result }
 {
     pen.line.clear();
@@ -52,7 +53,8 @@ fn write_queue<S: Shows, O: Sink>(
     queue: u32,
     out: &mut O,
 ) -> Result<(), SinkError>
-    ensures { Wrote (one_queue (stack_tree stack.now) spot.id spot.place (layer_tree queues.entry.layer.now) queues.entry.is_array queues.entry.name.now
+    ensures { Wrote (one_queue (stack_tree stack.now) spot.id spot.place (layer_tree queues.entry.layer.now)
+        queues.entry.is_array queues.entry.name.now
         (queue, rows_at (state_at (S.group group.now) spot.id spot.place) spot.cell queue))
         (tells_of O.Sink out.old) (tells_of O.Sink out.new) result }
 {
@@ -72,7 +74,8 @@ fn write_queues<S: Shows, O: Sink>(
     spot: Spot,
     out: &mut O,
 ) -> Result<(), SinkError>
-    ensures { Wrote (queue_lines (stack_tree stack.now) spot.id spot.place (layer_tree queues.entry.layer.now) queues.entry.is_array
+    ensures { Wrote (queue_lines (stack_tree stack.now) spot.id spot.place (layer_tree queues.entry.layer.now)
+        queues.entry.is_array
         queues.entry.name.now (cell_at (state_at (S.group group.now) spot.id spot.place) spot.cell))
         (tells_of O.Sink out.old) (tells_of O.Sink out.new) result }
 {
@@ -126,8 +129,8 @@ fn write_cell<S: Shows, O: Sink>(
     }
 }
 
-/// Puts the lines of a layer's cells. They have numbers of eight bits: beyond this bound of the type, a layer with more than 256 cells, which
-/// no file declares, is answered as want of memory is.
+/// Puts the lines of a layer's cells. They have numbers of eight bits: beyond this bound of the type, a layer with more
+/// than 256 cells, which no file declares, is answered as want of memory is.
 fn write_layer<S: Shows, O: Sink>(
     pen: &mut Pen,
     stack: &NamedStack,
@@ -137,7 +140,8 @@ fn write_layer<S: Shows, O: Sink>(
     place: u8,
     out: &mut O,
 ) -> Result<(), SinkError>
-    ensures { Wrote (cells_shown (stack_tree stack.now) id place (layer_tree layer.now) (state_at (S.group group.now) id place))
+    ensures { Wrote (cells_shown (stack_tree stack.now) id place (layer_tree layer.now)
+        (state_at (S.group group.now) id place))
         (tells_of O.Sink out.old) (tells_of O.Sink out.new) result }
 {
     let count = layer.cells.len();

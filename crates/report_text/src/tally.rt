@@ -6,7 +6,8 @@ ghost use Rattle.run_mean.specs.Report.{end_line};
 ghost use Rattle.outside.specs.Lines.{Wrote};
 ghost use Rattle.outside.specs.Tells.{tells_of};
 ghost use Rattle.step_outputs.specs.Views.{output_meant};
-ghost use Rattle.report_text.specs.Counts.{change_counted, counted, kinds_line, lines_counted, no_counts, output_counted, short_line, step_counted, tally_lines, total, count_text};
+ghost use Rattle.report_text.specs.Counts.{change_counted, counted, kinds_line, lines_counted, no_counts};
+ghost use Rattle.report_text.specs.Counts.{output_counted, short_line, step_counted, tally_lines, total, count_text};
 
 use crate::counts::Counts;
 use crate::pen::Pen;
@@ -18,7 +19,8 @@ use std::marker::Model;
 use step_outputs::{OutputView, Outputs};
 use view_core::{Change, Did, Stepped};
 
-/// How many lines of each kind the events so far have. An event has at most 65,537 lines, and as many packets at most are sent short.
+/// How many lines of each kind the events so far have. An event has at most 65,537 lines, and as many packets at most
+/// are sent short.
 #[derive(Drop)]
 pub struct Tally {
     counts: Counts,
@@ -170,10 +172,14 @@ fn push_count(line: &mut Line, word: &[u8], count: u64) -> Result<(), Memory>
 
 /// Appends the parts of the line of the kinds.
 fn push_kinds(line: &mut Line, counts: &Counts) -> Result<(), Memory>
-    ensures { OnOk result (line.new ≡ line.old ++ (count_text (codes "deliver") counts.now.deliver ++ count_text (codes "packet") counts.now.packet
+    ensures { OnOk result
+        (line.new ≡ line.old ++
+        (count_text (codes "deliver") counts.now.deliver ++ count_text (codes "packet") counts.now.packet
         ++ count_text (codes "timer") counts.now.timer ++ count_text (codes "block") counts.now.block
-        ++ count_text (codes "announce") counts.now.announce ++ count_text (codes "view") counts.now.view ++ count_text (codes "out") counts.now.out
-        ++ count_text (codes "refused") counts.now.refused ++ count_text (codes "absent") counts.now.absent ++ end_line counts.now.events)) }
+        ++ count_text (codes "announce") counts.now.announce ++ count_text (codes "view") counts.now.view ++
+        count_text (codes "out") counts.now.out
+        ++ count_text (codes "refused") counts.now.refused ++ count_text (codes "absent") counts.now.absent ++
+        end_line counts.now.events)) }
 {
     push_count(line, b"deliver", counts.deliver)?;
     push_count(line, b"packet", counts.packet)?;

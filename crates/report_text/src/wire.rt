@@ -15,9 +15,11 @@ use step_outputs::PacketView;
 
 /// Puts a packet under the plan of a number: short where there is such a plan, and else in full.
 fn put_under(plans: &Plans, number: u8, here: &Here, packet: &PacketView<'_>, into: &mut Vec<u8>)
-    requires { vec_len into.old + short_room (sent_packet here.now packet.now.dest packet.now.headers.now packet.now.body.now) ≤ vec_capacity into.old }
+    requires { vec_len into.old + short_room
+        (sent_packet here.now packet.now.dest packet.now.headers.now packet.now.body.now) ≤ vec_capacity into.old }
     ensures { into.new.items ≡ into.old.items
-        ++ wire (plans_tree plans.now) (sent_packet here.now packet.now.dest packet.now.headers.now packet.now.body.now) (Some number) }
+        ++ wire (plans_tree plans.now) (sent_packet here.now packet.now.dest packet.now.headers.now packet.now.body.now)
+        (Some number) }
 {
     match plans.get(number) {
         Some(plan) => put_short(
@@ -35,9 +37,11 @@ fn put_under(plans: &Plans, number: u8, here: &Here, packet: &PacketView<'_>, in
 
 /// Puts a packet as it is sent.
 fn put_packet(plans: &Plans, here: &Here, packet: &PacketView<'_>, into: &mut Vec<u8>)
-    requires { vec_len into.old + short_room (sent_packet here.now packet.now.dest packet.now.headers.now packet.now.body.now) ≤ vec_capacity into.old }
+    requires { vec_len into.old + short_room
+        (sent_packet here.now packet.now.dest packet.now.headers.now packet.now.body.now) ≤ vec_capacity into.old }
     ensures { into.new.items ≡ into.old.items
-        ++ wire (plans_tree plans.now) (sent_packet here.now packet.now.dest packet.now.headers.now packet.now.body.now) packet.now.plan }
+        ++ wire (plans_tree plans.now) (sent_packet here.now packet.now.dest packet.now.headers.now packet.now.body.now)
+        packet.now.plan }
 {
     match packet.plan {
         Some(number) => put_under(plans, number, here, packet, into),
@@ -45,7 +49,8 @@ fn put_packet(plans: &Plans, here: &Here, packet: &PacketView<'_>, into: &mut Ve
     }
 }
 
-/// Spells a packet as it is sent, in place of what a vector holds: short under its plan, where it has one and there is such a plan, and else in full.
+/// Spells a packet as it is sent, in place of what a vector holds: short under its plan, where it has one and there is
+/// such a plan, and else in full.
 pub fn spell(
     bytes: &mut Vec<u8>,
     plans: &Plans,
@@ -53,7 +58,8 @@ pub fn spell(
     packet: &PacketView<'_>,
 ) -> Result<(), Memory>
     ensures { OnOk result (bytes.new.items
-        ≡ wire (plans_tree plans.now) (sent_packet here.now packet.now.dest packet.now.headers.now packet.now.body.now) packet.now.plan) }
+        ≡ wire (plans_tree plans.now) (sent_packet here.now packet.now.dest packet.now.headers.now packet.now.body.now)
+        packet.now.plan) }
 {
     bytes.clear();
     bytes.reserve(short_room_of(packet.headers, packet.body))?;

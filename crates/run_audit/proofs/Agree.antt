@@ -6,7 +6,8 @@ use Rattle.std.proofs.lemmas.Bool.{eqb-true}
 use Rattle.std.proofs.lemmas.Bool.Decides.{nat_tests}
 use Rattle.std.proofs.lemmas.List.Folds.{list_any-append}
 use Rattle.audit_mean.specs.Segment.{Name, start, in_view, Entry, same_name, same_content}
-use Rattle.audit_mean.specs.Clash.{Lists, of_each_peer, whole, Placed, same_source, same_place, clashes, clashes_behind, lines_at}
+use Rattle.audit_mean.specs.Clash.{Lists, of_each_peer, whole, Placed, same_source, same_place, clashes, clashes_behind}
+use Rattle.audit_mean.specs.Clash.{lines_at}
 use Rattle.run_audit.specs.Entries.{entry_shown}
 use Rattle.run_audit.specs.Places.{placed_shown, source_of}
 use Rattle.run_audit.specs.Clashes.{view_of, place_key, same_view, same_place_key, disagrees, joined, IsInOrder}
@@ -17,7 +18,8 @@ use Rattle.run_audit.specs.declared.clashes.Seen.{Seen}
 use Rattle.run_audit.proofs.Counts.{both, same_option}
 use Rattle.run_audit.proofs.Rising.{still_none, first_is_least}
 use Rattle.audit_mean.specs.Finding.{least}
-use Rattle.std.proofs.Common.{◌≡◌, ℕ, suc, ◌+◌, ◌<◌, ◌≤◌, Bool, true, false, cond, List, [], ◌∷◌, ◌++◌, length, take, drop, get_or, Option, Some, None, refl, sym, ap, ◌∙◌, arith, add-one, drop-cons}
+use Rattle.std.proofs.Common.{◌≡◌, ℕ, suc, ◌+◌, ◌<◌, ◌≤◌, Bool, true, false, cond, List, [], ◌∷◌, ◌++◌, length, take}
+use Rattle.std.proofs.Common.{drop, get_or, Option, Some, None, refl, sym, ap, ◌∙◌, arith, add-one, drop-cons}
 use Rattle.std.proofs.lemmas.List.{drop_all, map-append, map_more, take-append-drop, take_all}
 use Rattle.std.specs.Prelude.{◌&&◌, ◌||◌, not, ◌==◌, nat_eq, map, option_map}
 use Rattle.std.specs.List.{find}
@@ -43,18 +45,23 @@ covered : (b' c c' : Bool) → b' ≡ c' → (not b' || (not c && not c')) ≡ n
 covered false c c' same = refl
 covered true c c' same = rw (← same) (and_false (not c))
 
-covered_first : (b c b' c' : Bool) → b' ≡ c' → (b ≡ true → false ≡ c) → ((not b && not b') || (not c && not c')) ≡ not b'
+covered_first : (b c b' c' : Bool) → b' ≡ c' → (b ≡ true → false ≡ c) → ((not b && not b') || (not c && not c')) ≡
+    not b'
 covered_first false c b' c' same f = covered b' c c' same
 covered_first true c b' c' same f = rw (← (f refl), ← same) refl
 
-covered_same : (b mc a' b' c' : Bool) → (b' ≡ true → a' ≡ c') → ((not b && (mc || not b')) || (not b && not c')) ≡ (not b && ((mc || not a') || not b'))
+covered_same : (b mc a' b' c' : Bool) → (b' ≡ true → a' ≡ c') → ((not b && (mc || not b')) || (not b && not c')) ≡
+    (not b && ((mc || not a') || not b'))
 covered_same true mc a' b' c' f = refl
 covered_same false true a' b' c' f = refl
 covered_same false false a' false c' f = sym (or_true (not a'))
 covered_same false false a' true c' f = ap not (sym (f refl)) ∙ sym (or_false (not a'))
 
--- if a delivery doesn't disagree with those seen, then one more disagrees with it or them as it does with those seen and it
-either : (mm mc a b c a' b' c' : Bool) → Triangle a b c → Triangle a' b' c' → ((mm || not a) && (mc || not a')) ≡ false → (((mm || not b) && (mc || not b')) || (not c && not c')) ≡ (((mm || not a) || not b) && ((mc || not a') || not b'))
+-- if a delivery doesn't disagree with those seen, then one more disagrees with it or them as it does with those seen
+-- and it
+either : (mm mc a b c a' b' c' : Bool) → Triangle a b c → Triangle a' b' c' → ((mm || not a) && (mc || not a')) ≡
+    false → (((mm || not b) && (mc || not b')) || (not c && not c')) ≡
+    (((mm || not a) || not b) && ((mc || not a') || not b'))
 either true true a b c a' b' c' t t' e = absurd cc
 either true false a b c false b' c' t t' e = absurd cc
 either true false a b c true b' c' t t' e = covered b' c c' (t'.from_first refl)
@@ -93,7 +100,8 @@ of_contents x y z = record {
       λ i. (eqb-true x.peer y.peer parts.0 i == z.peer) && bytes_eq (same_bytes x.body y.body parts.1 i) z.body;
   from_second = λ e.
       let parts = both (x.peer == z.peer) (bytes_eq x.body z.body) e in
-      rw (turned x.peer y.peer, turned_bytes x.body y.body) (λ i. (y.peer == eqb-true x.peer z.peer parts.0 i) && bytes_eq y.body (same_bytes x.body z.body parts.1 i));
+      rw (turned x.peer y.peer, turned_bytes x.body y.body)
+      (λ i. (y.peer == eqb-true x.peer z.peer parts.0 i) && bytes_eq y.body (same_bytes x.body z.body parts.1 i));
 }
 
 -- deliveries among which no two members disagree, and what is seen of them at each place
@@ -104,7 +112,10 @@ pub record Agreed (lists : Lists) (seen : PlaceKey → Option Seen) (all : List 
 keyed : (lists : Lists) (a b : Placed) → same_place_key (place_key lists a) (place_key lists b) ≡ same_place lists a b
 keyed lists a b = named a.entry.segment.name b.entry.segment.name lists
   where
-    named : (m n : Name) (lists : Lists) → (option_eq same_view (view_of m) (view_of n) && (option_eq nat_eq (source_of lists a.entry) (source_of lists b.entry) && a.place == b.place)) ≡ (same_name m n && (same_source lists a.entry b.entry && a.place == b.place))
+    named : (m n : Name) (lists : Lists) →
+        (option_eq same_view (view_of m) (view_of n) &&
+        (option_eq nat_eq (source_of lists a.entry) (source_of lists b.entry) && a.place == b.place)) ≡
+        (same_name m n && (same_source lists a.entry b.entry && a.place == b.place))
     named start start of_each_peer = refl
     named start start whole = refl
     named start (in_view l k) lists = refl
@@ -131,23 +142,39 @@ one_key a b e =
     λ i. record { view = p i; peer = q i; place = r i }
 
 -- at the place of one more delivery that doesn't disagree
-seen_more : (seen : Option Seen) (x : code.Entry) (e : Entry) → disagrees seen (entry_shown x) ≡ false → (disagrees seen e || (not (x.member == e.member) && not (same_content (entry_shown x) e))) ≡ disagrees (Some (joined seen x)) e
+seen_more : (seen : Option Seen) (x : code.Entry) (e : Entry) → disagrees seen (entry_shown x) ≡ false →
+    (disagrees seen e || (not (x.member == e.member) && not (same_content (entry_shown x) e))) ≡
+    disagrees (Some (joined seen x)) e
 seen_more None x e agrees = refl
 seen_more (Some s) x e agrees =
-    either s.more_members s.more_contents (s.first.member == x.member) (s.first.member == e.member) (x.member == e.member)
-    (same_content (entry_shown s.first) (entry_shown x)) (same_content (entry_shown s.first) e) (same_content (entry_shown x) e)
+    either s.more_members s.more_contents (s.first.member == x.member) (s.first.member == e.member)
+    (x.member == e.member)
+    (same_content (entry_shown s.first) (entry_shown x)) (same_content (entry_shown s.first) e)
+    (same_content (entry_shown x) e)
     (of_members s.first.member x.member e.member) (of_contents (entry_shown s.first) (entry_shown x) e) agrees
 
 -- one more delivery that doesn't disagree
-pub agrees_on : (lists : Lists) (f g : PlaceKey → Option Seen) (all : List Placed) (x : coded.Placed) → Agreed lists f all → disagrees (f (place_key lists (placed_shown x))) (entry_shown x.entry) ≡ false → ((q : PlaceKey) → g q ≡ cond (same_place_key (place_key lists (placed_shown x)) q) (Some (joined (f (place_key lists (placed_shown x))) x.entry)) (f q)) → Agreed lists g (all ++ placed_shown x ∷ [])
+pub agrees_on : (lists : Lists) (f g : PlaceKey → Option Seen) (all : List Placed) (x : coded.Placed) →
+    Agreed lists f all → disagrees (f (place_key lists (placed_shown x))) (entry_shown x.entry) ≡ false →
+    ((q : PlaceKey) → g q ≡ cond (same_place_key (place_key lists (placed_shown x)) q)
+    (Some (joined (f (place_key lists (placed_shown x))) x.entry)) (f q)) → Agreed lists g (all ++ placed_shown x ∷ [])
 agrees_on lists f g all x agreed agrees updates = record {
   none = still_none lists all (placed_shown x) agreed.none (agreed.known (placed_shown x) ∙ agrees);
   known = λ e.
-      rw (list_any-append (clashes lists e) all (placed_shown x ∷ []), or_false (clashes lists e (placed_shown x)), agreed.known e, updates (place_key lists e))
+      rw (
+        list_any-append (clashes lists e) all (placed_shown x ∷ []),
+        or_false (clashes lists e (placed_shown x)),
+        agreed.known e,
+        updates (place_key lists e),
+      )
       (by_test e (same_place lists (placed_shown x) e) (keyed lists (placed_shown x) e));
 }
   where
-    by_test : (e : Placed) (t : Bool) → same_place_key (place_key lists (placed_shown x)) (place_key lists e) ≡ t → (disagrees (f (place_key lists e)) e.entry || (t && (not (x.entry.member == e.entry.member) && not (same_content (entry_shown x.entry) e.entry)))) ≡ disagrees (cond (same_place_key (place_key lists (placed_shown x)) (place_key lists e)) (Some (joined (f (place_key lists (placed_shown x))) x.entry)) (f (place_key lists e))) e.entry
+    by_test : (e : Placed) (t : Bool) → same_place_key (place_key lists (placed_shown x)) (place_key lists e) ≡ t →
+        (disagrees (f (place_key lists e)) e.entry ||
+        (t && (not (x.entry.member == e.entry.member) && not (same_content (entry_shown x.entry) e.entry)))) ≡
+        disagrees (cond (same_place_key (place_key lists (placed_shown x)) (place_key lists e))
+        (Some (joined (f (place_key lists (placed_shown x))) x.entry)) (f (place_key lists e))) e.entry
     by_test e true same =
         let one = one_key (place_key lists (placed_shown x)) (place_key lists e) same in
         rw (same, ← one) (seen_more (f (place_key lists (placed_shown x))) x.entry e.entry agrees)
@@ -158,38 +185,62 @@ pub nothing_seen : (lists : Lists) (f : PlaceKey → Option Seen) → ((q : Plac
 nothing_seen lists f none = record { none = refl; known = λ e. rw (none (place_key lists e)) refl }
 
 -- one more of the deliveries that are gone through
-pub agrees_further : (lists : Lists) (f g : PlaceKey → Option Seen) (placed : List coded.Placed) (i : ℕ) (d : coded.Placed) (key : PlaceKey) (seen : Option Seen) (s : Seen) → i < length placed → Agreed lists f (map placed_shown (take i placed)) → key ≡ place_key lists (placed_shown (get_or placed i d)) → seen ≡ f key → false ≡ disagrees seen (entry_shown (get_or placed i d).entry) → s ≡ joined seen (get_or placed i d).entry → ((q : PlaceKey) → g q ≡ cond (same_place_key key q) (Some s) (f q)) → Agreed lists g (map placed_shown (take (i + 1) placed))
+pub agrees_further : (lists : Lists) (f g : PlaceKey → Option Seen) (placed : List coded.Placed) (i : ℕ)
+    (d : coded.Placed) (key : PlaceKey) (seen : Option Seen) (s : Seen) → i < length placed →
+    Agreed lists f (map placed_shown (take i placed)) → key ≡ place_key lists (placed_shown (get_or placed i d)) →
+    seen ≡ f key → false ≡ disagrees seen (entry_shown (get_or placed i d).entry) →
+    s ≡ joined seen (get_or placed i d).entry → ((q : PlaceKey) → g q ≡ cond (same_place_key key q) (Some s) (f q)) →
+    Agreed lists g (map placed_shown (take (i + 1) placed))
 agrees_further lists f g placed i d key seen s inside agreed key_is seen_is agrees s_is updates =
     let x : coded.Placed = get_or placed i d in
     let known : seen ≡ f (place_key lists (placed_shown x)) = seen_is ∙ ap f key_is in
     let now : s ≡ joined (f (place_key lists (placed_shown x))) x.entry = s_is ∙ ap (λ o. joined o x.entry) known in
     rw (map_more placed_shown placed i d inside)
-    (agrees_on lists f g (map placed_shown (take i placed)) x agreed (ap (λ o. disagrees o (entry_shown x.entry)) (sym known) ∙ sym agrees)
+    (agrees_on lists f g (map placed_shown (take i placed)) x agreed
+    (ap (λ o. disagrees o (entry_shown x.entry)) (sym known) ∙ sym agrees)
     (λ q. updates q ∙ (λ j. cond (same_place_key (key_is j) q) (Some (now j)) (f q))))
 
-whole_at : (placed : List coded.Placed) (i : ℕ) (d : coded.Placed) → i < length placed → map placed_shown placed ≡ map placed_shown (take i placed) ++ placed_shown (get_or placed i d) ∷ map placed_shown (drop (suc i) placed)
+whole_at : (placed : List coded.Placed) (i : ℕ) (d : coded.Placed) → i < length placed →
+    map placed_shown placed ≡ map placed_shown (take i placed) ++ placed_shown (get_or placed i d) ∷
+    map placed_shown (drop (suc i) placed)
 whole_at placed i d inside =
-    ap (map placed_shown) (sym (take-append-drop i placed)) ∙ map-append placed_shown (take i placed) (drop i placed) ∙ rw (drop-cons placed i d) refl
+    ap (map placed_shown) (sym (take-append-drop i placed)) ∙ map-append placed_shown (take i placed) (drop i placed) ∙
+    rw (drop-cons placed i d) refl
 
 -- a delivery that disagrees makes the least clash
-pub clash_found : (lists : Lists) (f : PlaceKey → Option Seen) (placed : List coded.Placed) (i : ℕ) (d : coded.Placed) (key : PlaceKey) (seen : Option Seen) (front : List coded.Placed) → i < length placed → IsInOrder 0 (map placed_shown placed) → Agreed lists f (map placed_shown (take i placed)) → key ≡ place_key lists (placed_shown (get_or placed i d)) → seen ≡ f key → true ≡ disagrees seen (entry_shown (get_or placed i d).entry) → front ≡ take i placed → option_map (lines_at (placed_shown (get_or placed i d))) (find (clashes lists (placed_shown (get_or placed i d))) (map placed_shown front)) ≡ least (clashes_behind lists [] (map placed_shown placed))
+pub clash_found : (lists : Lists) (f : PlaceKey → Option Seen) (placed : List coded.Placed) (i : ℕ) (d : coded.Placed)
+    (key : PlaceKey) (seen : Option Seen) (front : List coded.Placed) → i < length placed →
+    IsInOrder 0 (map placed_shown placed) → Agreed lists f (map placed_shown (take i placed)) →
+    key ≡ place_key lists (placed_shown (get_or placed i d)) → seen ≡ f key →
+    true ≡ disagrees seen (entry_shown (get_or placed i d).entry) → front ≡ take i placed →
+    option_map (lines_at (placed_shown (get_or placed i d)))
+    (find (clashes lists (placed_shown (get_or placed i d))) (map placed_shown front)) ≡
+    least (clashes_behind lists [] (map placed_shown placed))
 clash_found lists f placed i d key seen front inside order agreed key_is seen_is against front_is =
     let x : coded.Placed = get_or placed i d in
     let known : seen ≡ f (place_key lists (placed_shown x)) = seen_is ∙ ap f key_is in
     let whole = whole_at placed i d inside in
-    let some : list_any (clashes lists (placed_shown x)) (map placed_shown (take i placed)) ≡ true = agreed.known (placed_shown x) ∙ ap (λ o. disagrees o (entry_shown x.entry)) (sym known) ∙ sym against in
-    rw (front_is, whole) (first_is_least lists (map placed_shown (take i placed)) (placed_shown x) (map placed_shown (drop (suc i) placed)) (rw whole at order) agreed.none some)
+    let some : list_any (clashes lists (placed_shown x)) (map placed_shown (take i placed)) ≡ true =
+    agreed.known (placed_shown x) ∙ ap (λ o. disagrees o (entry_shown x.entry)) (sym known) ∙ sym against in
+    rw (front_is, whole) (first_is_least lists (map placed_shown (take i placed)) (placed_shown x)
+    (map placed_shown (drop (suc i) placed)) (rw whole at order) agreed.none some)
 
 -- no delivery disagrees
-pub no_clash : (lists : Lists) (f : PlaceKey → Option Seen) (placed : List coded.Placed) (i : ℕ) → length placed ≤ i → Agreed lists f (map placed_shown (take i placed)) → None ≡ least (clashes_behind lists [] (map placed_shown placed))
-no_clash lists f placed i past agreed = sym (ap (λ xs. least (clashes_behind lists [] (map placed_shown xs))) (sym (take_all i placed past)) ∙ ap least agreed.none)
+pub no_clash : (lists : Lists) (f : PlaceKey → Option Seen) (placed : List coded.Placed) (i : ℕ) → length placed ≤ i →
+    Agreed lists f (map placed_shown (take i placed)) → None ≡ least (clashes_behind lists [] (map placed_shown placed))
+no_clash lists f placed i past agreed =
+    sym (ap (λ xs. least (clashes_behind lists [] (map placed_shown xs))) (sym (take_all i placed past)) ∙
+    ap least agreed.none)
 
 -- of a list that is gone through by an index, the first that passes
-pub found_here : {X Y : Type 0} (p : Y → Bool) (f : X → Y) (xs : List X) (i : ℕ) (d : X) → i < length xs → p (f (get_or xs i d)) ≡ true → find p (map f (drop i xs)) ≡ Some (f (get_or xs i d))
+pub found_here : {X Y : Type 0} (p : Y → Bool) (f : X → Y) (xs : List X) (i : ℕ) (d : X) → i < length xs →
+    p (f (get_or xs i d)) ≡ true → find p (map f (drop i xs)) ≡ Some (f (get_or xs i d))
 found_here p f xs i d inside e = rw (drop-cons xs i d, e) refl
 
-pub found_later : {X Y : Type 0} (p : Y → Bool) (f : X → Y) (xs : List X) (i : ℕ) (d : X) → i < length xs → p (f (get_or xs i d)) ≡ false → find p (map f (drop (i + 1) xs)) ≡ find p (map f (drop i xs))
+pub found_later : {X Y : Type 0} (p : Y → Bool) (f : X → Y) (xs : List X) (i : ℕ) (d : X) → i < length xs →
+    p (f (get_or xs i d)) ≡ false → find p (map f (drop (i + 1) xs)) ≡ find p (map f (drop i xs))
 found_later p f xs i d inside e = rw (drop-cons xs i d, e, add-one) refl
 
-pub found_none : {X Y : Type 0} (p : Y → Bool) (f : X → Y) (xs : List X) (i : ℕ) → length xs ≤ i → find p (map f (drop i xs)) ≡ None
+pub found_none : {X Y : Type 0} (p : Y → Bool) (f : X → Y) (xs : List X) (i : ℕ) → length xs ≤ i →
+    find p (map f (drop i xs)) ≡ None
 found_none p f xs i past = rw (drop_all i xs past) refl

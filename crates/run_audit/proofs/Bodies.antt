@@ -1,5 +1,6 @@
 -- Words that spell a body.
-use Rattle.std.proofs.Common.{◌≡◌, ℕ, suc, ◌+◌, ◌*◌, ◌%◌, Bool, true, false, eqb, List, [], ◌∷◌, length, Option, Some, None, refl, sym, ap, ◌∙◌, arith}
+use Rattle.std.proofs.Common.{◌≡◌, ℕ, suc, ◌+◌, ◌*◌, ◌%◌, Bool, true, false, eqb, List, [], ◌∷◌, length, Option, Some}
+use Rattle.std.proofs.Common.{None, refl, sym, ap, ◌∙◌, arith}
 use Rattle.std.specs.Prelude.{◌==◌, ◌&&◌, is_some, option_map}
 use Rattle.std.specs.List.{list_all}
 use Rattle.std.proofs.lemmas.Bool.Decides.{nat_tests}
@@ -11,7 +12,9 @@ digit : (byte : ℕ) → is_some (hex_digit byte) ≡ is_hex_digit byte
 digit byte = grind (arith, nat_tests)
 
 -- two digits and what stands behind them
-pair : (h l : Option ℕ) (rest : Option (List ℕ)) → is_some (h >>= λ x. l >>= λ y. rest >>= λ bytes. Some ((x * 16 + y) ∷ bytes)) ≡ (is_some h && (is_some l && is_some rest))
+pair : (h l : Option ℕ) (rest : Option (List ℕ)) →
+    is_some (h >>= λ x. l >>= λ y. rest >>= λ bytes. Some ((x * 16 + y) ∷ bytes)) ≡
+    (is_some h && (is_some l && is_some rest))
 pair None l rest = refl
 pair (Some x) None rest = refl
 pair (Some x) (Some y) None = refl
@@ -36,7 +39,8 @@ spelled [] = refl
 spelled (one ∷ []) = refl
 spelled (high ∷ low ∷ more) =
     pair (hex_digit high) (hex_digit low) (hex_bytes more)
-    ∙ rw (digit high, digit low, spelled more, parity (length more)) (regroup (is_hex_digit high) (is_hex_digit low) (length more % 2 == 0) (list_all is_hex_digit more))
+    ∙ rw (digit high, digit low, spelled more, parity (length more))
+    (regroup (is_hex_digit high) (is_hex_digit low) (length more % 2 == 0) (list_all is_hex_digit more))
 
 no_zero : (n : ℕ) → (n ≡ 0 → ⊥) → eqb n 0 ≡ false
 no_zero n h = grind (arith, nat_tests)

@@ -1,8 +1,10 @@
 -- Segments and deliveries, line by line.
-use Rattle.std.proofs.Common.{◌≡◌, ℕ, ◌+◌, ◌<◌, ◌≤◌, List, [], ◌∷◌, ◌++◌, length, take, replicate, get_or, Option, Some, None, refl, sym, ap, ◌∙◌, append_assoc, arith}
+use Rattle.std.proofs.Common.{◌≡◌, ℕ, ◌+◌, ◌<◌, ◌≤◌, List, [], ◌∷◌, ◌++◌, length, take, replicate, get_or, Option, Some}
+use Rattle.std.proofs.Common.{None, refl, sym, ap, ◌∙◌, append_assoc, arith}
 use Rattle.std.specs.Prelude.{map, option_map}
 use Rattle.std.specs.Option.{option_to_list}
-use Rattle.std.proofs.lemmas.List.{append-nil, map-append, length-map, get_or-map, get_or-replicate, take_more, take_all}
+use Rattle.std.proofs.lemmas.List.{append-nil, map-append, length-map, get_or-map, get_or-replicate, take_more}
+use Rattle.std.proofs.lemmas.List.{take_all}
 use Rattle.std.proofs.lemmas.List.FromFn.{get_or-enumerate_from, length-enumerate_from}
 use Rattle.std.proofs.lemmas.List.Sums.{fold-append}
 use Rattle.audit_mean.specs.Segment.{Numbered, first_segment, segment_next, entry_behind, entries_behind, entries_of}
@@ -14,27 +16,35 @@ use Rattle.run_audit.specs.declared.segments.Segments.{Segments}
 use Rattle.run_audit.specs.declared.segments.Entry.{Entry}
 
 -- at first each member is in its first segment
-pub at_first : (segment : Segment) → segment_shown segment ≡ first_segment → Stands (record { of_members = replicate 256 (Some segment) }) []
+pub at_first : (segment : Segment) → segment_shown segment ≡ first_segment →
+    Stands (record { of_members = replicate 256 (Some segment) }) []
 at_first segment e = λ member below. rw (get_or-replicate 256 member (Some segment) None below) (ap Some e)
 
 -- one more line leads each member on
-pub led_on : (old new : Segments) (before : List Numbered) (line : Numbered) → Stands old before → ((m : ℕ) → standing new m ≡ segment_next m (standing old m) line) → Stands new (before ++ line ∷ [])
+pub led_on : (old new : Segments) (before : List Numbered) (line : Numbered) → Stands old before →
+    ((m : ℕ) → standing new m ≡ segment_next m (standing old m) line) → Stands new (before ++ line ∷ [])
 led_on old new before line stands next =
-    λ member below. next member ∙ rw (stands member below) (sym (fold-append (segment_next member) (Some first_segment) before (line ∷ [])))
+    λ member below. next member ∙
+    rw (stands member below) (sym (fold-append (segment_next member) (Some first_segment) before (line ∷ [])))
 
 -- the deliveries with one more line
-pub one_more : (before lines : List Numbered) (line : Numbered) → entries_behind before (lines ++ line ∷ []) ≡ entries_behind before lines ++ option_to_list (entry_behind (before ++ lines) line)
+pub one_more : (before lines : List Numbered) (line : Numbered) → entries_behind before (lines ++ line ∷ []) ≡
+    entries_behind before lines ++ option_to_list (entry_behind (before ++ lines) line)
 one_more before [] line = append-nil (option_to_list (entry_behind before line)) ∙ rw (append-nil before) refl
 one_more before (first ∷ lines) line =
-    rw (one_more (before ++ first ∷ []) lines line, append_assoc before (first ∷ []) lines) (sym (append_assoc (option_to_list (entry_behind before first)) (entries_behind (before ++ first ∷ []) lines) (option_to_list (entry_behind (before ++ first ∷ lines) line))))
+    rw (one_more (before ++ first ∷ []) lines line, append_assoc before (first ∷ []) lines)
+    (sym (append_assoc (option_to_list (entry_behind before first)) (entries_behind (before ++ first ∷ []) lines)
+    (option_to_list (entry_behind (before ++ first ∷ lines) line))))
 
 -- one more of the lines with their numbers
-pub numbered_more : (lines : List Line) (i : ℕ) (line d : Line) → i < length lines → line ≡ get_or lines i d → take (i + 1) (numbered lines) ≡ take i (numbered lines) ++ (i + 1, shown line) ∷ []
+pub numbered_more : (lines : List Line) (i : ℕ) (line d : Line) → i < length lines → line ≡ get_or lines i d →
+    take (i + 1) (numbered lines) ≡ take i (numbered lines) ++ (i + 1, shown line) ∷ []
 numbered_more lines i line d inside is =
     let all = length-enumerate_from 1 (map shown lines) in
     let mapped = length-map lines shown in
     let here = get_or-enumerate_from 1 (map shown lines) i (0, shown line) (omega arith) in
-    let said : get_or (map shown lines) i (shown line) ≡ shown line = get_or-map shown lines i d (shown line) inside ∙ ap shown (sym is) in
+    let said : get_or (map shown lines) i (shown line) ≡ shown line = get_or-map shown lines i d (shown line) inside ∙
+    ap shown (sym is) in
     let number : 1 + i ≡ i + 1 = omega arith in
     take_more (numbered lines) i (0, shown line) (omega arith) ∙ rw (here, said, number) refl
 
@@ -43,22 +53,30 @@ pub record Follows (segments : Segments) (entries : List Entry) (lines : List Nu
   pub stands : Stands segments lines
   pub read : map entry_shown entries ≡ entries_of lines
 
-option_listed : (entry : Option Entry) → map entry_shown (option_to_list entry) ≡ option_to_list (option_map entry_shown entry)
+option_listed : (entry : Option Entry) → map entry_shown (option_to_list entry) ≡
+    option_to_list (option_map entry_shown entry)
 option_listed None = refl
 option_listed (Some entry) = refl
 
 -- one more line is read
-pub reads_on : (old new : Segments) (read : List Entry) (entry : Option Entry) (lines : List Line) (i : ℕ) (line d : Line) → i < length lines → line ≡ get_or lines i d → Follows old read (take i (numbered lines)) → ((before : List Numbered) → Stands old before → option_map entry_shown entry ≡ entry_behind before (i + 1, shown line)) → ((m : ℕ) → standing new m ≡ segment_next m (standing old m) (i + 1, shown line)) → Follows new (read ++ option_to_list entry) (take (i + 1) (numbered lines))
+pub reads_on : (old new : Segments) (read : List Entry) (entry : Option Entry) (lines : List Line) (i : ℕ)
+    (line d : Line) → i < length lines → line ≡ get_or lines i d → Follows old read (take i (numbered lines)) →
+    ((before : List Numbered) → Stands old before → option_map entry_shown entry ≡
+    entry_behind before (i + 1, shown line)) →
+    ((m : ℕ) → standing new m ≡ segment_next m (standing old m) (i + 1, shown line)) →
+    Follows new (read ++ option_to_list entry) (take (i + 1) (numbered lines))
 reads_on old new read entry lines i line d inside is follows entered advanced =
     let before = take i (numbered lines) in
     let here = entered before follows.stands in
     rw (numbered_more lines i line d inside is) record {
       stands = led_on old new before (i + 1, shown line) follows.stands advanced;
-      read = map-append entry_shown read (option_to_list entry) ∙ rw (follows.read, option_listed entry, here) (sym (one_more [] before (i + 1, shown line)));
+      read = map-append entry_shown read (option_to_list entry) ∙
+          rw (follows.read, option_listed entry, here) (sym (one_more [] before (i + 1, shown line)));
     }
 
 -- all lines are read
-pub all_read : (segments : Segments) (read : List Entry) (lines : List Line) (i : ℕ) → length lines ≤ i → Follows segments read (take i (numbered lines)) → map entry_shown read ≡ entries_of (numbered lines)
+pub all_read : (segments : Segments) (read : List Entry) (lines : List Line) (i : ℕ) → length lines ≤ i →
+    Follows segments read (take i (numbered lines)) → map entry_shown read ≡ entries_of (numbered lines)
 all_read segments read lines i past follows =
     let all = length-enumerate_from 1 (map shown lines) in
     let mapped = length-map lines shown in

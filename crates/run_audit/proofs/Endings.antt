@@ -1,5 +1,6 @@
 -- Segments that end, line by line.
-use Rattle.std.proofs.Common.{◌≡◌, ℕ, ◌+◌, ◌<◌, ◌≤◌, Bool, true, false, cond, List, [], ◌∷◌, ◌++◌, length, take, get_or, Option, Some, None, refl, sym, ap, ◌∙◌, subst, append_assoc, arith}
+use Rattle.std.proofs.Common.{◌≡◌, ℕ, ◌+◌, ◌<◌, ◌≤◌, Bool, true, false, cond, List, [], ◌∷◌, ◌++◌, length, take, get_or}
+use Rattle.std.proofs.Common.{Option, Some, None, refl, sym, ap, ◌∙◌, subst, append_assoc, arith}
 use Rattle.std.specs.Prelude.{◌&&◌, ◌==◌, map, filter, option_map, Vec}
 use Rattle.std.specs.List.{AllByRecursion}
 use Rattle.std.specs.Option.{option_to_list}
@@ -11,7 +12,8 @@ use Rattle.std.proofs.lemmas.List.FromFn.{length-enumerate_from}
 use Rattle.std.proofs.lemmas.List.Elements.{filter-append}
 use Rattle.std.proofs.lemmas.List.Sums.{fold-append}
 use Rattle.audit_mean.specs.Line.{ReportLine, deliver, view, out, end, visits, silent}
-use Rattle.audit_mean.specs.Segment.{Numbered, Segment, first_segment, segment_next, segment_behind, entry_behind, entries_of}
+use Rattle.audit_mean.specs.Segment.{Numbered, Segment, first_segment, segment_next, segment_behind, entry_behind}
+use Rattle.audit_mean.specs.Segment.{entries_of}
 use Rattle.audit_mean.specs.Segment as spec
 use Rattle.audit_mean.specs.Lack.{ended_by, ended_behind, is_in}
 use Rattle.run_audit.specs.Reading.{shown}
@@ -30,7 +32,8 @@ pub record Began (number : ℕ) (lines : List Numbered) : Type 0 where
   pub entries : AllByRecursion (λ (e : spec.Entry). e.segment.began < number) (entries_of lines)
 
 -- the segments that ended so far, the segments behind them, and the deliveries in these
-pub record Leads (number : ℕ) (segments : Segments) (held : ℕ → Option (Vec Entry Global)) (all : List Ended) (lines : List Numbered) : Type 0 where
+pub record Leads (number : ℕ) (segments : Segments) (held : ℕ → Option (Vec Entry Global)) (all : List Ended)
+    (lines : List Numbered) : Type 0 where
   pub stands : Stands segments lines
   pub holds : Holds held lines
   pub began : Began number lines
@@ -41,42 +44,57 @@ mapped f None = refl
 mapped f (Some x) = refl
 
 -- the segments that end with one more line
-ended_more : (before lines : List Numbered) (line : Numbered) → ended_behind before (lines ++ line ∷ []) ≡ ended_behind before lines ++ option_to_list (ended_by (before ++ lines) line)
+ended_more : (before lines : List Numbered) (line : Numbered) → ended_behind before (lines ++ line ∷ []) ≡
+    ended_behind before lines ++ option_to_list (ended_by (before ++ lines) line)
 ended_more before [] line = append-nil (option_to_list (ended_by before line)) ∙ rw (append-nil before) refl
 ended_more before (first ∷ lines) line =
-    rw (ended_more (before ++ first ∷ []) lines line, append_assoc before (first ∷ []) lines) (sym (append_assoc (option_to_list (ended_by before first)) (ended_behind (before ++ first ∷ []) lines) (option_to_list (ended_by (before ++ first ∷ lines) line))))
+    rw (ended_more (before ++ first ∷ []) lines line, append_assoc before (first ∷ []) lines)
+    (sym (append_assoc (option_to_list (ended_by before first)) (ended_behind (before ++ first ∷ []) lines)
+    (option_to_list (ended_by (before ++ first ∷ lines) line))))
 
-next_segment : (member : ℕ) (before : List Numbered) (line : Numbered) → segment_behind member (before ++ line ∷ []) ≡ segment_next member (segment_behind member before) line
+next_segment : (member : ℕ) (before : List Numbered) (line : Numbered) → segment_behind member (before ++ line ∷ []) ≡
+    segment_next member (segment_behind member before) line
 next_segment member before line = fold-append (segment_next member) (Some first_segment) before (line ∷ [])
 
 some_of : {A : Type 0} {a b : A} → Some a ≡ Some b → a ≡ b
 some_of e = cc
 
-joined : (P : spec.Entry → Type 0) (xs ys : List spec.Entry) → AllByRecursion P xs → AllByRecursion P ys → AllByRecursion P (xs ++ ys)
+joined : (P : spec.Entry → Type 0) (xs ys : List spec.Entry) → AllByRecursion P xs → AllByRecursion P ys →
+    AllByRecursion P (xs ++ ys)
 joined P [] ys a b = b
 joined P (x ∷ xs) ys a b = (a.0, joined P xs ys a.1 b)
 
 -- one more line, of this number
-began_on : (number : ℕ) (before : List Numbered) (line : ReportLine) → Began number before → Began (number + 1) (before ++ (number, line) ∷ [])
+began_on : (number : ℕ) (before : List Numbered) (line : ReportLine) → Began number before →
+    Began (number + 1) (before ++ (number, line) ∷ [])
 began_on number before line began = record {
   segments = λ member segment e. of_line line member segment (sym (next_segment member before (number, line)) ∙ e);
   entries =
-      subst (AllByRecursion (λ (e : spec.Entry). e.segment.began < number + 1)) (sym (one_more [] before (number, line)))
-      (joined (λ e. e.segment.began < number + 1) (entries_of before) (option_to_list (entry_behind before (number, line))) (each (λ e below. omega (arith, below)) (entries_of before) began.entries) (of_entry line));
+      subst (AllByRecursion (λ (e : spec.Entry). e.segment.began < number + 1))
+      (sym (one_more [] before (number, line)))
+      (joined (λ e. e.segment.began < number + 1) (entries_of before)
+      (option_to_list (entry_behind before (number, line)))
+      (each (λ e below. omega (arith, below)) (entries_of before) began.entries) (of_entry line));
 }
   where
-    as_before : (member : ℕ) (segment : Segment) → segment_behind member before ≡ Some segment → segment.began < number + 1
+    as_before : (member : ℕ) (segment : Segment) → segment_behind member before ≡ Some segment →
+        segment.began < number + 1
     as_before member segment e = let below = began.segments member segment e in omega (arith, below)
 
-    by_view : (t : Bool) (member ltime mask : ℕ) (segment : Segment) → cond t (Some (record { name = spec.in_view ltime mask; began = number })) (segment_behind member before) ≡ Some segment → segment.began < number + 1
-    by_view true member ltime mask segment e = let at : number ≡ segment.began = ap (λ s. s.began) (some_of e) in omega (arith, at)
+    by_view : (t : Bool) (member ltime mask : ℕ) (segment : Segment) →
+        cond t (Some (record { name = spec.in_view ltime mask; began = number })) (segment_behind member before) ≡
+        Some segment → segment.began < number + 1
+    by_view true member ltime mask segment e = let at : number ≡ segment.began = ap (λ s. s.began) (some_of e) in
+        omega (arith, at)
     by_view false member ltime mask segment e = as_before member segment e
 
-    by_out : (t : Bool) (member : ℕ) (segment : Segment) → cond t None (segment_behind member before) ≡ Some segment → segment.began < number + 1
+    by_out : (t : Bool) (member : ℕ) (segment : Segment) → cond t None (segment_behind member before) ≡ Some segment →
+        segment.began < number + 1
     by_out true member segment e = absurd cc
     by_out false member segment e = as_before member segment e
 
-    of_line : (l : ReportLine) (member : ℕ) (segment : Segment) → segment_next member (segment_behind member before) (number, l) ≡ Some segment → segment.began < number + 1
+    of_line : (l : ReportLine) (member : ℕ) (segment : Segment) →
+        segment_next member (segment_behind member before) (number, l) ≡ Some segment → segment.began < number + 1
     of_line (deliver m peer body) member segment e = as_before member segment e
     of_line (view m ltime mask) member segment e = by_view (m == member) member ltime mask segment e
     of_line (out m) member segment e = by_out (m == member) member segment e
@@ -84,11 +102,16 @@ began_on number before line began = record {
     of_line visits member segment e = as_before member segment e
     of_line silent member segment e = as_before member segment e
 
-    of_segment : (member peer : ℕ) (body : List ℕ) (o : Option Segment) → segment_behind member before ≡ o → AllByRecursion (λ (e : spec.Entry). e.segment.began < number + 1) (option_to_list (option_map (λ s. record { line = number; member = member; segment = s; peer = peer; body = body }) o))
+    of_segment : (member peer : ℕ) (body : List ℕ) (o : Option Segment) → segment_behind member before ≡ o →
+        AllByRecursion (λ (e : spec.Entry). e.segment.began < number + 1)
+        (option_to_list (option_map
+        (λ s. record { line = number; member = member; segment = s; peer = peer; body = body }) o))
     of_segment member peer body None e = tt
     of_segment member peer body (Some s) e = (as_before member s e, tt)
 
-    of_entry : (l : ReportLine) → AllByRecursion (λ (e : spec.Entry). e.segment.began < number + 1) (option_to_list (entry_behind before (number, l)))
+    of_entry : (l : ReportLine) →
+        AllByRecursion (λ (e : spec.Entry). e.segment.began < number + 1)
+        (option_to_list (entry_behind before (number, l)))
     of_entry (deliver member peer body) = of_segment member peer body (segment_behind member before) refl
     of_entry (view m ltime mask) = tt
     of_entry (out m) = tt
@@ -97,24 +120,33 @@ began_on number before line began = record {
     of_entry silent = tt
 
 -- none of the deliveries is in a segment that begins behind them
-none_in : (member : ℕ) (segment : Segment) (entries : List spec.Entry) → AllByRecursion (λ (e : spec.Entry). e.segment.began < segment.began) entries → filter (is_in member segment) entries ≡ []
+none_in : (member : ℕ) (segment : Segment) (entries : List spec.Entry) →
+    AllByRecursion (λ (e : spec.Entry). e.segment.began < segment.began) entries →
+    filter (is_in member segment) entries ≡ []
 none_in member segment [] all = refl
-none_in member segment (e ∷ entries) all = by_test (none_in member segment entries all.1) (e.member == member) (e.segment.began == segment.began) (apart e.segment.began segment.began all.0)
+none_in member segment (e ∷ entries) all = by_test (none_in member segment entries all.1) (e.member == member)
+    (e.segment.began == segment.began) (apart e.segment.began segment.began all.0)
   where
     apart : (m n : ℕ) → m < n → (m == n) ≡ false
     apart m n h = grind (arith, nat_tests)
 
-    by_test : filter (is_in member segment) entries ≡ [] → (a b : Bool) → b ≡ false → cond (a && b) (e ∷ filter (is_in member segment) entries) (filter (is_in member segment) entries) ≡ []
+    by_test : filter (is_in member segment) entries ≡ [] → (a b : Bool) → b ≡ false →
+        cond (a && b) (e ∷ filter (is_in member segment) entries) (filter (is_in member segment) entries) ≡ []
     by_test rest true true h = absurd cc
     by_test rest true false h = rest
     by_test rest false b h = rest
 
 -- the deliveries in each member's segment with one more line
-holds_on : (f g : ℕ → Option (Vec Entry Global)) (before : List Numbered) (number : ℕ) (line : ReportLine) (entry : Option Entry) → Holds f before → Began number before → option_map entry_shown entry ≡ entry_behind before (number, line) → ((member : ℕ) → listed (g member) ≡ held_behind entry line member (listed (f member))) → Holds g (before ++ (number, line) ∷ [])
+holds_on : (f g : ℕ → Option (Vec Entry Global)) (before : List Numbered) (number : ℕ) (line : ReportLine)
+    (entry : Option Entry) → Holds f before → Began number before → option_map entry_shown entry ≡
+    entry_behind before (number, line) →
+    ((member : ℕ) → listed (g member) ≡ held_behind entry line member (listed (f member))) →
+    Holds g (before ++ (number, line) ∷ [])
 holds_on f g before number line entry holds began is held member segment e =
     ap (map entry_shown) (held member)
     ∙ of_line line entry is (sym (next_segment member before (number, line)) ∙ e)
-    ∙ sym (filter-append (is_in member segment) (entries_of before) (option_to_list (entry_behind before (number, line))))
+    ∙ sym (filter-append (is_in member segment) (entries_of before)
+    (option_to_list (entry_behind before (number, line))))
     ∙ ap (filter (is_in member segment)) (sym (one_more [] before (number, line)))
   where
     front : List spec.Entry
@@ -123,21 +155,31 @@ holds_on f g before number line entry holds began is held member segment e =
     as_before : segment_behind member before ≡ Some segment → map entry_shown (listed (f member)) ≡ front ++ []
     as_before e = holds member segment e ∙ sym (append-nil front)
 
-    no_entry : (entry : Option Entry) (l : ReportLine) → option_map entry_shown entry ≡ None → (map entry_shown (cond (is_left l member) [] (listed (f member))) ≡ front ++ []) → map entry_shown (held_behind entry l member (listed (f member))) ≡ front ++ []
+    no_entry : (entry : Option Entry) (l : ReportLine) → option_map entry_shown entry ≡ None →
+        (map entry_shown (cond (is_left l member) [] (listed (f member))) ≡ front ++ []) →
+        map entry_shown (held_behind entry l member (listed (f member))) ≡ front ++ []
     no_entry None l none h = h
     no_entry (Some x) l none h = absurd cc
 
-    by_view : (t : Bool) (ltime mask : ℕ) → cond t (Some (record { name = spec.in_view ltime mask; began = number })) (segment_behind member before) ≡ Some segment → map entry_shown (cond t [] (listed (f member))) ≡ front ++ []
+    by_view : (t : Bool) (ltime mask : ℕ) →
+        cond t (Some (record { name = spec.in_view ltime mask; began = number })) (segment_behind member before) ≡
+        Some segment → map entry_shown (cond t [] (listed (f member))) ≡ front ++ []
     by_view true ltime mask e =
         let at : number ≡ segment.began = ap (λ s. s.began) (some_of e) in
-        sym (append-nil front ∙ none_in member segment (entries_of before) (subst (λ n. AllByRecursion (λ (x : spec.Entry). x.segment.began < n) (entries_of before)) at began.entries))
+        sym (append-nil front ∙ none_in
+        member segment (entries_of before)
+        (subst (λ n. AllByRecursion (λ (x : spec.Entry). x.segment.began < n) (entries_of before)) at
+        began.entries))
     by_view false ltime mask e = as_before e
 
-    by_out : (t : Bool) → cond t None (segment_behind member before) ≡ Some segment → map entry_shown (cond t [] (listed (f member))) ≡ front ++ []
+    by_out : (t : Bool) → cond t None (segment_behind member before) ≡ Some segment →
+        map entry_shown (cond t [] (listed (f member))) ≡ front ++ []
     by_out true e = absurd cc
     by_out false e = as_before e
 
-    of_segment : (m peer : ℕ) (body : List ℕ) (x : spec.Entry) (o : Option Segment) → segment_behind m before ≡ o → option_map (λ s. record { line = number; member = m; segment = s; peer = peer; body = body }) o ≡ Some x → segment_behind x.member before ≡ Some x.segment
+    of_segment : (m peer : ℕ) (body : List ℕ) (x : spec.Entry) (o : Option Segment) → segment_behind m before ≡ o →
+        option_map (λ s. record { line = number; member = m; segment = s; peer = peer; body = body }) o ≡ Some x →
+        segment_behind x.member before ≡ Some x.segment
     of_segment m peer body x None e h = absurd cc
     of_segment m peer body x (Some s) e h =
         let same = some_of h in
@@ -146,25 +188,38 @@ holds_on f g before number line entry holds began is held member segment e =
     same_began : (m : ℕ) → (m == m) ≡ true
     same_began m = grind (arith, nat_tests)
 
-    of_entry : (x : spec.Entry) → segment_behind member before ≡ Some segment → segment_behind x.member before ≡ Some x.segment → (t : Bool) → (x.member == member) ≡ t → is_in member segment x ≡ t
+    of_entry : (x : spec.Entry) → segment_behind member before ≡ Some segment → segment_behind x.member before ≡
+        Some x.segment → (t : Bool) → (x.member == member) ≡ t → is_in member segment x ≡ t
     of_entry x e h true same =
-        let one : x.segment ≡ segment = some_of (sym h ∙ ap (λ m. segment_behind m before) (eqb-true x.member member same) ∙ e) in
+        let one : x.segment ≡ segment =
+        some_of (sym h ∙ ap (λ m. segment_behind m before) (eqb-true x.member member same) ∙ e) in
         rw (same, one) (same_began segment.began)
     of_entry x e h false same = rw same refl
 
-    delivered : (m peer : ℕ) (body : List ℕ) (entry : Option Entry) → option_map entry_shown entry ≡ entry_behind before (number, deliver m peer body) → segment_behind member before ≡ Some segment → map entry_shown (held_behind entry (deliver m peer body) member (listed (f member))) ≡ front ++ filter (is_in member segment) (option_to_list (entry_behind before (number, deliver m peer body)))
-    delivered m peer body None is e = as_before e ∙ ap (λ o. front ++ filter (is_in member segment) (option_to_list o)) is
+    delivered : (m peer : ℕ) (body : List ℕ) (entry : Option Entry) → option_map entry_shown entry ≡
+        entry_behind before (number, deliver m peer body) → segment_behind member before ≡ Some segment →
+        map entry_shown (held_behind entry (deliver m peer body) member (listed (f member))) ≡ front ++
+        filter (is_in member segment) (option_to_list (entry_behind before (number, deliver m peer body)))
+    delivered m peer body None is e = as_before e ∙ ap (λ o. front ++ filter (is_in member segment) (option_to_list o))
+        is
     delivered m peer body (Some x) is e =
         by_test (x.member == member) refl ∙ ap (λ o. front ++ filter (is_in member segment) (option_to_list o)) is
       where
         here : segment_behind x.member before ≡ Some (entry_shown x).segment
         here = of_segment m peer body (entry_shown x) (segment_behind m before) refl (sym is)
 
-        by_test : (t : Bool) → (x.member == member) ≡ t → map entry_shown (cond t (listed (f member) ++ x ∷ []) (listed (f member))) ≡ front ++ cond (is_in member segment (entry_shown x)) (entry_shown x ∷ []) []
-        by_test true same = map-append entry_shown (listed (f member)) (x ∷ []) ∙ rw (of_entry (entry_shown x) e here true same) (ap (λ xs. xs ++ entry_shown x ∷ []) (holds member segment e))
+        by_test : (t : Bool) → (x.member == member) ≡ t →
+            map entry_shown (cond t (listed (f member) ++ x ∷ []) (listed (f member))) ≡ front ++
+            cond (is_in member segment (entry_shown x)) (entry_shown x ∷ []) []
+        by_test true same = map-append entry_shown (listed (f member)) (x ∷ []) ∙
+            rw (of_entry (entry_shown x) e here true same)
+            (ap (λ xs. xs ++ entry_shown x ∷ []) (holds member segment e))
         by_test false same = rw (of_entry (entry_shown x) e here false same) (as_before e)
 
-    of_line : (l : ReportLine) (entry : Option Entry) → option_map entry_shown entry ≡ entry_behind before (number, l) → segment_next member (segment_behind member before) (number, l) ≡ Some segment → map entry_shown (held_behind entry l member (listed (f member))) ≡ front ++ filter (is_in member segment) (option_to_list (entry_behind before (number, l)))
+    of_line : (l : ReportLine) (entry : Option Entry) → option_map entry_shown entry ≡ entry_behind before (number, l) →
+        segment_next member (segment_behind member before) (number, l) ≡ Some segment →
+        map entry_shown (held_behind entry l member (listed (f member))) ≡ front ++
+        filter (is_in member segment) (option_to_list (entry_behind before (number, l)))
     of_line (deliver m peer body) entry is e = delivered m peer body entry is e
     of_line (view m ltime mask) entry is e = no_entry entry (view m ltime mask) is (by_view (m == member) ltime mask e)
     of_line (out m) entry is e = no_entry entry (out m) is (by_out (m == member) e)
@@ -173,16 +228,30 @@ holds_on f g before number line entry holds began is held member segment e =
     of_line silent entry is e = no_entry entry silent is (as_before e)
 
 -- at first nothing is held
-pub none_led : (segments : Segments) (held : ℕ → Option (Vec Entry Global)) (all : List Ended) → Stands segments [] → ((member : ℕ) → held member ≡ None) → all ≡ [] → Leads 1 segments held all []
+pub none_led : (segments : Segments) (held : ℕ → Option (Vec Entry Global)) (all : List Ended) → Stands segments [] →
+    ((member : ℕ) → held member ≡ None) → all ≡ [] → Leads 1 segments held all []
 none_led segments held all stands none empty = record {
   stands = stands;
   holds = λ member segment e. ap (λ o. map entry_shown (listed o)) (none member);
-  began = record { segments = λ member segment e. (let first : 0 ≡ segment.began = ap (λ s. s.began) (some_of e) in omega (arith, first)); entries = tt };
+  began = record {
+    segments = λ member segment e.
+        (let first : 0 ≡ segment.began = ap (λ s. s.began) (some_of e) in omega (arith, first));
+    entries = tt;
+  };
   ended = ap (map ended_shown) empty;
 }
 
 -- one more line
-pub leads_on : (old new : Segments) (f g : ℕ → Option (Vec Entry Global)) (all : List Ended) (ended : Option Ended) (entry : Option Entry) (lines : List Line) (i : ℕ) (line d : Line) → i < length lines → line ≡ get_or lines i d → Leads (i + 1) old f all (take i (numbered lines)) → ((before : List Numbered) → Stands old before → Holds f before → option_map ended_shown ended ≡ option_map known (ended_by before (i + 1, shown line))) → ((before : List Numbered) → Stands old before → option_map entry_shown entry ≡ entry_behind before (i + 1, shown line)) → ((member : ℕ) → listed (g member) ≡ held_behind entry (shown line) member (listed (f member))) → ((m : ℕ) → standing new m ≡ segment_next m (standing old m) (i + 1, shown line)) → Leads (i + 1 + 1) new g (all ++ option_to_list ended) (take (i + 1) (numbered lines))
+pub leads_on : (old new : Segments) (f g : ℕ → Option (Vec Entry Global)) (all : List Ended) (ended : Option Ended)
+    (entry : Option Entry) (lines : List Line) (i : ℕ) (line d : Line) → i < length lines → line ≡ get_or lines i d →
+    Leads (i + 1) old f all (take i (numbered lines)) →
+    ((before : List Numbered) → Stands old before → Holds f before → option_map ended_shown ended ≡
+    option_map known (ended_by before (i + 1, shown line))) →
+    ((before : List Numbered) → Stands old before → option_map entry_shown entry ≡
+    entry_behind before (i + 1, shown line)) →
+    ((member : ℕ) → listed (g member) ≡ held_behind entry (shown line) member (listed (f member))) →
+    ((m : ℕ) → standing new m ≡ segment_next m (standing old m) (i + 1, shown line)) →
+    Leads (i + 1 + 1) new g (all ++ option_to_list ended) (take (i + 1) (numbered lines))
 leads_on old new f g all ended entry lines i line d inside is leads ends entered held advanced =
     let before = take i (numbered lines) in
     let read : Numbered = (i + 1, shown line) in
@@ -192,13 +261,17 @@ leads_on old new f g all ended entry lines i line d inside is leads ends entered
       began = began_on (i + 1) before (shown line) leads.began;
       ended =
           map-append ended_shown all (option_to_list ended)
-          ∙ (λ j. leads.ended j ++ (mapped ended_shown ended ∙ ap option_to_list (ends before leads.stands leads.holds) ∙ sym (mapped known (ended_by before read))) j)
+          ∙ (λ j. leads.ended j ++
+          (mapped ended_shown ended ∙ ap option_to_list (ends before leads.stands leads.holds) ∙
+          sym (mapped known (ended_by before read))) j)
           ∙ sym (map-append known (ended_behind [] before) (option_to_list (ended_by before read)))
           ∙ ap (map known) (sym (ended_more [] before read));
     }
 
 -- all lines are read
-pub all_led : (number : ℕ) (segments : Segments) (held : ℕ → Option (Vec Entry Global)) (all : List Ended) (lines : List Line) (i : ℕ) → length lines ≤ i → Leads number segments held all (take i (numbered lines)) → map ended_shown all ≡ map known (ended_behind [] (numbered lines))
+pub all_led : (number : ℕ) (segments : Segments) (held : ℕ → Option (Vec Entry Global)) (all : List Ended)
+    (lines : List Line) (i : ℕ) → length lines ≤ i → Leads number segments held all (take i (numbered lines)) →
+    map ended_shown all ≡ map known (ended_behind [] (numbered lines))
 all_led number segments held all lines i past leads =
     let numbers = length-enumerate_from 1 (map shown lines) in
     let mapped = length-map lines shown in

@@ -1,5 +1,6 @@
 -- The marks of the segments, one more at a time.
-use Rattle.std.proofs.Common.{◌≡◌, ℕ, ◌+◌, ◌<◌, ◌≤◌, Bool, true, false, cond, List, [], ◌∷◌, Option, Some, None, length, take, drop, get_or, suc, refl, sym, ap, ◌∙◌, subst, arith, drop-cons}
+use Rattle.std.proofs.Common.{◌≡◌, ℕ, ◌+◌, ◌<◌, ◌≤◌, Bool, true, false, cond, List, [], ◌∷◌, Option, Some, None, length}
+use Rattle.std.proofs.Common.{take, drop, get_or, suc, refl, sym, ap, ◌∙◌, subst, arith, drop-cons}
 use Rattle.std.specs.Prelude.{◌&&◌, ◌||◌, ◌==◌, map, filter}
 use Rattle.std.specs.Option.{option_eq}
 use Rattle.std.specs.HashMap as hash
@@ -54,24 +55,34 @@ item_on a b q e =
     λ i. same_way (w i) q.way && (c i && p i == q.place)
 
 -- a map answers the same for items that are the same
-pub item_answers : {X S : Type 0} (m : HashMap Item X S) (a b : Item) → same_item_key a b ≡ true → hash.get same_item_key m a ≡ hash.get same_item_key m b
+pub item_answers : {X S : Type 0} (m : HashMap Item X S) (a b : Item) → same_item_key a b ≡ true →
+    hash.get same_item_key m a ≡ hash.get same_item_key m b
 item_answers m a b e = λ i. hash.get_by (λ q. item_on a b q e i) m
 
 -- two deliveries are one item where their keys are the same
-item_keyed : (w way : Way) (d r : Ranked) → same_item_key (item_for w d) (item_for way r) ≡ (same_way w way && same_item (ranked_shown r) (ranked_shown d))
+item_keyed : (w way : Way) (d r : Ranked) → same_item_key (item_for w d) (item_for way r) ≡
+    (same_way w way && same_item (ranked_shown r) (ranked_shown d))
 item_keyed w way d r = λ i. same_way w way && (sym (turned_content r.entry d.entry) i && turned d.place r.place i)
 
 -- marks with those of some deliveries of one more segment
 abbrev pub IsMarkedBy : (old new : Item → Option Mark) → Option Group → Ended → List Ranked → Type 0
-IsMarkedBy old new behind one done = (way : Way) (r : Ranked) → new (item_for way r) ≡ cond (same_way one.way way && list_any (same_item (ranked_shown r)) (map ranked_shown done)) (Some (marked (old (item_for way r)) behind one.member one.line)) (old (item_for way r))
+IsMarkedBy old new behind one done = (way : Way) (r : Ranked) →
+    new (item_for way r) ≡ cond (same_way one.way way && list_any (same_item (ranked_shown r)) (map ranked_shown done))
+    (Some (marked (old (item_for way r)) behind one.member one.line)) (old (item_for way r))
 
-twice : (mark : Option Mark) (behind : Option Group) (member line : ℕ) → marked (Some (marked mark behind member line)) behind member line ≡ marked mark behind member line
+twice : (mark : Option Mark) (behind : Option Group) (member line : ℕ) →
+    marked (Some (marked mark behind member line)) behind member line ≡ marked mark behind member line
 twice mark behind member line =
     let same : (line == line) ≡ true = grind (arith, nat_tests) in
-    let guarded : ((marked mark behind member line).front == line) ≡ true = ap (λ n. n == line) (front_marked mark behind member line) ∙ same in
+    let guarded : ((marked mark behind member line).front == line) ≡ true =
+    ap (λ n. n == line) (front_marked mark behind member line) ∙ same in
     rw guarded refl
 
-pub marked_on : (old f g : Item → Option Mark) (behind : Option Group) (one : Ended) (ds : List Ranked) (j : ℕ) (d : Ranked) (x : Item) (mark : Mark) → j < length ds → ((a b : Item) → same_item_key a b ≡ true → f a ≡ f b) → IsMarkedBy old f behind one (take j ds) → x ≡ item_for one.way (get_or ds j d) → mark ≡ marked (f x) behind one.member one.line → ((q : Item) → g q ≡ cond (same_item_key x q) (Some mark) (f q)) → IsMarkedBy old g behind one (take (j + 1) ds)
+pub marked_on : (old f g : Item → Option Mark) (behind : Option Group) (one : Ended) (ds : List Ranked) (j : ℕ)
+    (d : Ranked) (x : Item) (mark : Mark) → j < length ds → ((a b : Item) → same_item_key a b ≡ true → f a ≡ f b) →
+    IsMarkedBy old f behind one (take j ds) → x ≡ item_for one.way (get_or ds j d) →
+    mark ≡ marked (f x) behind one.member one.line → ((q : Item) → g q ≡ cond (same_item_key x q) (Some mark) (f q)) →
+    IsMarkedBy old g behind one (take (j + 1) ds)
 marked_on old f g behind one ds j d x mark inside steady so_far x_is mark_is updates way r =
     updates (item_for way r)
     ∙ (λ i. cond (same_item_key x (item_for way r)) (Some (mark_is i)) (f (item_for way r)))
@@ -95,43 +106,83 @@ marked_on old f g behind one ds j d x mark inside steady so_far x_is mark_is upd
     keys = ap (λ k. same_item_key k (item_for way r)) x_is ∙ item_keyed one.way way now r
 
     any_more : list_any (same_item (ranked_shown r)) (map ranked_shown (take (j + 1) ds)) ≡ (there || (here || false))
-    any_more = ap (list_any (same_item (ranked_shown r))) (map_more ranked_shown ds j d inside) ∙ list_any-append (same_item (ranked_shown r)) (map ranked_shown (take j ds)) (ranked_shown now ∷ [])
+    any_more = ap (list_any (same_item (ranked_shown r))) (map_more ranked_shown ds j d inside) ∙
+        list_any-append (same_item (ranked_shown r)) (map ranked_shown (take j ds)) (ranked_shown now ∷ [])
 
-    by_tests : (a l s : Bool) → same_item_key x (item_for way r) ≡ (a && s) → f (item_for way r) ≡ cond (a && l) (Some new) (old (item_for way r)) → cond (same_item_key x (item_for way r)) (Some (marked (f x) behind one.member one.line)) (cond (a && l) (Some new) (old (item_for way r))) ≡ cond (a && (l || (s || false))) (Some new) (old (item_for way r))
+    by_tests : (a l s : Bool) → same_item_key x (item_for way r) ≡ (a && s) →
+        f (item_for way r) ≡ cond (a && l) (Some new) (old (item_for way r)) →
+        cond (same_item_key x (item_for way r)) (Some (marked (f x) behind one.member one.line))
+        (cond (a && l) (Some new) (old (item_for way r))) ≡
+        cond (a && (l || (s || false))) (Some new) (old (item_for way r))
     by_tests false l s k e = rw k refl
-    by_tests true true true k e = rw (k, steady x (item_for way r) k, e) (ap Some (twice (old (item_for way r)) behind one.member one.line))
+    by_tests true true true k e =
+        rw (k, steady x (item_for way r) k, e) (ap Some (twice (old (item_for way r)) behind one.member one.line))
     by_tests true true false k e = rw k refl
     by_tests true false true k e = rw (k, steady x (item_for way r) k, e) refl
     by_tests true false false k e = rw k refl
 
-pub all_marked : (old f : Item → Option Mark) (behind : Option Group) (one : Ended) (ds : List Ranked) (j : ℕ) → length ds ≤ j → IsMarkedBy old f behind one (take j ds) → IsMarkedBy old f behind one ds
+pub all_marked : (old f : Item → Option Mark) (behind : Option Group) (one : Ended) (ds : List Ranked) (j : ℕ) →
+    length ds ≤ j → IsMarkedBy old f behind one (take j ds) → IsMarkedBy old f behind one ds
 all_marked old f behind one ds j past so_far = subst (IsMarkedBy old f behind one) (take_all j ds past) so_far
 
 -- the segments with one more in front
-pub one_more : (items_old items_new : Item → Option Mark) (groups_old groups_new : Way → Option Group) (one : Ended) (rest : List Known) (behind : Option Group) (group : Group) → Marked items_old groups_old rest → behind ≡ groups_old one.way → group ≡ led behind one.member one.line → IsMarkedBy items_old items_new behind one one.deliveries.items → ((q : Way) → groups_new q ≡ cond (same_way one.way q) (Some group) (groups_old q)) → Marked items_new groups_new (ended_shown one ∷ rest)
-one_more items_old items_new groups_old groups_new one rest behind group marked_so_far behind_is group_is marks updates = record {
-  of_items = λ way r. marks way r ∙ item_by way r (same_way one.way way) refl ∙ (λ i. item_found (ranked_shown r) (cond (keyed one way i) (ended_shown one ∷ filter (goes way) rest) (filter (goes way) rest)));
-  of_groups = λ way. updates way ∙ group_by way (same_way one.way way) refl ∙ (λ i. group_found (cond (keyed one way i) (ended_shown one ∷ filter (goes way) rest) (filter (goes way) rest)));
-}
+pub one_more : (items_old items_new : Item → Option Mark) (groups_old groups_new : Way → Option Group) (one : Ended)
+    (rest : List Known) (behind : Option Group) (group : Group) → Marked items_old groups_old rest →
+    behind ≡ groups_old one.way → group ≡ led behind one.member one.line →
+    IsMarkedBy items_old items_new behind one one.deliveries.items →
+    ((q : Way) → groups_new q ≡ cond (same_way one.way q) (Some group) (groups_old q)) →
+    Marked items_new groups_new (ended_shown one ∷ rest)
+one_more items_old items_new groups_old groups_new one rest behind group marked_so_far behind_is group_is marks
+    updates = record {
+      of_items = λ way r. marks way r ∙ item_by way r (same_way one.way way) refl ∙
+          (λ i. item_found (ranked_shown r)
+          (cond (keyed one way i) (ended_shown one ∷ filter (goes way) rest) (filter (goes way) rest)));
+      of_groups = λ way. updates way ∙ group_by way (same_way one.way way) refl ∙
+          (λ i. group_found (cond (keyed one way i) (ended_shown one ∷ filter (goes way) rest)
+          (filter (goes way) rest)));
+    }
   where
     found : (way : Way) → same_way one.way way ≡ true → behind ≡ group_found (filter (goes way) rest)
-    found way same = behind_is ∙ marked_so_far.of_groups one.way ∙ ap (λ w. group_found (filter (goes w) rest)) (one_way one.way way same)
+    found way same = behind_is ∙ marked_so_far.of_groups one.way ∙
+        ap (λ w. group_found (filter (goes w) rest)) (one_way one.way way same)
 
-    group_by : (way : Way) (t : Bool) → same_way one.way way ≡ t → cond t (Some group) (groups_old way) ≡ group_found (cond t (ended_shown one ∷ filter (goes way) rest) (filter (goes way) rest))
+    group_by : (way : Way) (t : Bool) → same_way one.way way ≡ t → cond t (Some group) (groups_old way) ≡
+        group_found (cond t (ended_shown one ∷ filter (goes way) rest) (filter (goes way) rest))
     group_by way true same = ap Some (group_is ∙ ap (λ g. led g one.member one.line) (found way same))
     group_by way false same = marked_so_far.of_groups way
 
-    item_by : (way : Way) (r : Ranked) (t : Bool) → same_way one.way way ≡ t → cond (t && list_any (same_item (ranked_shown r)) (map ranked_shown one.deliveries.items)) (Some (marked (items_old (item_for way r)) behind one.member one.line)) (items_old (item_for way r)) ≡ item_found (ranked_shown r) (cond t (ended_shown one ∷ filter (goes way) rest) (filter (goes way) rest))
-    item_by way r true same = λ i. cond (list_any (same_item (ranked_shown r)) (map ranked_shown one.deliveries.items)) (Some (marked (marked_so_far.of_items way r i) (found way same i) one.member one.line)) (marked_so_far.of_items way r i)
+    item_by : (way : Way) (r : Ranked) (t : Bool) → same_way one.way way ≡ t →
+        cond (t && list_any (same_item (ranked_shown r)) (map ranked_shown one.deliveries.items))
+        (Some (marked (items_old (item_for way r)) behind one.member one.line)) (items_old (item_for way r)) ≡
+        item_found (ranked_shown r) (cond t (ended_shown one ∷ filter (goes way) rest) (filter (goes way) rest))
+    item_by way r true same = λ i. cond (list_any (same_item (ranked_shown r)) (map ranked_shown one.deliveries.items))
+        (Some (marked (marked_so_far.of_items way r i) (found way same i) one.member one.line))
+        (marked_so_far.of_items way r i)
     item_by way r false same = marked_so_far.of_items way r
 
 -- of the segments from the last on, one more
-pub marks_on : (items_old items_new : Item → Option Mark) (groups_old groups_new : Way → Option Group) (ended : List Ended) (n i : ℕ) (d one : Ended) (behind : Option Group) (group : Group) → n ≡ suc i → i < length ended → one ≡ get_or ended i d → Marked items_old groups_old (map ended_shown (drop n ended)) → behind ≡ groups_old one.way → group ≡ led behind one.member one.line → IsMarkedBy items_old items_new behind one one.deliveries.items → ((q : Way) → groups_new q ≡ cond (same_way one.way q) (Some group) (groups_old q)) → Marked items_new groups_new (map ended_shown (drop i ended))
-marks_on items_old items_new groups_old groups_new ended n i d one behind group next inside is so_far behind_is group_is marks updates =
-    subst (λ es. Marked items_new groups_new (map ended_shown es)) (sym (drop-cons ended i d inside ∙ ap (λ e. e ∷ drop (suc i) ended) (sym is)))
-    (one_more items_old items_new groups_old groups_new one (map ended_shown (drop (suc i) ended)) behind group (subst (λ m. Marked items_old groups_old (map ended_shown (drop m ended))) next so_far) behind_is group_is marks updates)
+pub marks_on : (items_old items_new : Item → Option Mark) (groups_old groups_new : Way → Option Group)
+    (ended : List Ended) (n i : ℕ) (d one : Ended) (behind : Option Group) (group : Group) → n ≡ suc i →
+    i < length ended → one ≡ get_or ended i d → Marked items_old groups_old (map ended_shown (drop n ended)) →
+    behind ≡ groups_old one.way → group ≡ led behind one.member one.line →
+    IsMarkedBy items_old items_new behind one one.deliveries.items →
+    ((q : Way) → groups_new q ≡ cond (same_way one.way q) (Some group) (groups_old q)) →
+    Marked items_new groups_new (map ended_shown (drop i ended))
+marks_on items_old items_new groups_old groups_new ended n i d one behind group next inside is so_far behind_is group_is
+    marks updates =
+    subst (λ es. Marked items_new groups_new (map ended_shown es))
+    (sym (drop-cons ended i d inside ∙ ap (λ e. e ∷ drop (suc i) ended) (sym is)))
+    (one_more items_old items_new groups_old groups_new one (map ended_shown (drop (suc i) ended)) behind group
+    (subst (λ m. Marked items_old groups_old (map ended_shown (drop m ended))) next so_far) behind_is group_is marks
+    updates)
 
 -- at first none is marked
-pub none_marked : (items : Item → Option Mark) (groups : Way → Option Group) (ended : List Ended) (n : ℕ) → n ≡ length ended → ((q : Item) → items q ≡ None) → ((q : Way) → groups q ≡ None) → Marked items groups (map ended_shown (drop n ended))
+pub none_marked : (items : Item → Option Mark) (groups : Way → Option Group) (ended : List Ended) (n : ℕ) →
+    n ≡ length ended → ((q : Item) → items q ≡ None) → ((q : Way) → groups q ≡ None) →
+    Marked items groups (map ended_shown (drop n ended))
 none_marked items groups ended n is no_items no_groups =
-    rw (drop_all n ended (omega (arith, is))) record { of_items = λ way r. no_items (item_for way r); of_groups = λ way. no_groups way }
+    rw (drop_all n ended (omega (arith, is))) record {
+      of_items = λ way r. no_items (item_for way r);
+      of_groups = λ way.
+          no_groups way;
+    }

@@ -1,5 +1,6 @@
 -- The lines of a report, read one by one.
-use Rattle.std.proofs.Common.{◌≡◌, ℕ, ◌+◌, ◌-◌, ◌≤◌, Bool, true, false, take, List, [], ◌∷◌, ◌++◌, length, Some, None, Result, Ok, Err, refl, ap, ◌∙◌, sym, append_assoc, arith}
+use Rattle.std.proofs.Common.{◌≡◌, ℕ, ◌+◌, ◌-◌, ◌≤◌, Bool, true, false, take, List, [], ◌∷◌, ◌++◌, length, Some, None}
+use Rattle.std.proofs.Common.{Result, Ok, Err, refl, ap, ◌∙◌, sym, append_assoc, arith}
 use Rattle.std.specs.Prelude.{◌==◌, slice_index, if◌then◌else◌}
 use Rattle.std.proofs.lemmas.List.{length-take}
 use Rattle.std.proofs.lemmas.List.Sums.{count_by-le-length}
@@ -13,20 +14,30 @@ abbrev pub with_front : List ReportLine → Result (List ReportLine) ℕ → Res
 with_front front (Ok lines) = Ok (front ++ lines)
 with_front front (Err number) = Err number
 
-front_more : (front : List ReportLine) (said : ReportLine) (rest : Result (List ReportLine) ℕ) → with_front (front ++ said ∷ []) rest ≡ with_front front (rest >>= λ more. Ok (said ∷ more))
+front_more : (front : List ReportLine) (said : ReportLine) (rest : Result (List ReportLine) ℕ) →
+    with_front (front ++ said ∷ []) rest ≡ with_front front (rest >>= λ more. Ok (said ∷ more))
 front_more front said (Ok lines) = ap Ok (append_assoc front (said ∷ []) lines)
 front_more front said (Err number) = refl
 
 -- with one more line read, those read and the others still are the whole
-pub goes_on : (front : List ReportLine) (stage next : Stage) (number : ℕ) (line : List ℕ) (said : ReportLine) (all behind : List (List ℕ)) (whole : Result (List ReportLine) ℕ) → all ≡ line ∷ behind → line_said line ≡ Some said → stage_behind stage said ≡ Some next → with_front front (report_from stage number all) ≡ whole → with_front (front ++ said ∷ []) (report_from next (number + 1) behind) ≡ whole
-goes_on front stage next number line said all behind whole split reads stands e = front_more front said (report_from next (number + 1) behind) ∙ rw (split, reads, stands) at e
+pub goes_on : (front : List ReportLine) (stage next : Stage) (number : ℕ) (line : List ℕ) (said : ReportLine)
+    (all behind : List (List ℕ)) (whole : Result (List ReportLine) ℕ) → all ≡ line ∷ behind →
+    line_said line ≡ Some said → stage_behind stage said ≡ Some next → with_front front (report_from stage number all) ≡
+    whole → with_front (front ++ said ∷ []) (report_from next (number + 1) behind) ≡ whole
+goes_on front stage next number line said all behind whole split reads stands e =
+    front_more front said (report_from next (number + 1) behind) ∙ rw (split, reads, stands) at e
 
 -- a line that says nothing in form is the first fault
-pub no_line : (front : List ReportLine) (stage : Stage) (number : ℕ) (line : List ℕ) (all behind : List (List ℕ)) (whole : Result (List ReportLine) ℕ) → all ≡ line ∷ behind → line_said line ≡ None → with_front front (report_from stage number all) ≡ whole → whole ≡ Err number
+pub no_line : (front : List ReportLine) (stage : Stage) (number : ℕ) (line : List ℕ) (all behind : List (List ℕ))
+    (whole : Result (List ReportLine) ℕ) → all ≡ line ∷ behind → line_said line ≡ None →
+    with_front front (report_from stage number all) ≡ whole → whole ≡ Err number
 no_line front stage number line all behind whole split reads e = sym (rw (split, reads) at e)
 
 -- and so is one out of place
-pub no_place : (front : List ReportLine) (stage : Stage) (number : ℕ) (line : List ℕ) (said : ReportLine) (all behind : List (List ℕ)) (whole : Result (List ReportLine) ℕ) → all ≡ line ∷ behind → line_said line ≡ Some said → stage_behind stage said ≡ None → with_front front (report_from stage number all) ≡ whole → whole ≡ Err number
+pub no_place : (front : List ReportLine) (stage : Stage) (number : ℕ) (line : List ℕ) (said : ReportLine)
+    (all behind : List (List ℕ)) (whole : Result (List ReportLine) ℕ) → all ≡ line ∷ behind →
+    line_said line ≡ Some said → stage_behind stage said ≡ None → with_front front (report_from stage number all) ≡
+    whole → whole ≡ Err number
 no_place front stage number line said all behind whole split reads stands e = sym (rw (split, reads, stands) at e)
 
 -- nothing in front changes nothing
@@ -49,7 +60,10 @@ lines_bound (byte ∷ rest) =
     omega arith
 
 -- at first nothing is read
-pub begins : (text : List ℕ) (front : List ReportLine) (read : ℕ) (left : List (List ℕ)) → front ≡ [] → read ≡ 0 → left ≡ lines_of text → length text ≤ 67108864 → (with_front front (report_from running (read + 1) left) ≡ report_from running 1 (lines_of text)) × (read + length left ≤ 67108865)
+pub begins : (text : List ℕ) (front : List ReportLine) (read : ℕ) (left : List (List ℕ)) → front ≡ [] → read ≡ 0 →
+    left ≡ lines_of text → length text ≤ 67108864 →
+    (with_front front (report_from running (read + 1) left) ≡ report_from running 1 (lines_of text)) ×
+    (read + length left ≤ 67108865)
 begins text front read left none zero all small =
     let bound = lines_bound text in
     rw (none, zero, all) (nothing (report_from running 1 (lines_of text)), omega arith)

@@ -1,5 +1,6 @@
 -- The least of the clashes of deliveries in the order of their lines.
-use Rattle.std.proofs.Common.{◌≡◌, ℕ, ◌+◌, ◌<◌, ◌≤◌, Bool, true, false, cond, List, [], ◌∷◌, ◌++◌, length, Option, Some, None, refl, sym, ap, ◌∙◌, append_assoc, arith}
+use Rattle.std.proofs.Common.{◌≡◌, ℕ, ◌+◌, ◌<◌, ◌≤◌, Bool, true, false, cond, List, [], ◌∷◌, ◌++◌, length, Option, Some}
+use Rattle.std.proofs.Common.{None, refl, sym, ap, ◌∙◌, append_assoc, arith}
 use Rattle.std.specs.Prelude.{◌||◌, map, filter, option_map}
 use Rattle.std.specs.List.{find, list_any, enumerate_from}
 use Rattle.std.specs.Option.{option_to_list}
@@ -29,7 +30,8 @@ least_behind x (y ∷ ys) none = through (least ys) (behind ys none.1)
     Behind None = Unit {0}
     Behind (Some z) = comes_before z x ≡ false
 
-    chosen : (t : Bool) (y z : ℕ × ℕ) → comes_before y x ≡ false → comes_before z x ≡ false → comes_before (cond t z y) x ≡ false
+    chosen : (t : Bool) (y z : ℕ × ℕ) → comes_before y x ≡ false → comes_before z x ≡ false →
+        comes_before (cond t z y) x ≡ false
     chosen true y z a b = b
     chosen false y z a b = a
 
@@ -50,10 +52,12 @@ earlier m n [] le order = tt
 earlier m n (x ∷ xs) le order = (omega arith, order.1)
 
 -- pairs whose second line is behind another's come behind it
-later : (lists : Lists) (a b : ℕ) (before rest : List Placed) → IsInOrder b rest → NoneBefore (a, b) (clashes_behind lists before rest)
+later : (lists : Lists) (a b : ℕ) (before rest : List Placed) → IsInOrder b rest →
+    NoneBefore (a, b) (clashes_behind lists before rest)
 later lists a b before [] order = tt
 later lists a b before (x ∷ rest) order =
-    none_before-append (a, b) (map (lines_at x) (filter (clashes lists x) before)) (clashes_behind lists (before ++ x ∷ []) rest)
+    none_before-append (a, b) (map (lines_at x) (filter (clashes lists x) before))
+    (clashes_behind lists (before ++ x ∷ []) rest)
     (each (filter (clashes lists x) before))
     (later lists a b (before ++ x ∷ []) rest (earlier b x.entry.line rest (omega (arith, order.0)) order.1))
   where
@@ -75,7 +79,8 @@ pub record First (p : Placed → Bool) (b : Placed) (xs : List Placed) : Type 0 
 same_end : (m n b : ℕ) → n < m → comes_before (m, b) (n, b) ≡ false
 same_end m n b above = grind (arith, nat_tests)
 
-all_behind : (p : Placed → Bool) (b x : Placed) (xs : List Placed) → IsInOrder x.entry.line xs → NoneBefore (lines_at b x) (map (lines_at b) (filter p xs))
+all_behind : (p : Placed → Bool) (b x : Placed) (xs : List Placed) → IsInOrder x.entry.line xs →
+    NoneBefore (lines_at b x) (map (lines_at b) (filter p xs))
 all_behind p b x [] order = tt
 all_behind p b x (y ∷ ys) order =
     let rest = all_behind p b x ys (earlier x.entry.line y.entry.line ys (omega (arith, order.0)) order.1) in
@@ -84,14 +89,29 @@ all_behind p b x (y ∷ ys) order =
       | false ↦ rest
     ]
 
-pub first_of_those : (p : Placed → Bool) (b : Placed) (n : ℕ) (xs : List Placed) → IsInOrder n xs → list_any p xs ≡ true → First p b xs
+pub first_of_those : (p : Placed → Bool) (b : Placed) (n : ℕ) (xs : List Placed) → IsInOrder n xs →
+    list_any p xs ≡ true → First p b xs
 first_of_those p b n [] order some = absurd cc
 first_of_those p b n (x ∷ xs) order some =
     elim (p x) as (λ t. p x ≡ t → First p b (x ∷ xs)) [
-      | true ↦ λ e. record { first = x; others = filter p xs; found = rw e refl; kept = rw e refl; behind = all_behind p b x xs order.1 }
+      | true ↦ λ e. record {
+        first = x;
+        others = filter p xs;
+        found = rw e refl;
+        kept = rw e refl;
+        behind =
+            all_behind p b x xs order.1;
+      }
       | false ↦ λ e.
           let rest = first_of_those p b x.entry.line xs order.1 (rw e at some) in
-          record { first = rest.first; others = rest.others; found = rw e rest.found; kept = rw e rest.kept; behind = rest.behind }
+          record {
+            first = rest.first;
+            others = rest.others;
+            found = rw e rest.found;
+            kept = rw e rest.kept;
+            behind =
+                rest.behind;
+          }
     ] refl
 
 filter_none : (p : Placed → Bool) (xs : List Placed) → list_any p xs ≡ false → filter p xs ≡ []
@@ -102,29 +122,38 @@ filter_none p (x ∷ xs) e =
       | false ↦ λ h. filter_none p xs h
     ] e
 
-clashes-append : (lists : Lists) (before xs ys : List Placed) → clashes_behind lists before (xs ++ ys) ≡ clashes_behind lists before xs ++ clashes_behind lists (before ++ xs) ys
+clashes-append : (lists : Lists) (before xs ys : List Placed) → clashes_behind lists before (xs ++ ys) ≡
+    clashes_behind lists before xs ++ clashes_behind lists (before ++ xs) ys
 clashes-append lists before [] ys = rw (append-nil before) refl
 clashes-append lists before (x ∷ xs) ys =
-    rw (clashes-append lists (before ++ x ∷ []) xs ys, append_assoc before (x ∷ []) xs) (sym (append_assoc (map (lines_at x) (filter (clashes lists x) before)) (clashes_behind lists (before ++ x ∷ []) xs) (clashes_behind lists (before ++ x ∷ xs) ys)))
+    rw (clashes-append lists (before ++ x ∷ []) xs ys, append_assoc before (x ∷ []) xs)
+    (sym (append_assoc (map (lines_at x) (filter (clashes lists x) before)) (clashes_behind lists (before ++ x ∷ []) xs)
+    (clashes_behind lists (before ++ x ∷ xs) ys)))
 
 -- one more delivery that clashes with none leaves them without a clash
-pub still_none : (lists : Lists) (xs : List Placed) (x : Placed) → clashes_behind lists [] xs ≡ [] → list_any (clashes lists x) xs ≡ false → clashes_behind lists [] (xs ++ x ∷ []) ≡ []
+pub still_none : (lists : Lists) (xs : List Placed) (x : Placed) → clashes_behind lists [] xs ≡ [] →
+    list_any (clashes lists x) xs ≡ false → clashes_behind lists [] (xs ++ x ∷ []) ≡ []
 still_none lists xs x none e = clashes-append lists [] xs (x ∷ []) ∙ rw (none, filter_none (clashes lists x) xs e) refl
 
-order_split : (n : ℕ) (xs : List Placed) (x : Placed) (ys : List Placed) → IsInOrder n (xs ++ x ∷ ys) → IsInOrder n xs × IsInOrder x.entry.line ys
+order_split : (n : ℕ) (xs : List Placed) (x : Placed) (ys : List Placed) → IsInOrder n (xs ++ x ∷ ys) →
+    IsInOrder n xs × IsInOrder x.entry.line ys
 order_split n [] x ys order = (tt, order.1)
 order_split n (y ∷ xs) x ys order =
     let rest = order_split y.entry.line xs x ys order.1 in
     ((order.0, rest.0), rest.1)
 
 -- the first delivery that clashes with one in front, and the first of those, are the least clash
-pub first_is_least : (lists : Lists) (xs : List Placed) (x : Placed) (ys : List Placed) → IsInOrder 0 (xs ++ x ∷ ys) → clashes_behind lists [] xs ≡ [] → list_any (clashes lists x) xs ≡ true → option_map (lines_at x) (find (clashes lists x) xs) ≡ least (clashes_behind lists [] (xs ++ x ∷ ys))
+pub first_is_least : (lists : Lists) (xs : List Placed) (x : Placed) (ys : List Placed) → IsInOrder 0 (xs ++ x ∷ ys) →
+    clashes_behind lists [] xs ≡ [] → list_any (clashes lists x) xs ≡ true →
+    option_map (lines_at x) (find (clashes lists x) xs) ≡ least (clashes_behind lists [] (xs ++ x ∷ ys))
 first_is_least lists xs x ys order none some =
     let parts = order_split 0 xs x ys order in
     let one = first_of_those (clashes lists x) x 0 xs parts.0 some in
     let rest = clashes_behind lists (xs ++ x ∷ []) ys in
-    let behind = none_before-append (lines_at x one.first) (map (lines_at x) one.others) rest one.behind (later lists one.first.entry.line x.entry.line (xs ++ x ∷ []) ys parts.1) in
-    rw (clashes-append lists [] xs (x ∷ ys), none, one.found, one.kept) (ap Some (sym (least_behind (lines_at x one.first) (map (lines_at x) one.others ++ rest) behind)))
+    let behind = none_before-append (lines_at x one.first) (map (lines_at x) one.others) rest one.behind
+    (later lists one.first.entry.line x.entry.line (xs ++ x ∷ []) ys parts.1) in
+    rw (clashes-append lists [] xs (x ∷ ys), none, one.found, one.kept)
+    (ap Some (sym (least_behind (lines_at x one.first) (map (lines_at x) one.others ++ rest) behind)))
 
 -- deliveries in the order of their lines, all behind this line
 abbrev pub Rises : ℕ → List Entry → Type 0
@@ -136,11 +165,14 @@ abbrev pub IsOfLine : ℕ → Option Entry → Type 0
 IsOfLine line None = Unit {0}
 IsOfLine line (Some entry) = entry.line ≡ line
 
-of_segment : (line member peer : ℕ) (body : List ℕ) (segment : Option Segment) → IsOfLine line (option_map (λ s. record { line = line; member = member; segment = s; peer = peer; body = body }) segment)
+of_segment : (line member peer : ℕ) (body : List ℕ) (segment : Option Segment) →
+    IsOfLine line (option_map (λ s. record { line = line; member = member; segment = s; peer = peer; body = body })
+    segment)
 of_segment line member peer body None = tt
 of_segment line member peer body (Some s) = refl
 
-of_line : (before : List Numbered) (number : ℕ) (line : ReportLine) → IsOfLine number (entry_behind before (number, line))
+of_line : (before : List Numbered) (number : ℕ) (line : ReportLine) →
+    IsOfLine number (entry_behind before (number, line))
 of_line before number (deliver member peer body) = of_segment number member peer body (segment_behind member before)
 of_line before number (view member ltime mask) = tt
 of_line before number (out member) = tt
@@ -148,31 +180,40 @@ of_line before number end = tt
 of_line before number visits = tt
 of_line before number silent = tt
 
-rises_with : (line number : ℕ) (entry : Option Entry) (rest : List Entry) → line < number → IsOfLine number entry → Rises number rest → Rises line (option_to_list entry ++ rest)
+rises_with : (line number : ℕ) (entry : Option Entry) (rest : List Entry) → line < number → IsOfLine number entry →
+    Rises number rest → Rises line (option_to_list entry ++ rest)
 rises_with line number None [] above is rises = tt
 rises_with line number None (e ∷ rest) above is rises = (omega (arith, rises.0), rises.1)
 rises_with line number (Some e) rest above is rises = rw is (above, rises)
 
 -- the deliveries of numbered lines are in order
-rising : (before : List Numbered) (line number : ℕ) (lines : List ReportLine) → line < number → Rises line (entries_behind before (enumerate_from number lines))
+rising : (before : List Numbered) (line number : ℕ) (lines : List ReportLine) → line < number →
+    Rises line (entries_behind before (enumerate_from number lines))
 rising before line number [] above = tt
 rising before line number (l ∷ lines) above =
-    rises_with line number (entry_behind before (number, l)) (entries_behind (before ++ (number, l) ∷ []) (enumerate_from (number + 1) lines)) above (of_line before number l)
+    rises_with line number (entry_behind before (number, l))
+    (entries_behind (before ++ (number, l) ∷ []) (enumerate_from (number + 1) lines)) above (of_line before number l)
     (rising (before ++ (number, l) ∷ []) number (number + 1) lines (omega arith))
 
-placed_rising : (lists : Lists) (line : ℕ) (before entries : List Entry) → Rises line entries → IsInOrder line (placed_behind lists before entries)
+placed_rising : (lists : Lists) (line : ℕ) (before entries : List Entry) → Rises line entries →
+    IsInOrder line (placed_behind lists before entries)
 placed_rising lists line before [] rises = tt
-placed_rising lists line before (e ∷ entries) rises = (rises.0, placed_rising lists e.line (before ++ e ∷ []) entries rises.1)
+placed_rising lists line before (e ∷ entries) rises =
+    (rises.0, placed_rising lists e.line (before ++ e ∷ []) entries rises.1)
 
 -- and so are they with their places
-pub in_order : (lists : Lists) (lines : List ReportLine) → IsInOrder 0 (placed_behind lists [] (entries_behind [] (enumerate_from 1 lines)))
-in_order lists lines = placed_rising lists 0 [] (entries_behind [] (enumerate_from 1 lines)) (rising [] 0 1 lines (omega arith))
+pub in_order : (lists : Lists) (lines : List ReportLine) →
+    IsInOrder 0 (placed_behind lists [] (entries_behind [] (enumerate_from 1 lines)))
+in_order lists lines = placed_rising lists 0 [] (entries_behind [] (enumerate_from 1 lines))
+    (rising [] 0 1 lines (omega arith))
 
 -- there are no more deliveries than lines
 pub few_entries : (before lines : List Numbered) → length (entries_behind before lines) ≤ length lines
 few_entries before [] = omega arith
-few_entries before (line ∷ lines) = at_most_one (entry_behind before line) (entries_behind (before ++ line ∷ []) lines) (few_entries (before ++ line ∷ []) lines)
+few_entries before (line ∷ lines) = at_most_one (entry_behind before line) (entries_behind (before ++ line ∷ []) lines)
+    (few_entries (before ++ line ∷ []) lines)
   where
-    at_most_one : (entry : Option Entry) (rest : List Entry) → length rest ≤ length lines → length (option_to_list entry ++ rest) ≤ length (line ∷ lines)
+    at_most_one : (entry : Option Entry) (rest : List Entry) → length rest ≤ length lines →
+        length (option_to_list entry ++ rest) ≤ length (line ∷ lines)
     at_most_one None rest few = omega arith
     at_most_one (Some e) rest few = omega arith

@@ -16,7 +16,8 @@ view_of (in_view ltime mask) = Some (ltime, mask)
 
 -- the place of a delivery in the lists of segments of one name
 abbrev pub place_key : Lists → Placed → PlaceKey
-place_key lists placed = record { view = view_of placed.entry.segment.name; peer = source_of lists placed.entry; place = placed.place }
+place_key lists placed =
+    record { view = view_of placed.entry.segment.name; peer = source_of lists placed.entry; place = placed.place }
 
 abbrev pub same_view : ℕ × ℕ → ℕ × ℕ → Bool
 same_view a b = a.0 == b.0 && a.1 == b.1
@@ -28,7 +29,8 @@ same_place_key a b = option_eq same_view a.view b.view && (option_eq nat_eq a.pe
 abbrev pub disagrees : Option Seen → spec.Entry → Bool
 disagrees None entry = false
 disagrees (Some seen) entry =
-    (seen.more_members || not (seen.first.member == entry.member)) && (seen.more_contents || not (same_content (entry_shown seen.first) entry))
+    (seen.more_members || not (seen.first.member == entry.member)) &&
+    (seen.more_contents || not (same_content (entry_shown seen.first) entry))
 
 -- what is seen with one more delivery
 abbrev pub joined : Option Seen → Entry → Seen

@@ -21,7 +21,14 @@ abbrev pub segment_shown : Segment → spec.Segment
 segment_shown segment = record { name = name_shown segment.view; began = segment.began }
 
 abbrev pub entry_shown : Entry → spec.Entry
-entry_shown entry = record { line = entry.line; member = entry.member; segment = segment_shown entry.segment; peer = entry.peer; body = entry.body.now }
+entry_shown entry = record {
+  line = entry.line;
+  member = entry.member;
+  segment = segment_shown entry.segment;
+  peer =
+      entry.peer;
+  body = entry.body.now;
+}
 
 -- the segment that a member is in
 abbrev pub standing : Segments → ℕ → Option spec.Segment

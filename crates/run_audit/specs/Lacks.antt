@@ -1,5 +1,6 @@
 -- What members that leave a view together lack of each other, as it is found.
-use Rattle.std.specs.Prelude.{◌≡◌, ℕ, ◌+◌, ◌==◌, ◌&&◌, not, if◌then◌else◌, Bool, false, List, [], ◌∷◌, ◌++◌, map, filter, count_by, Option, Some, None, Vec, bytes_eq, unwrap_or}
+use Rattle.std.specs.Prelude.{◌≡◌, ℕ, ◌+◌, ◌==◌, ◌&&◌, not, if◌then◌else◌, Bool, false, List, [], ◌∷◌, ◌++◌, map}
+use Rattle.std.specs.Prelude.{filter, count_by, Option, Some, None, Vec, bytes_eq, unwrap_or}
 use Rattle.std.specs.List.{flat_map}
 use Rattle.std.specs.Option.{option_eq}
 use Rattle.audit_mean.specs.Segment as spec
@@ -22,7 +23,8 @@ use Rattle.std.specs.declared.alloc.Global.{Global}
 -- deliveries that stand behind others, each with how many of these and of its own kind come before it
 abbrev pub ranked_behind : List spec.Entry → List spec.Entry → List Placed
 ranked_behind before [] = []
-ranked_behind before (entry ∷ entries) = record { entry = entry; place = count_by (same_content entry) before } ∷ ranked_behind (before ++ entry ∷ []) entries
+ranked_behind before (entry ∷ entries) = record { entry = entry; place = count_by (same_content entry) before } ∷
+    ranked_behind (before ++ entry ∷ []) entries
 
 abbrev pub ranked_shown : Ranked → Placed
 ranked_shown ranked = record { entry = entry_shown ranked.entry; place = ranked.place }
@@ -35,11 +37,13 @@ same_content_key a b = a.peer == b.peer && bytes_eq a.body.now b.body.now
 
 -- how often each content comes in these deliveries
 abbrev pub Counts : (Content → Option ℕ) → List spec.Entry → Type 0
-Counts counts entries = (e : Entry) → unwrap_or (counts (content_of e)) 0 ≡ count_by (same_content (entry_shown e)) entries
+Counts counts entries = (e : Entry) → unwrap_or (counts (content_of e)) 0 ≡
+    count_by (same_content (entry_shown e)) entries
 
 -- one more of a content, and of the others as many as before
 abbrev pub OneMore : (Content → Option ℕ) → (Content → Option ℕ) → Content → Type 0
-OneMore old new content = (q : Content) → new q ≡ (if same_content_key content q then Some (unwrap_or (old content) 0 + 1) else old q)
+OneMore old new content = (q : Content) →
+    new q ≡ (if same_content_key content q then Some (unwrap_or (old content) 0 + 1) else old q)
 
 -- a segment that a member ended, with its deliveries and their ranks
 pub record Known : Type 0 where
@@ -50,7 +54,14 @@ pub record Known : Type 0 where
   pub deliveries : List Placed
 
 abbrev pub known : lack.Ended → Known
-known ended = record { line = ended.line; member = ended.member; name = ended.name; next = ended.next; deliveries = ranked_behind [] ended.entries }
+known ended = record {
+  line = ended.line;
+  member = ended.member;
+  name = ended.name;
+  next = ended.next;
+  deliveries =
+      ranked_behind [] ended.entries;
+}
 
 abbrev pub next_shown : ℕ × ℕ → Name
 next_shown view = in_view view.0 view.1
@@ -71,7 +82,8 @@ listed (Some list) = list.items
 
 -- the deliveries in the segment that each member is in
 abbrev pub Holds : (ℕ → Option (Vec Entry Global)) → List Numbered → Type 0
-Holds held before = (member : ℕ) (segment : spec.Segment) → segment_behind member before ≡ Some segment → map entry_shown (listed (held member)) ≡ filter (is_in member segment) (entries_of before)
+Holds held before = (member : ℕ) (segment : spec.Segment) → segment_behind member before ≡ Some segment →
+    map entry_shown (listed (held member)) ≡ filter (is_in member segment) (entries_of before)
 
 -- whether a line ends a member's segment
 abbrev pub is_left : ReportLine → ℕ → Bool

@@ -1,9 +1,11 @@
 -- Which segments of a group have a delivery, and the first that lacks it, as it is found.
-use Rattle.std.specs.Prelude.{◌≡◌, ℕ, ◌==◌, ◌&&◌, ◌||◌, ◌<◌, not, nat_lt, Bool, true, false, List, [], ◌∷◌, fold, filter, count_by, Option, Some, None, if◌then◌else◌}
+use Rattle.std.specs.Prelude.{◌≡◌, ℕ, ◌==◌, ◌&&◌, ◌||◌, ◌<◌, not, nat_lt, Bool, true, false, List, [], ◌∷◌, fold}
+use Rattle.std.specs.Prelude.{filter, count_by, Option, Some, None, if◌then◌else◌}
 use Rattle.std.specs.List.{AllByRecursion, list_any}
 use Rattle.audit_mean.specs.Segment.{same_content}
 use Rattle.audit_mean.specs.Clash.{Placed}
-use Rattle.run_audit.specs.Lacks.{Known, content_of, entries_in, goes, lacks_in, ranked_shown, same_content_key, same_way}
+use Rattle.run_audit.specs.Lacks.{Known, content_of, entries_in, goes, lacks_in, ranked_shown, same_content_key}
+use Rattle.run_audit.specs.Lacks.{same_way}
 use Rattle.run_audit.specs.declared.contents.Ranked.{Ranked}
 use Rattle.run_audit.specs.declared.ended.Ended.{Ended}
 use Rattle.run_audit.specs.declared.ended.Way.{Way}
@@ -45,7 +47,13 @@ abbrev pub marked : Option Mark → Option Group → (member line : ℕ) → Mar
 marked None group member line = record { member = member; more_members = false; front = line; gap = lacking None group }
 marked (Some mark) group member line =
     if mark.front == line then mark
-    else record { member = mark.member; more_members = mark.more_members || not (mark.member == member); front = line; gap = lacking (Some mark) group }
+    else record {
+      member = mark.member;
+      more_members = mark.more_members || not (mark.member == member);
+      front =
+          line;
+      gap = lacking (Some mark) group;
+    }
 
 -- what is known of the segments of a group
 abbrev pub group_found : List Known → Option Group
@@ -90,7 +98,8 @@ Rises line (one ∷ more) = (line < one.line) × Rises one.line more
 
 -- each delivery of a segment has fewer of its content in front than there are
 abbrev pub IsRanked : Known → Type 0
-IsRanked one = AllByRecursion (λ placed. placed.place < count_by (same_content placed.entry) (entries_in one)) one.deliveries
+IsRanked one = AllByRecursion (λ placed. placed.place < count_by (same_content placed.entry) (entries_in one))
+    one.deliveries
 
 -- segments in the order of the lines that ended them, with the ranks of their deliveries
 pub record IsInLine (all : List Known) : Type 0 where

@@ -1,5 +1,6 @@
 -- What the readers of words and lines answer.
-use Rattle.std.specs.Prelude.{◌≡◌, ℕ, ◌&&◌, ◌||◌, nat_le, Bool, List, Option, Some, None, option_map, map, Result, Ok, Err, Vec}
+use Rattle.std.specs.Prelude.{◌≡◌, ℕ, ◌&&◌, ◌||◌, nat_le, Bool, List, Option, Some, None, option_map, map, Result, Ok}
+use Rattle.std.specs.Prelude.{Err, Vec}
 use Rattle.script_mean.specs.Words.{Word}
 use Rattle.script_text.specs.Parts.{parts_behind}
 use Rattle.audit_mean.specs.Line as spec

@@ -39,7 +39,8 @@ pub(crate) fn least_clash<'a>(
     placed: &[Placed<'a>],
 ) -> Result<Option<(u32, u32)>, AllocError>
     requires { IsInOrder 0 (map placed_shown placed.now) }
-    ensures { IfOk result (λ found. found ≡ least (spec.clashes_behind (lists_shown lists) [] (map placed_shown placed.now))) }
+    ensures { IfOk result
+        (λ found. found ≡ least (spec.clashes_behind (lists_shown lists) [] (map placed_shown placed.now))) }
 {
     let mut agreed = HashMap::new(alloc);
     for (index, entry) in placed.iter().enumerate() {
@@ -108,7 +109,8 @@ fn same_content(a: &Entry<'_>, b: &Entry<'_>) -> bool
 
 /// The lines of a delivery and of the first with which it clashes.
 fn earliest(lists: Lists, entry: &Placed<'_>, front: &[Placed<'_>]) -> Option<(u32, u32)>
-    ensures { result ≡ option_map (spec.lines_at (placed_shown entry.now)) (find (spec.clashes (lists_shown lists) (placed_shown entry.now)) (map placed_shown front.now)) }
+    ensures { result ≡ option_map (spec.lines_at (placed_shown entry.now))
+        (find (spec.clashes (lists_shown lists) (placed_shown entry.now)) (map placed_shown front.now)) }
 {
     for other in front {
         if clashes(lists, entry, other) {

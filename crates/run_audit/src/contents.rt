@@ -43,7 +43,9 @@ pub(crate) fn count<'a>(
     alloc: Global,
     deliveries: &[Ranked<'a>],
 ) -> Result<HashMap<Content<'a>, usize>, AllocError>
-    ensures { IfOk result (λ counts. Counts (hash.get same_content_key counts) (map (λ placed. placed.entry) (map ranked_shown deliveries.now))) }
+    ensures { IfOk result
+        (λ counts. Counts (hash.get same_content_key counts)
+        (map (λ placed. placed.entry) (map ranked_shown deliveries.now))) }
 {
     let mut counts = HashMap::with_capacity(alloc, deliveries.len())?;
     for delivery in deliveries {
@@ -67,7 +69,8 @@ fn next_rank<'a>(
     content: Content<'a>,
 ) -> Result<usize, AllocError>
     requires { unwrap_or (hash.get same_content_key counts.old content) 0 < 18446744073709551615 }
-    ensures { IfOk result (λ place. (place ≡ unwrap_or (hash.get same_content_key counts.old content.entry) 0) × OneMore (hash.get same_content_key counts.old) (hash.get same_content_key counts.new) content.entry) }
+    ensures { IfOk result (λ place. (place ≡ unwrap_or (hash.get same_content_key counts.old content.entry) 0) ×
+        OneMore (hash.get same_content_key counts.old) (hash.get same_content_key counts.new) content.entry) }
 {
     let place = counts.get(&content).copied().unwrap_or(0);
     counts.insert(content, place + 1)?;

@@ -1,5 +1,6 @@
 //! The segments that members end by going into a view.
-ghost use Rattle.std.specs.Prelude.{◌≡◌, ℕ, ◌==◌, ◌<◌, ◌^◌, ◌++◌, ◌∷◌, if◌then◌else◌, List, nat_eq, length, map, option_map, [], None, IfOk};
+ghost use Rattle.std.specs.Prelude.{◌≡◌, ℕ, ◌==◌, ◌<◌, ◌^◌, ◌++◌, ◌∷◌, if◌then◌else◌, List, nat_eq, length, map};
+ghost use Rattle.std.specs.Prelude.{option_map, [], None, IfOk};
 ghost use Rattle.std.specs.HashMap as hash;
 ghost use Rattle.std.specs.Option.{option_to_list};
 ghost use Rattle.audit_mean.specs.Segment.{Numbered};
@@ -60,7 +61,9 @@ fn ended_by<'a>(
     number: u32,
     line: &Line<'a>,
 ) -> Result<Option<Ended<'a>>, AllocError>
-    ensures { IfOk result (λ ended. (before : List Numbered) → Stands segments.now before → Holds (hash.get nat_eq held.now) before → option_map ended_shown ended ≡ option_map known (spec.ended_by before (number, shown line.now))) }
+    ensures { IfOk result (λ ended. (before : List Numbered) → Stands segments.now before →
+        Holds (hash.get nat_eq held.now) before → option_map ended_shown ended ≡
+        option_map known (spec.ended_by before (number, shown line.now))) }
 {
     let Line::View(member, ltime, mask) = line else {
         return Ok(None);
@@ -86,7 +89,9 @@ fn rank_at<'a>(
     held: &HashMap<u8, Vec<Entry<'a>>>,
     member: u8,
 ) -> Result<Vec<Ranked<'a>>, AllocError>
-    ensures { IfOk result (λ ranked. map ranked_shown ranked.items ≡ ranked_behind [] (map entry_shown (listed (hash.get nat_eq held.now member)))) }
+    ensures { IfOk result
+        (λ ranked. map ranked_shown ranked.items ≡
+        ranked_behind [] (map entry_shown (listed (hash.get nat_eq held.now member)))) }
 {
     match held.get(&member) {
         Some(entries) => rank(alloc, entries.as_slice()),
@@ -110,7 +115,8 @@ fn follow<'a>(
     entry: Option<Entry<'a>>,
     line: &Line<'_>,
 ) -> Result<(), AllocError>
-    ensures { IfOk result (λ done. (member : ℕ) → listed (hash.get nat_eq held.new member) ≡ held_behind entry.entry (shown line.now) member (listed (hash.get nat_eq held.old member))) }
+    ensures { IfOk result (λ done. (member : ℕ) → listed (hash.get nat_eq held.new member) ≡
+        held_behind entry.entry (shown line.now) member (listed (hash.get nat_eq held.old member))) }
 {
     if let Some(entry) = entry {
         add(alloc, held, entry)?;
@@ -126,7 +132,9 @@ fn add<'a>(
     held: &mut HashMap<u8, Vec<Entry<'a>>>,
     entry: Entry<'a>,
 ) -> Result<(), AllocError>
-    ensures { IfOk result (λ done. (member : ℕ) → listed (hash.get nat_eq held.new member) ≡ (if entry.entry.member == member then listed (hash.get nat_eq held.old member) ++ entry.entry ∷ [] else listed (hash.get nat_eq held.old member))) }
+    ensures { IfOk result (λ done. (member : ℕ) → listed (hash.get nat_eq held.new member) ≡
+        (if entry.entry.member == member then listed (hash.get nat_eq held.old member) ++ entry.entry ∷
+        [] else listed (hash.get nat_eq held.old member))) }
 {
     let mut entries = match held.remove(&entry.member) {
         Some(entries) => entries,
@@ -139,7 +147,8 @@ fn add<'a>(
 
 /// A segment that a line ends, its deliveries with it.
 fn drop_ended<'a>(held: &mut HashMap<u8, Vec<Entry<'a>>>, line: &Line<'_>)
-    ensures { (member : ℕ) → listed (hash.get nat_eq held.new member) ≡ held_behind None (shown line.now) member (listed (hash.get nat_eq held.old member)) }
+    ensures { (member : ℕ) → listed (hash.get nat_eq held.new member) ≡
+        held_behind None (shown line.now) member (listed (hash.get nat_eq held.old member)) }
 {
     match line {
         Line::View(member, _, _) | Line::Out(member) => {

@@ -3,7 +3,8 @@ ghost use Rattle.std.specs.Prelude.{◌≡◌, ◌&&◌, ◌∷◌, [], List, ma
 ghost use Rattle.std.specs.HashMap as hash;
 ghost use Rattle.audit_mean.specs.Segment as segment;
 ghost use Rattle.audit_mean.specs.Finding.{least};
-ghost use Rattle.run_audit.specs.Lacks.{Counts, all_lacks, ended_shown, entries_in, exceeds, first_of, goes_with, is_other, lacks_in, lacks_of_one, ranked_shown, same_content_key, surplus};
+ghost use Rattle.run_audit.specs.Lacks.{Counts, all_lacks, ended_shown, entries_in, exceeds, first_of, goes_with};
+ghost use Rattle.run_audit.specs.Lacks.{is_other, lacks_in, lacks_of_one, ranked_shown, same_content_key, surplus};
 ghost use Rattle.run_audit.specs.Marks.{IsInLine, is_in_front};
 
 use crate::contents::{Content, Ranked, content_of, count, count_of};
@@ -57,7 +58,9 @@ fn lack_from<'a>(
     counts: &HashMap<Content<'a>, usize>,
     other: &Ended<'a>,
 ) -> Option<(u32, u32)>
-    ensures { Counts (hash.get same_content_key counts.now) (entries_in (ended_shown one.now)) → result ≡ least (lacks_of_one (ended_shown one.now) (filter (goes_with (ended_shown one.now)) (ended_shown other.now ∷ []))) }
+    ensures { Counts (hash.get same_content_key counts.now) (entries_in (ended_shown one.now)) →
+        result ≡ least (lacks_of_one (ended_shown one.now)
+        (filter (goes_with (ended_shown one.now)) (ended_shown other.now ∷ []))) }
 {
     if !goes_along(one, other) {
         return None;
@@ -67,7 +70,8 @@ fn lack_from<'a>(
 
 #[tactic(auto, using(crate::proofs::First::parted, crate::proofs::First::alike))]
 fn goes_along(one: &Ended<'_>, other: &Ended<'_>) -> bool
-    ensures { result ≡ (goes_with (ended_shown one.now) (ended_shown other.now) && is_other (ended_shown one.now) (ended_shown other.now)) }
+    ensures { result ≡ (goes_with (ended_shown one.now) (ended_shown other.now) &&
+        is_other (ended_shown one.now) (ended_shown other.now)) }
 {
     goes_with(one, other) && one.member != other.member
 }
@@ -84,7 +88,8 @@ fn first_surplus(
     counts: &HashMap<Content<'_>, usize>,
     deliveries: &[Ranked<'_>],
 ) -> Option<(u32, u32)>
-    ensures { (all : List segment.Entry) → Counts (hash.get same_content_key counts.now) all → result ≡ least (surplus line all (map ranked_shown deliveries.now)) }
+    ensures { (all : List segment.Entry) → Counts (hash.get same_content_key counts.now) all →
+        result ≡ least (surplus line all (map ranked_shown deliveries.now)) }
 {
     let mut found = None;
     for delivery in deliveries {
@@ -96,7 +101,8 @@ fn first_surplus(
 }
 
 fn exceeds(counts: &HashMap<Content<'_>, usize>, delivery: &Ranked<'_>) -> bool
-    ensures { (all : List segment.Entry) → Counts (hash.get same_content_key counts.now) all → result ≡ exceeds all (ranked_shown delivery.now) }
+    ensures { (all : List segment.Entry) → Counts (hash.get same_content_key counts.now) all →
+        result ≡ exceeds all (ranked_shown delivery.now) }
 {
     delivery.place == count_of(counts, content_of(&delivery.entry))
 }

@@ -3,7 +3,8 @@ ghost use Rattle.std.specs.Prelude.{◌≡◌, if◌then◌else◌, ◌&&◌, ma
 ghost use Rattle.std.specs.HashMap as hash;
 ghost use Rattle.std.specs.List.{list_any};
 ghost use Rattle.run_audit.specs.Lacks.{ended_shown, ranked_shown, same_way};
-ghost use Rattle.run_audit.specs.Marks.{IsClear, IsInLine, Marked, item_for, lack_line, lacking, led, marked, other_than, same_item, same_item_key, sooner, sooner_in};
+ghost use Rattle.run_audit.specs.Marks.{IsClear, IsInLine, Marked, item_for, lack_line, lacking, led, marked};
+ghost use Rattle.run_audit.specs.Marks.{other_than, same_item, same_item_key, sooner, sooner_in};
 ghost use Rattle.run_audit.specs.declared.ended.Way.{Way};
 
 use crate::contents::{Content, Ranked, content_of};
@@ -65,7 +66,9 @@ pub(crate) fn first_lacking<'a>(
 
 fn mark_all<'a>(alloc: Global, ended: &[Ended<'a>]) -> Result<Marks<'a>, AllocError>
     requires { IsInLine (map ended_shown ended.now) }
-    ensures { IfOk result (λ marks. Marked (hash.get same_item_key marks.items) (hash.get same_way marks.groups) (map ended_shown ended.now)) }
+    ensures { IfOk result
+        (λ marks. Marked (hash.get same_item_key marks.items) (hash.get same_way marks.groups)
+        (map ended_shown ended.now)) }
 {
     let mut groups = HashMap::new(alloc);
     let mut items = HashMap::new(alloc);
@@ -84,7 +87,11 @@ fn mark_segment<'a>(
     behind: Option<Group>,
     one: &Ended<'a>,
 ) -> Result<(), AllocError>
-    ensures { IfOk result (λ done. (way : Way) (r : Ranked) → hash.get same_item_key items.new (item_for way r) ≡ (if same_way one.now.way way && list_any (same_item (ranked_shown r)) (map ranked_shown one.now.deliveries.items) then Some (marked (hash.get same_item_key items.old (item_for way r)) behind one.now.member one.now.line) else hash.get same_item_key items.old (item_for way r))) }
+    ensures { IfOk result (λ done. (way : Way) (r : Ranked) → hash.get same_item_key items.new (item_for way r) ≡
+        (if same_way one.now.way way &&
+        list_any (same_item (ranked_shown r)) (map ranked_shown one.now.deliveries.items) then Some
+        (marked (hash.get same_item_key items.old (item_for way r)) behind one.now.member one.now.line) else hash.get
+        same_item_key items.old (item_for way r))) }
 {
     for delivery in &one.deliveries {
         let item = item_of(one.way, delivery);
@@ -173,7 +180,8 @@ fn other_than(member: u8, group: Option<Group>) -> Option<u32>
 
 /// The first of a line and of those that ended segments that lack something that this one has.
 fn sooner_in(found: Option<u32>, marks: &Marks<'_>, one: &Ended<'_>) -> Option<u32>
-    ensures { result ≡ sooner_in (hash.get same_item_key marks.now.items) (hash.get same_way marks.now.groups) found one.now }
+    ensures { result ≡ sooner_in (hash.get same_item_key marks.now.items) (hash.get same_way marks.now.groups) found
+        one.now }
 {
     let group = group_at(&marks.groups, one.way);
     let mut found = found;

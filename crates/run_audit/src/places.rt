@@ -51,7 +51,9 @@ pub(crate) fn place<'a>(
     entries: &[Entry<'a>],
 ) -> Result<Vec<Placed<'a>>, AllocError>
     requires { length entries.now < 2 ^ 32 }
-    ensures { IfOk result (λ placed. map placed_shown placed.items ≡ spec.placed_behind (lists_shown lists) [] (map entry_shown entries.now)) }
+    ensures { IfOk result
+        (λ placed. map placed_shown placed.items ≡
+        spec.placed_behind (lists_shown lists) [] (map entry_shown entries.now)) }
 {
     let mut counts = HashMap::new(alloc);
     let mut placed = Vec::new(alloc);
@@ -78,7 +80,8 @@ fn list_key(lists: Lists, entry: &Entry<'_>) -> ListKey
 /// The length of a list, which is longer by one afterwards.
 fn next_place(counts: &mut HashMap<ListKey, u32>, key: ListKey) -> Result<u32, AllocError>
     requires { unwrap_or (hash.get same_key counts.old key) 0 < 4294967295 }
-    ensures { IfOk result (λ place. (place ≡ unwrap_or (hash.get same_key counts.old key) 0) × Lengthens (hash.get same_key counts.old) (hash.get same_key counts.new) key) }
+    ensures { IfOk result (λ place. (place ≡ unwrap_or (hash.get same_key counts.old key) 0) ×
+        Lengthens (hash.get same_key counts.old) (hash.get same_key counts.new) key) }
 {
     let place = counts.get(&key).copied().unwrap_or(0);
     counts.insert(key, place + 1)?;

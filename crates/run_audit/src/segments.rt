@@ -1,5 +1,6 @@
 //! The segments of members, and the deliveries in them.
-ghost use Rattle.std.specs.Prelude.{◌≡◌, ◌≢◌, ℕ, ◌+◌, ◌<◌, ◌≤◌, ◌^◌, List, ◌∷◌, [], ◌++◌, length, map, option_map, IfSome, IfOk};
+ghost use Rattle.std.specs.Prelude.{◌≡◌, ◌≢◌, ℕ, ◌+◌, ◌<◌, ◌≤◌, ◌^◌, List, ◌∷◌, [], ◌++◌, length, map, option_map};
+ghost use Rattle.std.specs.Prelude.{IfSome, IfOk};
 ghost use Rattle.std.specs.Option.{option_to_list};
 ghost use Rattle.audit_mean.specs.Segment as spec;
 ghost use Rattle.run_audit.specs.Reading.{shown};
@@ -60,7 +61,8 @@ impl Segments {
 
     /// The segments behind a line.
     pub(crate) fn advance(&mut self, number: u32, line: &Line<'_>)
-        ensures this { (m : ℕ) → standing self.new m ≡ spec.segment_next m (standing self.old m) (number, shown line.now) }
+        ensures this { (m : ℕ) →
+            standing self.new m ≡ spec.segment_next m (standing self.old m) (number, shown line.now) }
     {
         match line {
             Line::View(member, ltime, mask) => {
@@ -77,7 +79,8 @@ impl Segments {
 
     /// The delivery of a line in a segment, if it is one.
     pub(crate) fn entry<'a>(&self, number: u32, line: &Line<'a>) -> Option<Entry<'a>>
-        ensures { (before : List spec.Numbered) → Stands self.now before → option_map entry_shown result ≡ spec.entry_behind before (number, shown line.now) }
+        ensures { (before : List spec.Numbered) → Stands self.now before → option_map entry_shown result ≡
+            spec.entry_behind before (number, shown line.now) }
     {
         match line {
             Line::Deliver(member, peer, body) => {

@@ -4,11 +4,13 @@ use Rattle.std.specs.Prelude.{Result, OnOk}
 use Rattle.std.proofs.lemmas.Result.{on_ok_weaker}
 
 -- one piece more
-pub more : (start pieces piece text longer : List ℕ) → text ≡ start ++ pieces → longer ≡ text ++ piece → longer ≡ start ++ (pieces ++ piece)
+pub more : (start pieces piece text longer : List ℕ) → text ≡ start ++ pieces → longer ≡ text ++ piece →
+    longer ≡ start ++ (pieces ++ piece)
 more start pieces piece text longer is next = next ∙ ap (λ t. t ++ piece) is ∙ append_assoc start pieces piece
 
 -- two more, put as one
-pub two_more : (start pieces one two text longer : List ℕ) → text ≡ start ++ pieces → longer ≡ text ++ (one ++ two) → longer ≡ start ++ (pieces ++ one ++ two)
+pub two_more : (start pieces one two text longer : List ℕ) → text ≡ start ++ pieces → longer ≡ text ++ (one ++ two) →
+    longer ≡ start ++ (pieces ++ one ++ two)
 two_more start pieces one two text longer is next =
     more start pieces (one ++ two) text longer is next ∙ ap (λ t. start ++ t) (sym (append_assoc pieces one two))
 

@@ -1,5 +1,6 @@
 -- How a run ended, from what each of its steps answered.
-use Rattle.std.proofs.Common.{arith, ◌≡◌, refl, subst, ap, append-nil, ℕ, zero, suc, ◌<◌, List, [], ◌∷◌, length, Option, Some, None, inl, inr}
+use Rattle.std.proofs.Common.{arith, ◌≡◌, refl, subst, ap, append-nil, ℕ, zero, suc, ◌<◌, List, [], ◌∷◌, length, Option}
+use Rattle.std.proofs.Common.{Some, None, inl, inr}
 use Rattle.std.specs.Prelude.{IfSome, IsSomeAnd, Result, Ok, Err, if◌then◌else◌}
 use Rattle.std.specs.declared.alloc.Global.{Global}
 use Rattle.std.specs.declared.vec.Vec.{Vec}
@@ -19,7 +20,8 @@ use Rattle.run_chart.specs.declared.over_sinks.TheConstants.{LONGEST_REPORT}
 use Rattle.run_chart.specs.Charts.{IsNone, Charts, IsFound, IsPicture, IsRefused, StopsAt, Fetches, Writes}
 
 -- where memory ran out over the words, nothing was done
-pub wanted : (r : Option Request) (told : Option Shelved) (reads : ℕ) (output : Tells) → Comes r (surrounding told reads reads output output) Memory
+pub wanted : (r : Option Request) (told : Option Shelved) (reads : ℕ) (output : Tells) →
+    Comes r (surrounding told reads reads output output) Memory
 wanted None told reads output = record { untouched = refl; unread = refl }
 wanted (Some r) told reads output = inl refl
 
@@ -33,25 +35,30 @@ length_zeros zero = refl
 length_zeros (suc n) = ap suc (length_zeros n)
 
 -- a file of more than so many bytes: the one that was found, where the shelf tells, and else any
-longer : (told : Option Shelved) (name : List ℕ) (most : ℕ) → IfSome told (λ shelf. IsSomeAnd (found_in shelf name) (λ file. most < length file)) →
+longer : (told : Option Shelved) (name : List ℕ) (most : ℕ) →
+    IfSome told (λ shelf. IsSomeAnd (found_in shelf name) (λ file. most < length file)) →
     (file : List ℕ) × IfSome told (λ shelf. found_in shelf name ≡ Some file) × (most < length file)
 longer None name most h = let n = length_zeros (suc most) in (zeros (suc most), tt, omega (arith, n))
 longer (Some shelf) name most h = found (found_in shelf name) h where
-  found : (o : Option (List ℕ)) → IsSomeAnd o (λ file. most < length file) → (file : List ℕ) × (o ≡ Some file) × (most < length file)
+  found : (o : Option (List ℕ)) → IsSomeAnd o (λ file. most < length file) → (file : List ℕ) × (o ≡ Some file) ×
+      (most < length file)
   found None h = absurd h
   found (Some file) h = (file, refl, h)
 
 module _ (r : Request) (told : Option Shelved) (reads reads_after : ℕ) where
-  pub large : IfSome told (λ shelf. IsSomeAnd (found_in shelf r.file) (λ file. LONGEST_REPORT < length file)) → reads_after ≡ reads →
+  pub large : IfSome told (λ shelf. IsSomeAnd (found_in shelf r.file) (λ file. LONGEST_REPORT < length file)) →
+      reads_after ≡ reads →
       IsRefused r told reads reads_after too_large
   large h sound = let l = longer told r.file LONGEST_REPORT h in record {
     file = l.0;
     found = l.1;
-    refused = ap (λ b. if b then Err too_large else drawn r.range (lines_of l.0) (report_from running 1 (lines_of l.0))) (lt-ltb LONGEST_REPORT (length l.0) l.2);
+    refused = ap (λ b. if b then Err too_large else drawn r.range (lines_of l.0) (report_from running 1 (lines_of l.0)))
+        (lt-ltb LONGEST_REPORT (length l.0) l.2);
     sound = sound;
   }
 
-  none : (file : List ℕ) (end : Ending) → IsFound r told reads reads_after file → IsNone (chart_of r.range file) end → StopsAt r told reads reads_after end
+  none : (file : List ℕ) (end : Ending) → IsFound r told reads reads_after file → IsNone (chart_of r.range file) end →
+      StopsAt r told reads reads_after end
   none file TooLarge f c = record { file = file; found = f.found; refused = c; sound = f.sound }
   none file (Line number) f c = record { file = file; found = f.found; refused = c; sound = f.sound }
   none file Memory f c = tt
@@ -70,9 +77,15 @@ module _ (r : Request) (told : Option Shelved) (reads reads_after : ℕ) where
   pub written : (picture : List ℕ) (old new : Tells) (end : Ending) → IsPicture r told reads reads_after picture →
       Writes picture old new end → Draws r (surrounding told reads reads_after old new) end
   written picture old new Done f w =
-      record { good = record { file = f.file; found = f.found; picture = picture; drawn = f.charted; sound = f.sound }; written = w }
+      record {
+        good = record { file = f.file; found = f.found; picture = picture; drawn = f.charted; sound = f.sound };
+        written = w;
+      }
   written picture old new Write f w =
-      record { good = record { file = f.file; found = f.found; picture = picture; drawn = f.charted; sound = f.sound }; written = w }
+      record {
+        good = record { file = f.file; found = f.found; picture = picture; drawn = f.charted; sound = f.sound };
+        written = w;
+      }
   written picture old new Memory f w = inr (record {
     good = record { file = f.file; found = f.found; picture = picture; drawn = f.charted; sound = f.sound };
     written = subst (Begins old new) (append-nil picture) w;
@@ -83,9 +96,12 @@ module _ (r : Request) (told : Option Shelved) (reads reads_after : ℕ) where
   written picture old new Read f w = absurd w
 
   -- a run that stopped before it wrote
-  pub stopped : (output : Tells) (end : Ending) → StopsAt r told reads reads_after end → Draws r (surrounding told reads reads_after output output) end
-  stopped output TooLarge s = record { file = s.file; found = s.found; refused = s.refused; sound = s.sound; untouched = refl }
-  stopped output (Line number) s = record { file = s.file; found = s.found; refused = s.refused; sound = s.sound; untouched = refl }
+  pub stopped : (output : Tells) (end : Ending) → StopsAt r told reads reads_after end →
+      Draws r (surrounding told reads reads_after output output) end
+  stopped output TooLarge s =
+      record { file = s.file; found = s.found; refused = s.refused; sound = s.sound; untouched = refl }
+  stopped output (Line number) s =
+      record { file = s.file; found = s.found; refused = s.refused; sound = s.sound; untouched = refl }
   stopped output Read s = record { none = s.none; rose = s.rose; untouched = refl }
   stopped output Memory s = inl refl
   stopped output Done s = absurd s

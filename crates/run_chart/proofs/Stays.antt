@@ -1,5 +1,6 @@
 -- A member's stays, line by line.
-use Rattle.std.proofs.Common.{◌≡◌, sym, ap, ◌∙◌, ℕ, ◌+◌, ◌<◌, ◌≤◌, List, ◌++◌, length, drop, get_or, append_assoc, Some, None}
+use Rattle.std.proofs.Common.{◌≡◌, sym, ap, ◌∙◌, ℕ, ◌+◌, ◌<◌, ◌≤◌, List, ◌++◌, length, drop, get_or, append_assoc, Some}
+use Rattle.std.proofs.Common.{None}
 use Rattle.std.specs.Prelude.{map}
 use Rattle.std.proofs.lemmas.List.{drop_more, drop_all}
 use Rattle.chart_mean.specs.Place as spec
@@ -16,12 +17,16 @@ stays_from member end turn lines i = stays member end turn (turns_at member (map
 
 at_line : (member end : ℕ) (turn : Turn) (lines : List Line) (i : ℕ) (d : Line) → i < length lines →
     stays_from member end turn lines i
-    ≡ stays member end turn (turn_at member (line_shown (get_or lines i d)) ++ turns_at member (map line_shown (drop (i + 1) lines)))
-at_line member end turn lines i d lt = ap (λ ls. stays member end turn (turns_at member (map line_shown ls))) (drop_more lines i d lt)
+    ≡ stays member end turn
+    (turn_at member (line_shown (get_or lines i d)) ++ turns_at member (map line_shown (drop (i + 1) lines)))
+at_line member end turn lines i d lt = ap (λ ls. stays member end turn (turns_at member (map line_shown ls)))
+    (drop_more lines i d lt)
 
 -- one more line
-pub stays_step : (member end : ℕ) (lines : List Line) (i : ℕ) (d : Line) (start text more : List ℕ) (turn next : Turn) → i < length lines →
-    TurnsTo member turn (line_shown (get_or lines i d)) text more next → text ++ stays_from member end turn lines i ≡ start →
+pub stays_step : (member end : ℕ) (lines : List Line) (i : ℕ) (d : Line) (start text more : List ℕ) (turn next : Turn) →
+    i < length lines →
+    TurnsTo member turn (line_shown (get_or lines i d)) text more next → text ++ stays_from member end turn lines i ≡
+    start →
     more ++ stays_from member end next lines (i + 1) ≡ start
 stays_step member end lines i d start text more turn next lt to is =
     to end (turns_at member (map line_shown (drop (i + 1) lines)))
@@ -29,17 +34,22 @@ stays_step member end lines i d start text more turn next lt to is =
     ∙ is
 
 -- a line that ends no stay, and one that does
-pub stands : (member : ℕ) (turn : Turn) (line : spec.Line) (text : List ℕ) → None ≡ stay_of member line.says → TurnsTo member turn line text text turn
+pub stands : (member : ℕ) (turn : Turn) (line : spec.Line) (text : List ℕ) → None ≡ stay_of member line.says →
+    TurnsTo member turn line text text turn
 stands member turn line text is = λ end turns. ap (λ s. text ++ stays member end turn (turned line.x s ++ turns)) is
 
-pub turns : (member : ℕ) (turn : Turn) (stay : Stay) (line : spec.Line) (text more : List ℕ) → Some stay ≡ stay_of member line.says →
-    more ≡ text ++ stayed member turn.x line.x turn.stay → TurnsTo member turn line text more (record { x = line.x; stay = stay })
+pub turns : (member : ℕ) (turn : Turn) (stay : Stay) (line : spec.Line) (text more : List ℕ) →
+    Some stay ≡ stay_of member line.says →
+    more ≡ text ++ stayed member turn.x line.x turn.stay →
+    TurnsTo member turn line text more (record { x = line.x; stay = stay })
 turns member turn stay line text more is drew = λ end rest.
     ap (λ m. m ++ stays member end (record { x = line.x; stay = stay }) rest) drew
-    ∙ append_assoc text (stayed member turn.x line.x turn.stay) (stays member end (record { x = line.x; stay = stay }) rest)
+    ∙ append_assoc text (stayed member turn.x line.x turn.stay)
+    (stays member end (record { x = line.x; stay = stay }) rest)
     ∙ ap (λ s. text ++ stays member end turn (turned line.x s ++ rest)) is
 
 -- behind the last line
 pub stays_last : (member end : ℕ) (turn : Turn) (lines : List Line) (i : ℕ) → length lines ≤ i →
     stays_from member end turn lines i ≡ stayed member turn.x end turn.stay
-stays_last member end turn lines i le = ap (λ ls. stays member end turn (turns_at member (map line_shown ls))) (drop_all i lines le)
+stays_last member end turn lines i le = ap (λ ls. stays member end turn (turns_at member (map line_shown ls)))
+    (drop_all i lines le)

@@ -1,5 +1,6 @@
 -- With status 0 the output's stream has the whole picture.
-use Rattle.std.proofs.Common.{◌≡◌, refl, subst, ℕ, Bool, true, false, List, [], ◌∷◌, append-nil, Option, Some, None, arith}
+use Rattle.std.proofs.Common.{◌≡◌, refl, subst, ℕ, Bool, true, false, List, [], ◌∷◌, append-nil, Option, Some, None}
+use Rattle.std.proofs.Common.{arith}
 use Rattle.std.specs.List.{concat}
 use Rattle.std.specs.Io.KnownBytes.{Appends}
 use Rattle.clap.specs.Walk.{Text}
@@ -41,17 +42,22 @@ got_all false Write is = absurd (cc is)
 got_all false Memory is = absurd (cc is)
 
 pub delivers : (words : List Text) (told : Option Shelved) (reads reads_after : ℕ) (out err : Stream) (status : ℕ) →
-    RunsThrough words told reads reads_after out err status → status ≡ 0 → Delivers (request_of words) told reads reads_after out
+    RunsThrough words told reads reads_after out err status → status ≡ 0 →
+    Delivers (request_of words) told reads reads_after out
 delivers words told reads reads_after out err status r zero =
     let got = got_all r.whole r.end (well (closed r.whole r.end) (errors err.before r.closing status) r.said zero) in
-    by (request_of words) (subst (Comes (request_of words) (surrounding told reads reads_after out.before r.put)) got.1 r.came) (subst (HandsOn r.put out.after out.holds) got.0 r.handed_on)
+    by (request_of words)
+    (subst (Comes (request_of words) (surrounding told reads reads_after out.before r.put)) got.1 r.came)
+    (subst (HandsOn r.put out.after out.holds) got.0 r.handed_on)
   where
-    by : (request : Option Request) → Comes request (surrounding told reads reads_after out.before r.put) Done → HandsOn r.put out.after out.holds true →
+    by : (request : Option Request) → Comes request (surrounding told reads reads_after out.before r.put) Done →
+        HandsOn r.put out.after out.holds true →
         Delivers request told reads reads_after out
     by None came handed = absurd came
     by (Some request) came handed =
         record {
           good = came.good;
           gained = subst (Appends out.before.contents out.holds) (append-nil came.good.picture)
-              (appends_keeps out.before.contents r.put.contents out.holds (concat (came.good.picture ∷ [])) came.written.gained handed.0);
+              (appends_keeps out.before.contents r.put.contents out.holds (concat (came.good.picture ∷ []))
+              came.written.gained handed.0);
         }

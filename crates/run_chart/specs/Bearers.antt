@@ -19,4 +19,5 @@ NextBearers old new line = (body : Body) → new body ≡ bearer_next body.word.
 -- what is kept behind a packet with this body
 abbrev pub Bears : (Body → Option Sent) → (Body → Option Sent) → Sent → List ℕ → Type 0
 Bears old new sent word =
-    (body : Body) → new body ≡ (if bytes_eq word body.word.now && not (bytes_eq word (codes "-")) then Some sent else old body)
+    (body : Body) → new body ≡
+    (if bytes_eq word body.word.now && not (bytes_eq word (codes "-")) then Some sent else old body)

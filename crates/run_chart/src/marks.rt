@@ -123,7 +123,8 @@ fn from_another(member: u8, sent: Option<&Sent>) -> Option<Sent>
 
 /// Notes a line as the bearer of its body, if it is a packet that carries one.
 fn note<'a>(bearers: &mut HashMap<Body<'a>, Sent>, line: &Line<'a>) -> Result<(), AllocError>
-    ensures { OnOk result (NextBearers (hash.get same_body bearers.old) (hash.get same_body bearers.new) (line_shown line.now)) }
+    ensures { OnOk result
+        (NextBearers (hash.get same_body bearers.old) (hash.get same_body bearers.new) (line_shown line.now)) }
 {
     match line.says {
         Says::Packet(member, body) => note_packet(bearers, Sent { x: line.x, member }, body),

@@ -18,12 +18,13 @@ use std::alloc::Global;
 /// The most bytes of a report.
 const LONGEST_REPORT: u64 = 67_108_864;
 
-/// Draws the picture that the words ask for, the program's own name left out, on `out`, and answers the program's status. Where it
-/// ends with another status than 0, one line on `err` says why.
+/// Draws the picture that the words ask for, the program's own name left out, on `out`, and answers the program's
+/// status. Where it ends with another status than 0, one line on `err` says why.
 ///
-/// With status 0 `out` gained the picture of the definitions, byte for byte, in one put; 1 and 2 come exactly where the file is no report and the
-/// words ask for no picture, 4 and 5 only where the shelf or `out` counted a fault in this call, and 7 where memory ran out. A picture of a report that
-/// the shelf holds, on which no put of `out` failed, ends with 0 or 7.
+/// With status 0 `out` gained the picture of the definitions, byte for byte, in one put; 1 and 2 come exactly where the
+/// file is no report and the words ask for no picture, 4 and 5 only where the shelf or `out` counted a fault in this
+/// call, and 7 where memory ran out. A picture of a report that the shelf holds, on which no put of `out` failed, ends
+/// with 0 or 7.
 pub fn run<S: Shelf, O: Sink, E: Sink>(
     alloc: Global,
     words: &[String],
@@ -45,7 +46,8 @@ pub(crate) fn perform<S: Shelf, O: Sink>(
     shelf: &mut S,
     out: &mut O,
 ) -> Ending
-    ensures { Comes (request_of (map string_bytes words.now)) (around S.Shelf O.Sink shelf.old shelf.new out.old out.new) result }
+    ensures { Comes (request_of (map string_bytes words.now))
+        (around S.Shelf O.Sink shelf.old shelf.new out.old out.new) result }
 {
     match asked_for(alloc, words) {
         Ok(Some(request)) => draw_report(alloc, request, shelf, out),
@@ -84,7 +86,8 @@ fn fetch_text<S: Shelf>(
     request: Request<'_>,
     shelf: &mut S,
 ) -> Result<Vec<u8>, Ending>
-    ensures { ReadsText (request_shown request.entry) (S.told shelf.old) (S.faults shelf.old) (S.faults shelf.new) result }
+    ensures { ReadsText (request_shown request.entry) (S.told shelf.old) (S.faults shelf.old) (S.faults shelf.new)
+        result }
 {
     let mut text = Vec::new(alloc);
     match shelf.read(request.file, &mut text, LONGEST_REPORT) {

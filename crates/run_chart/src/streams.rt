@@ -17,8 +17,9 @@ use std::io::Write;
 
 /// Draws the picture that the words ask for, hands on what was put to both streams, and answers the program's status.
 ///
-/// The status is 0 only where the whole picture was put and the output's stream got all of it. Where the stream did not, that is said as a fault of
-/// writing; how a run ended else stays. What was said is handed on to the stream of `err`, or that sink counted a fault.
+/// The status is 0 only where the whole picture was put and the output's stream got all of it. Where the stream did
+/// not, that is said as a fault of writing; how a run ended else stays. What was said is handed on to the stream of
+/// `err`, or that sink counted a fault.
 pub fn run_through<S: Shelf, O: Write + Drop, E: Write + Drop>(
     alloc: Global,
     words: &[String],
@@ -26,16 +27,24 @@ pub fn run_through<S: Shelf, O: Write + Drop, E: Write + Drop>(
     out: &mut StdSink<O>,
     err: &mut StdSink<E>,
 ) -> u8
-    ensures through { RunsThrough (map string_bytes words.now) (S.told shelf.old) (S.faults shelf.old) (S.faults shelf.new)
-        (stream (tells (⟦<StdSink<O> as Sink>⟧.contents out.old) (⟦<StdSink<O> as Sink>⟧.failures out.old) (⟦<StdSink<O> as Sink>⟧.faults out.old))
-        (tells (⟦<StdSink<O> as Sink>⟧.contents out.new) (⟦<StdSink<O> as Sink>⟧.failures out.new) (⟦<StdSink<O> as Sink>⟧.faults out.new))
+    ensures through { RunsThrough (map string_bytes words.now) (S.told shelf.old) (S.faults shelf.old)
+        (S.faults shelf.new)
+        (stream (tells (⟦<StdSink<O> as Sink>⟧.contents out.old) (⟦<StdSink<O> as Sink>⟧.failures out.old)
+        (⟦<StdSink<O> as Sink>⟧.faults out.old))
+        (tells (⟦<StdSink<O> as Sink>⟧.contents out.new) (⟦<StdSink<O> as Sink>⟧.failures out.new)
+        (⟦<StdSink<O> as Sink>⟧.faults out.new))
         (O.contents (stream_of out.new)))
-        (stream (tells (⟦<StdSink<E> as Sink>⟧.contents err.old) (⟦<StdSink<E> as Sink>⟧.failures err.old) (⟦<StdSink<E> as Sink>⟧.faults err.old))
-        (tells (⟦<StdSink<E> as Sink>⟧.contents err.new) (⟦<StdSink<E> as Sink>⟧.failures err.new) (⟦<StdSink<E> as Sink>⟧.faults err.new))
+        (stream (tells (⟦<StdSink<E> as Sink>⟧.contents err.old) (⟦<StdSink<E> as Sink>⟧.failures err.old)
+        (⟦<StdSink<E> as Sink>⟧.faults err.old))
+        (tells (⟦<StdSink<E> as Sink>⟧.contents err.new) (⟦<StdSink<E> as Sink>⟧.failures err.new)
+        (⟦<StdSink<E> as Sink>⟧.faults err.new))
         (E.contents (stream_of err.new))) result }
-    ensures delivered { result ≡ 0 → Delivers (request_of (map string_bytes words.now)) (S.told shelf.old) (S.faults shelf.old) (S.faults shelf.new)
-        (stream (tells (⟦<StdSink<O> as Sink>⟧.contents out.old) (⟦<StdSink<O> as Sink>⟧.failures out.old) (⟦<StdSink<O> as Sink>⟧.faults out.old))
-        (tells (⟦<StdSink<O> as Sink>⟧.contents out.new) (⟦<StdSink<O> as Sink>⟧.failures out.new) (⟦<StdSink<O> as Sink>⟧.faults out.new))
+    ensures delivered { result ≡ 0 →
+        Delivers (request_of (map string_bytes words.now)) (S.told shelf.old) (S.faults shelf.old) (S.faults shelf.new)
+        (stream (tells (⟦<StdSink<O> as Sink>⟧.contents out.old) (⟦<StdSink<O> as Sink>⟧.failures out.old)
+        (⟦<StdSink<O> as Sink>⟧.faults out.old))
+        (tells (⟦<StdSink<O> as Sink>⟧.contents out.new) (⟦<StdSink<O> as Sink>⟧.failures out.new)
+        (⟦<StdSink<O> as Sink>⟧.faults out.new))
         (O.contents (stream_of out.new))) }
 {
     let ending = perform(alloc, words, shelf, out);

@@ -6,8 +6,8 @@ use program_streams::command_words;
 use std::io::{self, Write};
 use std::rt::{Env, Files};
 
-/// Draws the picture that the command line asks for, and answers the program's status. Where memory runs out before the standard
-/// error is made, nothing is said.
+/// Draws the picture that the command line asks for, and answers the program's status. Where memory runs out before the
+/// standard error is made, nothing is said.
 pub fn program<R: AllocGlobal + Env + Files, O: Write + Drop, E: Write + Drop>(
     system: &R,
     out: O,

@@ -87,7 +87,8 @@ impl Text {
         closing: &[u8],
     ) -> Result<(), AllocError>
         ensures { OnOk result (self.new ≡ self.old ++ (opening.now
-            ++ numbered (codes "x1") ends.x1 ++ numbered (codes "y1") ends.y1 ++ numbered (codes "x2") ends.x2 ++ numbered (codes "y2") ends.y2
+            ++ numbered (codes "x1") ends.x1 ++ numbered (codes "y1") ends.y1 ++ numbered (codes "x2") ends.x2 ++
+            numbered (codes "y2") ends.y2
             ++ closing.now)) }
     {
         self.put(opening)?;

@@ -1,6 +1,7 @@
--- Which steps are common, in which case, and which of their packets are sent short, under which plan. All is told by the layers' texts
--- and by the layered run of the step.
-use Rattle.std.specs.Prelude.{ℕ, ◌+◌, Bool, true, false, ◌&&◌, nat_le, if◌then◌else◌, List, [], ◌∷◌, slice_get, Option, Some, None, option_map, is_some, Result, Ok, Err}
+-- Which steps are common, in which case, and which of their packets are sent short, under which plan. All is told by
+-- the layers' texts and by the layered run of the step.
+use Rattle.std.specs.Prelude.{ℕ, ◌+◌, Bool, true, false, ◌&&◌, nat_le, if◌then◌else◌, List, [], ◌∷◌, slice_get, Option}
+use Rattle.std.specs.Prelude.{Some, None, option_map, is_some, Result, Ok, Err}
 use Rattle.std.specs.Option.{option_and_then, option_map_or}
 use Rattle.msg_core.specs.declared.packet.Packet.{Packet}
 use Rattle.layer_mean.specs.Tree.{LayerTree}
@@ -16,7 +17,8 @@ use Rattle.packet_mean.specs.Plan.{least_fit}
 use Rattle.stack_mean.specs.Plan.{Plan}
 use Rattle.packet_mean.specs.Spelling.{full_bytes, short_bytes}
 use Rattle.run_mean.specs.Mode.{Mode, layered, bypass}
-use Rattle.run_mean.specs.Member.{Entered, app_cast, app_send, app_leave, clock_tick, from_peer, Output, packet, nowhere, Step}
+use Rattle.run_mean.specs.Member.{Entered, app_cast, app_send, app_leave, clock_tick, from_peer, Output, packet}
+use Rattle.run_mean.specs.Member.{nowhere, Step}
 
 -- The entry of a plan: its packet's cast or send.
 abbrev pub plan_entry : Plan → Known
@@ -38,11 +40,12 @@ abbrev pub is_short : Result Shape NoShape → Bool
 is_short (Ok s) = nat_le s.length longest_shape
 is_short (Err reason) = false
 
--- A step is common in a case where its entry has a shape in it that isn't too long, and its run went as predicted in it in every visit.
--- The form in which a packet came plays no part.
+-- A step is common in a case where its entry has a shape in it that isn't too long, and its run went as predicted in it
+-- in every visit. The form in which a packet came plays no part.
 abbrev pub is_common_in : List LayerTree → List Plan → Step → Case → Bool
 is_common_in stack plans s case =
-    option_map_or (λ known. is_short (shape stack known case)) (entry_of plans s.entered) false && is_predicted case s.work
+    option_map_or (λ known. is_short (shape stack known case)) (entry_of plans s.entered) false &&
+    is_predicted case s.work
 
 -- The case of a step is the first in which it is common; it is common where there is one.
 abbrev pub case_of : List LayerTree → List Plan → Step → Option Case
@@ -54,8 +57,8 @@ case_of stack plans s =
 abbrev pub is_common : List LayerTree → List Plan → Step → Bool
 is_common stack plans s = is_some (case_of stack plans s)
 
--- The number of the first decision of a step that didn't go as predicted in a case, counted from 0 through all its visits, if there is
--- one.
+-- The number of the first decision of a step that didn't go as predicted in a case, counted from 0 through all its
+-- visits, if there is one.
 abbrev pub first_missed : Case → Step → Option ℕ
 first_missed case s = effect.first_missed case s.work.decided
 
@@ -77,15 +80,16 @@ groups_before _ case = None
 abbrev pub first_plan : List LayerTree → Entered → Case → Option ℕ
 first_plan stack what case = option_map (plans_before stack) (groups_before what case)
 
--- The number of the plan under which the packets of a step are sent short from the first on, if they are: in bypass mode, where the
--- step is a common one of an application, the first plan of its case.
+-- The number of the plan under which the packets of a step are sent short from the first on, if they are: in bypass
+-- mode, where the step is a common one of an application, the first plan of its case.
 abbrev pub short_from : Mode → List LayerTree → List Plan → Step → Option ℕ
 short_from layered stack plans s = None
 short_from bypass stack plans s = option_and_then (first_plan stack s.entered) (case_of stack plans s)
 
 -- The number of a plan that there is, of an output to which one belongs; each such output takes one number.
 abbrev pub plan_for : List Plan → Option ℕ → Output → Option ℕ
-plan_for plans next o = if is_planned o then option_and_then (λ k. option_map (λ plan. k) (slice_get plans k)) next else None
+plan_for plans next o = if is_planned o then option_and_then (λ k. option_map (λ plan. k) (slice_get plans k)) next else
+    None
 
 abbrev pub plan_behind : Option ℕ → Output → Option ℕ
 plan_behind next o = if is_planned o then option_map (λ k. k + 1) next else next

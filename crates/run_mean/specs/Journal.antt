@@ -1,6 +1,7 @@
--- A node: some members of a group that run over a network. Its journal is a list of script events, whatever the network and the clock
--- gave; what it writes is the report of these, and what it hands to the network are their packets.
-use Rattle.std.specs.Prelude.{ℕ, zero, suc, ◌+◌, ◌==◌, ◌&&◌, not, List, [], ◌∷◌, ◌++◌, map, length, take, drop, zip, replicate, slice_get, codes, Option, Some, None, option_to_list}
+-- A node: some members of a group that run over a network. Its journal is a list of script events, whatever the network
+-- and the clock gave; what it writes is the report of these, and what it hands to the network are their packets.
+use Rattle.std.specs.Prelude.{ℕ, zero, suc, ◌+◌, ◌==◌, ◌&&◌, not, List, [], ◌∷◌, ◌++◌, map, length, take, drop, zip}
+use Rattle.std.specs.Prelude.{replicate, slice_get, codes, Option, Some, None, option_to_list}
 use Rattle.std.specs.List.{flat_map, filter, filter_map, list_any}
 use Rattle.std.specs.Fmt.{decimal}
 use Rattle.msg_core.specs.declared.packet.Dest.{Dest}
@@ -32,8 +33,8 @@ pub data Note : Type 0 where
   fed : ScriptEvent → Note
   deaf : (id : ℕ) → Note
 
--- What the members heard in a turn, and how many failures may still be borne; none where one more came than may be, behind which
--- nothing is heard.
+-- What the members heard in a turn, and how many failures may still be borne; none where one more came than may be,
+-- behind which nothing is heard.
 pub record Hearing : Type 0 where
   pub notes : List Note
   pub patience : Option ℕ
@@ -51,15 +52,17 @@ hearing (suc patience) ((id, failure) ∷ rest) = noting (deaf id) (hearing pati
 
 -- The plan's events of a turn for a node's own members, in order.
 abbrev pub planned_events : NodePlan → List ℕ → ℕ → List ScriptEvent
-planned_events plan me t = map (λ x. x.1) (filter (λ x. (x.0 == t) && list_any (λ id. member_of x.1 == id) me) plan.turns)
+planned_events plan me t =
+    map (λ x. x.1) (filter (λ x. (x.0 == t) && list_any (λ id. member_of x.1 == id) me) plan.turns)
 
 -- What goes on where patience is left.
 abbrev pub while_patient : Option ℕ → (ℕ → List Note) → List Note
 while_patient None next = []
 while_patient (Some left) next = next left
 
--- The notes from a turn on: a tick of the turn's moment at each own member, what the members heard, and the plan's events. They end where
--- there is no moment, and at a failure that isn't borne, before which what was heard earlier in the turn still stands.
+-- The notes from a turn on: a tick of the turn's moment at each own member, what the members heard, and the plan's
+-- events. They end where there is no moment, and at a failure that isn't borne, before which what was heard earlier in
+-- the turn still stands.
 abbrev pub notes_from : NodePlan → List ℕ → (t turns patience : ℕ) (moments : List ℕ) (heard : List Heard) → List Note
 notes_from plan me t zero patience clock heard = []
 notes_from plan me t (suc turns) patience [] heard = []
@@ -69,8 +72,8 @@ notes_from plan me t (suc turns) patience (moment ∷ clock) heard =
     ++ while_patient h.patience (λ left.
     map fed (planned_events plan me t) ++ notes_from plan me (t + 1) turns left clock (drop (length me) heard))
 
--- The notes of a node: of its plan, its own members, how many turns it makes and how many failures it bears, what its clock told in each
--- turn and what its members heard.
+-- The notes of a node: of its plan, its own members, how many turns it makes and how many failures it bears, what its
+-- clock told in each turn and what its members heard.
 abbrev pub notes_of : NodePlan → List ℕ → (turns patience : ℕ) → List ℕ → List Heard → List Note
 notes_of plan me turns patience clock heard = notes_from plan me 0 turns patience clock heard
 
@@ -93,7 +96,8 @@ pub record Handed : Type 0 where
   pub to : ℕ
   pub bytes : List ℕ
 
--- The members to which a packet goes: a cast to each other one of the sender's view, by ascending id; a send to its rank's.
+-- The members to which a packet goes: a cast to each other one of the sender's view, by ascending id; a send to its
+-- rank's.
 abbrev pub receivers : ℕ → View → Dest → List ℕ
 receivers id view All = filter (λ other. not (other == id)) (ids view)
 receivers id view (Rank rank) = option_to_list (slice_get (ids view) rank)
@@ -121,10 +125,12 @@ abbrev pub node_moment_lines : List LayerTree → List Plan → (failed : ℕ �
 node_moment_lines stack plans failed m =
     line (codes ">" ∷ event_text m.event ∷ [])
     ∷ lines_of stack
-    (λ s. lines_of_outputs stack (lost_annex failed) (member_of m.event) (first_number m) (with_plans plans None s.outputs))
+    (λ s. lines_of_outputs stack (lost_annex failed) (member_of m.event) (first_number m)
+    (with_plans plans None s.outputs))
     m m.happening.did
 
--- What a node writes of its notes, whose events came to these moments: a line for each member that couldn't hear stands in its place.
+-- What a node writes of its notes, whose events came to these moments: a line for each member that couldn't hear stands
+-- in its place.
 abbrev pub note_lines : List LayerTree → List Plan → (failed : ℕ → ℕ) → List Note → List Moment → List (List ℕ)
 note_lines stack plans failed (deaf id ∷ notes) run =
     line (codes "deaf" ∷ decimal id ∷ []) ∷ note_lines stack plans failed notes run

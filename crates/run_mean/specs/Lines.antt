@@ -34,7 +34,8 @@ dest_text (Rank rank) = decimal rank
 -- `packet K M D CHAIN HEX`: packet K of member M.
 abbrev pub packet_line : List LayerTree → ℕ → ℕ → Packet → List ℕ
 packet_line stack k id p =
-    line (codes "packet" ∷ decimal k ∷ decimal id ∷ dest_text p.dest ∷ chain_text stack p.message.headers ∷ hex_text p.message.body ∷ [])
+    line (codes "packet" ∷ decimal k ∷ decimal id ∷ dest_text p.dest ∷ chain_text stack p.message.headers ∷
+    hex_text p.message.body ∷ [])
 
 -- `wire K HEX`: the bytes of packet K as it is sent.
 abbrev pub wire_line : ℕ → List ℕ → List ℕ
@@ -78,7 +79,8 @@ absent_line id k = line (codes "absent" ∷ decimal id ∷ decimal k ∷ [])
 
 -- `cell M P LAYER.CELL VALUES`.
 abbrev pub cell_line : ℕ → ℕ → LayerTree → List ℕ → List ℕ → List ℕ
-cell_line id place layer name values = line (codes "cell" ∷ decimal id ∷ decimal place ∷ (layer.name ++ codes "." ++ name) ∷ values ∷ [])
+cell_line id place layer name values =
+    line (codes "cell" ∷ decimal id ∷ decimal place ∷ (layer.name ++ codes "." ++ name) ∷ values ∷ [])
 
 -- Numbers with a space between.
 abbrev pub numbers_text : List ℕ → List ℕ
@@ -88,7 +90,8 @@ numbers_text ns = join_by decimal (codes " ") ns
 abbrev pub queue_name : List ℕ → ℕ → List ℕ
 queue_name name i = name ++ codes "[" ++ decimal i ++ codes "]"
 
--- The names and the values of a cell by its form: the numbers of a cell, the rows of a queue, or those of each queue of an array.
+-- The names and the values of a cell by its form: the numbers of a cell, the rows of a queue, or those of each queue of
+-- an array.
 abbrev pub cell_values : List LayerTree → List ℕ → Form → Contents → List (List ℕ × List ℕ)
 cell_values stack name (numbers shape initial) held = (name, numbers_text (numbers_in held)) ∷ []
 cell_values stack name (queue capacity items) held = map (λ rows. (name, rows_text stack rows)) (queues_in held)

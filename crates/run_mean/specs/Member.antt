@@ -1,5 +1,6 @@
 -- A member of a group, and one step of it: one input, and the run of its layers that this begins.
-use Rattle.std.specs.Prelude.{ℕ, ◌==◌, ◌&&◌, not, nat_lt, if◌then◌else◌, List, [], ◌∷◌, map, length, slice_get, Option, Some, None, option_map, Result, Ok, Err}
+use Rattle.std.specs.Prelude.{ℕ, ◌==◌, ◌&&◌, not, nat_lt, if◌then◌else◌, List, [], ◌∷◌, map, length, slice_get, Option}
+use Rattle.std.specs.Prelude.{Some, None, option_map, Result, Ok, Err}
 use Rattle.std.specs.List.{filter_map}
 use Rattle.std.specs.Option.{option_map_or}
 use Rattle.msg_core.specs.Chain.{Content, plain}
@@ -36,7 +37,8 @@ abbrev pub opened : List LayerTree → View → ℕ → Member
 opened stack view id = option_map_or
     (λ me. inside view (map (λ layer. fresh layer me (member_count view) view.ltime) stack)) (rank view id) out
 
--- What a member may be given: a cast or a send of its application, its wish to leave, a moment of its clock, or a datagram.
+-- What a member may be given: a cast or a send of its application, its wish to leave, a moment of its clock, or a
+-- datagram.
 pub data Input : Type 0 where
   cast : (body : List ℕ) → Input
   send : (to : ℕ) (body : List ℕ) → Input
@@ -82,8 +84,8 @@ from_above stack what numbers message = record { at = length stack; dir = Down; 
 abbrev pub from_below : Kind → List ℕ → Option Content → Task Event
 from_below what numbers message = record { at = 1; dir = Up; event = event_of what numbers message }
 
--- The task that a step begins with: an application's cast names the own rank, and its send the rank that it is for; a packet goes up
--- as a cast or a send from its sender.
+-- The task that a step begins with: an application's cast names the own rank, and its send the rank that it is for; a
+-- packet goes up as a cast or a send from its sender.
 abbrev pub first_task : List LayerTree → (me : ℕ) → Entered → Task Event
 first_task stack me (app_cast body) = from_above stack kind.Cast (me ∷ []) (Some (plain body))
 first_task stack me (app_send to body) = from_above stack kind.Send (to ∷ []) (Some (plain body))
@@ -91,8 +93,8 @@ first_task stack me app_leave = from_above stack kind.Leave (0 ∷ []) None
 first_task stack me (clock_tick moment) = from_below kind.Timer (moment ∷ []) None
 first_task stack me (from_peer packet) = from_below (kind_of packet.dest) (packet.sender ∷ []) (Some packet.message)
 
--- What leaves a stack at its edges. At the upper one: a delivery with its peer, a block, an announced view. At the lower one: a packet,
--- a send that has no other member to go to, a request for a timer. Every other event is quiet.
+-- What leaves a stack at its edges. At the upper one: a delivery with its peer, a block, an announced view. At the
+-- lower one: a packet, a send that has no other member to go to, a request for a timer. Every other event is quiet.
 pub data Output : Type 0 where
   deliver_cast : (peer : ℕ) (body : List ℕ) → Output
   deliver_send : (peer : ℕ) (body : List ℕ) → Output
@@ -149,15 +151,16 @@ abbrev pub packet_in : Output → Option Packet
 packet_in (packet p) = Some p
 packet_in _ = None
 
--- A step that was taken: what it entered as, the work of its run, its outputs in order, and the view that it installed, if it did.
+-- A step that was taken: what it entered as, the work of its run, its outputs in order, and the view that it installed,
+-- if it did.
 pub record Step : Type 0 where
   pub entered : Entered
   pub work : Work
   pub outputs : List Output
   pub installs : Option Member
 
--- The member behind a step: the first view that the run announced is installed once the run has ended, and later ones aren't. A member
--- that isn't in the new view, or whose count of views was at its end, is out.
+-- The member behind a step: the first view that the run announced is installed once the run has ended, and later ones
+-- aren't. A member that isn't in the new view, or whose count of views was at its end, is out.
 abbrev pub installed : List LayerTree → View → ℕ → ℕ → Member
 installed stack view id ranks = option_map_or (λ next. opened stack next id) (next_view view ranks) out
 

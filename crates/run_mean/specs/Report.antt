@@ -1,6 +1,7 @@
--- The report of a run: the lines of each event, the same whether it is run by layers or by bypasses, with the packets' bytes and the
--- number of visits where these are wanted.
-use Rattle.std.specs.Prelude.{ℕ, ◌+◌, Bool, true, false, if◌then◌else◌, List, [], ◌∷◌, ◌++◌, map, length, slice_index_or, codes, Option, Some, None, option_to_list}
+-- The report of a run: the lines of each event, the same whether it is run by layers or by bypasses, with the packets'
+-- bytes and the number of visits where these are wanted.
+use Rattle.std.specs.Prelude.{ℕ, ◌+◌, Bool, true, false, if◌then◌else◌, List, [], ◌∷◌, ◌++◌, map, length}
+use Rattle.std.specs.Prelude.{slice_index_or, codes, Option, Some, None, option_to_list}
 use Rattle.std.specs.List.{enumerate_from, flat_map, sum_by}
 use Rattle.std.specs.Fmt.{decimal}
 use Rattle.layer_mean.specs.Tree.{LayerTree, CellTree}
@@ -12,10 +13,12 @@ use Rattle.script_mean.specs.declared.event.ScriptEvent.TheVariants as script
 use Rattle.script_mean.specs.declared.script.Script.{Script}
 use Rattle.stack_mean.specs.Plan.{Plan}
 use Rattle.run_mean.specs.Mode.{Mode, layered, bypass}
-use Rattle.run_mean.specs.Member.{Member, inside, out, Output, deliver_cast, deliver_send, block, announce, packet, nowhere, timer, quiet, Step}
+use Rattle.run_mean.specs.Member.{Member, inside, out, Output, deliver_cast, deliver_send, block, announce, packet}
+use Rattle.run_mean.specs.Member.{nowhere, timer, quiet, Step}
 use Rattle.run_mean.specs.World.{World, first_world, member_at, Did, taken, refused, absent, shown, Happening, happens}
 use Rattle.run_mean.specs.Common.{is_common, with_plans, as_sent, wire}
-use Rattle.run_mean.specs.Lines.{line, deliver_line, number_line, packet_line, wire_line, view_line, out_line, state_out_line, refused_line, absent_line, cell_line, cell_values}
+use Rattle.run_mean.specs.Lines.{line, deliver_line, number_line, packet_line, wire_line, view_line, out_line}
+use Rattle.run_mean.specs.Lines.{state_out_line, refused_line, absent_line, cell_line, cell_values}
 
 -- The lines of an output, a packet having this number.
 abbrev pub output_lines : List LayerTree → ℕ → ℕ → Output → List (List ℕ)
@@ -33,7 +36,8 @@ abbrev pub number_behind : ℕ → Output → ℕ
 number_behind k (packet p) = k + 1
 number_behind k _ = k
 
--- What stands behind the lines of an output, of which the packet's number is told and the plan under which it is sent short.
+-- What stands behind the lines of an output, of which the packet's number is told and the plan under which it is sent
+-- short.
 abbrev pub Annex : Type 0
 Annex = ℕ → Output × Option ℕ → List (List ℕ)
 
@@ -92,7 +96,8 @@ pub record Moment : Type 0 where
 abbrev pub moments : List LayerTree → List Plan → World → List ScriptEvent → List Moment
 moments stack plans w [] = []
 moments stack plans w (e ∷ events) =
-    let h = happens stack plans w e in record { before = w; event = e; happening = h } ∷ moments stack plans h.world events
+    let h = happens stack plans w e in record { before = w; event = e; happening = h } ∷
+    moments stack plans h.world events
 
 -- The lines of what an event of a member came to, those of a step's outputs being told.
 abbrev pub lines_of : List LayerTree → (Step → List (List ℕ)) → Moment → Did → List (List ℕ)
@@ -154,7 +159,8 @@ abbrev pub mode_if : Bool → Mode → Option Mode
 mode_if false mode = None
 mode_if true mode = Some mode
 
--- What the program writes of a script in a mode: the report, where wanted with the packets' bytes and the number of visits.
+-- What the program writes of a script in a mode: the report, where wanted with the packets' bytes and the number of
+-- visits.
 unfoldable pub output_in : List LayerTree → List Plan → Script → Mode → (wire count : Bool) → List (List ℕ)
 output_in stack plans s mode wire count =
     wanted_lines stack plans (record { wires = mode_if wire mode; count = mode_if count mode }) s (run_of stack plans s)

@@ -16,7 +16,8 @@ use Rattle.std.specs.Prelude.{None}
 -- The kinds of lines that are counted, by their first words.
 abbrev pub counted_words : List (List ℕ)
 counted_words =
-    codes "deliver" ∷ codes "packet" ∷ codes "timer" ∷ codes "block" ∷ codes "announce" ∷ codes "view" ∷ codes "out" ∷ codes "refused"
+    codes "deliver" ∷ codes "packet" ∷ codes "timer" ∷ codes "block" ∷ codes "announce" ∷ codes "view" ∷ codes "out" ∷
+    codes "refused"
     ∷ codes "absent" ∷ []
 
 -- How many lines begin with a word.
@@ -33,13 +34,14 @@ abbrev pub short_in : Mode → List LayerTree → List Plan → Did → ℕ
 short_in mode stack plans (taken s) = count_by is_short_packet (as_sent mode stack plans s)
 short_in mode stack plans _ = 0
 
--- The lines of each kind that the report has and the number of its events, and in a second line the number of packets that are sent
--- short.
+-- The lines of each kind that the report has and the number of its events, and in a second line the number of packets
+-- that are sent short.
 abbrev pub tally : List LayerTree → List Plan → Mode → Script → List (List ℕ)
 tally stack plans mode s =
     let run = run_of stack plans s in
     let lines = flat_map (moment_lines stack plans None) run in
-    line (flat_map (λ word. word ∷ decimal (count_of lines word) ∷ []) counted_words ++ codes "end" ∷ decimal (length s.events) ∷ [])
+    line (flat_map (λ word. word ∷ decimal (count_of lines word) ∷ []) counted_words ++ codes "end" ∷
+    decimal (length s.events) ∷ [])
     ∷ line (codes "short" ∷ decimal (sum_by (λ m. short_in mode stack plans m.happening.did) run) ∷ []) ∷ []
 
 -- What the judging of an accepted stack writes.

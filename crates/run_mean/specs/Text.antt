@@ -1,5 +1,6 @@
 -- How headers, messages and rows are written in a report.
-use Rattle.std.specs.Prelude.{ℕ, ◌-◌, ◌==◌, false, if◌then◌else◌, List, [], ◌∷◌, ◌++◌, map, slice_index_or, codes, option_to_list}
+use Rattle.std.specs.Prelude.{ℕ, ◌-◌, ◌==◌, false, if◌then◌else◌, List, [], ◌∷◌, ◌++◌, map, slice_index_or, codes}
+use Rattle.std.specs.Prelude.{option_to_list}
 use Rattle.std.specs.List.{join_by}
 use Rattle.std.specs.Fmt.{decimal}
 use Rattle.msg_core.specs.Chain.{Content}
@@ -35,7 +36,8 @@ message_text stack m = chain_text stack m.headers ++ codes ":" ++ hex_text m.bod
 -- A row: its items in brackets, with commas between.
 abbrev pub row_text : List LayerTree → Row → List ℕ
 row_text stack row =
-    codes "[" ++ join_by (λ item. item) (codes ",") (map decimal row.numbers ++ map (message_text stack) (option_to_list row.message))
+    codes "[" ++ join_by (λ item. item) (codes ",")
+    (map decimal row.numbers ++ map (message_text stack) (option_to_list row.message))
     ++ codes "]"
 
 -- Rows from the front, with a space between, or `-` for none.

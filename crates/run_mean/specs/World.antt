@@ -1,5 +1,7 @@
--- A group and every packet ever sent in it, and what one event of a script comes to. A lost packet is one that is never given.
-use Rattle.std.specs.Prelude.{ℕ, zero, suc, List, [], ◌++◌, map, slice_get, slice_index_or, slice_set, Option, Some, None, Result, Ok, Err}
+-- A group and every packet ever sent in it, and what one event of a script comes to. A lost packet is one that is never
+-- given.
+use Rattle.std.specs.Prelude.{ℕ, zero, suc, List, [], ◌++◌, map, slice_get, slice_index_or, slice_set, Option, Some}
+use Rattle.std.specs.Prelude.{None, Result, Ok, Err}
 use Rattle.std.specs.List.{filter_map, range_with_len}
 use Rattle.std.specs.Option.{option_map_or}
 use Rattle.msg_core.specs.declared.packet.Packet.{Packet}
@@ -13,10 +15,11 @@ use Rattle.packet_mean.specs.Spelling.{full_bytes}
 use Rattle.packet_mean.specs.declared.here.Here.{Here}
 use Rattle.msg_core.specs.View.{rank}
 use Rattle.run_mean.specs.View.{first_view}
-use Rattle.run_mean.specs.Member.{Member, inside, out, opened, Input, cast, send, leave, tick, datagram, Refusal, is_out, Entered, entered, Step, step_from, member_behind, packet_in}
+use Rattle.run_mean.specs.Member.{Member, inside, out, opened, Input, cast, send, leave, tick, datagram, Refusal}
+use Rattle.run_mean.specs.Member.{is_out, Entered, entered, Step, step_from, member_behind, packet_in}
 
--- A group at a moment: its name and its stamp, its members by id, and every packet ever sent, in the order of output. The first packet
--- has the number 1.
+-- A group at a moment: its name and its stamp, its members by id, and every packet ever sent, in the order of output.
+-- The first packet has the number 1.
 pub record World : Type 0 where
   pub group : ℕ
   pub stamp : ℕ

@@ -42,7 +42,8 @@ swapped = hi ∷ script.Cast 0 [] ∷ script.Give 2 1 ∷ script.Give 1 1 ∷ sc
 abbrev pub swapped_report : List ℕ
 swapped_report =
     codes "packet 1 0 all cnt.num(0) 6869\n" ++ codes "packet 2 0 all cnt.num(1) -\n" ++ codes "deliver 1 cast 0 -\n"
-    ++ codes "deliver 1 cast 0 6869\n" ++ codes "state 1 0 7\n" ++ codes "cell 1 0 cnt.k 0\n" ++ codes "cell 1 0 cnt.e 1 0 0\n"
+    ++ codes "deliver 1 cast 0 6869\n" ++ codes "state 1 0 7\n" ++ codes "cell 1 0 cnt.k 0\n" ++
+    codes "cell 1 0 cnt.e 1 0 0\n"
     ++ codes "end 5\n"
 
 abbrev pub GivenSwapped : Type 0

@@ -51,8 +51,9 @@ abbrev pub cases : List LayerTree → List ScriptEvent → List (Option Case)
 cases stack events = map (λ m. case_in stack (plans_of stack) m.happening.did)
     (run_of stack (plans_of stack) (record { group = 1; stamp = 1; members = 2; events = events }))
 
--- A cast is common in the case that its condition chose, and a send, which goes as predicted in both, in the first. The packets of casts,
--- for which there is no handler, and a tick are common in neither.
+-- A cast is common in the case that its condition chose, and a send, which goes as predicted in both, in the first. The
+-- packets of casts, for which there is no handler, and a tick are common in neither.
 abbrev pub FlipCases : Type 0
-FlipCases = cases (flip ∷ []) (script.Cast 0 [] ∷ script.Cast 0 [] ∷ script.Send 0 1 [] ∷ script.Give 1 1 ∷ script.Give 3 1 ∷ script.Tick 0 1 ∷ []) ≡
+FlipCases = cases (flip ∷ []) (script.Cast 0 [] ∷ script.Cast 0 [] ∷ script.Send 0 1 [] ∷ script.Give 1 1 ∷
+    script.Give 3 1 ∷ script.Tick 0 1 ∷ []) ≡
     Some First ∷ Some Second ∷ Some First ∷ None ∷ Some First ∷ None ∷ []

@@ -28,5 +28,6 @@ Leaves =
 abbrev pub Keeps : Type 0
 Keeps =
     reported (keeper ∷ []) 1 1 (script.Cast 0 (codes "a") ∷ script.Cast 0 (codes "b") ∷ script.Show 0 ∷ [])
-    ≡ codes "packet 1 0 all one.num(0) 61\n" ++ codes "packet 2 0 all one.full() -\n" ++ codes "packet 3 0 all one.num(1) 62\n"
+    ≡ codes "packet 1 0 all one.num(0) 61\n" ++ codes "packet 2 0 all one.full() -\n" ++
+    codes "packet 3 0 all one.num(1) 62\n"
     ++ codes "state 0 0 1\n" ++ codes "cell 0 0 one.s 1\n" ++ codes "cell 0 0 one.q [4294967295]\n" ++ codes "end 3\n"

@@ -7,7 +7,8 @@ use Rattle.script_mean.specs.declared.event.ScriptEvent.TheVariants as script
 use Rattle.script_mean.specs.declared.plan.NodePlan.{NodePlan}
 use Rattle.stack_mean.specs.Plans.{plans_of}
 use Rattle.run_mean.specs.Mode.{bypass}
-use Rattle.run_mean.specs.Journal.{Heard, datagram, silence, failure, Note, fed, deaf, notes_of, journal, handed, node_run, note_lines, node_lines}
+use Rattle.run_mean.specs.Journal.{Heard, datagram, silence, failure, Note, fed, deaf, notes_of, journal, handed}
+use Rattle.run_mean.specs.Journal.{node_run, note_lines, node_lines}
 use Rattle.layer_rows.specs.Counter.{counter}
 
 -- Members 0 and 1 are the node's own. The cast of member 2 is another node's.
@@ -46,7 +47,8 @@ Journals =
     × (notes_of plan (0 ∷ 1 ∷ []) 2 0 (5 ∷ 6 ∷ []) (datagram [] ∷ failure ∷ []) ≡
     fed (script.Tick 0 5) ∷ fed (script.Tick 1 5) ∷ fed (script.Raw 0 []) ∷ [])
     × (notes_of plan (0 ∷ 1 ∷ []) 1 1 (5 ∷ []) (failure ∷ datagram [] ∷ []) ≡
-    fed (script.Tick 0 5) ∷ fed (script.Tick 1 5) ∷ deaf 0 ∷ fed (script.Raw 1 []) ∷ fed (script.Cast 0 (codes "hi")) ∷ [])
+    fed (script.Tick 0 5) ∷ fed (script.Tick 1 5) ∷ deaf 0 ∷ fed (script.Raw 1 []) ∷ fed (script.Cast 0 (codes "hi")) ∷
+    [])
 
 -- The first packet's sending to one of its receivers fails.
 abbrev pub fails_once : ℕ → ℕ
@@ -57,7 +59,8 @@ stack = counter ∷ []
 
 -- What the node writes: each event behind `> `, its report, and the packet that was lost.
 abbrev pub Writes : Type 0
-Writes = concat (node_lines stack (plans_of stack) fails_once (map fed events) (node_run stack (plans_of stack) plan (map fed events))) ≡
+Writes = concat (node_lines stack (plans_of stack) fails_once (map fed events)
+    (node_run stack (plans_of stack) plan (map fed events))) ≡
     codes "> tick 0 5\n" ++ codes "> tick 1 5\n" ++ codes "> cast 0 6869\n" ++ codes "packet 1 0 all cnt.num(0) 6869\n"
     ++ codes "lost 1\n" ++ codes "> tick 0 6\n" ++ codes "> tick 1 6\n"
     ++ codes "> raw 1 e50000000100000007000000000000000700ff01000000006869\n" ++ codes "deliver 1 cast 0 6869\n"

@@ -10,14 +10,16 @@ small n = 0 ∷ 0 ∷ 0 ∷ n ∷ []
 
 -- The front of a datagram: its form, the group, the stamp and the mask, then the sender and the destination.
 abbrev pub front : ℕ → ℕ → ℕ → ℕ → ℕ → ℕ → List ℕ
-front form group stamp mask sender dest = form ∷ small group ++ small stamp ++ small 0 ++ small mask ++ sender ∷ dest ∷ []
+front form group stamp mask sender dest = form ∷ small group ++ small stamp ++ small 0 ++ small mask ++ sender ∷ dest ∷
+    []
 
 -- What member 1 of three makes of a list of datagrams.
 abbrev pub taken_raw : List (List ℕ) → List ℕ
 taken_raw datagrams = reported (counter ∷ []) 7 3 (map (script.Raw 1) datagrams)
 
--- Each cause in its order: a short datagram, another form, group, stamp and view, the own rank and one that there isn't, another
--- destination, a plan that there isn't, a cut chain in both forms, a body that is too long; and one that is taken.
+-- Each cause in its order: a short datagram, another form, group, stamp and view, the own rank and one that there
+-- isn't, another destination, a plan that there isn't, a cut chain in both forms, a body that is too long; and one that
+-- is taken.
 abbrev pub Refuses : Type 0
 Refuses =
     taken_raw (
@@ -45,7 +47,9 @@ Refuses =
 abbrev pub RefusesGiven : Type 0
 RefusesGiven =
     reported (counter ∷ []) 7 3 (
-    script.Cast 0 (codes "hi") ∷ script.Give 1 0 ∷ script.Give 0 1 ∷ script.Give 2 1 ∷ script.Cast 0 (replicate 8193 0) ∷ []
+    script.Cast 0 (codes "hi") ∷ script.Give 1 0 ∷ script.Give 0 1 ∷ script.Give 2 1 ∷
+    script.Cast 0 (replicate 8193 0) ∷ []
     )
-    ≡ codes "packet 1 0 all cnt.num(0) 6869\n" ++ codes "refused 0 sender\n" ++ codes "absent 1 0\n" ++ codes "absent 1 2\n"
+    ≡ codes "packet 1 0 all cnt.num(0) 6869\n" ++ codes "refused 0 sender\n" ++ codes "absent 1 0\n" ++
+    codes "absent 1 2\n"
     ++ codes "refused 0 big\n" ++ codes "end 5\n"

@@ -13,7 +13,8 @@ use Rattle.run_rows.specs.Written.{written}
 -- A send to rank 1, given to rank 2 and to rank 1; and two sends that have nobody to go to.
 abbrev pub sends : List ScriptEvent
 sends =
-    script.Send 0 1 (codes "hi") ∷ script.Give 1 2 ∷ script.Give 1 1 ∷ script.Send 0 0 (codes "a") ∷ script.Send 0 5 (codes "b")
+    script.Send 0 1 (codes "hi") ∷ script.Give 1 2 ∷ script.Give 1 1 ∷ script.Send 0 0 (codes "a") ∷
+    script.Send 0 5 (codes "b")
     ∷ []
 
 -- Only the first leaves as a packet, in full or short under the plan of a send.

@@ -37,5 +37,6 @@ FourPlaces =
     × (cast_in (bottom ∷ counting ∷ loopback ∷ total ∷ []) bypass ≡
     codes "deliver 0 cast 0 61\n"
     ++ codes "packet 1 0 all bottom.net(1)/mnak.num(0)/local.none()/total.num(0,0) 61\n"
-    ++ codes "wire 1 e60000000100000001000000000000000300ff" ++ codes "00" ++ codes "000000000000000000000000" ++ codes "61\n"
+    ++ codes "wire 1 e60000000100000001000000000000000300ff" ++ codes "00" ++ codes "000000000000000000000000" ++
+    codes "61\n"
     ++ codes "end 1\n" ++ codes "visits 0\n")

@@ -79,7 +79,8 @@ pub fn one_send()
     ensures { OneSend }
 {}
 
-/// Three casts of a layer with two common cases, in both modes; its plans, its packets' bytes, and the cases of its steps.
+/// Three casts of a layer with two common cases, in both modes; its plans, its packets' bytes, and the cases of its
+/// steps.
 pub fn flips()
     ensures reports { ThreeFlips }
     ensures plans { FlipPlans }

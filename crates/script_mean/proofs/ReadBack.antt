@@ -1,5 +1,6 @@
 -- The line of an event says this very event.
-use Rattle.std.proofs.Common.{◌≡◌, ℕ, zero, suc, ◌+◌, ◌*◌, ◌/◌, ◌%◌, ◌^◌, ◌<◌, ◌≤◌, Bool, true, false, List, [], ◌∷◌, length, get_or, slice_index, Option, Some, None, refl, sym, ap, ◌∙◌, arith, ◌⊎◌, inl, inr}
+use Rattle.std.proofs.Common.{◌≡◌, ℕ, zero, suc, ◌+◌, ◌*◌, ◌/◌, ◌%◌, ◌^◌, ◌<◌, ◌≤◌, Bool, true, false, List, [], ◌∷◌}
+use Rattle.std.proofs.Common.{length, get_or, slice_index, Option, Some, None, refl, sym, ap, ◌∙◌, arith, ◌⊎◌, inl, inr}
 use Rattle.std.specs.Prelude.{◌&&◌, ◌||◌, ◌==◌, not, nat_lt, All, codes, bytes_eq, unwrap_or, option_map}
 use Rattle.std.specs.List.{list_all, join_with_byte}
 use Rattle.std.specs.Char.{is_ascii_digit}
@@ -13,7 +14,8 @@ use Rattle.std.proofs.lemmas.List.Splits.{slice_split_at, slice_split_none}
 use Rattle.std.proofs.lemmas.List.Elements.{All-nil, All-cons, All-head, All-tail}
 use Rattle.hex.specs.Hex.{encode_with, lower_digits}
 use Rattle.hex.proofs.HexLemmas.{length-encode_with}
-use Rattle.script_mean.specs.Words.{Word, words_of, is_plain, number_of, within, number_within, hex_digit, hex_bytes, body_of}
+use Rattle.script_mean.specs.Words.{Word, words_of, is_plain, number_of, within, number_within, hex_digit, hex_bytes}
+use Rattle.script_mean.specs.Words.{body_of}
 use Rattle.script_mean.specs.Event.{event_line}
 use Rattle.script_mean.specs.EventText.{hex_text, event_words, event_text, IsSayable, IsBody, IsEvent, ReadsBack}
 use Rattle.script_mean.specs.declared.event.ScriptEvent.{ScriptEvent}
@@ -26,11 +28,13 @@ abbrev IsWord : Word → Type 0
 IsWord word = All (λ byte. (byte == 32) ≡ false) word
 
 -- words without a space, joined by spaces, are the words of the line
-words_back : (first : Word) (more : List Word) → IsWord first → All IsWord more → words_of (join_with_byte 32 (first ∷ more)) ≡ first ∷ more
+words_back : (first : Word) (more : List Word) → IsWord first → All IsWord more →
+    words_of (join_with_byte 32 (first ∷ more)) ≡ first ∷ more
 words_back first [] word none = slice_split_none _ first word
 words_back first (next ∷ more) word words =
     slice_split_at _ first 32 (join_with_byte 32 (next ∷ more)) word refl ∙
-    ap (λ (ws : List Word). first ∷ ws) (words_back next more (All-head IsWord next more words) (All-tail IsWord next more words))
+    ap (λ (ws : List Word). first ∷ ws)
+    (words_back next more (All-head IsWord next more words) (All-tail IsWord next more words))
 
 -- ---- numbers
 
@@ -42,7 +46,8 @@ digits_same [] = refl
 digits_same (d ∷ ds) = ap (λ b. is_ascii_digit d && b) (digits_same ds)
 
 decimal_digits : (n : ℕ) → n < 2 ^ 64 → AreDigits (decimal n)
-decimal_digits n small = sym (digits_same (decimal n)) ∙ digits_decimal (numerals_by_value _ tells_all_ascii_digits) n small
+decimal_digits n small = sym (digits_same (decimal n)) ∙ digits_decimal (numerals_by_value _ tells_all_ascii_digits) n
+    small
 
 plain : (ds : List ℕ) → AreDigits ds → 0 < length ds → (length ds ≡ 1) ⊎ (48 < get_or ds 0 0) → is_plain ds ≡ true
 plain [] all some first = absurd (omega arith)
@@ -65,7 +70,8 @@ inside low high n least most = grind (arith, nat_tests)
 -- a number is read back
 number_back : (low high n : ℕ) → low ≤ n → n ≤ high → n < 2 ^ 64 → number_within low high (decimal n) ≡ Some n
 number_back low high n least most small =
-    rw (decimal_plain n small, digits_value-decimal (numerals_by_value _ tells_all_ascii_digits) n small) (inside low high n least most)
+    rw (decimal_plain n small, digits_value-decimal (numerals_by_value _ tells_all_ascii_digits) n small)
+    (inside low high n least most)
 
 said_number : (n : ℕ) → IsSayable n → number_of (decimal n) ≡ Some n
 said_number n most = number_back 0 4294967295 n (omega arith) most (omega arith)
@@ -117,7 +123,8 @@ no_space false e = refl
 
 digit_at : (d : ℕ) → d < 16 → IsDigit d
 digit_at d below =
-    let parts = and_parts (unwrap_or (hex_digit (slice_index lower_digits d)) 99 == d) (not (slice_index lower_digits d == 32)) (spells_at 16 d refl below) in
+    let parts = and_parts (unwrap_or (hex_digit (slice_index lower_digits d)) 99 == d)
+    (not (slice_index lower_digits d == 32)) (spells_at 16 d refl below) in
     record {
       spelled = some_from (hex_digit (slice_index lower_digits d)) d below (eqb-true _ _ parts.0);
       word = no_space (slice_index lower_digits d == 32) parts.1;
@@ -134,15 +141,18 @@ hex_back (b ∷ rest) all =
     let high = digit_at (b / 16) (omega arith) in
     let low = digit_at (b % 16) (omega arith) in
     let whole : b / 16 * 16 + b % 16 ≡ b = omega arith in
-    rw (high.spelled, low.spelled, hex_back rest (All-tail (λ byte. byte < 256) b rest all)) (ap (λ (v : ℕ). Some (v ∷ rest)) whole)
+    rw (high.spelled, low.spelled, hex_back rest (All-tail (λ byte. byte < 256) b rest all))
+    (ap (λ (v : ℕ). Some (v ∷ rest)) whole)
 
 hex_word : (bytes : List ℕ) → AreBytes bytes → IsWord (encode_with lower_digits bytes)
 unfolding encode_with
 hex_word [] all = All-nil (λ byte. (byte == 32) ≡ false)
 hex_word (b ∷ rest) all =
     let below : b < 256 = All-head (λ byte. byte < 256) b rest all in
-    All-cons (λ byte. (byte == 32) ≡ false) (slice_index lower_digits (b / 16)) (slice_index lower_digits (b % 16) ∷ encode_with lower_digits rest) (digit_at (b / 16) (omega arith)).word
-    (All-cons (λ byte. (byte == 32) ≡ false) (slice_index lower_digits (b % 16)) (encode_with lower_digits rest) (digit_at (b % 16) (omega arith)).word
+    All-cons (λ byte. (byte == 32) ≡ false) (slice_index lower_digits (b / 16))
+    (slice_index lower_digits (b % 16) ∷ encode_with lower_digits rest) (digit_at (b / 16) (omega arith)).word
+    (All-cons (λ byte. (byte == 32) ≡ false) (slice_index lower_digits (b % 16)) (encode_with lower_digits rest)
+    (digit_at (b % 16) (omega arith)).word
     (hex_word rest (All-tail (λ byte. byte < 256) b rest all)))
 
 body_word : (body : List ℕ) → IsBody body → IsWord (hex_text body)
@@ -167,7 +177,11 @@ body_back [] is = refl
 body_back (b ∷ rest) is =
     let size = length-encode_with lower_digits (b ∷ rest) in
     let most = is.most in
-    rw (no_dash b rest, in_length (length (encode_with lower_digits (b ∷ rest))) (omega (arith, size)) (omega (arith, size, most))) (hex_back (b ∷ rest) is.bytes)
+    rw (
+      no_dash b rest,
+      in_length (length (encode_with lower_digits (b ∷ rest))) (omega (arith, size))
+          (omega (arith, size, most)),
+    ) (hex_back (b ∷ rest) is.bytes)
 
 -- ---- events
 
@@ -188,17 +202,24 @@ verb (b ∷ more) all =
 
 -- the words of an event's line are the event's words
 words_are : (event : ScriptEvent) → IsEvent event → words_of (event_text event) ≡ event_words event
-words_are (Cast m body) (n, is) = words_back (codes "cast") _ (verb (codes "cast") refl) (pair (decimal m) (hex_text body) (number_word m n) (body_word body is))
+words_are (Cast m body) (n, is) = words_back (codes "cast") _ (verb (codes "cast") refl)
+    (pair (decimal m) (hex_text body) (number_word m n) (body_word body is))
 words_are (Send m rank body) (n, most, is) =
-    words_back (codes "send") _ (verb (codes "send") refl) (All-cons IsWord (decimal m) (decimal rank ∷ hex_text body ∷ []) (number_word m n) (pair (decimal rank) (hex_text body) (number_word rank (omega arith)) (body_word body is)))
+    words_back (codes "send") _ (verb (codes "send") refl)
+    (All-cons IsWord (decimal m) (decimal rank ∷ hex_text body ∷ []) (number_word m n)
+    (pair (decimal rank) (hex_text body) (number_word rank (omega arith)) (body_word body is)))
 words_are (Leave m) n = words_back (codes "leave") _ (verb (codes "leave") refl) (alone (decimal m) (number_word m n))
-words_are (Tick m t) (n, k) = words_back (codes "tick") _ (verb (codes "tick") refl) (pair (decimal m) (decimal t) (number_word m n) (number_word t k))
-words_are (Give p m) (n, k) = words_back (codes "give") _ (verb (codes "give") refl) (pair (decimal p) (decimal m) (number_word p n) (number_word m k))
-words_are (Raw m body) (n, is) = words_back (codes "raw") _ (verb (codes "raw") refl) (pair (decimal m) (hex_text body) (number_word m n) (body_word body is))
+words_are (Tick m t) (n, k) = words_back (codes "tick") _ (verb (codes "tick") refl)
+    (pair (decimal m) (decimal t) (number_word m n) (number_word t k))
+words_are (Give p m) (n, k) = words_back (codes "give") _ (verb (codes "give") refl)
+    (pair (decimal p) (decimal m) (number_word p n) (number_word m k))
+words_are (Raw m body) (n, is) = words_back (codes "raw") _ (verb (codes "raw") refl)
+    (pair (decimal m) (hex_text body) (number_word m n) (body_word body is))
 words_are (Show m) n = words_back (codes "state") _ (verb (codes "state") refl) (alone (decimal m) (number_word m n))
 
 -- the event's words say the event
-said : (event : ScriptEvent) → IsEvent event → option_map (λ taken. taken.0) (event_line (event_words event)) ≡ Some event
+said : (event : ScriptEvent) → IsEvent event → option_map (λ taken. taken.0) (event_line (event_words event)) ≡
+    Some event
 said (Cast m body) (n, is) = rw (said_number m n, body_back body is) refl
 said (Send m rank body) (n, most, is) = rw (said_number m n, rank_back rank most, body_back body is) refl
 said (Leave m) n = rw (said_number m n) refl
@@ -208,4 +229,5 @@ said (Raw m body) (n, is) = rw (said_number m n, body_back body is) refl
 said (Show m) n = rw (said_number m n) refl
 
 pub reads_back : ReadsBack
-reads_back event is = ap (λ (ws : List Word). option_map (λ taken. taken.0) (event_line ws)) (words_are event is) ∙ said event is
+reads_back event is = ap (λ (ws : List Word). option_map (λ taken. taken.0) (event_line ws)) (words_are event is) ∙
+    said event is

@@ -1,5 +1,6 @@
 -- Forms: what the words of a line have to be, one after the other.
-use Rattle.std.specs.Prelude.{ℕ, List, [], ◌∷◌, Option, Some, None, option_map, option_and_then, bytes_eq, if◌then◌else◌}
+use Rattle.std.specs.Prelude.{ℕ, List, [], ◌∷◌, Option, Some, None, option_map, option_and_then, bytes_eq}
+use Rattle.std.specs.Prelude.{if◌then◌else◌}
 use Rattle.script_mean.specs.Words.{Word, number_of, number_within, body_of}
 
 -- a form takes words from the front: what they spell and the words behind them, or nothing where they don't fit

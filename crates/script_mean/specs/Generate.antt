@@ -1,5 +1,6 @@
 -- Scripts that are made from a number.
-use Rattle.std.specs.Prelude.{ℕ, zero, suc, ◌+◌, ◌-◌, ◌*◌, ◌/◌, ◌%◌, ◌^◌, ◌==◌, Bool, ◌&&◌, max, nat_lt, List, [], ◌∷◌, ◌++◌, map, replicate, take, slice_index, slice_set, if◌then◌else◌}
+use Rattle.std.specs.Prelude.{ℕ, zero, suc, ◌+◌, ◌-◌, ◌*◌, ◌/◌, ◌%◌, ◌^◌, ◌==◌, Bool, ◌&&◌, max, nat_lt, List, [], ◌∷◌}
+use Rattle.std.specs.Prelude.{◌++◌, map, replicate, take, slice_index, slice_set, if◌then◌else◌}
 use Rattle.std.specs.Int.{w32, to_be_bytes}
 use Rattle.std.specs.List.{range_with_len}
 use Rattle.script_mean.specs.declared.event.ScriptEvent.{ScriptEvent}
@@ -65,7 +66,10 @@ a_send members number member = do
 abbrev pub a_give : ℕ → List ℕ → Drawn (ScriptEvent × List ℕ)
 a_give member cursors = do
   way ← a_draw 8
-  made (Give (given way (slice_index cursors member)).0 member, slice_set cursors member (given way (slice_index cursors member)).1)
+  made (
+    Give (given way (slice_index cursors member)).0 member,
+    slice_set cursors member (given way (slice_index cursors member)).1,
+  )
 
 -- so many numbers below a bound
 abbrev pub draws : ℕ → ℕ → Drawn (List ℕ)
@@ -75,8 +79,8 @@ draws (suc k) bound = do
   more ← draws k bound
   made (first ∷ more)
 
--- the bytes in front of a datagram's headers: a full form where the drawn number is even and else a short one, group and stamp 1, the
--- first view of so many members, a sender, and that it is for all
+-- the bytes in front of a datagram's headers: a full form where the drawn number is even and else a short one, group
+-- and stamp 1, the first view of so many members, a sender, and that it is for all
 abbrev pub a_preamble : ℕ → ℕ → ℕ → List ℕ
 a_preamble form members sender =
     (if form == 0 then 229 else 230) ∷ to_be_bytes w32 1 ++ to_be_bytes w32 1 ++ to_be_bytes w32 0
@@ -137,7 +141,8 @@ abbrev pub generated : ℕ → ℕ → Bool → ℕ → Generator
 generated seed members raw zero = record { seed = seed; cursors = replicate members 0; events = [] }
 generated seed members raw (suc number) = after_event raw members number (generated seed members raw number)
 
--- the script of so many events of so many members that is made from a seed, with datagrams or without; group and stamp are 1
+-- the script of so many events of so many members that is made from a seed, with datagrams or without; group and stamp
+-- are 1
 abbrev pub generate : ℕ → ℕ → ℕ → Bool → Script
 generate seed events members raw =
     record { group = 1; stamp = 1; members = members; events = (generated seed members raw events).events }

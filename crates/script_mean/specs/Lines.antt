@@ -1,5 +1,6 @@
 -- The lines of a text: each ends with a line feed (10), which the last may lack.
-use Rattle.std.specs.Prelude.{ℕ, ◌+◌, ◌==◌, ◌||◌, not, nat_lt, Bool, true, List, [], ◌∷◌, length, count_by, filter, if◌then◌else◌}
+use Rattle.std.specs.Prelude.{ℕ, ◌+◌, ◌==◌, ◌||◌, not, nat_lt, Bool, true, List, [], ◌∷◌, length, count_by, filter}
+use Rattle.std.specs.Prelude.{if◌then◌else◌}
 use Rattle.std.specs.List.{after_last, enumerate_from, slice_split}
 
 -- a line feed

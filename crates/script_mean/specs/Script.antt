@@ -1,5 +1,6 @@
 -- Which script a text spells, or its first fault.
-use Rattle.std.specs.Prelude.{ℕ, ◌<◌, ◌≤◌, nat_lt, All, List, [], ◌∷◌, Option, Some, None, Result, Ok, Err, if◌then◌else◌}
+use Rattle.std.specs.Prelude.{ℕ, ◌<◌, ◌≤◌, nat_lt, All, List, [], ◌∷◌, Option, Some, None, Result, Ok, Err}
+use Rattle.std.specs.Prelude.{if◌then◌else◌}
 use Rattle.script_mean.specs.Lines.{is_too_long, said_lines}
 use Rattle.script_mean.specs.Event.{group_line, event_line, said_by, member_of}
 use Rattle.script_mean.specs.declared.script.Script.{Script}

@@ -25,7 +25,8 @@ pub fn find_faults()
     ensures upper_case { script_of (codes "group 1 stamp 7 members 3\ncast 0 6A\n") ≡ Err (bad_line 2) }
     ensures rank { script_of (codes "group 1 stamp 7 members 3\nsend 0 32 61\n") ≡ Err (bad_line 2) }
     ensures member { script_of (codes "group 1 stamp 7 members 3\ncast 3 61\nleave\n") ≡ Err (no_member 2) }
-    ensures largest_member { script_of (codes "group 1 stamp 7 members 3\n# three\n\nleave 4294967295\n") ≡ Err (no_member 4) }
+    ensures largest_member { script_of (codes "group 1 stamp 7 members 3\n# three\n\nleave 4294967295\n") ≡
+        Err (no_member 4) }
     ensures tab { script_of (codes "group 1 stamp 7 members 3\ngive\t1 0\n") ≡ Err (bad_line 2) }
     ensures comment_behind { script_of (codes "group 1 stamp 7 members 3\nstate 0 # shown\n") ≡ Err (bad_line 2) }
     ensures no_body { script_of (codes "group 1 stamp 7 members 3\nraw 0\n") ≡ Err (bad_line 2) }

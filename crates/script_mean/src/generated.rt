@@ -44,5 +44,6 @@ pub fn datagrams()
     ensures short_form { map event_text (generate 12 1 1 true).events ≡
         codes "raw 0 e60000000100000001000000000000000100ff0203010300020302020102030303020103030103010000000103000203030200020102030201010003000203000302020300020002" ∷ [] }
     ensures full_form { map event_text (generate 2 3 3 true).events ≡ codes "cast 0 000102030405060708090a0b0c0d0e0f101112131415161718191a1b1c1d1e" ∷ codes "give 2 0" ∷ codes "raw 1 e50000000100000001000000000000000701ff00030301" ∷ [] }
-    ensures cut_short { map event_text (drop 10 (generate 7 11 5 true).events) ≡ codes "raw 4 e60000000100000001000000000000001f" ∷ [] }
+    ensures cut_short { map event_text (drop 10 (generate 7 11 5 true).events) ≡
+        codes "raw 4 e60000000100000001000000000000001f" ∷ [] }
 {}

@@ -13,7 +13,8 @@ some_part at None e = absurd cc
 some_part at (Some rest) e = let parts = length-slice_split (λ byte. byte == at) rest.now in omega arith
 
 -- more than two parts of an address
-pub three : (host port : Word) (at : ℕ) (rest : Option (Bor (List ℕ))) → is_some rest ≡ true → None ≡ reached_at (host ∷ port ∷ parts_behind at rest)
+pub three : (host port : Word) (at : ℕ) (rest : Option (Bor (List ℕ))) → is_some rest ≡ true →
+    None ≡ reached_at (host ∷ port ∷ parts_behind at rest)
 three host port at rest e = more (parts_behind at rest) (some_part at rest e)
   where
     more : (parts : List Word) → 0 < length parts → None ≡ reached_at (host ∷ port ∷ parts)
@@ -21,7 +22,8 @@ three host port at rest e = more (parts_behind at rest) (some_part at rest e)
     more (part ∷ parts) some = refl
 
 -- more than four octets
-pub five : (a b c d : Word) (at : ℕ) (rest : Option (Bor (List ℕ))) → is_some rest ≡ true → None ≡ octets_of (a ∷ b ∷ c ∷ d ∷ parts_behind at rest)
+pub five : (a b c d : Word) (at : ℕ) (rest : Option (Bor (List ℕ))) → is_some rest ≡ true →
+    None ≡ octets_of (a ∷ b ∷ c ∷ d ∷ parts_behind at rest)
 five a b c d at rest e = more (parts_behind at rest) (some_part at rest e)
   where
     more : (parts : List Word) → 0 < length parts → None ≡ octets_of (a ∷ b ∷ c ∷ d ∷ parts)

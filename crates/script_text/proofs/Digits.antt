@@ -20,7 +20,8 @@ most byte h = grind (arith, nat_tests)
 
 -- what is known of a digit
 pub digit_is : (byte : ℕ) → is_ascii_digit byte ≡ true → IsDigit byte
-digit_is byte h = record { least = least byte h; most = most byte h; value = digit_value_digit byte (least byte h, most byte h) }
+digit_is byte h = record
+    { least = least byte h; most = most byte h; value = digit_value_digit byte (least byte h, most byte h) }
 
 -- a value above the bounds is out of them
 pub too_large : (all : Bool) (low high value : ℕ) → high < value → None ≡ (if all then within low high value else None)

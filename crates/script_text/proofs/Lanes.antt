@@ -1,5 +1,7 @@
 -- Digits, sixteen at a time.
-use Rattle.std.proofs.Common.{◌≡◌, ◌+◌, ◌*◌, ◌%◌, ◌^◌, ◌<◌, ◌≤◌, ℕ, zero, suc, Bool, true, false, List, [], ◌∷◌, ◌++◌, length, take, drop, get_or, map, replicate, cond, Option, Some, None, refl, ap, sym, ◌∙◌, append_assoc, arith, Fits, w8}
+use Rattle.std.proofs.Common.{◌≡◌, ◌+◌, ◌*◌, ◌%◌, ◌^◌, ◌<◌, ◌≤◌, ℕ, zero, suc, Bool, true, false, List, [], ◌∷◌, ◌++◌}
+use Rattle.std.proofs.Common.{length, take, drop, get_or, map, replicate, cond, Option, Some, None, refl, ap, sym, ◌∙◌}
+use Rattle.std.proofs.Common.{append_assoc, arith, Fits, w8}
 use Rattle.std.specs.Prelude.{◌&&◌, ◌==◌, not, nat_lt, IfSome, option_map, if◌then◌else◌}
 use Rattle.std.specs.Option.{unwrap_or}
 use Rattle.std.specs.List.{list_all}
@@ -14,9 +16,12 @@ use Rattle.script_text.proofs.Hex.{bounded}
 
 -- each lane is the value of its digit
 pub lanes_are : (sub add less : ℕ → ℕ → ℕ) (n : ℕ) (ds : List ℕ) → length ds ≡ n → Each1 (Fits w8) ds →
-    ((x : ℕ) → Fits w8 x → cond (top 7 (less (sub x 48) 10)) (sub x 48) (add (cond (top 7 (less (sub x 97) 6)) (sub x 97) 6) 10) ≡ digit_value x) →
+    ((x : ℕ) → Fits w8 x →
+    cond (top 7 (less (sub x 48) 10)) (sub x 48) (add (cond (top 7 (less (sub x 97) 6)) (sub x 97) 6) 10) ≡
+    digit_value x) →
     sel_l (map (top 7) (zip2 less (zip2 sub ds (replicate n 48)) (replicate n 10))) (zip2 sub ds (replicate n 48))
-    (zip2 add (sel_l (map (top 7) (zip2 less (zip2 sub ds (replicate n 97)) (replicate n 6))) (zip2 sub ds (replicate n 97)) (replicate n 6))
+    (zip2 add (sel_l (map (top 7) (zip2 less (zip2 sub ds (replicate n 97)) (replicate n 6)))
+    (zip2 sub ds (replicate n 97)) (replicate n 6))
     (replicate n 10)) ≡ map digit_value ds
 lanes_are sub add less zero [] long small lane = refl
 lanes_are sub add less zero (x ∷ ds) long small lane = absurd (omega (arith, long))
@@ -40,7 +45,8 @@ pairs_from k (suc n) vs = byte_of (get_or vs k 0) (get_or vs (suc k) 0) ∷ pair
 
 further : (n k a b : ℕ) (vs : List ℕ) → pairs_from (suc (suc k)) n (a ∷ b ∷ vs) ≡ pairs_from k n vs
 further zero k a b vs = refl
-further (suc n) k a b vs = ap (λ bytes. byte_of (get_or vs k 0) (get_or vs (suc k) 0) ∷ bytes) (further n (suc (suc k)) a b vs)
+further (suc n) k a b vs = ap (λ bytes. byte_of (get_or vs k 0) (get_or vs (suc k) 0) ∷ bytes)
+    (further n (suc (suc k)) a b vs)
 
 pub combined_is : (n : ℕ) (vs : List ℕ) → length vs ≡ 2 * n → combined vs ≡ pairs_from 0 n vs
 combined_is zero [] long = refl
@@ -56,8 +62,10 @@ ltb_is n small = grind (arith, nat_tests)
 abbrev pub all_small : List ℕ → Bool
 all_small vs = list_all (λ v. nat_lt v 16) vs
 
-one_pair : (h l : Option ℕ) (all : Bool) (bytes : List ℕ) (rest whole : Option (List ℕ)) → IfSome h (λ v. v < 16) → IfSome l (λ v. v < 16) →
-    whole ≡ (if all then option_map (λ more. bytes ++ more) rest else None) → (h >>= λ x. l >>= λ y. whole >>= λ more. Some ((x * 16 + y) ∷ more))
+one_pair : (h l : Option ℕ) (all : Bool) (bytes : List ℕ) (rest whole : Option (List ℕ)) → IfSome h (λ v. v < 16) →
+    IfSome l (λ v. v < 16) →
+    whole ≡ (if all then option_map (λ more. bytes ++ more) rest else None) →
+    (h >>= λ x. l >>= λ y. whole >>= λ more. Some ((x * 16 + y) ∷ more))
     ≡ (if nat_lt (unwrap_or h 16) 16 && (nat_lt (unwrap_or l 16) 16 && all) then
     option_map (λ more. (byte_of (unwrap_or h 16) (unwrap_or l 16) ∷ bytes) ++ more) rest else None)
 one_pair None l all bytes rest whole first second is = refl
@@ -70,7 +78,8 @@ one_pair (Some h) (Some l) true bytes (Some rest) whole first second is =
 
 -- what digits spell behind an even number of others
 hex_behind : (n : ℕ) (xs ys : List ℕ) → length xs ≡ 2 * n → hex_bytes (xs ++ ys)
-    ≡ (if all_small (map digit_value xs) then option_map (λ more. combined (map digit_value xs) ++ more) (hex_bytes ys) else None)
+    ≡ (if all_small (map digit_value xs) then option_map (λ more. combined (map digit_value xs) ++ more) (hex_bytes ys)
+    else None)
 hex_behind zero [] ys long = same (hex_bytes ys)
   where
     same : (o : Option (List ℕ)) → o ≡ option_map (λ more. [] ++ more) o
@@ -80,21 +89,24 @@ hex_behind zero (a ∷ xs) ys long = absurd (omega (arith, long))
 hex_behind (suc n) [] ys long = absurd (omega (arith, long))
 hex_behind (suc n) (a ∷ []) ys long = absurd (omega (arith, long))
 hex_behind (suc n) (a ∷ b ∷ xs) ys long =
-    one_pair (hex_digit a) (hex_digit b) (all_small (map digit_value xs)) (combined (map digit_value xs)) (hex_bytes ys) (hex_bytes (xs ++ ys)) (bounded a) (bounded b)
+    one_pair (hex_digit a) (hex_digit b) (all_small (map digit_value xs)) (combined (map digit_value xs)) (hex_bytes ys)
+    (hex_bytes (xs ++ ys)) (bounded a) (bounded b)
     (hex_behind n xs ys (omega (arith, long)))
 
 map_both : (xs ys : List ℕ) → map digit_value (xs ++ ys) ≡ map digit_value xs ++ map digit_value ys
 map_both [] ys = refl
 map_both (x ∷ xs) ys = ap (λ vs. digit_value x ∷ vs) (map_both xs ys)
 
-in_front : (front block : List ℕ) (rest : Option (List ℕ)) → option_map (λ more. front ++ more) (option_map (λ more. block ++ more) rest)
+in_front : (front block : List ℕ) (rest : Option (List ℕ)) →
+    option_map (λ more. front ++ more) (option_map (λ more. block ++ more) rest)
     ≡ option_map (λ more. (front ++ block) ++ more) rest
 in_front front block None = refl
 in_front front block (Some rest) = ap Some (sym (append_assoc front block rest))
 
 -- a block of bytes is written, if its digits are some
 pub writes : (at : ℕ) (digits old fs bs : List ℕ) (result : Bool) → 2 * at + 32 ≤ length digits → at + 16 ≤ length old →
-    fs ≡ map digit_value (chunk (2 * at) 16 digits) → bs ≡ map digit_value (chunk (2 * at + 16) 16 digits) → result ≡ (all_small fs && all_small bs) →
+    fs ≡ map digit_value (chunk (2 * at) 16 digits) → bs ≡ map digit_value (chunk (2 * at + 16) 16 digits) →
+    result ≡ (all_small fs && all_small bs) →
     WritesBlock at digits old (put_chunk at old (pairs_from 0 16 (fs ++ bs))) result
 writes at digits old fs bs result many room front back is = by_result result is
   where
@@ -122,27 +134,34 @@ writes at digits old fs bs result many room front back is = by_result result is
     split : drop (2 * at) digits ≡ (c1 ++ c2) ++ behind
     split =
         let last : 2 * at + 16 + 16 ≡ 2 * (at + 16) = omega arith in
-        chunk-drop (2 * at) 16 digits ∙ ap (λ xs. c1 ++ xs) (chunk-drop (2 * at + 16) 16 digits ∙ ap (λ k. c2 ++ drop k digits) last)
+        chunk-drop (2 * at) 16 digits ∙
+        ap (λ xs. c1 ++ xs) (chunk-drop (2 * at + 16) 16 digits ∙ ap (λ k. c2 ++ drop k digits) last)
         ∙ sym (append_assoc c1 c2 behind)
 
     whole : hex_bytes (drop (2 * at) digits)
-        ≡ (if all_small fs && all_small bs then option_map (λ more. pairs_from 0 16 (fs ++ bs) ++ more) (hex_bytes behind) else None)
+        ≡ (if all_small fs && all_small bs then option_map (λ more. pairs_from 0 16 (fs ++ bs) ++ more)
+        (hex_bytes behind) else None)
     whole =
         ap hex_bytes split ∙ hex_behind 16 (c1 ++ c2) behind long
         ∙ ap (λ ws. if all_small ws then option_map (λ more. combined ws ++ more) (hex_bytes behind) else None) vs
-        ∙ (λ i. if list_all-append (λ v. nat_lt v 16) fs bs i then option_map (λ more. combined_is 16 (fs ++ bs) long_vs i ++ more) (hex_bytes behind) else None)
+        ∙ (λ i. if list_all-append (λ v. nat_lt v 16) fs bs i then option_map
+        (λ more. combined_is 16 (fs ++ bs) long_vs i ++ more) (hex_bytes behind) else None)
 
-    by_result : (r : Bool) → r ≡ (all_small fs && all_small bs) → WritesBlock at digits old (put_chunk at old (pairs_from 0 16 (fs ++ bs))) r
+    by_result : (r : Bool) → r ≡ (all_small fs && all_small bs) →
+        WritesBlock at digits old (put_chunk at old (pairs_from 0 16 (fs ++ bs))) r
     by_result true e = (
       length-put_chunk at old (pairs_from 0 16 (fs ++ bs)),
       ap (option_map (λ more. take at old ++ more))
-          (whole ∙ ap (λ b. if b then option_map (λ more. pairs_from 0 16 (fs ++ bs) ++ more) (hex_bytes behind) else None) (sym e))
+          (whole ∙ ap (λ b. if b then option_map (λ more. pairs_from 0 16 (fs ++ bs) ++ more) (hex_bytes behind) else
+          None) (sym e))
           ∙ in_front (take at old) (pairs_from 0 16 (fs ++ bs)) (hex_bytes behind)
-          ∙ ap (λ t. option_map (λ more. t ++ more) (hex_bytes behind)) (sym (take_more_put_chunk at old (pairs_from 0 16 (fs ++ bs)) (at + 16) refl room)),
+          ∙ ap (λ t. option_map (λ more. t ++ more) (hex_bytes behind))
+          (sym (take_more_put_chunk at old (pairs_from 0 16 (fs ++ bs)) (at + 16) refl room)),
     )
     by_result false e = (
       length-put_chunk at old (pairs_from 0 16 (fs ++ bs)),
-      whole ∙ ap (λ b. if b then option_map (λ more. pairs_from 0 16 (fs ++ bs) ++ more) (hex_bytes behind) else None) (sym e),
+      whole ∙ ap (λ b. if b then option_map (λ more. pairs_from 0 16 (fs ++ bs) ++ more) (hex_bytes behind) else None)
+          (sym e),
     )
 
 -- no lane of the greater is above a digit's value
@@ -159,7 +178,8 @@ parted false y xs ys = refl
 abbrev mask_of : (less least : ℕ → ℕ → ℕ) (n : ℕ) (fs bs : List ℕ) → List Bool
 mask_of less least n fs bs = map (top 7) (zip2 least (replicate n 16) (sel_l (map (top 7) (zip2 less fs bs)) bs fs))
 
-mask_long : (less least : ℕ → ℕ → ℕ) (n : ℕ) (fs bs : List ℕ) → length fs ≡ n → length bs ≡ n → length (mask_of less least n fs bs) ≡ n
+mask_long : (less least : ℕ → ℕ → ℕ) (n : ℕ) (fs bs : List ℕ) → length fs ≡ n → length bs ≡ n →
+    length (mask_of less least n fs bs) ≡ n
 mask_long less least zero fs bs one two = refl
 mask_long less least (suc n) [] bs one two = absurd (omega (arith, one))
 mask_long less least (suc n) (f ∷ fs) [] one two = absurd (omega (arith, two))
@@ -181,13 +201,16 @@ mask_none less least (suc n) (f ∷ fs) (b ∷ bs) one two lane =
 
 pub none_high : (less least : ℕ → ℕ → ℕ) (fs bs : List ℕ) → length fs ≡ 16 → length bs ≡ 16 →
     ((f b : ℕ) → top 7 (least 16 (cond (top 7 (less f b)) b f)) ≡ not (nat_lt f 16 && nat_lt b 16)) →
-    (mask_l (map (top 7) (zip2 least (replicate 16 16) (sel_l (map (top 7) (zip2 less fs bs)) bs fs))) % 2 ^ 64 == 0) ≡ (all_small fs && all_small bs)
+    (mask_l (map (top 7) (zip2 least (replicate 16 16) (sel_l (map (top 7) (zip2 less fs bs)) bs fs))) % 2 ^ 64 == 0) ≡
+    (all_small fs && all_small bs)
 none_high less least fs bs one two lane =
     let long = mask_long less least 16 fs bs one two in
-    ap (λ m. m == 0) (mask_l-mod (mask_of less least 16 fs bs) 64 (omega (arith, long))) ∙ mask_none less least 16 fs bs one two lane
+    ap (λ m. m == 0) (mask_l-mod (mask_of less least 16 fs bs) 64 (omega (arith, long))) ∙
+    mask_none less least 16 fs bs one two lane
 
 -- before any block is written
-pub begins : (digits bytes : List ℕ) → hex_bytes digits ≡ option_map (λ more. take 0 bytes ++ more) (hex_bytes (drop (2 * 0) digits))
+pub begins : (digits bytes : List ℕ) →
+    hex_bytes digits ≡ option_map (λ more. take 0 bytes ++ more) (hex_bytes (drop (2 * 0) digits))
 begins digits bytes = same (hex_bytes digits)
   where
     same : (o : Option (List ℕ)) → o ≡ option_map (λ more. take 0 bytes ++ more) o

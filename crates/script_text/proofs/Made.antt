@@ -1,5 +1,6 @@
 -- A script, event by event.
-use Rattle.std.proofs.Common.{◌≡◌, ℕ, zero, suc, ◌+◌, ◌<◌, ◌≤◌, Bool, true, false, [], ◌∷◌, ◌++◌, length, length-append, get_or, refl, sym, ap, subst, ◌∙◌, arith}
+use Rattle.std.proofs.Common.{◌≡◌, ℕ, zero, suc, ◌+◌, ◌<◌, ◌≤◌, Bool, true, false, [], ◌∷◌, ◌++◌, length, length-append}
+use Rattle.std.proofs.Common.{get_or, refl, sym, ap, subst, ◌∙◌, arith}
 use Rattle.std.proofs.Math.Seq.{get_or-append_seam}
 use Rattle.std.proofs.lemmas.Bool.{ltb-true, ltb-false}
 use Rattle.std.proofs.lemmas.List.{get_or_append_left}
@@ -27,7 +28,8 @@ module _ (seed members : ℕ) (raw : Bool) where
       omega (arith, before, both)
 
   last_made : (d : ScriptEvent) (k : ℕ) → get_or (generated seed members raw (suc k)).events k d ≡ drawn k
-  last_made d k = subst (λ i. get_or ((generated seed members raw k).events ++ drawn k ∷ []) i d ≡ drawn k) (made_length k)
+  last_made d k = subst (λ i. get_or ((generated seed members raw k).events ++ drawn k ∷ []) i d ≡ drawn k)
+      (made_length k)
       (get_or-append_seam (generated seed members raw k).events (drawn k) [] d)
 
   -- an event stays the one of its number while others are made
@@ -52,26 +54,34 @@ pub is_made : (seed events k : ℕ) (old new : Maker) (event : ScriptEvent) → 
 is_made seed events k old new event at lt makes =
     let drawn_is : drawn seed old.members old.raw k ≡ event =
     (λ i. (an_event old.raw old.members k (at.cursors_are i) (at.seed_is i)).0.0) ∙ ap (λ x. x.0.0) makes in
-    slice_get_read (generate seed events old.members old.raw).events events k event (sym (made_length seed old.members old.raw events)) lt
+    slice_get_read (generate seed events old.members old.raw).events events k event
+    (sym (made_length seed old.members old.raw events)) lt
     (sym (each_made seed old.members old.raw event k events lt ∙ drawn_is))
 
 -- how far the script is made by a maker
 abbrev pub course_of : (seed events k : ℕ) → Maker → Course
-course_of seed events k m = record { workload = record { seed = seed; events = events; members = m.members; raw = m.raw }; made = k }
+course_of seed events k m =
+    record { workload = record { seed = seed; events = events; members = m.members; raw = m.raw }; made = k }
 
 pub is_next : (seed events k : ℕ) (old new : Maker) (event : ScriptEvent) → IsAt seed k old → k < events →
-    an_event old.raw old.members k old.cursors.items old.seed.value ≡ ((event, new.cursors.items), new.seed.value) → member_of event < old.members →
-    new.raw ≡ old.raw → new.members ≡ old.members → IsNext (course_of seed events k old) (course_of seed events (k + 1) new) event
+    an_event old.raw old.members k old.cursors.items old.seed.value ≡ ((event, new.cursors.items), new.seed.value) →
+    member_of event < old.members →
+    new.raw ≡ old.raw → new.members ≡ old.members →
+    IsNext (course_of seed events k old) (course_of seed events (k + 1) new) event
 is_next seed events k old new event at lt makes of_member raw_is members_is = record {
   event_is = is_made seed events k old new event at lt makes;
   of_member = of_member;
-  course = λ i. record { workload = record { seed = seed; events = events; members = members_is i; raw = raw_is i }; made = k + 1 };
+  course = λ i. record {
+    workload = record { seed = seed; events = events; members = members_is i; raw = raw_is i };
+    made = k + 1;
+  };
 }
 
 -- and it stands one further behind it
 pub one_further : (seed k : ℕ) (old new : Maker) (event : ScriptEvent) → IsAt seed k old →
     an_event old.raw old.members k old.cursors.items old.seed.value ≡ ((event, new.cursors.items), new.seed.value) →
-    new.raw ≡ old.raw → new.members ≡ old.members → length new.cursors.items ≡ length old.cursors.items → IsWithin (k + 1) new.cursors.items →
+    new.raw ≡ old.raw → new.members ≡ old.members → length new.cursors.items ≡ length old.cursors.items →
+    IsWithin (k + 1) new.cursors.items →
     IsAt seed (k + 1) new
 one_further seed k old new event at makes raw_is members_is count within =
     let next : k + 1 ≡ suc k = omega arith in

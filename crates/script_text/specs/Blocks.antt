@@ -9,6 +9,7 @@ digit_value byte = unwrap_or (hex_digit byte) 16
 
 -- the bytes of a block are written behind those in front, or not all of its digits are some
 abbrev pub WritesBlock : ℕ → (digits old new : List ℕ) → Bool → Type 0
-WritesBlock at digits old new true = (length new ≡ length old) × (option_map (λ more. take at old ++ more) (hex_bytes (drop (2 * at) digits))
+WritesBlock at digits old new true = (length new ≡ length old) ×
+    (option_map (λ more. take at old ++ more) (hex_bytes (drop (2 * at) digits))
     ≡ option_map (λ more. take (at + 16) new ++ more) (hex_bytes (drop (2 * (at + 16)) digits)))
 WritesBlock at digits old new false = (length new ≡ length old) × (hex_bytes (drop (2 * at) digits) ≡ None)

@@ -18,8 +18,8 @@ pub struct Workload {
     pub raw: bool,
 }
 
-/// A script that is made while it is played, so that no more than one event of it is in memory. Contracts see what it is made from, and how
-/// many events are made.
+/// A script that is made while it is played, so that no more than one event of it is in memory. Contracts see what it
+/// is made from, and how many events are made.
 #[derive(Drop)]
 pub struct Generation {
     /// The seed that it began with, and how many events it has.

@@ -29,7 +29,9 @@ impl Maker {
         requires cursors { length self.old.cursors.items ≡ self.old.members }
         requires within { IsWithin number self.old.cursors.items }
         requires few { number < 2147483647 }
-        ensures made { MakesEvent (spec.an_event self.old.raw self.old.members number self.old.cursors.items self.old.seed.value) result self.new }
+        ensures made { MakesEvent
+            (spec.an_event self.old.raw self.old.members number self.old.cursors.items self.old.seed.value) result
+            self.new }
         ensures of_member { IfOk result (λ event. member_of event < self.old.members) }
         ensures raw { self.new.raw ≡ self.old.raw }
         ensures members { self.new.members ≡ self.old.members }
@@ -60,7 +62,8 @@ impl Maker {
         requires member { member < length self.old.cursors.items }
         requires within { IsWithin _number self.old.cursors.items }
         requires few { _number < 2147483647 }
-        ensures made { spec.a_give member self.old.cursors.items self.old.seed.value ≡ ((result, self.new.cursors.items), self.new.seed.value) }
+        ensures made { spec.a_give member self.old.cursors.items self.old.seed.value ≡
+            ((result, self.new.cursors.items), self.new.seed.value) }
         ensures of_member { member_of result ≡ member }
         ensures raw { self.new.raw ≡ self.old.raw }
         ensures members { self.new.members ≡ self.old.members }

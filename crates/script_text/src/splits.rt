@@ -34,7 +34,8 @@ fn parted(_at: u8, text: &[u8], place: Option<usize>) -> (&[u8], Option<&[u8]>)
     }
 }
 
-/// The text in front of a place, and what stands behind it, where the text ends at that place or such a byte stands there. None stands in front.
+/// The text in front of a place, and what stands behind it, where the text ends at that place or such a byte stands
+/// there. None stands in front.
 #[inline(always)]
 pub(crate) fn cut_at(at: u8, text: &[u8], place: usize) -> Option<(&[u8], Option<&[u8]>)>
     requires { (place ≤ length text.now) × Nowhere (Passes (is_byte at) text.now) 0 place }

@@ -1,5 +1,6 @@
 //! What a word spells.
-ghost use Rattle.std.specs.Prelude.{◌≡◌, ◌*◌, ◌≤◌, ◌&&◌, ◌++◌, length, take, drop, option_map, IfSome, if◌then◌else◌, Some, None};
+ghost use Rattle.std.specs.Prelude.{◌≡◌, ◌*◌, ◌≤◌, ◌&&◌, ◌++◌, length, take, drop, option_map, IfSome, if◌then◌else◌};
+ghost use Rattle.std.specs.Prelude.{Some, None};
 ghost use Rattle.std.specs.Char.{is_ascii_digit};
 ghost use Rattle.std.specs.List.{list_all};
 ghost use Rattle.std.specs.Option.{unwrap_or};
@@ -42,7 +43,8 @@ fn begins_plainly(word: &[u8]) -> bool
 
 /// The value of a word that is all digits, within bounds.
 fn value_within(low: u32, high: u32, word: &[u8]) -> Option<u32>
-    ensures value { result ≡ (if list_all is_ascii_digit word.now then spec.within low high (digits_value 10 word.now) else None) }
+    ensures value { result ≡
+        (if list_all is_ascii_digit word.now then spec.within low high (digits_value 10 word.now) else None) }
     ensures bound { IfSome result (λ number. number ≤ high) }
 {
     let mut value: u64 = 0;

@@ -36,7 +36,8 @@ StopsFor r forks Same = r ≡ Err (record { reason = no_shape.same; forks = fork
 StopsFor r forks Memory = Unit {0}
 
 -- The headers of an emission.
-abbrev pub HeadersAre : Result (Option (List drawn.DrawnHeader)) no_shape.NoShape → Result (Option (Vec DrawnHeader Global)) NoShape → Type 0
+abbrev pub HeadersAre : Result (Option (List drawn.DrawnHeader)) no_shape.NoShape →
+    Result (Option (Vec DrawnHeader Global)) NoShape → Type 0
 HeadersAre drawn (Ok headers) = drawn ≡ Ok (option_map headers_tree headers)
 HeadersAre drawn (Err e) = FailsFor drawn e
 

@@ -1,5 +1,7 @@
--- The queue of a run that is drawn, with what the code keeps of it: the tasks, and of the visits and outputs what a shape says of them.
-use Rattle.std.specs.Prelude.{ℕ, zero, suc, ◌+◌, ◌-◌, Bool, false, nat_lt, if◌then◌else◌, List, [], ◌∷◌, ◌++◌, length, map, option_map, Result, Ok, Err}
+-- The queue of a run that is drawn, with what the code keeps of it: the tasks, and of the visits and outputs what a
+-- shape says of them.
+use Rattle.std.specs.Prelude.{ℕ, zero, suc, ◌+◌, ◌-◌, Bool, false, nat_lt, if◌then◌else◌, List, [], ◌∷◌, ◌++◌, length}
+use Rattle.std.specs.Prelude.{map, option_map, Result, Ok, Err}
 use Rattle.layer_mean.specs.declared.run.Case.{Case}
 use Rattle.layer_mean.specs.Tree.{LayerTree}
 use Rattle.layer_mean.specs.Marked.{Marked}
@@ -23,16 +25,29 @@ abbrev pub known_tree : code_known.Known → Known
 known_tree k = record { dir = k.dir; kind = k.kind; tags = k.tags.items }
 
 abbrev pub visit_tree : ShapeVisit → mean.ShapeVisit
-visit_tree v = record { place = v.place; dir = v.dir; kind = v.kind; tag = v.tag; made_by = option_map source_tree v.made_by }
+visit_tree v = record {
+  place = v.place;
+  dir = v.dir;
+  kind = v.kind;
+  tag = v.tag;
+  made_by =
+      option_map source_tree v.made_by;
+}
 
 abbrev pub out_tree : ShapeOut → mean.ShapeOut
-out_tree o = record { dir = o.dir; kind = o.kind; headers = headers_tree o.headers; made_by = option_map source_tree o.made_by }
+out_tree o = record {
+  dir = o.dir;
+  kind = o.kind;
+  headers = headers_tree o.headers;
+  made_by =
+      option_map source_tree o.made_by;
+}
 
 abbrev pub shape_tree : code_shape.Shape → mean.Shape
 shape_tree s = record { visits = map visit_tree s.visits.items; outs = map out_tree s.outs.items; length = s.length }
 
--- What is drawn of a run so far: its pending tasks, its visits and outputs, how much they count for, and whether a condition with two
--- predicted ways was met.
+-- What is drawn of a run so far: its pending tasks, its visits and outputs, how much they count for, and whether a
+-- condition with two predicted ways was met.
 pub record Sketching : Type 0 where
   pub tasks : List (Task (Marked DrawnEvent))
   pub visits : List mean.ShapeVisit
@@ -70,7 +85,8 @@ with_visit t s w = record {
 
 abbrev pub sketched_visit : Case → LayerTree → Task (Marked DrawnEvent) → Sketching → Result Sketching Stop
 sketched_visit case layer t s = if nat_lt (length s.visits) visits_limit
-    then onward (λ w. Ok (with_visit t s w)) (visited (visit_at case (t.at - 1) s) layer t.dir t.event.event (fresh_walk s))
+    then onward (λ w. Ok (with_visit t s w))
+    (visited (visit_at case (t.at - 1) s) layer t.dir t.event.event (fresh_walk s))
     else Err (record { reason = no_shape.long; forks = s.forks })
 
 abbrev pub with_output : Task (Marked DrawnEvent) → Sketching → Sketching

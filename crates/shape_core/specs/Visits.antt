@@ -29,11 +29,13 @@ abbrev pub unhandled : Visit → Dir → Kind → DrawnMet → Option (List Draw
 unhandled v dir kind m None w = Ok (sends v dir kind None w)
 unhandled v Down kind m (Some headers) w = Ok (sends v Down kind (Some (none_header ∷ headers)) w)
 unhandled v Up kind m (Some headers) w =
-    if m.tag == 0 then Ok (sends v Up kind (Some headers) w) else Err (record { reason = no_shape.rare v.place; forks = w.forks })
+    if m.tag == 0 then Ok (sends v Up kind (Some headers) w) else Err
+    (record { reason = no_shape.rare v.place; forks = w.forks })
 
 abbrev pub handled : Visit → Option HandlerTree → Dir → Kind → DrawnMet → Walking → Result Walking Stop
 handled v None dir kind m w = unhandled v dir kind m m.headers w
-handled v (Some h) dir kind m w = way_walked v (handler_way v.case h) (record w { scope = (drawn_entered h m.headers).scope })
+handled v (Some h) dir kind m w =
+    way_walked v (handler_way v.case h) (record w { scope = (drawn_entered h m.headers).scope })
 
 abbrev pub visited : Visit → LayerTree → Dir → DrawnEvent → Walking → Result Walking Stop
 visited v layer dir event w =

@@ -1,5 +1,6 @@
--- A walk along the predicted way of a handler: the steps in order, with what they come to so far. It says what a drawn visit says, and beside it
--- what is counted and whether a condition with two predicted ways was met, also where it stops.
+-- A walk along the predicted way of a handler: the steps in order, with what they come to so far. It says what a drawn
+-- visit says, and beside it what is counted and whether a condition with two predicted ways was met, also where it
+-- stops.
 use Rattle.std.specs.Prelude.{ℕ, ◌+◌, Bool, true, List, [], ◌∷◌, ◌++◌, length, map, Option, Some, Result, Ok, Err}
 use Rattle.layer_ast.specs.declared.tokens.Dir.{Dir}
 use Rattle.layer_ast.specs.declared.tokens.Kind.{Kind}
@@ -15,8 +16,8 @@ use Rattle.shape_core.specs.declared.walk.Visit.{Visit}
 use Rattle.shape_core.specs.declared.walk.Walk as code
 use Rattle.shape_core.specs.Trees.{headers_tree, message_from, task_tree}
 
--- What a walk has come to: the messages of its scope, the tasks of what it sent, how much it counts for together with what was before, and
--- whether a condition with two predicted ways was met.
+-- What a walk has come to: the messages of its scope, the tasks of what it sent, how much it counts for together with
+-- what was before, and whether a condition with two predicted ways was met.
 pub record Walking : Type 0 where
   pub scope : List DrawnMessage
   pub sent : List (Task (Marked DrawnEvent))
@@ -37,7 +38,8 @@ abbrev pub counted : Walking → ℕ → Walking
 counted w n = record w { length = held_at_most (w.length + n) }
 
 -- The task of an emission, which is the next of those that a visit sent.
-abbrev pub task_of : Visit → Dir → Kind → Option (List DrawnHeader) → List (Task (Marked DrawnEvent)) → Task (Marked DrawnEvent)
+abbrev pub task_of : Visit → Dir → Kind → Option (List DrawnHeader) → List (Task (Marked DrawnEvent)) →
+    Task (Marked DrawnEvent)
 task_of v dir kind headers sent = record {
   at = beyond dir (v.place + 1);
   dir = dir;

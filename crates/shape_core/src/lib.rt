@@ -1,5 +1,5 @@
-//! The shape of an entry of a stack: which visits and outputs follow from it where all goes as predicted in a case, and what made each of
-//! them; or the first reason for which it has none.
+//! The shape of an entry of a stack: which visits and outputs follow from it where all goes as predicted in a case, and
+//! what made each of them; or the first reason for which it has none.
 #![tactic(auto)]
 
 mod absent;

@@ -2,7 +2,8 @@
 use Rattle.std.proofs.Common.{◌≡◌, ℕ, Option, Some, None, refl, ap, ◌∙◌}
 use Rattle.std.specs.Prelude.{if◌then◌else◌, option_map}
 use Rattle.std.specs.Option.{option_and_then}
-use Rattle.layer_mean.specs.Tree.{number, me, count, ltime, local, element, square, rows, item, size, binary, apply, pick}
+use Rattle.layer_mean.specs.Tree.{number, me, count, ltime, local, element, square, rows, item, size, binary, apply}
+use Rattle.layer_mean.specs.Tree.{pick}
 use Rattle.layer_mean.specs.Value.{is_true, applied, function_of, val}
 use Rattle.stack_mean.specs.Drawn.{of_both, constant_of}
 use Rattle.shape_laws.specs.Constants.{ConstantsAreValues}

@@ -8,10 +8,13 @@ use Rattle.layer_mean.specs.declared.run.Case.{Case}
 use Rattle.layer_mean.specs.declared.run.Case.TheVariants.{First, Second}
 use Rattle.layer_mean.specs.declared.run.Event.{Event}
 use Rattle.layer_mean.specs.declared.run.Row.{Row}
-use Rattle.layer_mean.specs.Tree.{ExpressionTree, StatementTree, bind, assign, assign_square, push, take, branch, each, emit, StatementTrees, none, more, Expected, always, common, rare, HandlerTree, TakenTree}
+use Rattle.layer_mean.specs.Tree.{ExpressionTree, StatementTree, bind, assign, assign_square, push, take, branch, each}
+use Rattle.layer_mean.specs.Tree.{emit, StatementTrees, none, more, Expected, always, common, rare, HandlerTree}
+use Rattle.layer_mean.specs.Tree.{TakenTree}
 use Rattle.layer_mean.specs.State.{State, has_room, row_at, without_front}
 use Rattle.layer_mean.specs.Value.{Scope, is_true, val}
-use Rattle.layer_mean.specs.Effect.{Decision, usual, unusual, forked, all_as, Outcome, Act, after, done, decides, in_order, does, acts, chosen, taking, with_taken}
+use Rattle.layer_mean.specs.Effect.{Decision, usual, unusual, forked, all_as, Outcome, Act, after, done, decides}
+use Rattle.layer_mean.specs.Effect.{in_order, does, acts, chosen, taking, with_taken}
 use Rattle.layer_mean.specs.Visit.{expecting}
 use Rattle.layer_mean.specs.Way.{Step, fork, way, ways, expected_way, handler_way}
 use Rattle.shape_laws.specs.Walk.{Here, onward, walk_step, walk, took}
@@ -49,10 +52,12 @@ onward_same : (f g : Here → Option Here) → ((h : Here) → f h ≡ g h) → 
 onward_same f g same None = refl
 onward_same f g same (Some h) = same h
 
-walk_both : (place : ℕ) (xs ys : List Step) (h : Here) → walk place (xs ++ ys) h ≡ onward (walk place ys) (walk place xs h)
+walk_both : (place : ℕ) (xs ys : List Step) (h : Here) →
+    walk place (xs ++ ys) h ≡ onward (walk place ys) (walk place xs h)
 walk_both place [] ys h = refl
 walk_both place (x ∷ xs) ys h =
-    onward_same (walk place (xs ++ ys)) (λ g. onward (walk place ys) (walk place xs g)) (λ g. walk_both place xs ys g) (walk_step place x h)
+    onward_same (walk place (xs ++ ys)) (λ g. onward (walk place ys) (walk place xs g)) (λ g. walk_both place xs ys g)
+    (walk_step place x h)
     ∙ sym (onward_twice (walk place xs) (walk place ys) (walk_step place x h))
 
 -- nothing sent: the same place
@@ -60,7 +65,8 @@ unsent : (pre : List (Dir × Event)) (s : State) (l : Scope) → Some (start pre
 unsent pre s l = ap (λ x. Some (start x s l)) (sym (append-nil pre))
 
 -- a walk that went on from where it stood
-on_from : (f : Here → Option Here) (w : Option Here) (h : Here) (x : Option Here) → w ≡ Some h → f h ≡ x → onward f w ≡ x
+on_from : (f : Here → Option Here) (w : Option Here) (h : Here) (x : Option Here) → w ≡ Some h → f h ≡ x →
+    onward f w ≡ x
 on_from f w h x at next = ap (onward f) at ∙ next
 
 abbrev Block : Case → ℕ → List Step → List Act → Type 0
@@ -78,21 +84,24 @@ from_start : (case : Case) (place : ℕ) (steps : List Step) (fs : List Act) →
 from_start case place steps fs block s l pre h =
     ap (λ x. walk place steps (start x s l)) (sym (append-nil pre)) ∙ block (done s l) pre h
 
-push_goes : (case : Case) (place : ℕ) (room : Bool) (t : State) (l : Scope) (pre : List (Dir × Event)) (other : Outcome) →
+push_goes : (case : Case) (place : ℕ) (room : Bool) (t : State) (l : Scope) (pre : List (Dir × Event))
+    (other : Outcome) →
     AllAs case (if room then decides usual (done t l) else decides unusual other).decided →
     onward (walk place []) (if room then Some (start pre t l) else None) ≡
     Some (here pre (if room then decides usual (done t l) else decides unusual other))
 push_goes case place true t l pre other h = unsent pre t l
 push_goes case place false t l pre other h = absurd (cc h)
 
-first_goes : (case : Case) (place : ℕ) (steps : List Step) (st : Here) (pre : List (Dir × Event)) (b : Bool) (first second : Outcome) →
+first_goes : (case : Case) (place : ℕ) (steps : List Step) (st : Here) (pre : List (Dir × Event)) (b : Bool)
+    (first second : Outcome) →
     (AllAs case first.decided → walk place steps st ≡ Some (here pre first)) →
     AllAs case (chosen b likely.First first second).decided →
     onward (walk place steps) (if b then Some st else None) ≡ Some (here pre (chosen b likely.First first second))
 first_goes case place steps st pre true first second leads h = leads h
 first_goes case place steps st pre false first second leads h = absurd (cc h)
 
-else_goes : (case : Case) (place : ℕ) (steps : List Step) (st : Here) (pre : List (Dir × Event)) (b : Bool) (first second : Outcome) →
+else_goes : (case : Case) (place : ℕ) (steps : List Step) (st : Here) (pre : List (Dir × Event)) (b : Bool)
+    (first second : Outcome) →
     (AllAs case second.decided → walk place steps st ≡ Some (here pre second)) →
     AllAs case (chosen b likely.Else first second).decided →
     onward (walk place steps) (if b then None else Some st) ≡ Some (here pre (chosen b likely.Else first second))
@@ -104,24 +113,29 @@ abbrev in_case : Case → Outcome → Outcome → Outcome
 in_case First first second = first
 in_case Second first second = second
 
-fork_goes : (case : Case) (place : ℕ) (e : ExpressionTree) (steps : List Step) (s : State) (l : Scope) (pre : List (Dir × Event))
+fork_goes : (case : Case) (place : ℕ) (e : ExpressionTree) (steps : List Step) (s : State) (l : Scope)
+    (pre : List (Dir × Event))
     (first second : Outcome) →
-    (AllAs case (in_case case first second).decided → walk place steps (start pre s l) ≡ Some (here pre (in_case case first second))) →
+    (AllAs case (in_case case first second).decided → walk place steps (start pre s l) ≡
+    Some (here pre (in_case case first second))) →
     AllAs case (chosen (is_true (val e s l)) likely.Two first second).decided →
     onward (walk place steps) (walk_step place (fork case e) (start pre s l)) ≡
     Some (here pre (chosen (is_true (val e s l)) likely.Two first second))
 fork_goes First place e steps s l pre first second leads h = go (is_true (val e s l)) h where
   go : (b : Bool) → AllAs First (chosen b likely.Two first second).decided →
-      onward (walk place steps) (if b then Some (start pre s l) else None) ≡ Some (here pre (chosen b likely.Two first second))
+      onward (walk place steps) (if b then Some (start pre s l) else None) ≡
+      Some (here pre (chosen b likely.Two first second))
   go true h = leads h
   go false h = absurd (cc h)
 fork_goes Second place e steps s l pre first second leads h = go (is_true (val e s l)) h where
   go : (b : Bool) → AllAs Second (chosen b likely.Two first second).decided →
-      onward (walk place steps) (if b then None else Some (start pre s l)) ≡ Some (here pre (chosen b likely.Two first second))
+      onward (walk place steps) (if b then None else Some (start pre s l)) ≡
+      Some (here pre (chosen b likely.Two first second))
   go true h = absurd (cc h)
   go false h = leads h
 
-take_goes : (case : Case) (place : ℕ) (steps : List Step) (c i : ℕ) (taken : TakenTree) (s : State) (l : Scope) (pre : List (Dir × Event))
+take_goes : (case : Case) (place : ℕ) (steps : List Step) (c i : ℕ) (taken : TakenTree) (s : State) (l : Scope)
+    (pre : List (Dir × Event))
     (row : Option Row) (first : Row → Outcome) (second : Outcome) →
     ((r : Row) → AllAs case (first r).decided →
     walk place steps (start pre (without_front s c i) (with_taken taken r l)) ≡ Some (here pre (first r))) →
@@ -152,7 +166,8 @@ mutual
       (from_start First place (ways First block) (acts place block) (block_goes First place block) s l pre) h
   statement_goes Second place (branch likely.Two e block otherwise) s l pre h =
       fork_goes Second place e (ways Second otherwise) s l pre _ _
-      (from_start Second place (ways Second otherwise) (acts place otherwise) (block_goes Second place otherwise) s l pre) h
+      (from_start Second place (ways Second otherwise) (acts place otherwise) (block_goes Second place otherwise) s l
+      pre) h
   statement_goes case place (each k below most block) s l pre h = absurd (cc h)
   statement_goes case place (emit e) s l pre h = refl
 
@@ -165,7 +180,8 @@ mutual
       statement_goes case place x o.state o.scope (pre ++ o.sent) parts.1
       ∙ ap (λ sent. Some (record { state = p.state; scope = p.scope; sent = sent })) (append_assoc pre o.sent p.sent) in
       walk_both place (way case x) (ways case rest) (here pre o)
-      ∙ on_from (walk place (ways case rest)) (walk place (way case x) (here pre o)) (here pre (after o (does place x))) _ first
+      ∙ on_from (walk place (ways case rest)) (walk place (way case x) (here pre o)) (here pre (after o (does place x)))
+      _ first
       (block_goes case place rest (after o (does place x)) pre h)
 
 -- what a handler's way comes to, where it has one
@@ -185,7 +201,8 @@ expected_goes : (case : Case) (place : ℕ) (x : Expected) (steps : List Step) (
     (AllAs case o.decided → walk place steps (start [] s l) ≡ Some (here [] o)) →
     AllAs case (expecting x s l o).decided → Went place (expected_way x steps) s l (expecting x s l o)
 expected_goes case place always steps s l o leads h = leads h
-expected_goes case place (common e) steps s l o leads h = common_goes case place steps s l (is_true (val e s l)) o leads h
+expected_goes case place (common e) steps s l o leads h = common_goes case place steps s l (is_true (val e s l)) o leads
+    h
 expected_goes case place rare steps s l o leads h = absurd (cc h)
 
 pub handler_goes : (case : Case) (place : ℕ) (x : HandlerTree) (s : State) (l : Scope) →

@@ -15,7 +15,8 @@ abbrev unwatched : Line Watched DrawnEvent → Line (Result Progress NoShape) Dr
 unwatched r = record { world = r.world.drawn; tasks = r.tasks }
 
 next_unwatched : (stack : List LayerTree) (w : Watched) (tasks : List (Task DrawnEvent)) →
-    next_of (length stack) (shaper First stack) tasks w.drawn ≡ unwatched (next_of (length stack) (watcher stack) tasks w)
+    next_of (length stack) (shaper First stack) tasks w.drawn ≡
+    unwatched (next_of (length stack) (watcher stack) tasks w)
 next_unwatched stack w [] = refl
 next_unwatched stack w (t ∷ rest) = go (is_place (length stack) t.at) where
   go : (b : Bool) →

@@ -1,11 +1,12 @@
--- Runs in which each part that is taken or held on the way of a case has no headers. (A part is bytes alone; the queues of parts of a typed layer never
--- have others.)
+-- Runs in which each part that is taken or held on the way of a case has no headers. (A part is bytes alone; the queues
+-- of parts of a typed layer never have others.)
 use Rattle.std.specs.Prelude.{◌≡◌, ℕ, ◌-◌, true, List, [], ◌∷◌, length, Option, Some, None}
 use Rattle.layer_ast.specs.declared.tokens.Dir.{Dir}
 use Rattle.layer_mean.specs.declared.run.Case.{Case}
 use Rattle.layer_mean.specs.declared.run.Event.{Event}
 use Rattle.layer_mean.specs.declared.run.Row.{Row}
-use Rattle.layer_mean.specs.Tree.{Carried, part, whole, MessageTree, held, tail, join, ContentTree, HandlerTree, LayerTree}
+use Rattle.layer_mean.specs.Tree.{Carried, part, whole, MessageTree, held, tail, join, ContentTree, HandlerTree}
+use Rattle.layer_mean.specs.Tree.{LayerTree}
 use Rattle.layer_mean.specs.State.{State, row_at}
 use Rattle.layer_mean.specs.Value.{Scope, val, message_in}
 use Rattle.layer_mean.specs.Visit.{Met, met, handler_for, entered}
@@ -65,7 +66,8 @@ BareVisit case place layer s dir event =
 abbrev pub BareNext : Case → List LayerTree → Work → List (Task (Marked Event)) → Type 0
 BareNext case stack w [] = Unit {0}
 BareNext case stack w (t ∷ rest) =
-    is_place (length stack) t.at ≡ true → BareVisit case (t.at - 1) (layer_at stack t.at) (state_at w t.at) t.dir t.event.event
+    is_place (length stack) t.at ≡ true →
+    BareVisit case (t.at - 1) (layer_at stack t.at) (state_at w t.at) t.dir t.event.event
 
 -- So have those of each visit of a run.
 abbrev pub BareRun : Case → List LayerTree → Line (Log Work Event) (Marked Event) → Type 0

@@ -36,7 +36,8 @@ pub record VisitIs (s : ShapeVisit) (x : Logged Event) : Type 0 where
   pub tag : s.tag ≡ first_tag_in (headers_in x.marked.event)
   pub made_by : s.made_by ≡ x.marked.made_by
 
--- An output of a run is that of a shape: its direction and kind, its headers with the fields that are known, and its maker.
+-- An output of a run is that of a shape: its direction and kind, its headers with the fields that are known, and its
+-- maker.
 pub record OutIs (s : ShapeOut) (x : Logged Event) : Type 0 where
   pub dir : s.dir ≡ x.dir
   pub kind : s.kind ≡ x.marked.event.kind
@@ -48,7 +49,8 @@ pub record HasShape (s : Shape) (log : Log Work Event) : Type 0 where
   pub visits : Pairwise VisitIs s.visits log.visits
   pub outs : Pairwise OutIs s.outs log.outs
 
--- A run that begins with an entry's event and goes as predicted in a case throughout has the entry's shape in that case, if there is one.
+-- A run that begins with an entry's event and goes as predicted in a case throughout has the entry's shape in that
+-- case, if there is one.
 abbrev pub PredictedRunsHaveTheShape : Type 0
 PredictedRunsHaveTheShape =
     (case : Case) (stack : List LayerTree) (k : Known) (s : Shape) (states : List State) (task : Task Event) →

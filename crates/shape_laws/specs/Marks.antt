@@ -7,8 +7,8 @@ use Rattle.layer_mean.specs.Queue.{Task, Line, Work, layers, run_for, run}
 use Rattle.layer_mean.specs.Marked.{Log, Marked, marked}
 use Rattle.shape_laws.specs.Law.{run_start}
 
--- A log is a run's where its world and its tasks are those of the run, and the logged outputs and visits are the run's outputs and as
--- many visits.
+-- A log is a run's where its world and its tasks are those of the run, and the logged outputs and visits are the run's
+-- outputs and as many visits.
 pub record Tells (r : Line (Log Work Event) (Marked Event)) (plain : Line Work Event) : Type 0 where
   pub world : r.world.world ≡ plain.world
   pub tasks : map (λ t. record { at = t.at; dir = t.dir; event = t.event.event }) r.tasks ≡ plain.tasks

@@ -70,16 +70,18 @@ KeptRun =
 
 -- The layers of the samples read no parts.
 abbrev pub SamplesReadNoParts : Type 0
-SamplesReadNoParts = (case : Case) → list_all (layer_reads_no_part case) (counter ∷ echo ∷ fan ∷ repeater ∷ late ∷ kept) ≡ true
+SamplesReadNoParts = (case : Case) →
+    list_all (layer_reads_no_part case) (counter ∷ echo ∷ fan ∷ repeater ∷ late ∷ kept) ≡ true
 
--- The cast of a layer with two common cases behind one other, by the same member: the run goes as predicted in the second case alone, and has
--- the outputs of that case's shape.
+-- The cast of a layer with two common cases behind one other, by the same member: the run goes as predicted in the
+-- second case alone, and has the outputs of that case's shape.
 abbrev pub second_cast : Task Event
 second_cast = record first_cast { at = 1 }
 
 abbrev pub FlipRun : Type 0
 FlipRun =
-    let log = (marked_run (flip ∷ []) (record (fresh flip 0 2 0) { cells = state.numbers (1 ∷ []) ∷ [] } ∷ []) second_cast).world in
+    let log = (marked_run (flip ∷ []) (record (fresh flip 0 2 0) { cells = state.numbers (1 ∷ []) ∷ [] } ∷ [])
+    second_cast).world in
     (is_predicted First log.world ≡ false) × (is_predicted Second log.world ≡ true) ×
     (map as_out log.outs ≡
     record { dir = Down; kind = Cast; tags = 2 ∷ []; made_by = made_by 0 0 } ∷ [])

@@ -19,7 +19,8 @@ pub record Here : Type 0 where
 -- The row that is taken, if it is there.
 abbrev pub took : ℕ → ℕ → TakenTree → Here → Option Row → Option Here
 took c i taken h None = None
-took c i taken h (Some row) = Some (record h { state = without_front h.state c i; scope = with_taken taken row h.scope })
+took c i taken h (Some row) =
+    Some (record h { state = without_front h.state c i; scope = with_taken taken row h.scope })
 
 -- One step, where it goes as predicted.
 abbrev pub walk_step : ℕ → Step → Here → Option Here
@@ -31,7 +32,8 @@ walk_step place (set_slot k e) h = Some (record h { scope = with_slot k (val e h
 walk_step place (set_number c i e) h =
     Some (record h { state = with_number h.state c (val i h.state h.scope) (val e h.state h.scope) })
 walk_step place (set_square c row column e) h = Some (record h {
-  state = with_number h.state c (flat_index h.state.count (val row h.state h.scope) (val column h.state h.scope)) (val e h.state h.scope);
+  state = with_number h.state c (flat_index h.state.count (val row h.state h.scope) (val column h.state h.scope))
+      (val e h.state h.scope);
 })
 walk_step place (put c i capacity row) h = if has_room h.state c (val i h.state h.scope) capacity
     then Some (record h { state = with_row h.state c (val i h.state h.scope) (row_of row h.state h.scope) })

@@ -1,5 +1,5 @@
-//! That runs which go as predicted have the shapes of their entries, and what this rests on: the contracts of functions that do
-//! nothing.
+//! That runs which go as predicted have the shapes of their entries, and what this rests on: the contracts of functions
+//! that do nothing.
 #![tactic(auto)]
 
 ghost use Rattle.shape_laws.specs.Constants.{ConstantsAreValues};
@@ -9,8 +9,8 @@ ghost use Rattle.shape_laws.specs.Parts.{RunsWithoutParts};
 ghost use Rattle.shape_laws.specs.Samples.{FlipRun, KeptRun, ReturnedPacket, SamplesReadNoParts};
 ghost use Rattle.shape_laws.specs.Watch.{WatchesTheFirstCase};
 
-/// A run that begins with an entry's event and goes as predicted throughout has the entry's shape: its visits and outputs have
-/// the shape's places, directions, kinds, tags and makers.
+/// A run that begins with an entry's event and goes as predicted throughout has the entry's shape: its visits and
+/// outputs have the shape's places, directions, kinds, tags and makers.
 pub fn predicted_runs_have_the_shape()
     ensures { PredictedRunsHaveTheShape }
 {}

@@ -1,5 +1,6 @@
 -- What a contract sees of a pool: the list of what each slot holds. A reference is the number of its slot.
-use Rattle.std.specs.Prelude.{◌≡◌, ℕ, zero, suc, ◌+◌, ◌-◌, ◌<◌, List, [], ◌∷◌, length, take, drop, slice_index_or, slice_set, All, refl}
+use Rattle.std.specs.Prelude.{◌≡◌, ℕ, zero, suc, ◌+◌, ◌-◌, ◌<◌, List, [], ◌∷◌, length, take, drop, slice_index_or}
+use Rattle.std.specs.Prelude.{slice_set, All, refl}
 use Rattle.std.specs.Coded.{Coded, code_by, coded×, coded_list, coded_ℕ}
 
 -- what a slot holds: the number of references to it, and its bytes
@@ -62,4 +63,6 @@ pub record Puts (p q : List Held) (bs : List ℕ) (s : ℕ) : Type 0 where
 
 -- how a proof stores a pool's value
 abbrev pub held_code : Coded (List Held)
-held_code = coded_list (code_by (ℕ × List ℕ) (coded× coded_ℕ (coded_list coded_ℕ)) (λ h. (h.count, h.bytes)) (λ p. held p.0 p.1) (λ _. refl))
+held_code = coded_list
+    (code_by (ℕ × List ℕ) (coded× coded_ℕ (coded_list coded_ℕ)) (λ h. (h.count, h.bytes)) (λ p. held p.0 p.1)
+    (λ _. refl))

@@ -1,5 +1,6 @@
 -- How the places of a pool show their bodies: a short one lies in its place, and a long one elsewhere.
-use Rattle.std.specs.Prelude.{◌≡◌, ℕ, ◌^◌, ◌<◌, ◌≤◌, List, [], ◌∷◌, ◌++◌, length, take, slice_index_or, slice_set, nat_lt, if◌then◌else◌, refl}
+use Rattle.std.specs.Prelude.{◌≡◌, ℕ, ◌^◌, ◌<◌, ◌≤◌, List, [], ◌∷◌, ◌++◌, length, take, slice_index_or, slice_set}
+use Rattle.std.specs.Prelude.{nat_lt, if◌then◌else◌, refl}
 use Rattle.std.specs.Coded.{Coded, code_by, coded×, coded_list, coded_ℕ}
 use Rattle.raw_block.specs.Run.{Run, run}
 use Rattle.slot_pool.specs.declared.place.TheConstants.{SHORT}
@@ -22,7 +23,13 @@ spot_at ps i = slice_index_or ps i no_spot
 
 -- a place, with the bytes that are there for a long body
 abbrev pub spot : Place → List ℕ → Spot
-spot p long = record { count = p.count; next = p.next; len = p.len; bytes = if nat_lt SHORT p.len then long else p.bytes }
+spot p long = record {
+  count = p.count;
+  next = p.next;
+  len = p.len;
+  bytes =
+      if nat_lt SHORT p.len then long else p.bytes;
+}
 
 -- the places, with those for long bodies, which are as many or fewer
 abbrev pub joined : List Place → List (List ℕ) → List Spot
@@ -77,4 +84,6 @@ pub record Grows (old new : Run (List ℕ)) (i at : ℕ) : Type 0 where
 
 -- how a proof stores a place
 abbrev pub spot_code : Coded Spot
-spot_code = code_by (ℕ × (ℕ × (ℕ × List ℕ))) (coded× coded_ℕ (coded× coded_ℕ (coded× coded_ℕ (coded_list coded_ℕ)))) (λ s. (s.count, (s.next, (s.len, s.bytes)))) (λ p. record { count = p.0; next = p.1.0; len = p.1.1.0; bytes = p.1.1.1 }) (λ _. refl)
+spot_code = code_by (ℕ × (ℕ × (ℕ × List ℕ))) (coded× coded_ℕ (coded× coded_ℕ (coded× coded_ℕ (coded_list coded_ℕ))))
+    (λ s. (s.count, (s.next, (s.len, s.bytes))))
+    (λ p. record { count = p.0; next = p.1.0; len = p.1.1.0; bytes = p.1.1.1 }) (λ _. refl)

@@ -1,5 +1,6 @@
 //! The pool and its references.
-ghost use Rattle.std.specs.Prelude.{◌≡◌, ℕ, ◌+◌, ◌<◌, ◌≤◌, ◌↔◌, List, ◌++◌, length, take, slice_set, replicate, IfOk, IfSome, IfNone, IsNone, IsTrue};
+ghost use Rattle.std.specs.Prelude.{◌≡◌, ℕ, ◌+◌, ◌<◌, ◌≤◌, ◌↔◌, List, ◌++◌, length, take, slice_set, replicate, IfOk};
+ghost use Rattle.std.specs.Prelude.{IfSome, IfNone, IsNone, IsTrue};
 ghost use Rattle.slot_pool.specs.Held.{held, unused, held_at, count_at, bytes_at, one_less, range, IsFull, Puts};
 
 use crate::place::LONGEST;
@@ -84,7 +85,8 @@ impl Pool {
         requires used { 0 < count_at self.old s.now }
         requires room { count_at self.old s.now < 4294967295 }
         ensures slot { result ≡ s.now }
-        ensures pool { self.new ≡ slice_set self.old s.now (held (count_at self.old s.now + 1) (bytes_at self.old s.now)) }
+        ensures pool { self.new ≡
+            slice_set self.old s.now (held (count_at self.old s.now + 1) (bytes_at self.old s.now)) }
     {
         let index = s.index;
         self.places.add_reference(index as usize);
@@ -112,7 +114,8 @@ impl Pool {
         self.places.body(s.index as usize)
     }
 
-    /// A first reference to `a_len` bytes of `a` from `a_from` on and, behind them, `b_len` bytes of `b` from `b_from` on.
+    /// A first reference to `a_len` bytes of `a` from `a_from` on and, behind them, `b_len` bytes of `b` from `b_from`
+    /// on.
     pub fn join(
         &mut self,
         a: &Slot,
@@ -129,7 +132,9 @@ impl Pool {
         requires fits { a_len + b_len ≤ LONGEST }
         ensures full { IsNone result ↔ IsFull self.old }
         ensures none { IfNone result (self.new ≡ self.old) }
-        ensures some { IfSome result (Puts self.old self.new (range a_from a_len (bytes_at self.old a.now) ++ range b_from b_len (bytes_at self.old b.now))) }
+        ensures some { IfSome result
+            (Puts self.old self.new
+            (range a_from a_len (bytes_at self.old a.now) ++ range b_from b_len (bytes_at self.old b.now))) }
     {
         let whole = a_len as usize + b_len as usize;
         let mut body = [0; LONGEST];

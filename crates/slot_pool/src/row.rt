@@ -1,5 +1,7 @@
-//! The places of a pool in their order. A short body lies in its place, and a long one in a block for such, at the same number.
-ghost use Rattle.std.specs.Prelude.{◌≡◌, ℕ, ◌+◌, ◌-◌, ◌^◌, ◌<◌, ◌≤◌, ◌↔◌, List, [], ◌∷◌, ◌++◌, length, take, slice_set, slice_index_or, IfOk, IsTrue};
+//! The places of a pool in their order. A short body lies in its place, and a long one in a block for such, at the same
+//! number.
+ghost use Rattle.std.specs.Prelude.{◌≡◌, ℕ, ◌+◌, ◌-◌, ◌^◌, ◌<◌, ◌≤◌, ◌↔◌, List, [], ◌∷◌, ◌++◌, length, take, slice_set};
+ghost use Rattle.std.specs.Prelude.{slice_index_or, IfOk, IsTrue};
 ghost use Rattle.raw_block.specs.Run.{run};
 ghost use Rattle.slot_pool.specs.Spots.{spot_at, Sets, Adds, Reaches};
 
@@ -8,8 +10,8 @@ use raw_block::Block;
 use std::alloc::{AllocError, Global};
 use std::marker::Model;
 
-/// At most so many places. Memory is taken for all at once, and that of a place is first touched when the place is first used, or, where it
-/// is for a long body, when that place or one behind it has one.
+/// At most so many places. Memory is taken for all at once, and that of a place is first touched when the place is
+/// first used, or, where it is for a long body, when that place or one behind it has one.
 #[derive(Drop)]
 pub struct Row {
     block: Block<Place, Global>,
@@ -83,7 +85,10 @@ impl Row {
     pub(crate) fn add_reference(&mut self, index: usize)
         requires there { index < length self.old.values }
         requires few { (spot_at self.old.values index).count < 4294967295 }
-        ensures { self.new ≡ run (slice_set self.old.values index (record (spot_at self.old.values index) { count = (spot_at self.old.values index).count + 1 })) self.old.capacity }
+        ensures { self.new ≡ run
+            (slice_set self.old.values index
+            (record (spot_at self.old.values index) { count = (spot_at self.old.values index).count + 1 }))
+            self.old.capacity }
     {
         self.block.at_mut(index).add_reference();
     }
@@ -92,7 +97,10 @@ impl Row {
     pub(crate) fn end_reference(&mut self, index: usize) -> bool
         requires there { index < length self.old.values }
         requires used { 0 < (spot_at self.old.values index).count }
-        ensures places { self.new ≡ run (slice_set self.old.values index (record (spot_at self.old.values index) { count = (spot_at self.old.values index).count - 1 })) self.old.capacity }
+        ensures places { self.new ≡
+            run (slice_set self.old.values index
+            (record (spot_at self.old.values index) { count = (spot_at self.old.values index).count - 1 }))
+            self.old.capacity }
         ensures last { IsTrue result ↔ ((spot_at self.old.values index).count ≡ 1) }
     {
         self.block.at_mut(index).end_reference()
@@ -101,7 +109,8 @@ impl Row {
     /// Behind a free place is this one.
     pub(crate) fn link(&mut self, index: usize, next: u32)
         requires { index < length self.old.values }
-        ensures { self.new ≡ run (slice_set self.old.values index (record (spot_at self.old.values index) { next = next })) self.old.capacity }
+        ensures { self.new ≡ run
+            (slice_set self.old.values index (record (spot_at self.old.values index) { next = next })) self.old.capacity }
     {
         self.block.at_mut(index).next = next;
     }

@@ -1,5 +1,6 @@
 -- What makes no more numbers than so many makes no more than a larger number.
-use Rattle.std.proofs.Common.{◌≡◌, ◌∙◌, ℕ, ◌+◌, ◌<◌, ◌≤◌, List, [], ◌∷◌, ◌++◌, map, take, length, get_or, le_trans, sym, ap, subst, arith}
+use Rattle.std.proofs.Common.{◌≡◌, ◌∙◌, ℕ, ◌+◌, ◌<◌, ◌≤◌, List, [], ◌∷◌, ◌++◌, map, take, length, get_or, le_trans, sym}
+use Rattle.std.proofs.Common.{ap, subst, arith}
 use Rattle.std.specs.Prelude.{Option, Some, None}
 use Rattle.std.specs.List.{AllByRecursion}
 use Rattle.std.proofs.lemmas.List.{take_more, map-append}
@@ -38,28 +39,36 @@ second_more a b (Some x) le h = case_more a b x le h
 second_more a b None le h = tt
 
 entry_more : (a b : ℕ) → a ≤ b → (e : EntryAsked) → EntryWithin a e → EntryWithin b e
-entry_more a b le e h = record { first = case_more a b e.first le h.first; second = second_more a b e.second le h.second }
+entry_more a b le e h =
+    record { first = case_more a b e.first le h.first; second = second_more a b e.second le h.second }
 
-pub both_cases : (e : EntryAsked) (a b n : ℕ) → IsWithin a e.first → IfWithin b e.second → a ≤ n → b ≤ n → EntryWithin n e
-both_cases e a b n first second le more = record { first = case_more a n e.first le first; second = second_more b n e.second more second }
+pub both_cases : (e : EntryAsked) (a b n : ℕ) → IsWithin a e.first → IfWithin b e.second → a ≤ n → b ≤ n →
+    EntryWithin n e
+both_cases e a b n first second le more =
+    record { first = case_more a n e.first le first; second = second_more b n e.second more second }
 
 -- The next entry's, with those of the entries in front.
-pub next_within : (all : List CaseChecks) (k : ℕ) (c : CaseChecks) (old one new : ℕ) → k < length all → c ≡ get_or all k c → old ≤ new → one ≤ new →
+pub next_within : (all : List CaseChecks) (k : ℕ) (c : CaseChecks) (old one new : ℕ) → k < length all →
+    c ≡ get_or all k c → old ≤ new → one ≤ new →
     AllByRecursion (EntryWithin old) (map entry_asked (take k all)) → EntryWithin one (entry_asked c) →
     AllByRecursion (EntryWithin new) (map entry_asked (take (k + 1) all))
 next_within all k c old one new within is le more before next =
     let taken : map entry_asked (take (k + 1) all) ≡ map entry_asked (take k all) ++ entry_asked c ∷ [] =
-    ap (map entry_asked) (take_more all k c within ∙ ap (λ x. take k all ++ x ∷ []) (sym is)) ∙ map-append entry_asked (take k all) (c ∷ []) in
+    ap (map entry_asked) (take_more all k c within ∙ ap (λ x. take k all ++ x ∷ []) (sym is)) ∙
+    map-append entry_asked (take k all) (c ∷ []) in
     rw taken (each_more (EntryWithin new) (map entry_asked (take k all)) (entry_asked c)
     (each_so (EntryWithin old) (EntryWithin new) (entry_more old new le) (map entry_asked (take k all)) before)
     (entry_more one new more (entry_asked c) next))
 
 -- Those of all entries.
-pub all_within : (cast send : CaseChecks) (plans : List CaseChecks) (a b apps c n most : ℕ) → EntryWithin a (entry_asked cast) →
-    EntryWithin b (entry_asked send) → AllByRecursion (EntryWithin c) (map entry_asked plans) → a ≤ apps → b ≤ apps → apps ≤ n → c ≤ n → n ≤ most →
+pub all_within : (cast send : CaseChecks) (plans : List CaseChecks) (a b apps c n most : ℕ) →
+    EntryWithin a (entry_asked cast) →
+    EntryWithin b (entry_asked send) → AllByRecursion (EntryWithin c) (map entry_asked plans) → a ≤ apps → b ≤ apps →
+    apps ≤ n → c ≤ n → n ≤ most →
     AreWithin most cast send plans
 all_within cast send plans a b apps c n most first second rest one two three four five = record {
   for_cast = entry_more a most (le_trans one (le_trans three five)) (entry_asked cast) first;
   for_send = entry_more b most (le_trans two (le_trans three five)) (entry_asked send) second;
-  for_plans = each_so (EntryWithin c) (EntryWithin most) (entry_more c most (le_trans four five)) (map entry_asked plans) rest;
+  for_plans = each_so (EntryWithin c) (EntryWithin most) (entry_more c most (le_trans four five))
+      (map entry_asked plans) rest;
 }

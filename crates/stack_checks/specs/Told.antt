@@ -8,7 +8,8 @@ use Rattle.miss_laws.specs.Asked.{lack_at}
 use Rattle.stack_checks.specs.Trees.{EntryAsked}
 
 abbrev pub entry_lacks : Entry → Input → List State → EntryAsked → Miss
-entry_lacks e i states asked = record { entry = e; first = lack_at i states asked.first; second = option_map (lack_at i states) asked.second }
+entry_lacks e i states asked =
+    record { entry = e; first = lack_at i states asked.first; second = option_map (lack_at i states) asked.second }
 
 -- Without an entry a plan is lacking.
 abbrev pub lacks_plan : Entry → Miss

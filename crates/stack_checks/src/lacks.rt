@@ -47,7 +47,8 @@ fn lack(
     requires body { length given.now.body.now ≤ longest_body }
     requires empty { IsEmpty values.old }
     requires places { IsWithin (vec_capacity values.old.numbers) (asked_tree asked.now) }
-    ensures lacks { lack_meant result ≡ lack_at (input_of given.now) (map (state_in pool.now) layers.now) (asked_tree asked.now) }
+    ensures lacks { lack_meant result ≡ lack_at (input_of given.now) (map (state_in pool.now) layers.now)
+        (asked_tree asked.now) }
     ensures empty { IsEmpty values.new }
     ensures places { vec_capacity values.new.numbers ≡ vec_capacity values.old.numbers }
 {
@@ -99,7 +100,8 @@ pub(crate) fn entry_miss(
     requires body { length given.now.body.now ≤ longest_body }
     requires empty { IsEmpty values.old }
     requires places { EntryWithin (vec_capacity values.old.numbers) (entry_asked checks.now) }
-    ensures miss { miss_meant result ≡ entry_lacks (entry_meant entry) (input_of given.now) (map (state_in pool.now) layers.now) (entry_asked checks.now) }
+    ensures miss { miss_meant result ≡ entry_lacks (entry_meant entry) (input_of given.now)
+        (map (state_in pool.now) layers.now) (entry_asked checks.now) }
     ensures empty { IsEmpty values.new }
     ensures places { vec_capacity values.new.numbers ≡ vec_capacity values.old.numbers }
 {

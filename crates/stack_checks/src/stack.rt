@@ -22,7 +22,8 @@ use step_misses::Miss;
 use trace_core::Bypasses;
 use trace_reads::{Given, Needs, Values};
 
-/// The checks of a stack's traces, and places for the numbers that their tests make, of which nothing is kept between two calls.
+/// The checks of a stack's traces, and places for the numbers that their tests make, of which nothing is kept between
+/// two calls.
 pub struct StackChecks {
     cast: CaseChecks,
     send: CaseChecks,
@@ -46,7 +47,8 @@ impl Model for StackChecks {
 }
 
 impl StackChecks {
-    /// The checks of bypasses. Err comes where memory runs out, and where a trace has 2^32 checks or more or its tests make more than 2^32 numbers.
+    /// The checks of bypasses. Err comes where memory runs out, and where a trace has 2^32 checks or more or its tests
+    /// make more than 2^32 numbers.
     pub fn of(alloc: Global, bypasses: &Bypasses) -> Result<StackChecks, AllocError>
         ensures { IfOk result (λ c. c ≡ all_asked (bypasses_tree bypasses.now)) }
     {
@@ -71,7 +73,8 @@ impl StackChecks {
         })
     }
 
-    /// What a step lacks that begins with this entry: the first check of each of its cases that isn't passed on the layers as they are.
+    /// What a step lacks that begins with this entry: the first check of each of its cases that isn't passed on the
+    /// layers as they are.
     pub fn miss(
         &mut self,
         entry: EntryOf,

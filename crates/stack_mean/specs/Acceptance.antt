@@ -1,6 +1,7 @@
--- Which stacks are accepted: those of which it is known beforehand that each run ends, and how much it may take. (This project's
--- own.)
-use Rattle.std.specs.Prelude.{ℕ, zero, suc, ◌+◌, ◌*◌, ◌-◌, nat_lt, max, min, if◌then◌else◌, List, ◌++◌, map, fold, length, Option, Some, None, Result, Ok, Err}
+-- Which stacks are accepted: those of which it is known beforehand that each run ends, and how much it may take. (This
+-- project's own.)
+use Rattle.std.specs.Prelude.{ℕ, zero, suc, ◌+◌, ◌*◌, ◌-◌, nat_lt, max, min, if◌then◌else◌, List, ◌++◌, map, fold}
+use Rattle.std.specs.Prelude.{length, Option, Some, None, Result, Ok, Err}
 use Rattle.std.specs.List.{sum_by}
 use Rattle.std.specs.Option.{option_map_or}
 use Rattle.layer_ast.specs.declared.tokens.Dir.TheVariants.{Up, Down}
@@ -15,8 +16,8 @@ use Rattle.stack_mean.specs.Graph.{Node, nodes, nodes_of, arrows, entered_handle
 abbrev pub largest : List ℕ → ℕ
 largest = fold max 0
 
--- What a node and all that follows from it may cost at most, in so many steps: its own cost, and for each arrow so many times as it
--- stands for the largest cost of the nodes that may follow.
+-- What a node and all that follows from it may cost at most, in so many steps: its own cost, and for each arrow so many
+-- times as it stands for the largest cost of the nodes that may follow.
 abbrev pub cost_in : ℕ → List LayerTree → (Node → ℕ) → Node → ℕ
 cost_in zero stack own node = own node
 cost_in (suc steps) stack own node =
@@ -32,17 +33,20 @@ weight stack node = cost stack (λ node. 1) node
 
 -- The joins of the handler that a node enters.
 abbrev pub own_joins : List LayerTree → Node → ℕ
-own_joins stack node = if is_place (length stack) node.at then option_map_or handler_joins (entered_handler stack node) 0 else 0
+own_joins stack node = if is_place (length stack) node.at then option_map_or handler_joins (entered_handler stack node)
+    0 else 0
 
 -- How many joins are made at most in what follows from a node.
 abbrev pub most_joins : List LayerTree → Node → ℕ
 most_joins stack node = cost stack (own_joins stack) node
 
--- The events that a run can begin with: a packet or a tick at the lowest place, a cast, a send or a leave at the highest.
+-- The events that a run can begin with: a packet or a tick at the lowest place, a cast, a send or a leave at the
+-- highest.
 abbrev pub entries : List LayerTree → List Node
 entries stack =
     nodes_of stack 1 Up Cast ++ nodes_of stack 1 Up Send ++ nodes_of stack 1 Up Timer ++
-    nodes_of stack (length stack) Down Cast ++ nodes_of stack (length stack) Down Send ++ nodes_of stack (length stack) Down Leave
+    nodes_of stack (length stack) Down Cast ++ nodes_of stack (length stack) Down Send ++
+    nodes_of stack (length stack) Down Leave
 
 -- The weight of a stack is that of its heaviest entry.
 abbrev pub largest_weight : List LayerTree → ℕ
@@ -58,8 +62,8 @@ weight_limit = 65536
 abbrev pub joins_limit : ℕ
 joins_limit = 1024
 
--- Why a stack isn't accepted: a node at this place, counted from 0, of this kind lies on a cycle; an entry is too heavy, the
--- heaviest being told; or an entry makes too many joins.
+-- Why a stack isn't accepted: a node at this place, counted from 0, of this kind lies on a cycle; an entry is too
+-- heavy, the heaviest being told; or an entry makes too many joins.
 pub data Refusal : Type 0 where
   cycle : (place : ℕ) → Kind → Refusal
   too_many : (weight : ℕ) → Refusal
@@ -76,8 +80,8 @@ without_cycle stack None =
     else if nat_lt joins_limit (largest_joins stack) then Err too_many_joins
     else Ok stack
 
--- A stack where it is accepted, or the first reason for which it isn't. Cycles are judged first, and of those the lowest place,
--- and there the first kind.
+-- A stack where it is accepted, or the first reason for which it isn't. Cycles are judged first, and of those the
+-- lowest place, and there the first kind.
 abbrev pub accepted : List LayerTree → Result (List LayerTree) Refusal
 accepted stack = without_cycle stack (first_on_cycle stack)
 

@@ -6,12 +6,15 @@ use Rattle.layer_ast.specs.declared.tokens.Kind.TheVariants.{Cast, Send, Ack}
 use Rattle.layer_ast.specs.declared.syntax.Function.TheVariants.{Bit}
 use Rattle.layer_ast.specs.declared.syntax.Operator.TheVariants.{Add, Subtract, Multiply}
 use Rattle.layer_mean.specs.declared.run.Case.TheVariants.{First}
-use Rattle.layer_mean.specs.Tree.{part, ExpressionTree, number, me, local, size, binary, apply, pick, MessageTree, message, held, cut, tail, join, StatementTree, push, take, each, emit, none, always, common, rare, queue, LayerTree}
+use Rattle.layer_mean.specs.Tree.{part, ExpressionTree, number, me, local, size, binary, apply, pick, MessageTree}
+use Rattle.layer_mean.specs.Tree.{message, held, cut, tail, join, StatementTree, push, take, each, emit, none, always}
+use Rattle.layer_mean.specs.Tree.{common, rare, queue, LayerTree}
 use Rattle.stack_mean.specs.Acceptance.{cycle, too_many, accepted, largest_weight, largest_joins}
 use Rattle.stack_mean.specs.NoShape as no_shape
 use Rattle.stack_mean.specs.Shape.{app_cast, packet_entry, shape}
 use Rattle.stack_mean.specs.Plans.{outs_of}
-use Rattle.stack_mean.specs.SampleLayers.{block, sends, on, named, with_fields, kept_rows, bare_layer, counter, echo, fan, silent}
+use Rattle.stack_mean.specs.SampleLayers.{block, sends, on, named, with_fields, kept_rows, bare_layer, counter, echo}
+use Rattle.stack_mean.specs.SampleLayers.{fan, silent}
 use Rattle.stack_mean.specs.Samples.{header, length_of}
 
 -- An Ack is sent back where it came from.
@@ -39,7 +42,8 @@ HugeWeight = accepted (replicate 9 fan) ≡ Err (too_many 4294967295)
 abbrev pub rarely : LayerTree
 rarely = bare_layer (codes "rarely")
     (on Up Cast 0 rare (each 1 (number 8) 8 (block (sends Up Cast (local 0) (message 0) 0 [] ∷ [])) ∷ []) ∷
-    on Down Cast 0 (common (size (join (message 0) (message 0)))) (sends Down Cast (local 0) (message 0) 0 [] ∷ []) ∷ [])
+    on Down Cast 0 (common (size (join (message 0) (message 0)))) (sends Down Cast (local 0) (message 0) 0 [] ∷ []) ∷
+    [])
 
 abbrev pub AllCounts : Type 0
 AllCounts = (largest_weight (rarely ∷ []) ≡ 9) × (largest_joins (rarely ∷ rarely ∷ []) ≡ 2)
@@ -95,11 +99,13 @@ sending m = record {
 abbrev pub stored_first : MessageTree
 stored_first = held 0 (number 0) (number 0) kept_rows
 
--- Parts have no headers and can be drawn; what is made of a stored message can't be, except a part of it and a part before another.
+-- Parts have no headers and can be drawn; what is made of a stored message can't be, except a part of it and a part
+-- before another.
 abbrev pub PartsAndStored : Type 0
 PartsAndStored =
     (map (λ out. out.headers) (outs_of (shape (silent ∷ parting ∷ []) app_cast First)) ≡
     (header 0 [] ∷ header 1 [] ∷ []) ∷ (header 0 [] ∷ header 1 [] ∷ []) ∷ []) ×
     (shape (sending (tail stored_first (number 1)) ∷ []) app_cast First ≡ Err (no_shape.stored 0)) ×
-    (shape (sending (join (cut (message 0) (number 0) (number 1)) stored_first) ∷ []) app_cast First ≡ Err (no_shape.stored 0)) ×
+    (shape (sending (join (cut (message 0) (number 0) (number 1)) stored_first) ∷ []) app_cast First ≡
+    Err (no_shape.stored 0)) ×
     (length_of (shape (sending (join (cut stored_first (number 0) (number 1)) (message 0)) ∷ []) app_cast First) ≡ Ok 2)

@@ -1,10 +1,13 @@
 -- A visit as its layer's text alone predicts it in a case: what is sent, whatever the numbers and the bytes are.
-use Rattle.std.specs.Prelude.{ℕ, ◌==◌, Bool, true, false, if◌then◌else◌, List, [], ◌∷◌, ◌++◌, map, slice_index_or, slice_set, Option, Some, None, option_map, option_to_list, Result, Ok, Err}
+use Rattle.std.specs.Prelude.{ℕ, ◌==◌, Bool, true, false, if◌then◌else◌, List, [], ◌∷◌, ◌++◌, map, slice_index_or}
+use Rattle.std.specs.Prelude.{slice_set, Option, Some, None, option_map, option_to_list, Result, Ok, Err}
 use Rattle.std.specs.Option.{option_map_or, option_and_then}
 use Rattle.layer_ast.specs.declared.tokens.Dir.{Dir}
 use Rattle.layer_ast.specs.declared.tokens.Dir.TheVariants.{Up, Down}
 use Rattle.layer_ast.specs.declared.tokens.Kind.{Kind}
-use Rattle.layer_mean.specs.Tree.{Carried, part, whole, ExpressionTree, number, binary, apply, pick, MessageTree, message, nothing, held, cut, tail, join, ContentTree, EmissionTree, TakenTree, HandlerTree, LayerTree}
+use Rattle.layer_mean.specs.Tree.{Carried, part, whole, ExpressionTree, number, binary, apply, pick, MessageTree}
+use Rattle.layer_mean.specs.Tree.{message, nothing, held, cut, tail, join, ContentTree, EmissionTree, TakenTree}
+use Rattle.layer_mean.specs.Tree.{HandlerTree, LayerTree}
 use Rattle.layer_mean.specs.Value.{is_true, applied, function_of}
 use Rattle.layer_mean.specs.Visit.{handler_for, with_room}
 use Rattle.layer_mean.specs.Way.{Step, fork, get, send, loop, handler_way, way_length}
@@ -70,7 +73,8 @@ abbrev pub sent_headers : ℕ → Dir → ContentTree → DrawnMessage → Resul
 sent_headers place dir c (chained headers) = Ok (Some (with_header dir c headers))
 sent_headers place dir c unknown = Err (no_shape.stored place)
 
-abbrev pub emission_headers : ℕ → Dir → List DrawnMessage → Option ContentTree → Result (Option (List DrawnHeader)) NoShape
+abbrev pub emission_headers : ℕ → Dir → List DrawnMessage → Option ContentTree →
+    Result (Option (List DrawnHeader)) NoShape
 emission_headers place dir scope None = Ok None
 emission_headers place dir scope (Some c) = sent_headers place dir c (drawn_message scope c.message)
 
@@ -84,7 +88,8 @@ with_taken t scope = option_map_or (λ slot. slice_set scope slot.0 (drawn_row s
 -- A predicted step: a take and an emission change what is drawn, and a loop can't be.
 abbrev pub draw_step : ℕ → Step → Drawing → Result Drawing NoShape
 draw_step place (get c i taken) d = Ok (record d { scope = with_taken taken d.scope })
-draw_step place (send e) d = drawn_from (λ headers. Ok (with_sent d e headers)) (emission_headers place e.direction d.scope e.content)
+draw_step place (send e) d =
+    drawn_from (λ headers. Ok (with_sent d e headers)) (emission_headers place e.direction d.scope e.content)
 draw_step place loop d = Err (no_shape.loop place)
 draw_step place _ d = Ok d
 
@@ -108,7 +113,8 @@ pub record DrawnVisit : Type 0 where
   pub sent : List (Dir × DrawnEvent)
   pub length : ℕ
 
--- An event as its layer meets it: the tag that is popped going up, 0 where there is no header, and the headers behind it.
+-- An event as its layer meets it: the tag that is popped going up, 0 where there is no header, and the headers behind
+-- it.
 pub record DrawnMet : Type 0 where
   pub tag : ℕ
   pub headers : Option (List DrawnHeader)
@@ -129,7 +135,8 @@ drawn_on dir event headers = record { sent = (dir, record event { headers = head
 -- A missing handler passes an event on: down behind `none`, and up where `none` was popped.
 abbrev pub drawn_unhandled : ℕ → Dir → DrawnEvent → ℕ → Option (List DrawnHeader) → Result DrawnVisit NoShape
 drawn_unhandled place dir event tag None = Ok (drawn_on dir event None)
-drawn_unhandled place Down event tag (Some headers) = Ok (drawn_on Down event (Some (record { tag = 0; fields = [] } ∷ headers)))
+drawn_unhandled place Down event tag (Some headers) =
+    Ok (drawn_on Down event (Some (record { tag = 0; fields = [] } ∷ headers)))
 drawn_unhandled place Up event tag (Some headers) =
     if tag == 0 then Ok (drawn_on Up event (Some headers)) else Err (no_shape.rare place)
 

@@ -2,7 +2,10 @@
 use Rattle.std.specs.Prelude.{ℕ, ◌+◌, ◌*◌, List, [], ◌∷◌, ◌++◌}
 use Rattle.std.specs.List.{sum_by}
 use Rattle.std.specs.Option.{option_map_or}
-use Rattle.layer_mean.specs.Tree.{ExpressionTree, element, square, rows, item, size, binary, apply, pick, MessageTree, held, cut, tail, join, ContentTree, EmissionTree, RowTree, StatementTree, bind, assign, assign_square, push, take, branch, each, emit, StatementTrees, none, more, Expected, common, HandlerTree}
+use Rattle.layer_mean.specs.Tree.{ExpressionTree, element, square, rows, item, size, binary, apply, pick, MessageTree}
+use Rattle.layer_mean.specs.Tree.{held, cut, tail, join, ContentTree, EmissionTree, RowTree, StatementTree, bind}
+use Rattle.layer_mean.specs.Tree.{assign, assign_square, push, take, branch, each, emit, StatementTrees, none, more}
+use Rattle.layer_mean.specs.Tree.{Expected, common, HandlerTree}
 
 -- An emission that is done so many times at most.
 pub record Repeated : Type 0 where
@@ -10,7 +13,8 @@ pub record Repeated : Type 0 where
   pub emission : EmissionTree
 
 abbrev mutual
-  -- The emissions of a statement that is itself done so many times, in all its blocks; a loop's maximum multiplies those inside.
+  -- The emissions of a statement that is itself done so many times, in all its blocks; a loop's maximum multiplies
+  -- those inside.
   pub emissions : ℕ → StatementTree → List Repeated
   emissions times (push c i capacity row otherwise) = emissions_in times otherwise
   emissions times (take c i taken block otherwise) = emissions_in times block ++ emissions_in times otherwise
@@ -56,8 +60,8 @@ abbrev pub joins_in_row : RowTree → ℕ
 joins_in_row r = sum_by joins_in r.numbers + option_map_or joins_in_message r.message 0
 
 abbrev mutual
-  -- The joins that a statement may make at most: those written in all its blocks, times the maxima of the loops around them. The
-  -- bound of a loop stands outside it.
+  -- The joins that a statement may make at most: those written in all its blocks, times the maxima of the loops around
+  -- them. The bound of a loop stands outside it.
   pub joins : StatementTree → ℕ
   joins (bind k e) = joins_in e
   joins (assign c i e) = joins_in i + joins_in e

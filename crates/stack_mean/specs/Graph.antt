@@ -1,5 +1,6 @@
 -- The graph of a stack: which events can follow from which. (That a stack is judged by it is this project's own.)
-use Rattle.std.specs.Prelude.{ℕ, zero, suc, ◌+◌, ◌==◌, Bool, false, ◌&&◌, if◌then◌else◌, List, [], ◌∷◌, ◌++◌, map, length, Option, Some, None}
+use Rattle.std.specs.Prelude.{ℕ, zero, suc, ◌+◌, ◌==◌, Bool, false, ◌&&◌, if◌then◌else◌, List, [], ◌∷◌, ◌++◌, map}
+use Rattle.std.specs.Prelude.{length, Option, Some, None}
 use Rattle.std.specs.List.{find, flat_map, list_any, range_with_len}
 use denote.Enum.Bare.{sameb}
 use Rattle.layer_ast.specs.declared.tokens.Dir.{Dir}
@@ -14,8 +15,9 @@ use Rattle.layer_mean.specs.Visit.{handler_for}
 use Rattle.layer_mean.specs.Queue.{beyond, is_place, layer_at}
 use Rattle.stack_mean.specs.Emissions.{Repeated, emissions_in}
 
--- A node is an event that arrives at a place or an edge of the queue. Of a message it tells the tag of the first header, which is
--- the one of the layer above the gap that the event crosses; it is 0 where there is no layer above, and where there is no message.
+-- A node is an event that arrives at a place or an edge of the queue. Of a message it tells the tag of the first
+-- header, which is the one of the layer above the gap that the event crosses; it is 0 where there is no layer above,
+-- and where there is no message.
 pub record Node : Type 0 where
   pub at : ℕ
   pub dir : Dir
@@ -23,7 +25,8 @@ pub record Node : Type 0 where
   pub tag : ℕ
 
 abbrev pub same_node : Node → Node → Bool
-same_node a b = (a.at == b.at) && (a.tag == b.tag) && sameb dir_row.the_type a.dir b.dir && sameb kind_row.the_type a.kind b.kind
+same_node a b = (a.at == b.at) && (a.tag == b.tag) && sameb dir_row.the_type a.dir b.dir &&
+    sameb kind_row.the_type a.kind b.kind
 
 -- The tags that a layer's headers can have: `none` and the declared ones.
 abbrev pub tags_of : LayerTree → List ℕ
@@ -48,7 +51,8 @@ nodes stack = flat_map
     (λ at. flat_map (λ kind. nodes_of stack at Up kind.1 ++ nodes_of stack at Down kind.1) kinds)
     (range_with_len 0 (length stack + 2))
 
--- Whether a message is the one that a handler was entered with, or has its headers: a tail of it, or a part in front of it.
+-- Whether a message is the one that a handler was entered with, or has its headers: a tail of it, or a part in front of
+-- it.
 abbrev pub keeps_headers : MessageTree → Bool
 keeps_headers (message k) = k == 0
 keeps_headers (tail m from) = keeps_headers m
@@ -60,12 +64,13 @@ abbrev pub goes_down : Dir → Kind → Bool
 goes_down Up kind = false
 goes_down Down kind = carries kind
 
--- The tags that an emitted message can have: going down the one that it is sent with; going up the tag with which it came down,
--- and else each one of the layer above.
+-- The tags that an emitted message can have: going down the one that it is sent with; going up the tag with which it
+-- came down, and else each one of the layer above.
 abbrev pub content_tags : List LayerTree → Node → Dir → ContentTree → List ℕ
 content_tags stack node Down c = c.tag ∷ []
 content_tags stack node Up c =
-    if goes_down node.dir node.kind && keeps_headers c.message then node.tag ∷ [] else tags_of (layer_at stack (node.at + 1))
+    if goes_down node.dir node.kind && keeps_headers c.message then node.tag ∷
+    [] else tags_of (layer_at stack (node.at + 1))
 
 abbrev pub emission_tags : List LayerTree → Node → EmissionTree → Option ContentTree → List ℕ
 emission_tags stack node e None = 0 ∷ []
@@ -79,14 +84,18 @@ pub record Arrow : Type 0 where
 -- The arrow to the neighbour in a direction, for an event of a kind with one of these tags.
 abbrev pub arrow_to : ℕ → Node → Dir → Kind → List ℕ → Arrow
 arrow_to times node dir kind tags =
-    record { times = times; targets = map (λ tag. record { at = beyond dir node.at; dir = dir; kind = kind; tag = tag }) tags }
+    record {
+      times = times;
+      targets = map (λ tag. record { at = beyond dir node.at; dir = dir; kind = kind; tag = tag })
+          tags;
+    }
 
 abbrev pub emission_arrow : List LayerTree → Node → Repeated → Arrow
 emission_arrow stack node x =
     arrow_to x.times node x.emission.direction x.emission.kind (emission_tags stack node x.emission x.emission.content)
 
--- A missing handler passes an event on once: down behind `none`, and up behind whatever header of the layer above; a message behind
--- another header than `none` it drops.
+-- A missing handler passes an event on once: down behind `none`, and up behind whatever header of the layer above; a
+-- message behind another header than `none` it drops.
 abbrev pub passing : List LayerTree → Node → Dir → List Arrow
 passing stack node Down = arrow_to 1 node Down node.kind (0 ∷ []) ∷ []
 passing stack node Up = if node.tag == 0

@@ -1,4 +1,5 @@
--- The plans of a stack: one for each packet that an application's own cast or send is predicted to send, in one case or the other.
+-- The plans of a stack: one for each packet that an application's own cast or send is predicted to send, in one case or
+-- the other.
 use Rattle.std.specs.Prelude.{ℕ, Bool, false, List, [], ◌∷◌, map, take, length, Result, Ok, Err}
 use Rattle.std.specs.List.{filter, flat_map, sum_by}
 use Rattle.layer_ast.specs.declared.tokens.Dir.{Dir}

@@ -1,4 +1,5 @@
--- Layers of the samples, as trees: some of the library's, as far as they are needed, and some that are made to be judged.
+-- Layers of the samples, as trees: some of the library's, as far as they are needed, and some that are made to be
+-- judged.
 use Rattle.std.specs.Prelude.{ℕ, true, false, List, [], ◌∷◌, Some, codes}
 use Rattle.layer_ast.specs.declared.tokens.Dir.{Dir}
 use Rattle.layer_ast.specs.declared.tokens.Dir.TheVariants.{Up, Down}
@@ -7,7 +8,10 @@ use Rattle.layer_ast.specs.declared.tokens.Kind.TheVariants.{Cast, Send}
 use Rattle.layer_ast.specs.declared.syntax.Likely.TheVariants as likely
 use Rattle.layer_ast.specs.declared.syntax.Operator.TheVariants.{Add, Equal, NotEqual, Greater, And}
 use Rattle.layer_ast.specs.declared.syntax.Shape.TheVariants.{One, Array}
-use Rattle.layer_mean.specs.Tree.{Carried, whole, ExpressionTree, number, me, local, element, rows, item, size, binary, MessageTree, message, nothing, held, tail, join, StatementTree, assign, push, take, branch, each, emit, StatementTrees, none, more, Expected, always, common, rare, HandlerTree, Form, numbers, queue, queues, HeaderTree, CellTree, LayerTree}
+use Rattle.layer_mean.specs.Tree.{Carried, whole, ExpressionTree, number, me, local, element, rows, item, size, binary}
+use Rattle.layer_mean.specs.Tree.{MessageTree, message, nothing, held, tail, join, StatementTree, assign, push, take}
+use Rattle.layer_mean.specs.Tree.{branch, each, emit, StatementTrees, none, more, Expected, always, common, rare}
+use Rattle.layer_mean.specs.Tree.{HandlerTree, Form, numbers, queue, queues, HeaderTree, CellTree, LayerTree}
 
 -- The statements of a block.
 abbrev pub block : List StatementTree → StatementTrees
@@ -75,9 +79,11 @@ bottom = record {
       on Down Cast 0 always (sends Down Cast (local 0) (message 0) 1 (number 1 ∷ []) ∷ []) ∷
       on Down Send 0 always (sends Down Send (local 0) (message 0) 1 (number 1 ∷ []) ∷ []) ∷
       on Up Cast 1 (common (binary Equal (local 1) (number 1)))
-      (branch likely.First (binary Equal (local 1) (number 1)) (block (sends Up Cast (local 0) (message 0) 0 [] ∷ [])) none ∷ []) ∷
+      (branch likely.First (binary Equal (local 1) (number 1)) (block (sends Up Cast (local 0) (message 0) 0 [] ∷ []))
+      none ∷ []) ∷
       on Up Send 1 (common (binary Equal (local 1) (number 1)))
-      (branch likely.First (binary Equal (local 1) (number 1)) (block (sends Up Send (local 0) (message 0) 0 [] ∷ [])) none ∷ []) ∷ [];
+      (branch likely.First (binary Equal (local 1) (number 1)) (block (sends Up Send (local 0) (message 0) 0 [] ∷ []))
+      none ∷ []) ∷ [];
 }
 
 -- A cast comes back to its sender too.
@@ -98,7 +104,8 @@ total = record {
       on Up Send 2 always (branch likely.First (binary Equal me (number 0))
       (block (sends Down Cast me (message 0) 1 (local 0 ∷ cell 0 ∷ []) ∷ raise 0 ∷ [])) none ∷ []) ∷
       on Up Cast 1 (common (binary Equal (local 2) (cell 1))) (branch likely.First (binary Equal (local 2) (cell 1))
-      (block (assign 1 (number 0) (binary Add (cell 1) (number 1)) ∷ sends Up Cast (local 1) (message 0) 0 [] ∷ [])) none ∷ []) ∷ [];
+      (block (assign 1 (number 0) (binary Add (cell 1) (number 1)) ∷ sends Up Cast (local 1) (message 0) 0 [] ∷ []))
+      none ∷ []) ∷ [];
 }
 
 -- Rows with messages of the layers above. (What stands in for a missing one plays no part in the samples.)
@@ -131,7 +138,8 @@ turning = branch likely.First (binary NotEqual (item 5 (local 0) (number 0) 0) (
 -- The first that waits goes up, if it is the next.
 abbrev pub catching_up : StatementTree
 catching_up = branch likely.First
-    (binary And (binary Greater waiting (number 0)) (binary Equal (item 5 (local 0) (number 0) 0) (element 3 (local 0))))
+    (binary And (binary Greater waiting (number 0))
+    (binary Equal (item 5 (local 0) (number 0) 0) (element 3 (local 0))))
     (block (take 5 (local 0) (record { numbers = 4 ∷ []; message = Some (1, kept_rows) })
     (block (assign 3 (local 0) (binary Add (local 4) (number 1)) ∷ sends Up Cast (local 0) (message 1) 0 [] ∷ []))
     none ∷ []))
@@ -155,11 +163,13 @@ mnak = record {
       named (codes "out") (numbers One (number 0)) ∷ named (codes "base") (numbers One (number 0)) ∷
       named (codes "told") (numbers One (number 0)) ∷ named (codes "next") (numbers Array (number 0)) ∷
       named (codes "kept") (queue 64 (record { numbers = []; message = Some (codes "m", kept_rows) })) ∷
-      named (codes "early") (queues 16 (record { numbers = codes "seq" ∷ []; message = Some (codes "m", kept_rows) })) ∷ [];
+      named (codes "early") (queues 16 (record { numbers = codes "seq" ∷ []; message = Some (codes "m", kept_rows) })) ∷
+      [];
   headers =
       with_fields (codes "num") 1 ∷ record { name = codes "nak"; fields = 2; ends = true } ∷
       with_fields (codes "again") 1 ∷ with_fields (codes "last") 1 ∷ [];
-  handlers = on Down Cast 0 always keeping ∷ on Up Cast 1 (common (binary Equal (local 1) (element 3 (local 0)))) ordering ∷ [];
+  handlers = on Down Cast 0 always keeping ∷ on Up Cast 1 (common (binary Equal (local 1) (element 3 (local 0))))
+      ordering ∷ [];
 }
 
 -- A cast is sent back where it came from.
@@ -229,7 +239,8 @@ answering = record {
 -- A cast becomes two.
 abbrev pub doubler : LayerTree
 doubler = bare_layer (codes "doubler")
-    (on Down Cast 0 always (sends Down Cast (local 0) (message 0) 0 [] ∷ sends Down Cast (local 0) (message 0) 0 [] ∷ []) ∷ [])
+    (on Down Cast 0 always (sends Down Cast (local 0) (message 0) 0 [] ∷ sends Down Cast (local 0) (message 0) 0 [] ∷
+    []) ∷ [])
 
 -- A layer with a header and without handlers.
 abbrev pub silent : LayerTree

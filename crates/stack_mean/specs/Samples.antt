@@ -10,13 +10,15 @@ use Rattle.layer_mean.specs.Tree.{LayerTree}
 use Rattle.layer_mean.specs.Effect.{unusual}
 use Rattle.layer_mean.specs.Visit.{Visited, fresh, step}
 use Rattle.layer_mean.specs.Marked.{Source}
-use Rattle.stack_mean.specs.Acceptance.{cycle, too_many, too_many_joins, accepted, largest_weight, largest_joins, rows_of}
+use Rattle.stack_mean.specs.Acceptance.{cycle, too_many, too_many_joins, accepted, largest_weight, largest_joins}
+use Rattle.stack_mean.specs.Acceptance.{rows_of}
 use Rattle.stack_mean.specs.NoShape as no_shape
 use Rattle.stack_mean.specs.NoShape.{NoShape, drawn_from}
 use Rattle.stack_mean.specs.Drawn.{DrawnHeader}
 use Rattle.stack_mean.specs.Shape.{app_cast, app_send, packet_entry, ShapeVisit, ShapeOut, Shape, shape}
 use Rattle.stack_mean.specs.Plans.{plans_of}
-use Rattle.stack_mean.specs.SampleLayers.{counter, bottom, mnak, local_copy, total, echo, fan, repeater, joiner, surprised, late, mirror, memory, answering, doubler, silent}
+use Rattle.stack_mean.specs.SampleLayers.{counter, bottom, mnak, local_copy, total, echo, fan, repeater, joiner}
+use Rattle.stack_mean.specs.SampleLayers.{surprised, late, mirror, memory, answering, doubler, silent}
 
 -- Two layers that send each cast back to each other go on forever; one alone doesn't.
 abbrev pub TwoEchoes : Type 0
@@ -32,13 +34,15 @@ FanWeights = map (λ n. largest_weight (fans n)) (1 ∷ 2 ∷ 3 ∷ 4 ∷ []) �
 abbrev pub FourFans : Type 0
 FourFans = (accepted (fans 4) ≡ Err (too_many 69905)) × (accepted (fans 3) ≡ Ok (fans 3))
 
--- The joins of a loop's bound count outside it: three times one and, in a loop of 32, two; a layer above does this as often as it sends.
+-- The joins of a loop's bound count outside it: three times one and, in a loop of 32, two; a layer above does this as
+-- often as it sends.
 abbrev pub NestedJoins : Type 0
 NestedJoins =
     (largest_joins (joiner 32 ∷ []) ≡ 195) × (accepted (joiner 32 ∷ []) ≡ Ok (joiner 32 ∷ [])) ×
     (accepted (joiner 32 ∷ joiner 32 ∷ []) ≡ Err too_many_joins)
 
--- A message that comes back with its headers can't be answered again and again; one that isn't known may have any header.
+-- A message that comes back with its headers can't be answered again and again; one that isn't known may have any
+-- header.
 abbrev pub ReturnedHeaders : Type 0
 ReturnedHeaders =
     (accepted (mirror ∷ answering ∷ []) ≡ Ok (mirror ∷ answering ∷ [])) ×
@@ -51,7 +55,8 @@ MessageRows = rows_of (bottom ∷ mnak ∷ []) 5 ≡ 144
 -- Loops, rare handlers and messages that were stored can't be drawn; the first of them counts.
 abbrev pub NotDrawn : Type 0
 NotDrawn =
-    (shape (repeater ∷ []) app_cast First ≡ Err (no_shape.loop 0)) × (shape (repeater ∷ []) app_send First ≡ Err (no_shape.loop 0)) ×
+    (shape (repeater ∷ []) app_cast First ≡ Err (no_shape.loop 0)) ×
+    (shape (repeater ∷ []) app_send First ≡ Err (no_shape.loop 0)) ×
     (shape (bottom ∷ surprised ∷ late ∷ []) app_cast First ≡ Err (no_shape.stored 2)) ×
     (shape (late ∷ surprised ∷ bottom ∷ []) app_cast First ≡ Err (no_shape.rare 1))
 
@@ -84,7 +89,8 @@ ordered = bottom ∷ local_copy ∷ total ∷ []
 
 abbrev pub OrderedShape : Type 0
 OrderedShape = shape ordered app_cast First ≡ Ok (record {
-  visits = visit 2 Down 0 None ∷ visit 1 Down 1 (made_by 0 0) ∷ visit 0 Down 0 (made_by 1 0) ∷ visit 2 Up 1 (made_by 1 1) ∷ [];
+  visits = visit 2 Down 0 None ∷ visit 1 Down 1 (made_by 0 0) ∷ visit 0 Down 0 (made_by 1 0) ∷
+      visit 2 Up 1 (made_by 1 1) ∷ [];
   outs =
       out Down (header 1 (Some 1 ∷ []) ∷ header 0 [] ∷ header 1 (None ∷ None ∷ []) ∷ []) (made_by 2 0) ∷
       out Up [] (made_by 3 0) ∷ [];
@@ -102,14 +108,16 @@ KeptShape = shape kept app_cast First ≡ Ok (record {
       visit 0 Down 1 (made_by 2 0) ∷ [];
   outs =
       out Up [] (made_by 3 0) ∷
-      out Down (header 1 (Some 1 ∷ []) ∷ header 1 (None ∷ []) ∷ header 0 [] ∷ header 1 (None ∷ None ∷ []) ∷ []) (made_by 4 0) ∷ [];
+      out Down (header 1 (Some 1 ∷ []) ∷ header 1 (None ∷ []) ∷ header 0 [] ∷ header 1 (None ∷ None ∷ []) ∷ [])
+      (made_by 4 0) ∷ [];
   length = 20;
 })
 
 -- Both are accepted; sixteen casts that waited may go up behind one.
 abbrev pub OrderedAccepted : Type 0
 OrderedAccepted =
-    (accepted ordered ≡ Ok ordered) × (accepted kept ≡ Ok kept) × (largest_weight ordered ≡ 9) × (largest_weight kept ≡ 55)
+    (accepted ordered ≡ Ok ordered) × (accepted kept ≡ Ok kept) × (largest_weight ordered ≡ 9) ×
+    (largest_weight kept ≡ 55)
 
 -- The plans of both stacks: the lowest layer's number is constant.
 abbrev pub OrderedPlans : Type 0
@@ -125,7 +133,8 @@ KeptPlans = plans_of kept ≡
 -- The shapes of the counter's four entries: its own cast and send, and the packets of both.
 abbrev pub CounterLengths : Type 0
 CounterLengths = map (λ k. length_of (shape (counter ∷ []) k First))
-    (app_cast ∷ app_send ∷ packet_entry Cast (1 ∷ []) ∷ packet_entry Send (0 ∷ []) ∷ []) ≡ Ok 4 ∷ Ok 1 ∷ Ok 4 ∷ Ok 1 ∷ []
+    (app_cast ∷ app_send ∷ packet_entry Cast (1 ∷ []) ∷ packet_entry Send (0 ∷ []) ∷ []) ≡ Ok 4 ∷ Ok 1 ∷ Ok 4 ∷ Ok 1 ∷
+    []
 
 -- An event for a layer without handlers, and what it makes of it at place 3.
 abbrev pub cast_of : Content → Event
@@ -147,11 +156,12 @@ untagged = record { headers = []; body = codes "x" }
 abbrev pub tick : Event
 tick = record { kind = Timer; peer = 0; a = 5; b = 0; message = None }
 
--- An event without a message passes, a message passes going down behind `none`, and going up where that was popped; behind another
--- header it is dropped, which isn't predicted.
+-- An event without a message passes, a message passes going down behind `none`, and going up where that was popped;
+-- behind another header it is dropped, which isn't predicted.
 abbrev pub MissingHandlers : Type 0
 MissingHandlers =
     (at_silent Up tick ≡ passed Up tick) × (at_silent Down tick ≡ passed Down tick) ×
     (at_silent Down (cast_of untagged) ≡ passed Down (cast_of (tagged 0 []))) ×
     (at_silent Up (cast_of (tagged 0 [])) ≡ passed Up (cast_of untagged)) ×
-    (at_silent Up (cast_of (tagged 1 (7 ∷ []))) ≡ record { state = fresh silent 0 2 0; sent = []; decided = unusual ∷ [] })
+    (at_silent Up (cast_of (tagged 1 (7 ∷ []))) ≡
+    record { state = fresh silent 0 2 0; sent = []; decided = unusual ∷ [] })

@@ -1,6 +1,8 @@
--- The shape of an entry in a case: which visits and outputs follow from it where all goes as predicted in the case, told by the
--- layers' texts alone. (After the common paths of the SOSP 1999 paper; that there may be two cases is this project's own.)
-use Rattle.std.specs.Prelude.{ℕ, ◌+◌, ◌-◌, Bool, false, ◌&&◌, ◌||◌, nat_lt, if◌then◌else◌, List, [], ◌∷◌, map, replicate, length, Option, Some, None, Result, Ok, Err}
+-- The shape of an entry in a case: which visits and outputs follow from it where all goes as predicted in the case,
+-- told by the layers' texts alone. (After the common paths of the SOSP 1999 paper; that there may be two cases is this
+-- project's own.)
+use Rattle.std.specs.Prelude.{ℕ, ◌+◌, ◌-◌, Bool, false, ◌&&◌, ◌||◌, nat_lt, if◌then◌else◌, List, [], ◌∷◌, map}
+use Rattle.std.specs.Prelude.{replicate, length, Option, Some, None, Result, Ok, Err}
 use Rattle.std.specs.Option.{option_map_or}
 use Rattle.layer_ast.specs.declared.tokens.Dir.{Dir}
 use Rattle.layer_ast.specs.declared.tokens.Dir.TheVariants.{Up, Down}
@@ -29,10 +31,12 @@ visits_limit = 256
 -- A visit that can't be drawn ends all.
 abbrev pub drawn_turn : Progress → Result DrawnVisit NoShape → Turn (Result Progress NoShape) DrawnEvent
 drawn_turn p (Err reason) = record { world = Err reason; sent = [] }
-drawn_turn p (Ok v) = record { world = Ok (record { visits = p.visits + 1; length = p.length + v.length }); sent = v.sent }
+drawn_turn p (Ok v) =
+    record { world = Ok (record { visits = p.visits + 1; length = p.length + v.length }); sent = v.sent }
 
 -- A visit is looked at where none failed before, and where there may be one more.
-abbrev pub shaped_visit : Case → List LayerTree → ℕ → Dir → DrawnEvent → Result Progress NoShape → Turn (Result Progress NoShape) DrawnEvent
+abbrev pub shaped_visit : Case → List LayerTree → ℕ → Dir → DrawnEvent → Result Progress NoShape →
+    Turn (Result Progress NoShape) DrawnEvent
 shaped_visit case stack at dir event (Err reason) = record { world = Err reason; sent = [] }
 shaped_visit case stack at dir event (Ok p) = if nat_lt p.visits visits_limit
     then drawn_turn p (drawn_visit case (at - 1) (layer_at stack at) dir event)
@@ -59,7 +63,8 @@ pub record Known : Type 0 where
   pub kind : Kind
   pub tags : List ℕ
 
--- The application's own cast and send come from above and have no headers yet; a packet's cast or send comes from below with its tags.
+-- The application's own cast and send come from above and have no headers yet; a packet's cast or send comes from below
+-- with its tags.
 abbrev pub app_cast : Known
 app_cast = record { dir = Down; kind = Cast; tags = [] }
 
@@ -76,7 +81,8 @@ entry_place stack Down = length stack
 
 -- A header of a layer of which the tag alone is known: none of its fields is.
 abbrev pub unknown_header : LayerTree → ℕ → DrawnHeader
-unknown_header layer tag = record { tag = tag; fields = replicate (option_map_or (λ h. h.fields) (declared layer tag) 0) None }
+unknown_header layer tag =
+    record { tag = tag; fields = replicate (option_map_or (λ h. h.fields) (declared layer tag) 0) None }
 
 -- The headers of an entry, from these layers on; what stands behind the highest layer's has no fields.
 abbrev pub entry_headers : List LayerTree → List ℕ → List DrawnHeader
@@ -99,9 +105,11 @@ pub record Watched : Type 0 where
 -- A visit that is looked at may meet one.
 abbrev pub meets_fork : List LayerTree → ℕ → Dir → DrawnEvent → Result Progress NoShape → Bool
 meets_fork stack at dir event (Err reason) = false
-meets_fork stack at dir event (Ok p) = nat_lt p.visits visits_limit && visit_forks (at - 1) (layer_at stack at) dir event
+meets_fork stack at dir event (Ok p) = nat_lt p.visits visits_limit &&
+    visit_forks (at - 1) (layer_at stack at) dir event
 
-abbrev pub watched : List LayerTree → ℕ → Dir → DrawnEvent → Watched → Turn (Result Progress NoShape) DrawnEvent → Turn Watched DrawnEvent
+abbrev pub watched : List LayerTree → ℕ → Dir → DrawnEvent → Watched → Turn (Result Progress NoShape) DrawnEvent →
+    Turn Watched DrawnEvent
 watched stack at dir event w turn = record {
   world = record { drawn = turn.world; forks = w.forks || meets_fork stack at dir event w.drawn };
   sent = turn.sent;
@@ -114,14 +122,14 @@ watcher stack = record {
   output = λ dir event w. record w { drawn = drawn_from (λ p. Ok (with_output p)) w.drawn };
 }
 
--- The second case of an entry is made where its way in the first case meets a condition with two predicted ways before it ends or
--- can't be drawn.
+-- The second case of an entry is made where its way in the first case meets a condition with two predicted ways before
+-- it ends or can't be drawn.
 unfoldable pub has_second_case : List LayerTree → Known → Bool
 has_second_case stack k = (run_for (length stack) (watcher stack) weight_limit
     (starting (record { drawn = undrawn; forks = false }) (entry_task stack k))).world.forks
 
--- A visit of a shape: its place, counted from 0, the event's direction and kind, the tag of the first header (0 where there is none),
--- and the maker of the event.
+-- A visit of a shape: its place, counted from 0, the event's direction and kind, the tag of the first header (0 where
+-- there is none), and the maker of the event.
 pub record ShapeVisit : Type 0 where
   pub place : ℕ
   pub dir : Dir
@@ -174,11 +182,12 @@ shape_with log p = record { visits = map shape_visit log.visits; outs = map shap
 abbrev pub shape_of : Log (Result Progress NoShape) DrawnEvent → Result Shape NoShape
 shape_of log = drawn_from (λ p. Ok (shape_with log p)) log.world
 
--- What is drawn of an entry in a case, or the first reason for which it can't be. (As many turns as an accepted stack's heaviest entry
--- weighs are enough.)
+-- What is drawn of an entry in a case, or the first reason for which it can't be. (As many turns as an accepted stack's
+-- heaviest entry weighs are enough.)
 unfoldable pub drawn_shape : List LayerTree → Known → Case → Result Shape NoShape
 drawn_shape stack k case =
-    shape_of (run_for (length stack) (marked (shaper case stack)) weight_limit (marked_start undrawn (entry_task stack k))).world
+    shape_of (run_for (length stack) (marked (shaper case stack)) weight_limit
+    (marked_start undrawn (entry_task stack k))).world
 
 -- The shape of an entry in a case, or the first reason for which it has none: the first case is always made.
 abbrev pub shape : List LayerTree → Known → Case → Result Shape NoShape

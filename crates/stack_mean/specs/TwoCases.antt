@@ -6,7 +6,8 @@ use Rattle.layer_ast.specs.declared.syntax.Likely.TheVariants.{Two}
 use Rattle.layer_ast.specs.declared.syntax.Operator.TheVariants.{Equal, BitAnd}
 use Rattle.layer_ast.specs.declared.syntax.Shape.TheVariants.{One}
 use Rattle.layer_mean.specs.declared.run.Case.TheVariants.{First, Second}
-use Rattle.layer_mean.specs.Tree.{ExpressionTree, number, local, binary, message, StatementTree, branch, each, always, numbers, LayerTree}
+use Rattle.layer_mean.specs.Tree.{ExpressionTree, number, local, binary, message, StatementTree, branch, each, always}
+use Rattle.layer_mean.specs.Tree.{numbers, LayerTree}
 use Rattle.stack_mean.specs.NoShape as no_shape
 use Rattle.stack_mean.specs.Shape.{app_cast, app_send, packet_entry, shape}
 use Rattle.stack_mean.specs.Plans.{plans_of}
@@ -33,19 +34,31 @@ casting statements = record {
 -- Casts are counted, and those of odd numbers get another header than those of even ones.
 abbrev pub flip : LayerTree
 flip = casting (raise 0 ∷
-    either (sends Down Cast (local 0) (message 0) 1 (cell 0 ∷ []) ∷ []) (sends Down Cast (local 0) (message 0) 2 (cell 0 ∷ []) ∷ []) ∷ [])
+    either (sends Down Cast (local 0) (message 0) 1 (cell 0 ∷ []) ∷ [])
+    (sends Down Cast (local 0) (message 0) 2 (cell 0 ∷ []) ∷ []) ∷ [])
 
 -- A cast has a shape in both cases; a send meets no such condition, so that its second case is the same as its first.
 abbrev pub FlipShapes : Type 0
 FlipShapes =
     (shape (flip ∷ []) app_cast First ≡
-    Ok (record { visits = visit 0 Down 0 None ∷ []; outs = out Down (header 1 (None ∷ []) ∷ []) (made_by 0 0) ∷ []; length = 5 })) ×
+    Ok (record {
+      visits = visit 0 Down 0 None ∷ [];
+      outs = out Down (header 1 (None ∷ []) ∷ []) (made_by 0 0) ∷
+          [];
+      length = 5;
+    })) ×
     (shape (flip ∷ []) app_cast Second ≡
-    Ok (record { visits = visit 0 Down 0 None ∷ []; outs = out Down (header 2 (None ∷ []) ∷ []) (made_by 0 0) ∷ []; length = 5 })) ×
+    Ok (record {
+      visits = visit 0 Down 0 None ∷ [];
+      outs = out Down (header 2 (None ∷ []) ∷ []) (made_by 0 0) ∷
+          [];
+      length = 5;
+    })) ×
     (length_of (shape (flip ∷ []) app_send First) ≡ Ok 1) ×
     (shape (flip ∷ []) app_send Second ≡ Err no_shape.same)
 
--- The plans of the first case stand before those of the second. Their packets have no shape, since no handler takes them.
+-- The plans of the first case stand before those of the second. Their packets have no shape, since no handler takes
+-- them.
 abbrev pub FlipPlans : Type 0
 FlipPlans =
     (plans_of (flip ∷ []) ≡
@@ -62,11 +75,12 @@ looping = each 1 (number 2) 2 (block [])
 abbrev pub plain_cast : StatementTree
 plain_cast = sends Down Cast (local 0) (message 0) 0 []
 
--- The first case may fail behind a condition with two predicted ways, and the second have a shape; in front of it both fail. A condition
--- that the first case meets behind a visit of another layer counts.
+-- The first case may fail behind a condition with two predicted ways, and the second have a shape; in front of it both
+-- fail. A condition that the first case meets behind a visit of another layer counts.
 abbrev pub FailedCases : Type 0
 FailedCases =
     (shape (casting (either (looping ∷ []) (plain_cast ∷ []) ∷ []) ∷ []) app_cast First ≡ Err (no_shape.loop 0)) ×
     (length_of (shape (casting (either (looping ∷ []) (plain_cast ∷ []) ∷ []) ∷ []) app_cast Second) ≡ Ok 3) ×
-    (shape (casting (looping ∷ either (plain_cast ∷ []) (plain_cast ∷ []) ∷ []) ∷ []) app_cast Second ≡ Err no_shape.same) ×
+    (shape (casting (looping ∷ either (plain_cast ∷ []) (plain_cast ∷ []) ∷ []) ∷ []) app_cast Second ≡
+    Err no_shape.same) ×
     (length_of (shape (flip ∷ silent ∷ []) app_cast Second) ≡ Ok 5)

@@ -1,7 +1,8 @@
 //! Small stacks, worked out by evaluation: the functions here are empty.
 #![tactic(auto, unfolding(crate::specs::Shape::drawn_shape, crate::specs::Shape::has_second_case, layer_ast::specs::Spelling::kinds, layer_mean::specs::Visit::step))]
 
-ghost use Rattle.stack_mean.specs.Cases.{AllCounts, ConstantFields, HugeWeight, PartsAndStored, UnreachedCycles, Unhandled};
+ghost use Rattle.stack_mean.specs.Cases.{AllCounts, ConstantFields, HugeWeight, PartsAndStored, UnreachedCycles};
+ghost use Rattle.stack_mean.specs.Cases.{Unhandled};
 ghost use Rattle.stack_mean.specs.Samples.{
   CounterLengths,
   FanWeights,

@@ -26,12 +26,14 @@ use Rattle.stack_play.proofs.Held.{StandsAt, stands_first, stands_next}
 use Rattle.stack_play.proofs.Moments.{stands_at, front, front_more, moments_length}
 
 -- After k events the lines of each are counted.
-pub record Counted (mode : Mode) (stack : List LayerTree) (plans : List Plan) (s : Script) (k : ℕ) (r : Playing) (counts : Counts) : Type 0 where
+pub record Counted (mode : Mode) (stack : List LayerTree) (plans : List Plan) (s : Script) (k : ℕ) (r : Playing)
+    (counts : Counts) : Type 0 where
   pub stands : StandsAt mode stack plans s k r
   pub counts_are : counts ≡ counts_of mode stack plans (front stack plans s k)
 
 -- The lines of an event that happened are counted.
-pub counted_event : (mode : Mode) (stack : List LayerTree) (plans : List Plan) (w : World) (event : ScriptEvent) (old new : Playing)
+pub counted_event : (mode : Mode) (stack : List LayerTree) (plans : List Plan) (w : World) (event : ScriptEvent)
+    (old new : Playing)
     (outs : List (Output × Option ℕ)) (did : Did) (before after : Counts) →
     Happened mode stack plans w event new.group outs old.visits new.visits did → after ≡ counted before did outs →
     IsCounted mode stack plans w event new before after
@@ -42,18 +44,23 @@ counted_event mode stack plans w event old new outs did before after h is = reco
 }
 
 module _ (mode : Mode) (stack : List LayerTree) (plans : List Plan) (s : Script) where
-  more : (k : ℕ) (event : ScriptEvent) (r next : Playing) (before after : Counts) → Counted mode stack plans s k r before →
+  more : (k : ℕ) (event : ScriptEvent) (r next : Playing) (before after : Counts) →
+      Counted mode stack plans s k r before →
       Keeps mode stack plans r next →
-      IsCounted mode stack plans (stands_at stack plans s k) event next before after → k < length s.events → event ≡ get_or s.events k event →
+      IsCounted mode stack plans (stands_at stack plans s k) event next before after → k < length s.events →
+      event ≡ get_or s.events k event →
       Counted mode stack plans s (k + 1) next after
   more k event r next before after held kept c lt is = record {
     stands = stands_next mode stack plans s k event r next held.stands kept c.world lt is;
-    counts_are = c.counts (front stack plans s k) held.counts_are ∙ ap (counts_of mode stack plans) (sym (front_more stack plans s k event lt is));
+    counts_are = c.counts (front stack plans s k) held.counts_are ∙
+        ap (counts_of mode stack plans) (sym (front_more stack plans s k event lt is));
   }
 
-  pub counted_more : (k : ℕ) (event : ScriptEvent) (r next : Playing) (before after : Counts) → Counted mode stack plans s k r before →
+  pub counted_more : (k : ℕ) (event : ScriptEvent) (r next : Playing) (before after : Counts) →
+      Counted mode stack plans s k r before →
       Keeps r.group.mode stack plans r next →
-      IsCounted r.group.mode stack plans (stands_at stack plans s k) event next before after → k < length s.events → event ≡ get_or s.events k event →
+      IsCounted r.group.mode stack plans (stands_at stack plans s k) event next before after → k < length s.events →
+      event ≡ get_or s.events k event →
       Counted mode stack plans s (k + 1) next after
   counted_more k event r next before after held kept c =
       let is = held.stands.ready.mode_is in
@@ -61,17 +68,22 @@ module _ (mode : Mode) (stack : List LayerTree) (plans : List Plan) (s : Script)
       (subst (λ x. IsCounted x stack plans (stands_at stack plans s k) event next before after) is c)
 
   -- as many events are counted as were played
-  pub events_counted : (k : ℕ) (r : Playing) (counts : Counts) → Counted mode stack plans s k r counts → k ≤ length s.events → counts.events ≡ k
+  pub events_counted : (k : ℕ) (r : Playing) (counts : Counts) → Counted mode stack plans s k r counts →
+      k ≤ length s.events → counts.events ≡ k
   events_counted k r counts held le = ap (λ c. c.events) held.counts_are
-      ∙ moments_length stack plans (first_world stack s.group s.stamp s.members) (take k s.events) ∙ length-take-le k s.events le
+      ∙ moments_length stack plans (first_world stack s.group s.stamp s.members) (take k s.events) ∙
+      length-take-le k s.events le
 
-  pub counted_last : (k : ℕ) (r : Playing) (counts : Counts) → Counted mode stack plans s k r counts → length s.events ≤ k →
+  pub counted_last : (k : ℕ) (r : Playing) (counts : Counts) → Counted mode stack plans s k r counts →
+      length s.events ≤ k →
       counts ≡ counts_of mode stack plans (run_of stack plans s)
   counted_last k r counts held all = held.counts_are
-      ∙ ap (λ es. counts_of mode stack plans (moments stack plans (first_world stack s.group s.stamp s.members) es)) (take_all k s.events all)
+      ∙ ap (λ es. counts_of mode stack plans (moments stack plans (first_world stack s.group s.stamp s.members) es))
+      (take_all k s.events all)
 
 -- After k events of a workload's script they were made, too, and no more.
-pub record CountedSoFar (mode : Mode) (stack : List LayerTree) (plans : List Plan) (w : Workload) (k : ℕ) (r : Playing) (counts : Counts) (script : Course)
+pub record CountedSoFar (mode : Mode) (stack : List LayerTree) (plans : List Plan) (w : Workload) (k : ℕ) (r : Playing)
+    (counts : Counts) (script : Course)
     : Type 0 where
   pub counted : Counted mode stack plans (script_for w) k r counts
   pub course : script ≡ record { workload = w; made = k }
@@ -81,14 +93,17 @@ module _ (mode : Mode) (stack : List LayerTree) (plans : List Plan) (w : Workloa
   many : length (script_for w).events ≡ w.events
   many = made_length w.seed w.members w.raw w.events
 
-  pub first_counted : (r : Playing) (counts : Counts) (script : Course) → IsAtFirst mode stack plans 1 1 w.members r.group r.places →
-      r.visits ≡ 0 → counts ≡ no_counts → script ≡ record { workload = w; made = 0 } → CountedSoFar mode stack plans w 0 r counts script
+  pub first_counted : (r : Playing) (counts : Counts) (script : Course) →
+      IsAtFirst mode stack plans 1 1 w.members r.group r.places →
+      r.visits ≡ 0 → counts ≡ no_counts → script ≡ record { workload = w; made = 0 } →
+      CountedSoFar mode stack plans w 0 r counts script
   first_counted r counts script first still none course = record {
     counted = record { stands = stands_first mode stack plans (script_for w) r first still; counts_are = none };
     course = course;
   }
 
-  module _ (k : ℕ) (r : Playing) (counts : Counts) (script : Course) (held : CountedSoFar mode stack plans w k r counts script) where
+  module _ (k : ℕ) (r : Playing) (counts : Counts) (script : Course)
+      (held : CountedSoFar mode stack plans w k r counts script) where
     pub few_counted : k < w.events → counts.events ≡ k
     few_counted lt = events_counted mode stack plans (script_for w) k r counts held.counted (omega (arith, lt, many))
 
@@ -105,9 +120,11 @@ module _ (mode : Mode) (stack : List LayerTree) (plans : List Plan) (w : Workloa
           subst (λ n. member_of event < n) (sym held.counted.stands.count) of_member
 
       pub next_counted : (r' : Playing) (after : Counts) → Keeps r.group.mode stack plans r r' →
-          IsCounted r.group.mode stack plans (stands_at stack plans (script_for w) k) event r' counts after → CountedSoFar mode stack plans w (k + 1) r' after behind
+          IsCounted r.group.mode stack plans (stands_at stack plans (script_for w) k) event r' counts after →
+          CountedSoFar mode stack plans w (k + 1) r' after behind
       next_counted r' after kept c = record {
         counted = counted_more mode stack plans (script_for w) k event r r' counts after held.counted kept c
-            (slice_get_within (script_for w).events k event next_is) (sym (get_or_from_slice_get (script_for w).events k event event next_is));
+            (slice_get_within (script_for w).events k event next_is)
+            (sym (get_or_from_slice_get (script_for w).events k event event next_is));
         course = next.course ∙ ap (λ c. record { workload = c.workload; made = c.made + 1 }) held.course;
       }

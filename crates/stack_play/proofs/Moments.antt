@@ -1,5 +1,6 @@
 -- The moments of a script, one by one.
-use Rattle.std.proofs.Common.{◌≡◌, ℕ, suc, ◌+◌, ◌<◌, List, [], ◌∷◌, ◌++◌, length, take, drop, get_or, refl, sym, ap, ◌∙◌}
+use Rattle.std.proofs.Common.{◌≡◌, ℕ, suc, ◌+◌, ◌<◌, List, [], ◌∷◌, ◌++◌, length, take, drop, get_or, refl, sym, ap}
+use Rattle.std.proofs.Common.{◌∙◌}
 use Rattle.std.proofs.lemmas.List.{take_more, take-append-drop}
 use Rattle.layer_mean.specs.Tree.{LayerTree}
 use Rattle.script_mean.specs.declared.event.ScriptEvent.{ScriptEvent}
@@ -15,9 +16,11 @@ module _ (stack : List LayerTree) (plans : List Plan) where
   behind w [] = w
   behind w (e ∷ events) = behind (happens stack plans w e).world events
 
-  moments_append : (w : World) (xs ys : List ScriptEvent) → moments stack plans w (xs ++ ys) ≡ moments stack plans w xs ++ moments stack plans (behind w xs) ys
+  moments_append : (w : World) (xs ys : List ScriptEvent) → moments stack plans w (xs ++ ys) ≡
+      moments stack plans w xs ++ moments stack plans (behind w xs) ys
   moments_append w [] ys = refl
-  moments_append w (e ∷ xs) ys = ap (λ ms. moment_at stack plans w e ∷ ms) (moments_append (happens stack plans w e).world xs ys)
+  moments_append w (e ∷ xs) ys =
+      ap (λ ms. moment_at stack plans w e ∷ ms) (moments_append (happens stack plans w e).world xs ys)
 
   behind_append : (w : World) (xs ys : List ScriptEvent) → behind w (xs ++ ys) ≡ behind (behind w xs) ys
   behind_append w [] ys = refl
@@ -52,5 +55,6 @@ module _ (stack : List LayerTree) (plans : List Plan) where
       rest = moments stack plans (stands_at (k + 1)) (drop (k + 1) s.events)
 
       pub whole : run_of stack plans s ≡ front (k + 1) ++ rest
-      whole = ap (moments stack plans (first_world stack s.group s.stamp s.members)) (sym (take-append-drop (k + 1) s.events))
+      whole = ap (moments stack plans (first_world stack s.group s.stamp s.members))
+          (sym (take-append-drop (k + 1) s.events))
           ∙ moments_append (first_world stack s.group s.stamp s.members) (take (k + 1) s.events) (drop (k + 1) s.events)

@@ -41,27 +41,32 @@ abbrev pub moment_at : List LayerTree → List Plan → World → ScriptEvent �
 moment_at stack plans w event = record { before = w; event = event; happening = happens stack plans w event }
 
 -- An event was played and its lines are written: the run stands at the world behind it, and its visits are counted.
-pub record IsTold (mode : Mode) (stack : List LayerTree) (plans : List Plan) (wire : Bool) (w : World) (event : ScriptEvent) (old new : Playing)
+pub record IsTold (mode : Mode) (stack : List LayerTree) (plans : List Plan) (wire : Bool) (w : World)
+    (event : ScriptEvent) (old new : Playing)
     (before after : Tells) : Type 0 where
   pub world : Stands new.group (happens stack plans w event).world
   pub visits : new.visits ≡ old.visits + visits_in mode stack plans (happens stack plans w event).did
   pub gained : Gains before after (moment_lines stack plans (mode_if wire mode) (moment_at stack plans w event))
 
 -- It was, or its lines were cut short.
-abbrev pub TellsEvent : Mode → List LayerTree → List Plan → Bool → World → ScriptEvent → (old new : Playing) → (before after : Tells) →
+abbrev pub TellsEvent : Mode → List LayerTree → List Plan → Bool → World → ScriptEvent → (old new : Playing) →
+    (before after : Tells) →
     Result (Unit {0}) SinkError → Type 0
-TellsEvent mode stack plans wire w event old new before after (Ok done) = IsTold mode stack plans wire w event old new before after
+TellsEvent mode stack plans wire w event old new before after (Ok done) =
+    IsTold mode stack plans wire w event old new before after
 TellsEvent mode stack plans wire w event old new before after (Err e) =
     Wrote (moment_lines stack plans (mode_if wire mode) (moment_at stack plans w event)) before after (Err e)
 
 -- An event was played and its lines are counted, behind those of any run.
-pub record IsCounted (mode : Mode) (stack : List LayerTree) (plans : List Plan) (w : World) (event : ScriptEvent) (new : Playing) (before after : Counts)
+pub record IsCounted (mode : Mode) (stack : List LayerTree) (plans : List Plan) (w : World) (event : ScriptEvent)
+    (new : Playing) (before after : Counts)
     : Type 0 where
   pub world : Stands new.group (happens stack plans w event).world
   pub counts : (run : List Moment) → before ≡ counts_of mode stack plans run →
       after ≡ counts_of mode stack plans (run ++ moment_at stack plans w event ∷ [])
 
-abbrev pub CountsEvent : Mode → List LayerTree → List Plan → World → ScriptEvent → (new : Playing) → (before after : Counts) →
+abbrev pub CountsEvent : Mode → List LayerTree → List Plan → World → ScriptEvent → (new : Playing) →
+    (before after : Counts) →
     Result (Unit {0}) Memory → Type 0
 CountsEvent mode stack plans w event new before after (Ok done) = IsCounted mode stack plans w event new before after
 CountsEvent mode stack plans w event new before after (Err memory) = Unit {0}

@@ -28,8 +28,9 @@ use stack_shapes::Plans;
 use std::alloc::Global;
 use step_outputs::{Outputs, an_accepted_stack_is_light};
 
-/// Plays the script of a workload of 1 to 32 members in a group that begins, with the number and the stamp of such a script, in the group's mode, and
-/// writes how many lines of each kind its report has. Each event is made as it is played.
+/// Plays the script of a workload of 1 to 32 members in a group that begins, with the number and the stamp of such a
+/// script, in the group's mode, and writes how many lines of each kind its report has. Each event is made as it is
+/// played.
 pub fn write_counts<G: Feed, O: Sink>(
     alloc: Global,
     group: &mut G,
@@ -39,7 +40,8 @@ pub fn write_counts<G: Feed, O: Sink>(
     workload: Workload,
     out: &mut O,
 ) -> Result<(), SinkError>
-    requires first { IsAtFirst (G.group group.old).mode (stack_tree stack.now) (plans_tree plans.now) 1 1 workload.members
+    requires first { IsAtFirst (G.group group.old).mode (stack_tree stack.now) (plans_tree plans.now) 1 1
+        workload.members
         (G.group group.old) outputs.places }
     requires members { (1 ≤ workload.members) × (workload.members ≤ most_members) }
     requires few { workload.events ≤ most_events }
@@ -64,7 +66,8 @@ fn count_events<G: Feed>(
     workload: Workload,
     counts: &mut Tally,
 ) -> Result<(), Memory>
-    requires first { IsAtFirst (G.group group.old).mode (stack_tree stack.now) (plans_tree plans.now) 1 1 workload.members
+    requires first { IsAtFirst (G.group group.old).mode (stack_tree stack.now) (plans_tree plans.now) 1 1
+        workload.members
         (G.group group.old) run.old.outputs.places }
     requires visits { run.old.visits ≡ 0 }
     requires members { (1 ≤ workload.members) × (workload.members ≤ most_members) }
@@ -91,14 +94,16 @@ fn count_event<G: Feed>(
     event: &ScriptEvent,
     counts: &mut Tally,
 ) -> Result<(), Memory>
-    requires ready { IsReady (G.group group.old).mode (stack_tree stack.now) (plans_tree _plans.now) (G.group group.old) run.old.outputs.places }
+    requires ready { IsReady (G.group group.old).mode (stack_tree stack.now) (plans_tree _plans.now) (G.group group.old)
+        run.old.outputs.places }
     requires member { member_of event.now < length (G.group group.old).members }
     requires visits { run.old.visits ≤ 2 ^ 63 }
     requires events { counts.old.events < 2 ^ 32 }
     ensures kept { Keeps (G.group group.old).mode (stack_tree stack.now) (plans_tree _plans.now)
         (playing (G.group group.old) run.old) (playing (G.group group.new) run.new) }
     ensures counted { (w : mean.World) → Stands (G.group group.old) w →
-        CountsEvent (G.group group.old).mode (stack_tree stack.now) (plans_tree _plans.now) w event.now (playing (G.group group.new) run.new)
+        CountsEvent (G.group group.old).mode (stack_tree stack.now) (plans_tree _plans.now) w event.now
+        (playing (G.group group.new) run.new)
         counts.old counts.new result }
 {
     let did = group.feed(event, &mut run.outputs, &mut run.visits)?;

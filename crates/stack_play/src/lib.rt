@@ -1,4 +1,5 @@
-//! Scripts that are played in a group that is fed, and what is written of a run: its report, or the counts of its lines.
+//! Scripts that are played in a group that is fed, and what is written of a run: its report, or the counts of its
+//! lines.
 #![tactic(auto)]
 
 mod counting;

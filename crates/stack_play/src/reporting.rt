@@ -23,7 +23,8 @@ use script_mean::{Script, ScriptEvent};
 use std::alloc::Global;
 use step_outputs::{Outputs, an_accepted_stack_is_light};
 
-/// Plays a script in a group that begins, in the group's mode, and writes its report: with the number of visits where it is wanted.
+/// Plays a script in a group that begins, in the group's mode, and writes its report: with the number of visits where
+/// it is wanted.
 pub fn write_report<G: Shows, O: Sink>(
     alloc: Global,
     group: &mut G,
@@ -37,7 +38,8 @@ pub fn write_report<G: Shows, O: Sink>(
         script.now.group script.now.stamp script.now.members (G.group group.old) outputs.places }
     requires runs { IsRunnable script.now }
     requires few { length script.now.events ≤ most_events }
-    ensures { Wrote (output_in (stack_tree manner.entry.stack.now) (plans_tree manner.entry.plans.now) script.now (G.group group.old).mode
+    ensures { Wrote (output_in (stack_tree manner.entry.stack.now) (plans_tree manner.entry.plans.now) script.now
+        (G.group group.old).mode
         manner.entry.wire count) (tells_of O.Sink out.old) (tells_of O.Sink out.new) result }
 {
     let mut run = Run::begin(alloc, outputs);
@@ -85,7 +87,8 @@ fn write_events<G: Shows, O: Sink>(
         (run_of (stack_tree manner.entry.stack.now) (plans_tree manner.entry.plans.now) script.now))
         (tells_of O.Sink out.old) (tells_of O.Sink out.new) result }
     ensures visits { OnOk result (run.new.visits
-        ≡ sum_by (visits_of (G.group group.old).mode (stack_tree manner.entry.stack.now) (plans_tree manner.entry.plans.now))
+        ≡ sum_by (visits_of (G.group group.old).mode (stack_tree manner.entry.stack.now)
+        (plans_tree manner.entry.plans.now))
         (run_of (stack_tree manner.entry.stack.now) (plans_tree manner.entry.plans.now) script.now)) }
 {
     for event in script.events.slice() {
@@ -106,10 +109,12 @@ fn play_event<G: Shows, O: Sink>(
         (G.group group.old) run.old.outputs.places }
     requires member { member_of event.now < length (G.group group.old).members }
     requires visits { run.old.visits ≤ 2 ^ 63 }
-    ensures kept { Keeps (G.group group.old).mode (stack_tree manner.entry.stack.now) (plans_tree manner.entry.plans.now)
+    ensures kept { Keeps (G.group group.old).mode (stack_tree manner.entry.stack.now)
+        (plans_tree manner.entry.plans.now)
         (playing (G.group group.old) run.old) (playing (G.group group.new) run.new) }
     ensures told { (w : mean.World) → Stands (G.group group.old) w →
-        TellsEvent (G.group group.old).mode (stack_tree manner.entry.stack.now) (plans_tree manner.entry.plans.now) manner.entry.wire
+        TellsEvent (G.group group.old).mode (stack_tree manner.entry.stack.now) (plans_tree manner.entry.plans.now)
+        manner.entry.wire
         w event.now (playing (G.group group.old) run.old) (playing (G.group group.new) run.new)
         (tells_of O.Sink out.old) (tells_of O.Sink out.new) result }
 {

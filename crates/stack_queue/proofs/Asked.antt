@@ -1,5 +1,6 @@
 -- What a visit asks is there while a run goes on.
-use Rattle.std.proofs.Common.{◌≡◌, ℕ, ◌+◌, ◌*◌, ◌-◌, ◌≤◌, Bool, true, false, List, [], ◌∷◌, ◌++◌, Option, Some, None, length, flat_map, refl, ap, arith}
+use Rattle.std.proofs.Common.{◌≡◌, ℕ, ◌+◌, ◌*◌, ◌-◌, ◌≤◌, Bool, true, false, List, [], ◌∷◌, ◌++◌, Option, Some, None}
+use Rattle.std.proofs.Common.{length, flat_map, refl, ap, arith}
 use Rattle.std.specs.List.{AllByRecursion}
 use Rattle.std.proofs.lemmas.List.{length-append, length-map}
 use Rattle.std.proofs.lemmas.List.Sums.{sum_by-cons}
@@ -53,7 +54,8 @@ message_few : (o : Option PoolMessage) → length (refs_if o) ≤ 1
 message_few None = omega arith
 message_few (Some m) = body_few m.body
 
-each_one : {A : Type 0} (f : A → List ℕ) → ((x : A) → length (f x) ≤ 1) → (xs : List A) → length (flat_map f xs) ≤ length xs
+each_one : {A : Type 0} (f : A → List ℕ) → ((x : A) → length (f x) ≤ 1) → (xs : List A) →
+    length (flat_map f xs) ≤ length xs
 each_one f one [] = omega arith
 each_one f one (x ∷ xs) = omega (arith, one x, each_one f one xs, length-append (f x) (flat_map f xs))
 
@@ -75,18 +77,21 @@ tasks_weigh stack orderly off (t ∷ ts) known = omega (
 )
 
 -- a message that a layer meets comes from the places above
-headers_fit : (stack : List LayerTree) (at : ℕ) (dir : Dir) (c : Bool) (m : Option Content) → length stack ≤ most_places → 1 ≤ at →
+headers_fit : (stack : List LayerTree) (at : ℕ) (dir : Dir) (c : Bool) (m : Option Content) →
+    length stack ≤ most_places → 1 ≤ at →
     Brings (IsFrom stack (task_place dir at)) c m → headers_of (met dir m).message ≤ most_above
 headers_fit stack at Up c None few low is = omega arith
 headers_fit stack at Down c None few low is = omega arith
 headers_fit stack at Up false (Some m) few low is = absurd is
 headers_fit stack at Down false (Some m) few low is = absurd is
-headers_fit stack at Down true (Some m) few low is = omega (arith, few, low, chains_are_short stack at m.headers is.headers)
+headers_fit stack at Down true (Some m) few low is =
+    omega (arith, few, low, chains_are_short stack at m.headers is.headers)
 headers_fit stack at Up true (Some m) few low is = go m.headers refl where
   short : length m.headers ≤ length stack - (at - 1)
   short = chains_are_short stack (at - 1) m.headers is.headers
 
-  go : (hs : List Header) → hs ≡ m.headers → headers_of (met Up (Some (record { headers = hs; body = m.body }))).message ≤ most_above
+  go : (hs : List Header) → hs ≡ m.headers →
+      headers_of (met Up (Some (record { headers = hs; body = m.body }))).message ≤ most_above
   go [] same = omega arith
   go (h ∷ hs) same = let long = ap length same in omega (arith, few, short, long)
 
@@ -95,14 +100,18 @@ abbrev no_layout : Layout
 no_layout = record { rows = []; numbers = 0; messages = 0; hand = 0; places = 0 }
 
 -- there are no more tasks than they weigh
-few_seen : (b : Begun) → BeginsWell b → (ts : List (Task Event)) → AllByRecursion (IsChainedTask b.stack) ts → length ts ≤ pending_weight b.stack ts
+few_seen : (b : Begun) → BeginsWell b → (ts : List (Task Event)) → AllByRecursion (IsChainedTask b.stack) ts →
+    length ts ≤ pending_weight b.stack ts
 few_seen b well ts chained = tasks_weigh b.stack (typed_is_orderly b.stack well.typed) well.no_cycle ts
     (all_as (IsChainedTask b.stack) (IsKnown b.stack) (chained_is_known b.stack) ts chained)
 
-pub few_tasks : (b : Begun) → BeginsWell b → (p : List Held) (n : Now) → Going b p n → length n.tasks ≤ weight_of b p n.tasks
-few_tasks b well p n g = omega (arith, few_seen b well (tasks_seen p n.tasks) g.chained.tasks, length-map n.tasks (task_seen p))
+pub few_tasks : (b : Begun) → BeginsWell b → (p : List Held) (n : Now) → Going b p n →
+    length n.tasks ≤ weight_of b p n.tasks
+few_tasks b well p n g =
+    omega (arith, few_seen b well (tasks_seen p n.tasks) g.chained.tasks, length-map n.tasks (task_seen p))
 
-module _ (b : Begun) (well : BeginsWell b) (p : List Held) (states : List State) (refs : List ℕ) (t : PoolTask) (rest : List PoolTask)
+module _ (b : Begun) (well : BeginsWell b) (p : List Held) (states : List State) (refs : List ℕ) (t : PoolTask)
+    (rest : List PoolTask)
     (n : Now) (g : Going b p (record n { states = states; refs = refs; tasks = t ∷ rest })) where
   pub counts_within : length refs ≤ most_places * most_kept → CountsWithin most_counted p
   counts_within few = record {
@@ -126,14 +135,16 @@ module _ (b : Begun) (well : BeginsWell b) (p : List Held) (states : List State)
   }
 
   pub headers_within : 1 ≤ t.at → headers_met t.direction (event_seen p t.event) ≤ most_above
-  headers_within low = headers_fit b.stack t.at t.direction (carries t.event.kind) (event_seen p t.event).message well.few low g.chained.tasks.0.event.message
+  headers_within low = headers_fit b.stack t.at t.direction (carries t.event.kind) (event_seen p t.event).message
+      well.few low g.chained.tasks.0.event.message
 
   module _ (placed : is_place (length b.stack) t.at ≡ true) where
     pub fits : FitsNode b.stack (state_at g.world t.at) (task_seen p t) (task_need no_layout b.stack (task_seen p t))
     fits = nodes_cover_needs b.stack no_layout (state_at g.world t.at) (task_seen p t) well.no_cycle
         (is_visit b.stack well.typed well.no_cycle g.world (task_seen p t) (tasks_seen p rest) g.chained placed)
 
-    pub slots_are : (task_need no_layout b.stack (task_seen p t)).slots ≡ slots_needed (layer_at b.stack t.at) t.direction (event_seen p t.event)
+    pub slots_are : (task_need no_layout b.stack (task_seen p t)).slots ≡
+        slots_needed (layer_at b.stack t.at) t.direction (event_seen p t.event)
     slots_are = slots_at_a_desk no_layout (layer_at b.stack t.at) t.direction (event_seen p t.event)
 
     pub slots_within : slots_needed (layer_at b.stack t.at) t.direction (event_seen p t.event) ≤ spare p
@@ -146,7 +157,8 @@ module _ (b : Begun) (well : BeginsWell b) (p : List Held) (states : List State)
       sum_by-cons (task_joins b.stack) (task_seen p t) (tasks_seen p rest),
     )
 
-    pub places_within : length rest + places_needed (layer_at b.stack t.at) t.direction (event_seen p t.event) ≤ task_weight b.stack b.first
+    pub places_within : length rest + places_needed (layer_at b.stack t.at) t.direction (event_seen p t.event) ≤
+        task_weight b.stack b.first
     places_within = omega (
       arith,
       few_seen b well (tasks_seen p rest) g.chained.tasks.1,

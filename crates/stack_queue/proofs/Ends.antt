@@ -1,5 +1,6 @@
 -- How a run begins, and what it has come to where no task is left.
-use Rattle.std.proofs.Common.{◌≡◌, ℕ, zero, suc, ◌+◌, ◌≤◌, List, [], ◌∷◌, ◌++◌, Option, Some, None, Ok, length, refl, sym, ap, ◌∙◌, subst, append-nil, arith}
+use Rattle.std.proofs.Common.{◌≡◌, ℕ, zero, suc, ◌+◌, ◌≤◌, List, [], ◌∷◌, ◌++◌, Option, Some, None, Ok, length, refl}
+use Rattle.std.proofs.Common.{sym, ap, ◌∙◌, subst, append-nil, arith}
 use Rattle.slot_pool.specs.Held.{Held, spare}
 use Rattle.slot_pool.specs.References.{Moved, Covers}
 use Rattle.slot_pool.specs.Times.{times}
@@ -42,23 +43,28 @@ off_cycles stack h = go (first_on_cycle stack) refl h where
 
 -- the definition's run is its turns from its beginning
 turns_of_run : (k : ℕ) (stack : List LayerTree) (states : List State) (first : Task Event) →
-    run_for (length stack) (layers stack) k (record { world = unstarted states; tasks = first ∷ [] }) ≡ run k stack states first
+    run_for (length stack) (layers stack) k (record { world = unstarted states; tasks = first ∷ [] }) ≡
+    run k stack states first
 unfolding run
 turns_of_run k stack states first = refl
 
 counts_of_run : (k : ℕ) (stack : List LayerTree) (states : List State) (first : Task Event) (counts : List ℕ) →
-    counted_on (visited_for (length stack) (layers stack) k (record { world = unstarted states; tasks = first ∷ [] })) counts ≡ taken_within k stack states first counts
+    counted_on (visited_for (length stack) (layers stack) k (record { world = unstarted states; tasks = first ∷ [] }))
+    counts ≡ taken_within k stack states first counts
 unfolding taken_within
 counts_of_run k stack states first counts = refl
 
 -- with no task there is no visit
-none_visited : (places : ℕ) (play : Player Work Event) (k : ℕ) (w : Work) → visited_for places play k (record { world = w; tasks = [] }) ≡ []
+none_visited : (places : ℕ) (play : Player Work Event) (k : ℕ) (w : Work) →
+    visited_for places play k (record { world = w; tasks = [] }) ≡ []
 none_visited places play zero w = refl
 none_visited places play (suc k) w = refl
 
-module _ (stack : List LayerTree) (typed : TypedStack stack) (accepts : accepted stack ≡ Ok stack) (few : length stack ≤ most_places)
+module _ (stack : List LayerTree) (typed : TypedStack stack) (accepts : accepted stack ≡ Ok stack)
+    (few : length stack ≤ most_places)
     (p : List Held) (states : List State) (chained : AreChainedStates stack states) (first : PoolTask)
-    (first_chained : IsChainedTask stack (task_seen p first)) (enters : Enters stack first.at first.direction first.event.kind)
+    (first_chained : IsChainedTask stack (task_seen p first))
+    (enters : Enters stack first.at first.direction first.event.kind)
     (refs : List ℕ) (out : List (Dir × PoolEvent)) (visits : ℕ) (taken : List ℕ) (counts : CountsWithin most_at_first p)
     (slots : task_joins stack (task_seen p first) ≤ spare p) where
   abbrev pub begun : Begun
@@ -82,9 +88,12 @@ module _ (stack : List LayerTree) (typed : TypedStack stack) (accepts : accepted
     accepts = accepts;
     enters = enters;
     known = λ k.
-        let r : Line Work Event = run_for (length stack) (layers stack) k (record { world = unstarted states; tasks = task_seen p first ∷ [] }) in
+        let r : Line Work Event =
+        run_for (length stack) (layers stack) k
+        (record { world = unstarted states; tasks = task_seen p first ∷ [] }) in
         all_as (IsChainedTask stack) (IsKnown stack) (chained_is_known stack) r.tasks
-        (runs_keep_chains stack k (record { world = unstarted states; tasks = task_seen p first ∷ [] }) typed line_chained).tasks;
+        (runs_keep_chains stack k (record { world = unstarted states; tasks = task_seen p first ∷ [] }) typed
+        line_chained).tasks;
   }
 
   light : task_weight stack (task_seen p first) ≤ weight_limit
@@ -101,7 +110,16 @@ module _ (stack : List LayerTree) (typed : TypedStack stack) (accepts : accepted
   }
 
   pub begins : EventLies p first.event → SentLie p out → Covers p (refs ++ (event_refs first.event ++ sent_refs out)) →
-      Going begun p (record { states = states; refs = refs; tasks = first ∷ []; out = out; predicted = as_predicted []; visits = visits; taken = taken })
+      Going begun p (record {
+        states = states;
+        refs = refs;
+        tasks = first ∷ [];
+        out = out;
+        predicted =
+            as_predicted [];
+        visits = visits;
+        taken = taken;
+      })
   begins lies lie covers = record {
     world = unstarted states;
     left = weight_limit;
@@ -117,14 +135,16 @@ module _ (stack : List LayerTree) (typed : TypedStack stack) (accepts : accepted
     visits = omega arith;
     weight = omega arith;
     slots = omega arith;
-    moved = moved-reordered p p (refs ++ (event_refs first.event ++ sent_refs out)) (refs ++ (event_refs first.event ++ sent_refs out))
+    moved = moved-reordered p p (refs ++ (event_refs first.event ++ sent_refs out))
+        (refs ++ (event_refs first.event ++ sent_refs out))
         ((refs ++ event_refs first.event) ++ sent_refs out) (refs ++ (tasks_refs (first ∷ []) ++ sent_refs out)) before
         (λ i. sym (now i)) (moved-same p (refs ++ (event_refs first.event ++ sent_refs out)));
     covers = record { covers = λ i. omega (arith, covers.covers i, now i) };
     tasks_lie = (lies, tt);
     out_lies = lie;
   } where
-    before : (i : ℕ) → times i (refs ++ (event_refs first.event ++ sent_refs out)) ≡ times i ((refs ++ event_refs first.event) ++ sent_refs out)
+    before : (i : ℕ) → times i (refs ++ (event_refs first.event ++ sent_refs out)) ≡
+        times i ((refs ++ event_refs first.event) ++ sent_refs out)
     before i = omega (
       arith,
       times-append i refs (event_refs first.event ++ sent_refs out),
@@ -133,7 +153,8 @@ module _ (stack : List LayerTree) (typed : TypedStack stack) (accepts : accepted
       times-append i refs (event_refs first.event),
     )
 
-    now : (i : ℕ) → times i (refs ++ (tasks_refs (first ∷ []) ++ sent_refs out)) ≡ times i (refs ++ (event_refs first.event ++ sent_refs out))
+    now : (i : ℕ) → times i (refs ++ (tasks_refs (first ∷ []) ++ sent_refs out)) ≡
+        times i (refs ++ (event_refs first.event ++ sent_refs out))
     now i = omega (
       arith,
       times-append i refs (event_refs first.event ++ sent_refs out),
@@ -164,7 +185,8 @@ ended b p n g = record {
   outs = g.outs;
   predicted = g.predicted;
   visits = g.visits;
-  taken = ap (λ places. counted_on places n.taken) (sym (none_visited (length b.stack) (layers b.stack) g.left g.world)) ∙ g.counts;
+  taken = ap (λ places. counted_on places n.taken) (sym (none_visited (length b.stack) (layers b.stack) g.left g.world))
+      ∙ g.counts;
   done = refl;
   moved = g.moved;
   spent = omega (arith, g.slots);

@@ -1,11 +1,13 @@
 -- One turn of the definition's line, while a run goes on.
-use Rattle.std.proofs.Common.{◌≡◌, ℕ, zero, suc, ◌+◌, ◌-◌, ◌≤◌, Bool, true, false, List, [], ◌∷◌, ◌++◌, None, length, refl, sym, ap, ◌∙◌, arith}
+use Rattle.std.proofs.Common.{◌≡◌, ℕ, zero, suc, ◌+◌, ◌-◌, ◌≤◌, Bool, true, false, List, [], ◌∷◌, ◌++◌, None, length}
+use Rattle.std.proofs.Common.{refl, sym, ap, ◌∙◌, arith}
 use Rattle.std.specs.Prelude.{if◌then◌else◌}
 use Rattle.std.specs.List.{AllByRecursion}
 use Rattle.layer_mean.specs.declared.run.Event.{Event}
 use Rattle.layer_mean.specs.Tree.{LayerTree}
 use Rattle.layer_mean.specs.Visit.{step}
-use Rattle.layer_mean.specs.Queue.{Task, Line, Work, is_place, layer_at, state_at, visited, taken_turn, next_of, run_for, layers}
+use Rattle.layer_mean.specs.Queue.{Task, Line, Work, is_place, layer_at, state_at, visited, taken_turn, next_of}
+use Rattle.layer_mean.specs.Queue.{run_for, layers}
 use Rattle.stack_mean.specs.Graph.{first_on_cycle}
 use Rattle.weight_laws.specs.Nodes.{IsKnown}
 use Rattle.weight_laws.specs.Visits.{IsVisit, sent_tasks}
@@ -17,7 +19,8 @@ use Rattle.chain_laws.proofs.Orderly.{chained_is_known, typed_is_orderly}
 use Rattle.stack_queue.specs.Taken.{counted_at, counted_on, visited_for}
 use Rattle.stack_queue.proofs.Refs.{all_right, all_as}
 
-module _ (stack : List LayerTree) (typed : TypedStack stack) (off : first_on_cycle stack ≡ None) (w : Work) (t : Task Event) (rest : List (Task Event))
+module _ (stack : List LayerTree) (typed : TypedStack stack) (off : first_on_cycle stack ≡ None) (w : Work)
+    (t : Task Event) (rest : List (Task Event))
     (chained : IsChainedLine stack (record { world = w; tasks = t ∷ rest })) where
   -- the line behind a turn
   abbrev pub behind : Line Work Event
@@ -53,19 +56,25 @@ module _ (stack : List LayerTree) (typed : TypedStack stack) (off : first_on_cyc
   }
 
   pub visited_behind : is_place (length stack) t.at ≡ true →
-      behind ≡ taken_turn t.at rest (visited t.at w (step (t.at - 1) (layer_at stack t.at) (state_at w t.at) t.dir t.event))
+      behind ≡ taken_turn t.at rest
+      (visited t.at w (step (t.at - 1) (layer_at stack t.at) (state_at w t.at) t.dir t.event))
   visited_behind placed = ap
-      (λ (c : Bool). if◌then◌else◌ {A = Line Work Event} c (taken_turn t.at rest ((layers stack).visit t.at t.dir t.event w)) (record { world = (layers stack).output t.dir t.event w; tasks = rest }))
+      (λ (c : Bool). if◌then◌else◌ {A = Line Work Event} c
+      (taken_turn t.at rest ((layers stack).visit t.at t.dir t.event w))
+      (record { world = (layers stack).output t.dir t.event w; tasks = rest }))
       placed
 
   pub put_out_behind : is_place (length stack) t.at ≡ false →
       behind ≡ record { world = record w { outs = w.outs ++ (t.dir, t.event) ∷ [] }; tasks = rest }
   put_out_behind edge = ap
-      (λ (c : Bool). if◌then◌else◌ {A = Line Work Event} c (taken_turn t.at rest ((layers stack).visit t.at t.dir t.event w)) (record { world = (layers stack).output t.dir t.event w; tasks = rest }))
+      (λ (c : Bool). if◌then◌else◌ {A = Line Work Event} c
+      (taken_turn t.at rest ((layers stack).visit t.at t.dir t.event w))
+      (record { world = (layers stack).output t.dir t.event w; tasks = rest }))
       edge
 
   -- the run comes to the same end
-  module _ (end : Line Work Event) (left : ℕ) (comes : run_for (length stack) (layers stack) left (record { world = w; tasks = t ∷ rest }) ≡ end)
+  module _ (end : Line Work Event) (left : ℕ)
+      (comes : run_for (length stack) (layers stack) left (record { world = w; tasks = t ∷ rest }) ≡ end)
       (enough : pending_weight stack (t ∷ rest) ≤ left) where
     pub comes_behind : run_for (length stack) (layers stack) (left - 1) behind ≡ end
     comes_behind = go left refl comes where
@@ -81,22 +90,30 @@ module _ (stack : List LayerTree) (typed : TypedStack stack) (off : first_on_cyc
 
   -- and its visits to the same counts
   module _ (all counts : List ℕ) (left : ℕ)
-      (counted : counted_on (visited_for (length stack) (layers stack) left (record { world = w; tasks = t ∷ rest })) counts ≡ all)
+      (counted : counted_on (visited_for (length stack) (layers stack) left (record { world = w; tasks = t ∷ rest }))
+      counts ≡ all)
       (enough : pending_weight stack (t ∷ rest) ≤ left) where
     one_turn : (c : Bool) (visited : List ℕ) →
-        counted_on visited (if c then counted_at counts t.at else counts) ≡ counted_on ((if c then t.at ∷ [] else []) ++ visited) counts
+        counted_on visited (if c then counted_at counts t.at else counts) ≡
+        counted_on ((if c then t.at ∷ [] else []) ++ visited) counts
     one_turn true visited = refl
     one_turn false visited = refl
 
     pub counts_behind : (c : Bool) → is_place (length stack) t.at ≡ c →
-        counted_on (visited_for (length stack) (layers stack) (left - 1) behind) (if c then counted_at counts t.at else counts) ≡ all
+        counted_on (visited_for (length stack) (layers stack) (left - 1) behind)
+        (if c then counted_at counts t.at else counts) ≡ all
     counts_behind c is = go left refl counted where
-      go : (n : ℕ) → n ≡ left → counted_on (visited_for (length stack) (layers stack) n (record { world = w; tasks = t ∷ rest })) counts ≡ all →
-          counted_on (visited_for (length stack) (layers stack) (left - 1) behind) (if c then counted_at counts t.at else counts) ≡ all
+      go : (n : ℕ) → n ≡ left →
+          counted_on (visited_for (length stack) (layers stack) n (record { world = w; tasks = t ∷ rest })) counts ≡
+          all →
+          counted_on (visited_for (length stack) (layers stack) (left - 1) behind)
+          (if c then counted_at counts t.at else counts) ≡ all
       go zero same e = absurd (omega (arith, enough, lighter))
       go (suc n) same e =
           let one : left - 1 ≡ n = omega (arith, same) in
-          ap (λ m. counted_on (visited_for (length stack) (layers stack) m behind) (if c then counted_at counts t.at else counts)) one
+          ap (λ m. counted_on (visited_for (length stack) (layers stack) m behind)
+          (if c then counted_at counts t.at else counts)) one
           ∙ one_turn c (visited_for (length stack) (layers stack) n behind)
-          ∙ ap (λ (d : Bool). counted_on ((if d then t.at ∷ [] else []) ++ visited_for (length stack) (layers stack) n behind) counts) (sym is)
+          ∙ ap (λ (d : Bool). counted_on
+          ((if d then t.at ∷ [] else []) ++ visited_for (length stack) (layers stack) n behind) counts) (sym is)
           ∙ e

@@ -15,7 +15,8 @@ use Rattle.stack_queue.proofs.Lists.{pushed}
 
 pub task_put : (p q : List Held) (old new : Buffer (Dir × PoolEvent)) (task : BareTask) (content : Content)
     (places now : Buffer ℕ) (tasks : Buffer PoolTask) → length places.items ≡ length old.items →
-    buffer (tasks_at places.items old.items) (places.capacity - 1) ≡ tasks → events.PutLast p old task.direction task.envelope content q new →
+    buffer (tasks_at places.items old.items) (places.capacity - 1) ≡ tasks →
+    events.PutLast p old task.direction task.envelope content q new →
     now ≡ buffer (places.items ++ task.at ∷ []) places.capacity →
     PutLast p tasks (carrying_task task content) q (buffer (tasks_at now.items new.items) (now.capacity - 1))
 task_put p q old new task content places now tasks same view put placed = record {

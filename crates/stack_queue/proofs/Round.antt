@@ -1,5 +1,6 @@
 -- An event passes one layer while others are pending, and its task becomes the last.
-use Rattle.std.proofs.Common.{◌-◌, ◌≡◌, ℕ, ◌<◌, Bool, true, false, ◌&&◌, List, [], ◌∷◌, ◌++◌, drop, length, refl, sym, ap, subst, ◌∙◌, arith}
+use Rattle.std.proofs.Common.{◌-◌, ◌≡◌, ℕ, ◌<◌, Bool, true, false, ◌&&◌, List, [], ◌∷◌, ◌++◌, drop, length, refl, sym}
+use Rattle.std.proofs.Common.{ap, subst, ◌∙◌, arith}
 use Rattle.std.proofs.lemmas.List.{map-append}
 use Rattle.circular_buffer.specs.Buffer.{Buffer, buffer}
 use Rattle.slot_pool.specs.Held.{Held}
@@ -35,31 +36,39 @@ joins_none p = (λ j. record { first = stays p.first j; second = stays p.second 
 module _ {S : Type 0} (place : S → ℕ) (layer : S → LayerTree) (refs : S → List ℕ) (Ready : List Held → S → Type 0)
     (state : List Held → S → State) (taken : S → ℕ) (s s' : S) where
   -- The two lists, of which each was turned.
-  pub goes_round : (ps : Buffer ℕ) (es : List (Dir × PoolEvent)) (tasks : Buffer PoolTask) → length ps.items ≡ length es →
+  pub goes_round : (ps : Buffer ℕ) (es : List (Dir × PoolEvent)) (tasks : Buffer PoolTask) →
+      length ps.items ≡ length es →
       buffer (tasks_at ps.items es) (ps.capacity - 1) ≡ tasks → (sent w : Dir × PoolEvent) → sent ≡ first_sent es →
-      HasPassed place layer refs Ready state taken s sent s' w → (at to : ℕ) (dir : Dir) → (first_task tasks.items).at ≡ at →
+      HasPassed place layer refs Ready state taken s sent s' w → (at to : ℕ) (dir : Dir) → (first_task tasks.items).at ≡
+      at →
       dir ≡ (first_sent es).0 → to ≡ beyond dir at →
-      (now : Buffer ℕ) (events : Buffer (Dir × PoolEvent)) → now ≡ buffer (drop 1 ps.items ++ to ∷ []) ps.capacity → events.items ≡ drop 1 es ++ w ∷ [] →
-      HasGoneRound place layer refs Ready state taken s tasks s' (buffer (tasks_at now.items events.items) (now.capacity - 1))
-  goes_round ps es tasks same view sent w sent_is passed at to dir first dir_is to_is now events placed turned = record {
-    task = record { at = to; direction = w.0; event = w.1 };
-    passed = subst (λ x. HasPassed place layer refs Ready state taken s x s' w) (sent_is ∙ sym was) passed;
-    to = to_is ∙ (λ j. beyond (way j) (sym first j));
-    round = (λ j. buffer (tasks_at (placed j).items (turned j)) ((placed j).capacity - 1))
-        ∙ ap (λ ts. buffer ts (ps.capacity - 1)) (pushed (drop 1 ps.items) (drop 1 es) to w.0 w.1 (same_behind ps.items es same))
-        ∙ (λ j. buffer (behind j ++ record { at = to; direction = w.0; event = w.1 } ∷ []) ((ap (λ b. b.capacity) view) j));
-  } where
-    was : sent_by (first_task tasks.items) ≡ first_sent es
-    was = first_event ps.items es tasks.items same (ap (λ b. b.items) view)
+      (now : Buffer ℕ) (events : Buffer (Dir × PoolEvent)) → now ≡ buffer (drop 1 ps.items ++ to ∷ []) ps.capacity →
+      events.items ≡ drop 1 es ++ w ∷ [] →
+      HasGoneRound place layer refs Ready state taken s tasks s'
+      (buffer (tasks_at now.items events.items) (now.capacity - 1))
+  goes_round ps es tasks same view sent w sent_is passed at to dir first dir_is to_is now events placed turned =
+      record {
+        task = record { at = to; direction = w.0; event = w.1 };
+        passed = subst (λ x. HasPassed place layer refs Ready state taken s x s' w) (sent_is ∙ sym was) passed;
+        to = to_is ∙ (λ j. beyond (way j) (sym first j));
+        round = (λ j. buffer (tasks_at (placed j).items (turned j)) ((placed j).capacity - 1))
+            ∙ ap (λ ts. buffer ts (ps.capacity - 1))
+            (pushed (drop 1 ps.items) (drop 1 es) to w.0 w.1 (same_behind ps.items es same))
+            ∙ (λ j. buffer (behind j ++ record { at = to; direction = w.0; event = w.1 } ∷ [])
+            ((ap (λ b. b.capacity) view) j));
+      } where
+        was : sent_by (first_task tasks.items) ≡ first_sent es
+        was = first_event ps.items es tasks.items same (ap (λ b. b.items) view)
 
-    way : dir ≡ (first_task tasks.items).direction
-    way = dir_is ∙ ap (λ (x : Dir × PoolEvent). x.0) (sym was)
+        way : dir ≡ (first_task tasks.items).direction
+        way = dir_is ∙ ap (λ (x : Dir × PoolEvent). x.0) (sym was)
 
-    behind : tasks_at (drop 1 ps.items) (drop 1 es) ≡ drop 1 tasks.items
-    behind = rest_at ps.items es tasks.items same (ap (λ b. b.items) view)
+        behind : tasks_at (drop 1 ps.items) (drop 1 es) ≡ drop 1 tasks.items
+        behind = rest_at ps.items es tasks.items same (ap (λ b. b.items) view)
 
   -- What that is: the visit of a layer that has no handler for the event.
-  module _ (p : List Held) (tasks after : Buffer PoolTask) (on : HasGoneRound place layer refs Ready state taken s tasks s' after) (at : ℕ)
+  module _ (p : List Held) (tasks after : Buffer PoolTask)
+      (on : HasGoneRound place layer refs Ready state taken s tasks s' after) (at : ℕ)
       (first : (first_task tasks.items).at ≡ at) where
     abbrev t : PoolTask
     t = first_task tasks.items
@@ -77,16 +86,23 @@ module _ {S : Type 0} (place : S → ℕ) (layer : S → LayerTree) (refs : S �
     round_state = on.passed.same_state p ∙ sym (ap (λ (v : Visited). v.state) visit_is)
 
     pub round_tasks : tasks_seen p after.items ≡ tasks_seen p rest ++ tasks_of at visit.sent
-    round_tasks = ap (λ (b : Buffer PoolTask). tasks_seen p b.items) on.round ∙ map-append (task_seen p) rest (on.task ∷ [])
+    round_tasks = ap (λ (b : Buffer PoolTask). tasks_seen p b.items) on.round ∙
+        map-append (task_seen p) rest (on.task ∷ [])
         ∙ (λ j. tasks_seen p rest
-        ++ record { at = (on.to ∙ ap (beyond t.direction) first) j; dir = (on.passed.event j).0; event = event_seen p (on.passed.event j).1 } ∷ [])
+        ++ record {
+          at = (on.to ∙ ap (beyond t.direction) first) j;
+          dir = (on.passed.event j).0;
+          event =
+              event_seen p (on.passed.event j).1;
+        } ∷ [])
         ∙ ap (λ (v : Visited). tasks_seen p rest ++ tasks_of at v.sent) (sym visit_is)
 
     pub round_predicted : as_predicted [] ≡ as_predicted visit.decided
     round_predicted = sym (ap (λ (v : Visited). as_predicted v.decided) visit_is)
 
     same_event : event_refs on.task.event ≡ event_refs t.event
-    same_event = ap (λ (x : Dir × PoolEvent). event_refs x.1) on.passed.event ∙ same_message t.direction (none_header (place s)) t.event.message
+    same_event = ap (λ (x : Dir × PoolEvent). event_refs x.1) on.passed.event ∙
+        same_message t.direction (none_header (place s)) t.event.message
 
     refs_round : (ts : List PoolTask) → 0 < length ts → event_refs on.task.event ≡ event_refs (first_task ts).event →
         (i : ℕ) → times i (tasks_refs ts) ≡ times i (tasks_refs (drop 1 ts ++ on.task ∷ []))
@@ -99,8 +115,10 @@ module _ {S : Type 0} (place : S → ℕ) (layer : S → LayerTree) (refs : S �
       each_both (λ (u : PoolTask). event_refs u.event) xs (on.task ∷ []) i,
     )
 
-    pub round_moved : 0 < length tasks.items → Moved p p (refs s ++ tasks_refs tasks.items) (refs s' ++ tasks_refs after.items)
-    round_moved some = moved-reordered p p (refs s ++ tasks_refs tasks.items) (refs s ++ tasks_refs tasks.items) (refs s ++ tasks_refs tasks.items)
+    pub round_moved : 0 < length tasks.items →
+        Moved p p (refs s ++ tasks_refs tasks.items) (refs s' ++ tasks_refs after.items)
+    round_moved some = moved-reordered p p (refs s ++ tasks_refs tasks.items) (refs s ++ tasks_refs tasks.items)
+        (refs s ++ tasks_refs tasks.items)
         (refs s' ++ tasks_refs after.items) (λ i. refl)
         (λ i. omega (
           arith,
@@ -112,7 +130,8 @@ module _ {S : Type 0} (place : S → ℕ) (layer : S → LayerTree) (refs : S �
         ))
         (moved-same p (refs s ++ tasks_refs tasks.items))
 
-    lie_round : (ts : List PoolTask) → 0 < length ts → TasksLie p ts → EventLies p (first_task ts).event × TasksLie p (drop 1 ts)
+    lie_round : (ts : List PoolTask) → 0 < length ts → TasksLie p ts → EventLies p (first_task ts).event ×
+        TasksLie p (drop 1 ts)
     lie_round [] some lie = absurd (omega (arith, some))
     lie_round (x ∷ xs) some lie = lie
 

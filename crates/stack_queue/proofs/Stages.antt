@@ -1,5 +1,6 @@
 -- One of the stages of a stack makes a visit.
-use Rattle.std.proofs.Common.{◌≡◌, ℕ, ◌+◌, ◌*◌, ◌<◌, ◌≤◌, List, ◌++◌, map, set, get_or, length, flat_map, sym, ap, ◌∙◌, arith}
+use Rattle.std.proofs.Common.{◌≡◌, ℕ, ◌+◌, ◌*◌, ◌<◌, ◌≤◌, List, ◌++◌, map, set, get_or, length, flat_map, sym, ap, ◌∙◌}
+use Rattle.std.proofs.Common.{arith}
 use Rattle.std.specs.List.{AllByRecursion}
 use Rattle.std.proofs.lemmas.List.{get_or-map, length-map}
 use Rattle.std.proofs.lemmas.List.FromFn.{get_or-range_with_len}
@@ -19,14 +20,16 @@ use Rattle.stack_queue.proofs.Refs.{all_at, map_set_same, each_at, each_set, eac
 
 module _ {S : Type 0} (place : S → ℕ) (layer : S → LayerTree) (refs : S → List ℕ) (Ready : List Held → S → Type 0)
     (state : List Held → S → State)
-    (frame : (p q : List Held) (a b : List ℕ) (s : S) → Moved p q a b → Covers p (a ++ refs s) → Ready p s → Ready q s × (state q s ≡ state p s))
+    (frame : (p q : List Held) (a b : List ℕ) (s : S) → Moved p q a b → Covers p (a ++ refs s) → Ready p s →
+    Ready q s × (state q s ≡ state p s))
     (few : (p : List Held) (s : S) → Ready p s → length (refs s) ≤ most_kept)
     (stack : List LayerTree) (p : List Held) (stages : List S) (stand : Stand place layer Ready stack p stages) where
   pub as_many : length stages ≡ length stack
   as_many = sym (length-map stages layer) ∙ ap length stand.layers
 
   pub few_refs : length stack ≤ most_places → length (flat_map refs stages) ≤ most_places * most_kept
-  few_refs places = let each = each_few refs (Ready p) most_kept (few p) stages stand.ready in omega (arith, places, each, as_many)
+  few_refs places = let each = each_few refs (Ready p) most_kept (few p) stages stand.ready in
+      omega (arith, places, each, as_many)
 
   module _ (k : ℕ) (lt : k < length stack) (d : S) where
     within : k < length stages
@@ -46,7 +49,8 @@ module _ {S : Type 0} (place : S → ℕ) (layer : S → LayerTree) (refs : S �
     state_at_place = sym (get_or-map (state p) stages k d no_state within)
 
     pub visit_is : (dir : Dir) (e : Event) →
-        step (place (get_or stages k d)) (layer (get_or stages k d)) (state p (get_or stages k d)) dir e ≡ step k (get_or stack k no_layer) (get_or (map (state p) stages) k no_state) dir e
+        step (place (get_or stages k d)) (layer (get_or stages k d)) (state p (get_or stages k d)) dir e ≡
+        step k (get_or stack k no_layer) (get_or (map (state p) stages) k no_state) dir e
     visit_is dir e = λ j. step (place_at j) (layer_at_place j) (state_at_place j) dir e
 
     refs_within : (i : ℕ) → times i (refs (get_or stages k d)) ≤ times i (flat_map refs stages)
@@ -66,8 +70,10 @@ module _ {S : Type 0} (place : S → ℕ) (layer : S → LayerTree) (refs : S �
         );
       }
 
-      module _ (q : List Held) (s' : S) (sent : List ℕ) (moved : Moved p q (refs (get_or stages k d) ++ taken) (refs s' ++ sent)) where
-        same_refs : (i : ℕ) → times i (flat_map refs (set stages k s')) + times i (refs (get_or stages k d)) ≡ times i (flat_map refs stages) + times i (refs s')
+      module _ (q : List Held) (s' : S) (sent : List ℕ)
+          (moved : Moved p q (refs (get_or stages k d) ++ taken) (refs s' ++ sent)) where
+        same_refs : (i : ℕ) → times i (flat_map refs (set stages k s')) + times i (refs (get_or stages k d)) ≡
+            times i (flat_map refs stages) + times i (refs s')
         same_refs i = each_set refs stages k s' d i within
 
         -- all stages have moved as it did
@@ -92,7 +98,8 @@ module _ {S : Type 0} (place : S → ℕ) (layer : S → LayerTree) (refs : S �
           ));
         }
 
-        others : Ready q s' → AllByRecursion (Ready q) (set stages k s') × (map (state q) (set stages k s') ≡ set (map (state p) stages) k (state q s'))
+        others : Ready q s' → AllByRecursion (Ready q) (set stages k s') ×
+            (map (state q) (set stages k s') ≡ set (map (state p) stages) k (state q s'))
         others new = others_stay refs (Ready p) (Ready q) (state p) (state q) p (refs (get_or stages k d) ++ taken)
             (λ x beside ready. frame p q (refs (get_or stages k d) ++ taken) (refs s' ++ sent) x moved beside ready)
             stages k s' d within (λ i. omega (
@@ -103,7 +110,8 @@ module _ {S : Type 0} (place : S → ℕ) (layer : S → LayerTree) (refs : S �
               times-append i taken more,
             )) stand.ready new
 
-        pub stands : Ready q s' → place s' ≡ place (get_or stages k d) → layer s' ≡ layer (get_or stages k d) → Stand place layer Ready stack q (set stages k s')
+        pub stands : Ready q s' → place s' ≡ place (get_or stages k d) → layer s' ≡ layer (get_or stages k d) →
+            Stand place layer Ready stack q (set stages k s')
         stands new same_place same_layer = record {
           places = map_set_same place stages k s' d within same_place ∙ stand.places;
           layers = map_set_same layer stages k s' d within same_layer ∙ stand.layers;

@@ -1,5 +1,6 @@
 -- A visit, and an output, while a run goes on.
-use Rattle.std.proofs.Common.{◌≡◌, ℕ, ◌+◌, ◌-◌, ◌≤◌, Bool, true, false, if◌then◌else◌, List, [], ◌∷◌, ◌++◌, map, set, get_or, length, refl, sym, ap, ◌∙◌, subst, append_assoc, arith}
+use Rattle.std.proofs.Common.{◌≡◌, ℕ, ◌+◌, ◌-◌, ◌≤◌, Bool, true, false, if◌then◌else◌, List, [], ◌∷◌, ◌++◌, map, set}
+use Rattle.std.proofs.Common.{get_or, length, refl, sym, ap, ◌∙◌, subst, append_assoc, arith}
 use Rattle.std.proofs.lemmas.List.{map-append, length-append}
 use Rattle.std.proofs.lemmas.List.Sums.{sum_by-cons, sum_by-append}
 use Rattle.slot_pool.specs.Held.{Held, count_at, spare}
@@ -29,11 +30,13 @@ use Rattle.stack_queue.specs.Pending.{task_seen, tasks_seen, tasks_refs, TasksLi
 use Rattle.stack_queue.specs.Taken.{counted_at, counted_on, visited_for, taken_behind}
 use Rattle.stack_queue.specs.Going.{Begun, Now, BeginsWell, Going, line_of, weight_of, joins_of}
 use Rattle.stack_queue.proofs.Refs.{all_both, each_both}
-use Rattle.stack_queue.proofs.Lines.{behind, chained_behind, lighter, joins_less, visited_behind, put_out_behind, comes_behind, enough_behind, counts_behind}
+use Rattle.stack_queue.proofs.Lines.{behind, chained_behind, lighter, joins_less, visited_behind, put_out_behind}
+use Rattle.stack_queue.proofs.Lines.{comes_behind, enough_behind, counts_behind}
 use Rattle.stack_queue.proofs.Asked.{fits, slots_are}
 
 -- one more is seen behind others
-one_more : {A B : Type 0} (f : A → B) (xs : List A) (x : A) (ys zs : List B) → map f xs ≡ ys ++ zs → map f (xs ++ x ∷ []) ≡ ys ++ (zs ++ f x ∷ [])
+one_more : {A B : Type 0} (f : A → B) (xs : List A) (x : A) (ys zs : List B) → map f xs ≡ ys ++ zs →
+    map f (xs ++ x ∷ []) ≡ ys ++ (zs ++ f x ∷ [])
 one_more f xs x ys zs is = map-append f xs (x ∷ []) ∙ ap (λ vs. vs ++ f x ∷ []) is ∙ append_assoc ys zs (f x ∷ [])
 
 -- what a visit is in the states of a run
@@ -41,7 +44,8 @@ abbrev pub visit_of : Begun → List Held → List State → PoolTask → Visite
 visit_of b p states t =
     step (t.at - 1) (layer_at b.stack t.at) (get_or states (t.at - 1) no_state) t.direction (event_seen p t.event)
 
-module _ (b : Begun) (well : BeginsWell b) (p : List Held) (states : List State) (refs : List ℕ) (t : PoolTask) (rest : List PoolTask)
+module _ (b : Begun) (well : BeginsWell b) (p : List Held) (states : List State) (refs : List ℕ) (t : PoolTask)
+    (rest : List PoolTask)
     (n : Now) (g : Going b p (record n { states = states; refs = refs; tasks = t ∷ rest })) where
   abbrev next : Line Work Event
   next = behind b.stack well.typed well.no_cycle g.world (task_seen p t) (tasks_seen p rest) g.chained
@@ -61,12 +65,14 @@ module _ (b : Begun) (well : BeginsWell b) (p : List Held) (states : List State)
       (run weight_limit b.stack b.states b.first) g.left g.comes g.enough
 
   counts_next : (c : Bool) → is_place (length b.stack) t.at ≡ c →
-      counted_on (visited_for (length b.stack) (layers b.stack) (g.left - 1) next) (if c then counted_at n.taken t.at else n.taken)
+      counted_on (visited_for (length b.stack) (layers b.stack) (g.left - 1) next)
+      (if c then counted_at n.taken t.at else n.taken)
       ≡ taken_behind b.stack b.states b.first b.taken
   counts_next = counts_behind b.stack well.typed well.no_cycle g.world (task_seen p t) (tasks_seen p rest) g.chained
       (taken_behind b.stack b.states b.first b.taken) n.taken g.left g.counts g.enough
 
-  cover : (i : ℕ) → times i refs + times i (event_refs t.event) + times i (tasks_refs rest) + times i (sent_refs n.out) ≤ count_at p i
+  cover : (i : ℕ) → times i refs + times i (event_refs t.event) + times i (tasks_refs rest) + times i (sent_refs n.out)
+      ≤ count_at p i
   cover i = omega (
     arith,
     g.covers.covers i,
@@ -104,23 +110,30 @@ module _ (b : Begun) (well : BeginsWell b) (p : List Held) (states : List State)
     tasks_next = tasks_are ∙ ap (λ (x : Visited). tasks_seen p rest ++ tasks_of t.at x.sent) same_visit
 
     line_next : line_of (visited t.at g.world (visit_of b p g.world.states t)).world q after ≡ next
-    line_next = ap (λ ts. record { world = (visited t.at g.world (visit_of b p g.world.states t)).world; tasks = ts }) tasks_next
-        ∙ sym (visited_behind b.stack well.typed well.no_cycle g.world (task_seen p t) (tasks_seen p rest) g.chained placed)
+    line_next = ap (λ ts. record { world = (visited t.at g.world (visit_of b p g.world.states t)).world; tasks = ts })
+        tasks_next
+        ∙ sym (visited_behind b.stack well.typed well.no_cycle g.world (task_seen p t) (tasks_seen p rest) g.chained
+        placed)
 
     weight_next : weight_of b q after ≡ pending_weight b.stack next.tasks
     weight_next = ap (λ (r : Line Work Event). pending_weight b.stack r.tasks) line_next
 
     joins_next : joins_of b q after
-        ≡ pending_joins b.stack (tasks_seen p rest) + pending_joins b.stack (sent_tasks b.stack (state_at g.world t.at) (task_seen p t))
+        ≡ pending_joins b.stack (tasks_seen p rest) + pending_joins b.stack
+        (sent_tasks b.stack (state_at g.world t.at) (task_seen p t))
     joins_next = ap (pending_joins b.stack) tasks_next
-        ∙ sum_by-append (task_joins b.stack) (tasks_seen p rest) (sent_tasks b.stack (state_at g.world t.at) (task_seen p t))
+        ∙ sum_by-append (task_joins b.stack) (tasks_seen p rest)
+        (sent_tasks b.stack (state_at g.world t.at) (task_seen p t))
 
-    move : Moved p q (refs ++ (tasks_refs (t ∷ rest) ++ sent_refs n.out)) (refs' ++ (tasks_refs after ++ sent_refs n.out))
-    move = moved-reordered p q ((refs ++ (event_refs t.event ++ tasks_refs rest)) ++ sent_refs n.out) ((refs' ++ tasks_refs after) ++ sent_refs n.out)
+    move : Moved p q (refs ++ (tasks_refs (t ∷ rest) ++ sent_refs n.out))
+        (refs' ++ (tasks_refs after ++ sent_refs n.out))
+    move = moved-reordered p q ((refs ++ (event_refs t.event ++ tasks_refs rest)) ++ sent_refs n.out)
+        ((refs' ++ tasks_refs after) ++ sent_refs n.out)
         (refs ++ (tasks_refs (t ∷ rest) ++ sent_refs n.out)) (refs' ++ (tasks_refs after ++ sent_refs n.out))
         (λ i. ap (times i) (append_assoc refs (tasks_refs (t ∷ rest)) (sent_refs n.out)))
         (λ i. ap (times i) (append_assoc refs' (tasks_refs after) (sent_refs n.out)))
-        (moved-beside p q (refs ++ (event_refs t.event ++ tasks_refs rest)) (refs' ++ tasks_refs after) (sent_refs n.out) moved)
+        (moved-beside p q (refs ++ (event_refs t.event ++ tasks_refs rest)) (refs' ++ tasks_refs after)
+        (sent_refs n.out) moved)
 
     pub visit_falls : 1 + weight_of b q after ≤ weight_of b p (t ∷ rest)
     visit_falls = omega (arith, lighter_next, weight_next)
@@ -139,14 +152,16 @@ module _ (b : Begun) (well : BeginsWell b) (p : List Held) (states : List State)
       world = (visited t.at g.world (visit_of b p g.world.states t)).world;
       left = g.left - 1;
       comes = ap (run_for (length b.stack) (layers b.stack) (g.left - 1)) line_next ∙ comes_next;
-      counts = (λ k. counted_on (visited_for (length b.stack) (layers b.stack) (g.left - 1) (line_next k)) (taken_is k)) ∙ counts_next true placed;
+      counts = (λ k. counted_on (visited_for (length b.stack) (layers b.stack) (g.left - 1) (line_next k)) (taken_is k))
+          ∙ counts_next true placed;
       enough = omega (arith, weight_next, enough_next);
       chained = subst (IsChainedLine b.stack) (sym line_next) chained_next;
       states = (λ k. set (g.states k) (t.at - 1) (visit_of b p (g.states k) t).state) ∙ sym state_is;
       outs = out_stays.1 ∙ g.outs;
       news = g.news;
       behind = g.behind;
-      predicted = (λ k. both (g.predicted k) (decided_is k)) ∙ ap (λ (x : Visited). both (as_predicted g.world.decided) (as_predicted x.decided)) same_visit
+      predicted = (λ k. both (g.predicted k) (decided_is k)) ∙
+          ap (λ (x : Visited). both (as_predicted g.world.decided) (as_predicted x.decided)) same_visit
           ∙ sym (predicted_behind g.world.decided (visit_of b p g.world.states t).decided);
       visits = omega (arith, g.visits);
       weight = omega (arith, g.weight, lighter_next, weight_next);
@@ -179,11 +194,13 @@ module _ (b : Begun) (well : BeginsWell b) (p : List Held) (states : List State)
       Going b p (record n { states = states; refs = refs; tasks = rest; out = n.out ++ (t.direction, t.event) ∷ [] })
   output_goes edge =
       let x : Dir × PoolEvent = (t.direction, t.event) in
-      let next_is = put_out_behind b.stack well.typed well.no_cycle g.world (task_seen p t) (tasks_seen p rest) g.chained edge in
+      let next_is = put_out_behind b.stack well.typed well.no_cycle g.world (task_seen p t) (tasks_seen p rest)
+      g.chained edge in
       let less = joins_less b.stack well.typed well.no_cycle g.world (task_seen p t) (tasks_seen p rest) g.chained in
       let light = ap (λ (r : Line Work Event). pending_weight b.stack r.tasks) next_is in
       let joins = ap (λ (r : Line Work Event). pending_joins b.stack r.tasks) next_is in
-      let at : (i : ℕ) → times i (refs ++ (tasks_refs rest ++ sent_refs (n.out ++ x ∷ []))) ≡ times i (refs ++ (tasks_refs (t ∷ rest) ++ sent_refs n.out)) =
+      let at : (i : ℕ) → times i (refs ++ (tasks_refs rest ++ sent_refs (n.out ++ x ∷ []))) ≡
+      times i (refs ++ (tasks_refs (t ∷ rest) ++ sent_refs n.out)) =
       λ i. omega (
         arith,
         times-append i refs (tasks_refs rest ++ sent_refs (n.out ++ x ∷ [])),
@@ -197,18 +214,21 @@ module _ (b : Begun) (well : BeginsWell b) (p : List Held) (states : List State)
         world = record g.world { outs = g.world.outs ++ (t.direction, event_seen p t.event) ∷ [] };
         left = g.left - 1;
         comes = ap (run_for (length b.stack) (layers b.stack) (g.left - 1)) (sym next_is) ∙ comes_next;
-        counts = ap (λ (r : Line Work Event). counted_on (visited_for (length b.stack) (layers b.stack) (g.left - 1) r) n.taken) (sym next_is) ∙ counts_next false edge;
+        counts = ap (λ (r : Line Work Event). counted_on (visited_for (length b.stack) (layers b.stack) (g.left - 1) r)
+            n.taken) (sym next_is) ∙ counts_next false edge;
         enough = omega (arith, light, enough_next);
         chained = subst (IsChainedLine b.stack) next_is chained_next;
         states = g.states;
-        outs = one_more (λ (y : Dir × PoolEvent). (y.0, event_seen p y.1)) n.out x (sent_seen b.pool b.out) g.world.outs g.outs;
+        outs = one_more (λ (y : Dir × PoolEvent). (y.0, event_seen p y.1)) n.out x (sent_seen b.pool b.out) g.world.outs
+            g.outs;
         news = g.news ++ x ∷ [];
         behind = ap (λ ys. ys ++ x ∷ []) g.behind ∙ append_assoc b.out g.news (x ∷ []);
         predicted = g.predicted;
         visits = g.visits;
         weight = omega (arith, g.weight, lighter_next, light, length-append g.news (x ∷ []));
         slots = omega (arith, g.slots, less, joins);
-        moved = moved-reordered b.pool p (b.refs ++ sent_refs b.out) (refs ++ (tasks_refs (t ∷ rest) ++ sent_refs n.out)) (b.refs ++ sent_refs b.out)
+        moved = moved-reordered b.pool p (b.refs ++ sent_refs b.out)
+            (refs ++ (tasks_refs (t ∷ rest) ++ sent_refs n.out)) (b.refs ++ sent_refs b.out)
             (refs ++ (tasks_refs rest ++ sent_refs (n.out ++ x ∷ []))) (λ i. refl) (λ i. sym (at i)) g.moved;
         covers = record { covers = λ i. omega (arith, at i, g.covers.covers i) };
         tasks_lie = g.tasks_lie.1;

@@ -23,8 +23,8 @@ use Rattle.stack_queue.specs.Pending.{tasks_seen, tasks_refs, TasksLie}
 use Rattle.stack_queue.specs.Stages.{most_at_first}
 use Rattle.stack_queue.specs.Taken.{visited_for, counted_on, taken_behind}
 
--- How a run began: its stack, the pool, the states of the layers, the first task, the references of the stages and of that task, what had
--- come out before, how many visits there had been, and how many events each layer had taken.
+-- How a run began: its stack, the pool, the states of the layers, the first task, the references of the stages and of
+-- that task, what had come out before, how many visits there had been, and how many events each layer had taken.
 pub record Begun : Type 0 where
   pub stack : List LayerTree
   pub pool : List Held
@@ -35,8 +35,8 @@ pub record Begun : Type 0 where
   pub visits : ℕ
   pub taken : List ℕ
 
--- What a run shows: the states of the layers and the references of the stages, the pending tasks, what came out, how the decisions went,
--- how many visits there were, and how many events each layer took.
+-- What a run shows: the states of the layers and the references of the stages, the pending tasks, what came out, how
+-- the decisions went, how many visits there were, and how many events each layer took.
 pub record Now : Type 0 where
   pub states : List State
   pub refs : List ℕ
@@ -60,8 +60,8 @@ weight_of b p tasks = pending_weight b.stack (tasks_seen p tasks)
 abbrev pub joins_of : Begun → List Held → List PoolTask → ℕ
 joins_of b p tasks = pending_joins b.stack (tasks_seen p tasks)
 
--- A run begins well: its stack is typed, has no cycle and at most 24 places; the first task's weight is within the limit; there are as
--- many unused slots as its join count, and no slot has too many references.
+-- A run begins well: its stack is typed, has no cycle and at most 24 places; the first task's weight is within the
+-- limit; there are as many unused slots as its join count, and no slot has too many references.
 pub record BeginsWell (b : Begun) : Type 0 where
   pub typed : TypedStack b.stack
   pub no_cycle : first_on_cycle b.stack ≡ None
@@ -70,13 +70,16 @@ pub record BeginsWell (b : Begun) : Type 0 where
   pub joins : task_joins b.stack b.first ≤ spare b.pool
   pub counts : CountsWithin most_at_first b.pool
 
--- The run goes on: in a pool, what it shows is a line of the definition's queue, from which the run that began comes to its end, and its visits
--- to what the layers have taken then; and the pending weights and join counts are left of those of the first task.
+-- The run goes on: in a pool, what it shows is a line of the definition's queue, from which the run that began comes to
+-- its end, and its visits to what the layers have taken then; and the pending weights and join counts are left of those
+-- of the first task.
 pub record Going (b : Begun) (p : List Held) (n : Now) : Type 0 where
   pub world : Work
   pub left : ℕ
-  pub comes : run_for (length b.stack) (layers b.stack) left (line_of world p n.tasks) ≡ run weight_limit b.stack b.states b.first
-  pub counts : counted_on (visited_for (length b.stack) (layers b.stack) left (line_of world p n.tasks)) n.taken ≡ taken_behind b.stack b.states b.first b.taken
+  pub comes : run_for (length b.stack) (layers b.stack) left (line_of world p n.tasks) ≡
+      run weight_limit b.stack b.states b.first
+  pub counts : counted_on (visited_for (length b.stack) (layers b.stack) left (line_of world p n.tasks)) n.taken ≡
+      taken_behind b.stack b.states b.first b.taken
   pub enough : weight_of b p n.tasks ≤ left
   pub chained : IsChainedLine b.stack (line_of world p n.tasks)
   pub states : world.states ≡ n.states

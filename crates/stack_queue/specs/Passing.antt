@@ -27,25 +27,40 @@ pub record Rest : Type 0 where
   pub predicted : Predicted
 
 -- A run that began well goes on with these stages, tasks and visits.
-pub record GoesWith {S : Type 0} (place : S → ℕ) (layer : S → LayerTree) (refs : S → List ℕ) (Ready : List Held → S → Type 0)
-    (state : List Held → S → State) (taken : S → ℕ) (r : Rest) (stages : List S) (tasks : List PoolTask) (visits : ℕ) : Type 0 where
+pub record GoesWith {S : Type 0} (place : S → ℕ) (layer : S → LayerTree) (refs : S → List ℕ)
+    (Ready : List Held → S → Type 0)
+    (state : List Held → S → State) (taken : S → ℕ) (r : Rest) (stages : List S) (tasks : List PoolTask) (visits : ℕ) :
+    Type 0 where
   pub well : BeginsWell r.begun
   pub few : r.begun.visits ≤ 2 ^ 63
   pub stand : Stand place layer Ready r.begun.stack r.pool stages
   pub going : Going r.begun r.pool
-      (record { states = map (state r.pool) stages; refs = flat_map refs stages; tasks = tasks; out = r.out; predicted = r.predicted; visits = visits; taken = map taken stages })
+      (record {
+        states = map (state r.pool) stages;
+        refs = flat_map refs stages;
+        tasks = tasks;
+        out = r.out;
+        predicted =
+            r.predicted;
+        visits = visits;
+        taken = map taken stages;
+      })
 
--- Whatever run goes on with the first stages, tasks and visits goes on with the second, and no more weight is pending in it.
-pub record Continues {S : Type 0} (place : S → ℕ) (layer : S → LayerTree) (refs : S → List ℕ) (Ready : List Held → S → Type 0)
+-- Whatever run goes on with the first stages, tasks and visits goes on with the second, and no more weight is pending
+-- in it.
+pub record Continues {S : Type 0} (place : S → ℕ) (layer : S → LayerTree) (refs : S → List ℕ)
+    (Ready : List Held → S → Type 0)
     (state : List Held → S → State) (taken : S → ℕ) (stages : List S) (tasks : List PoolTask) (visits : ℕ)
     (stages' : List S) (tasks' : List PoolTask) (visits' : ℕ) : Type 0 where
-  pub goes : (r : Rest) → GoesWith place layer refs Ready state taken r stages tasks visits → GoesWith place layer refs Ready state taken r stages' tasks' visits'
+  pub goes : (r : Rest) → GoesWith place layer refs Ready state taken r stages tasks visits →
+      GoesWith place layer refs Ready state taken r stages' tasks' visits'
   pub lighter : (r : Rest) → GoesWith place layer refs Ready state taken r stages tasks visits →
       weight_of r.begun r.pool tasks' ≤ weight_of r.begun r.pool tasks
 
 -- A task stays where it stands: at an edge, or at a layer that doesn't let its event pass.
 abbrev pub StaysAt : List LayerTree → PoolTask → Type 0
-StaysAt layers t = (p : List Held) → is_place (length layers) t.at ≡ true → is_passed (layer_at layers t.at) t.direction (event_seen p t.event) ≡ false
+StaysAt layers t = (p : List Held) → is_place (length layers) t.at ≡ true →
+    is_passed (layer_at layers t.at) t.direction (event_seen p t.event) ≡ false
 
 -- How many layers there are at most ahead of a place.
 abbrev pub layers_ahead : Dir → ℕ → ℕ → ℕ

@@ -22,7 +22,8 @@ abbrev pub carrying_task : BareTask → Content → Task Event
 carrying_task t content = record { at = t.at; dir = t.direction; event = event_in t.envelope (Some content) }
 
 -- In a pool that wasn't full a task was made that shows this, with its body in one slot more, and it is the last.
-pub record PutLast (p : List Held) (old : Buffer PoolTask) (shown : Task Event) (q : List Held) (new : Buffer PoolTask) : Type 0 where
+pub record PutLast (p : List Held) (old : Buffer PoolTask) (shown : Task Event) (q : List Held) (new : Buffer PoolTask)
+    : Type 0 where
   pub task : PoolTask
   pub last : new ≡ buffer (old.items ++ task ∷ []) old.capacity
   pub seen : task_seen q task ≡ shown

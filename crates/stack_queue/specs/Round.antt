@@ -14,8 +14,10 @@ use Rattle.stack_queue.specs.declared.tasks.PoolTask.{PoolTask}
 use Rattle.stack_queue.specs.Pending.{first_task}
 
 -- A stage that lets an event pass took one event more, and is else as it was.
-pub record HasPassed {S : Type 0} (place : S → ℕ) (layer : S → LayerTree) (refs : S → List ℕ) (Ready : List Held → S → Type 0)
-    (state : List Held → S → State) (taken : S → ℕ) (s : S) (sent : Dir × PoolEvent) (s' : S) (after : Dir × PoolEvent) : Type 0 where
+pub record HasPassed {S : Type 0} (place : S → ℕ) (layer : S → LayerTree) (refs : S → List ℕ)
+    (Ready : List Held → S → Type 0)
+    (state : List Held → S → State) (taken : S → ℕ) (s : S) (sent : Dir × PoolEvent) (s' : S) (after : Dir × PoolEvent)
+    : Type 0 where
   pub passes : (p : List Held) → is_passed (layer s) sent.0 (event_seen p sent.1) ≡ true
   pub event : after ≡ (sent.0, passed_by (place s) sent.0 sent.1)
   pub same_refs : refs s' ≡ refs s
@@ -26,24 +28,32 @@ pub record HasPassed {S : Type 0} (place : S → ℕ) (layer : S → LayerTree) 
   pub one_taken : taken s' ≡ one_more (taken s)
 
 -- It let it pass; or nothing has changed.
-abbrev pub Passes : {S : Type 0} (place : S → ℕ) (layer : S → LayerTree) (refs : S → List ℕ) (Ready : List Held → S → Type 0)
-    (state : List Held → S → State) (taken : S → ℕ) (s : S) (sent : Dir × PoolEvent) (s' : S) (after : Dir × PoolEvent) → Bool → Type 0
-Passes place layer refs Ready state taken s sent s' after true = HasPassed place layer refs Ready state taken s sent s' after
+abbrev pub Passes : {S : Type 0} (place : S → ℕ) (layer : S → LayerTree) (refs : S → List ℕ)
+    (Ready : List Held → S → Type 0)
+    (state : List Held → S → State) (taken : S → ℕ) (s : S) (sent : Dir × PoolEvent) (s' : S)
+    (after : Dir × PoolEvent) → Bool → Type 0
+Passes place layer refs Ready state taken s sent s' after true = HasPassed place layer refs Ready state taken s sent s'
+    after
 Passes place layer refs Ready state taken s sent s' after false = (s' ≡ s) × (after ≡ sent)
 
 abbrev pub sent_by : PoolTask → Dir × PoolEvent
 sent_by t = (t.direction, t.event)
 
 -- The first of some tasks passed a stage, and is the last of them, at its neighbour.
-pub record HasGoneRound {S : Type 0} (place : S → ℕ) (layer : S → LayerTree) (refs : S → List ℕ) (Ready : List Held → S → Type 0)
-    (state : List Held → S → State) (taken : S → ℕ) (s : S) (tasks : Buffer PoolTask) (s' : S) (after : Buffer PoolTask) : Type 0 where
+pub record HasGoneRound {S : Type 0} (place : S → ℕ) (layer : S → LayerTree) (refs : S → List ℕ)
+    (Ready : List Held → S → Type 0)
+    (state : List Held → S → State) (taken : S → ℕ) (s : S) (tasks : Buffer PoolTask) (s' : S) (after : Buffer PoolTask)
+    : Type 0 where
   pub task : PoolTask
   pub passed : HasPassed place layer refs Ready state taken s (sent_by (first_task tasks.items)) s' (sent_by task)
   pub to : task.at ≡ beyond (first_task tasks.items).direction (first_task tasks.items).at
   pub round : after ≡ buffer (drop 1 tasks.items ++ task ∷ []) tasks.capacity
 
 -- It did; or nothing has changed.
-abbrev pub PassesRound : {S : Type 0} (place : S → ℕ) (layer : S → LayerTree) (refs : S → List ℕ) (Ready : List Held → S → Type 0)
-    (state : List Held → S → State) (taken : S → ℕ) (s : S) (tasks : Buffer PoolTask) (s' : S) (after : Buffer PoolTask) → Bool → Type 0
-PassesRound place layer refs Ready state taken s tasks s' after true = HasGoneRound place layer refs Ready state taken s tasks s' after
+abbrev pub PassesRound : {S : Type 0} (place : S → ℕ) (layer : S → LayerTree) (refs : S → List ℕ)
+    (Ready : List Held → S → Type 0)
+    (state : List Held → S → State) (taken : S → ℕ) (s : S) (tasks : Buffer PoolTask) (s' : S)
+    (after : Buffer PoolTask) → Bool → Type 0
+PassesRound place layer refs Ready state taken s tasks s' after true =
+    HasGoneRound place layer refs Ready state taken s tasks s' after
 PassesRound place layer refs Ready state taken s tasks s' after false = (s' ≡ s) × (after ≡ tasks)

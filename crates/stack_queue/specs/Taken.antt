@@ -1,5 +1,6 @@
 -- How many events each layer of a stack took: a run counts one more at each place that it visits.
-use Rattle.std.specs.Prelude.{ℕ, zero, suc, ◌-◌, List, [], ◌∷◌, ◌++◌, length, fold, if◌then◌else◌, slice_index_or, slice_set}
+use Rattle.std.specs.Prelude.{ℕ, zero, suc, ◌-◌, List, [], ◌∷◌, ◌++◌, length, fold, if◌then◌else◌, slice_index_or}
+use Rattle.std.specs.Prelude.{slice_set}
 use Rattle.layer_mean.specs.declared.run.Event.{Event}
 use Rattle.layer_mean.specs.State.{State}
 use Rattle.layer_mean.specs.Tree.{LayerTree}
@@ -15,7 +16,8 @@ place_visited places (t ∷ rest) = if is_place places t.at then t.at ∷ [] els
 -- The places that at most so many turns of the queue visit, in order.
 abbrev pub visited_for : {W E : Type 0} → ℕ → Player W E → ℕ → Line W E → List ℕ
 visited_for places play zero r = []
-visited_for places play (suc n) r = if is_done r.tasks then [] else place_visited places r.tasks ++ visited_for places play n (next places play r)
+visited_for places play (suc n) r = if is_done r.tasks then [] else place_visited places r.tasks ++
+    visited_for places play n (next places play r)
 
 -- The layer at a place took one event more.
 abbrev pub counted_at : List ℕ → ℕ → List ℕ

@@ -11,16 +11,18 @@ use layer_ast::Dir;
 use layer_stage::Stage;
 use pool_message::PoolEvent;
 
-/// An event that stands at a place, with which alone a run goes on, passes the layers that have no handler for it, up to an edge or to a layer
-/// that has one. Each of them is a visit. Says where it stands then.
+/// An event that stands at a place, with which alone a run goes on, passes the layers that have no handler for it, up
+/// to an edge or to a layer that has one. Each of them is a visit. Says where it stands then.
 pub(crate) fn pass_along<S: Stage>(
     stages: &mut [S],
     at: u16,
     sent: &mut (Dir, PoolEvent),
     visits: &mut u64,
 ) -> u16
-    requires { (r : Rest) × GoesWith S.place S.layer S.refs S.ready S.state S.taken r stages.old (standing_at at sent.old ∷ []) visits.old }
-    ensures goes { Continues S.place S.layer S.refs S.ready S.state S.taken stages.old (standing_at at sent.old ∷ []) visits.old
+    requires { (r : Rest) × GoesWith S.place S.layer S.refs S.ready S.state S.taken r stages.old
+        (standing_at at sent.old ∷ []) visits.old }
+    ensures goes { Continues S.place S.layer S.refs S.ready S.state S.taken stages.old (standing_at at sent.old ∷ [])
+        visits.old
         stages.new (standing_at result sent.new ∷ []) visits.new }
     ensures stays { StaysAt (map S.layer stages.new) (standing_at result sent.new) }
 {

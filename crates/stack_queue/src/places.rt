@@ -43,7 +43,9 @@ pub(crate) fn go_on(places: &mut Line<u16>, events: &Events, at: u16)
     requires place { (1 ≤ at) × (at ≤ 255) }
     requires some { 0 < length places.old.items }
     requires room { events.now.capacity ≤ places.old.capacity }
-    ensures { places.new ≡ buffer (drop 1 places.old.items ++ places_on at (drop (length (drop 1 places.old.items)) events.now.items)) places.old.capacity }
+    ensures { places.new ≡
+        buffer (drop 1 places.old.items ++ places_on at (drop (length (drop 1 places.old.items)) events.now.items))
+        places.old.capacity }
 {
     if places.len() == 1 && events.len() == 1 {
         stand_alone(places, beyond(first_way(events), at));
@@ -57,7 +59,8 @@ pub(crate) fn go_on(places: &mut Line<u16>, events: &Events, at: u16)
 fn put_places(places: &mut Line<u16>, events: &Events, at: u16)
     requires place { (1 ≤ at) × (at ≤ 255) }
     requires room { events.now.capacity ≤ places.old.capacity }
-    ensures { places.new ≡ buffer (places.old.items ++ places_on at (drop (length places.old.items) events.now.items)) places.old.capacity }
+    ensures { places.new ≡ buffer (places.old.items ++ places_on at (drop (length places.old.items) events.now.items))
+        places.old.capacity }
 {
     for k in places.len()..events.len() {
         put_place(places, beyond(events.direction(k), at));

@@ -17,8 +17,8 @@ use slot_pool::Pool;
 use std::alloc::{AllocError, Global};
 use std::marker::Model;
 
-/// An event on its way. The lower edge of a stack is 0, its places are 1 and up, lowest first, and the upper edge is one more than
-/// their number.
+/// An event on its way. The lower edge of a stack is 0, its places are 1 and up, lowest first, and the upper edge is
+/// one more than their number.
 pub struct PoolTask {
     pub at: u16,
     pub direction: Dir,
@@ -33,8 +33,9 @@ pub struct BareTask {
     pub envelope: Envelope,
 }
 
-/// The tasks of a run that are pending, first in, first out, in as many places as the weight of its stack: their events with their
-/// directions, and beside these where each of them goes. There is one place more, for the event that a layer takes.
+/// The tasks of a run that are pending, first in, first out, in as many places as the weight of its stack: their events
+/// with their directions, and beside these where each of them goes. There is one place more, for the event that a layer
+/// takes.
 pub struct Tasks {
     places: Line<u16>,
     events: Events,
@@ -50,7 +51,8 @@ impl Model for Tasks {
 
     ghost view = { λ t. buffer (tasks_at t.places.items t.events.items) (t.places.capacity - 1) };
 
-    ghost invariant = { λ t. (length t.places.items ≡ length t.events.items) × (t.places.capacity ≡ t.events.capacity) × (1 ≤ t.places.capacity) };
+    ghost invariant = { λ t. (length t.places.items ≡ length t.events.items) × (t.places.capacity ≡ t.events.capacity) ×
+        (1 ≤ t.places.capacity) };
 }
 
 impl Tasks {
@@ -87,8 +89,9 @@ impl Tasks {
         }
     }
 
-    /// A task whose event has a message of these headers and a copy of these bytes becomes the last: the bytes are in a slot that was unused, and
-    /// the headers where the event stands. False where the pool is full, and then nothing has changed.
+    /// A task whose event has a message of these headers and a copy of these bytes becomes the last: the bytes are in a
+    /// slot that was unused, and the headers where the event stands. False where the pool is full, and then nothing has
+    /// changed.
     #[inline(always)]
     pub fn push_put(
         &mut self,
@@ -99,7 +102,8 @@ impl Tasks {
     ) -> bool
         requires room { length self.old.items < self.old.capacity }
         requires fits { length bytes.now ≤ longest_body }
-        ensures { Puts pool.old self.old (carrying_task task (record { headers = headers.now; body = bytes.now })) pool.new self.new result }
+        ensures { Puts pool.old self.old (carrying_task task (record { headers = headers.now; body = bytes.now }))
+            pool.new self.new result }
     {
         if !self
             .events
@@ -135,19 +139,25 @@ impl Tasks {
         requires some { 0 < length self.old.items }
         requires room { length out.old.items < out.old.capacity }
         ensures rest { self.new ≡ buffer (drop 1 self.old.items) self.old.capacity }
-        ensures out { out.new ≡ buffer (out.old.items ++ ((first_task self.old.items).direction, (first_task self.old.items).event) ∷ []) out.old.capacity }
+        ensures out { out.new ≡
+            buffer (out.old.items ++ ((first_task self.old.items).direction, (first_task self.old.items).event) ∷ [])
+            out.old.capacity }
     {
         end_first(&mut self.places);
         self.events.move_first(out);
     }
 
-    /// Where the first task is the only one, its event passes the layers that have no handler for it, as it lies, up to an edge or to a layer that
-    /// has one. Each of them is a visit. Says where the first task stands then.
+    /// Where the first task is the only one, its event passes the layers that have no handler for it, as it lies, up to
+    /// an edge or to a layer that has one. Each of them is a visit. Says where the first task stands then.
     pub(crate) fn pass<S: Stage>(&mut self, at: u16, stages: &mut [S], visits: &mut u64) -> u16
-        requires first { (self.old.items ≡ first_task self.old.items ∷ drop 1 self.old.items) × ((first_task self.old.items).at ≡ at) }
-        requires goes { (r : Rest) × GoesWith S.place S.layer S.refs S.ready S.state S.taken r stages.old self.old.items visits.old }
-        ensures first { (self.new.items ≡ first_task self.new.items ∷ drop 1 self.new.items) × ((first_task self.new.items).at ≡ result) }
-        ensures goes { Continues S.place S.layer S.refs S.ready S.state S.taken stages.old self.old.items visits.old stages.new self.new.items visits.new }
+        requires first { (self.old.items ≡ first_task self.old.items ∷ drop 1 self.old.items) ×
+            ((first_task self.old.items).at ≡ at) }
+        requires goes { (r : Rest) × GoesWith S.place S.layer S.refs S.ready S.state S.taken r stages.old self.old.items
+            visits.old }
+        ensures first { (self.new.items ≡ first_task self.new.items ∷ drop 1 self.new.items) ×
+            ((first_task self.new.items).at ≡ result) }
+        ensures goes { Continues S.place S.layer S.refs S.ready S.state S.taken stages.old self.old.items visits.old
+            stages.new self.new.items visits.new }
         ensures stays { length self.old.items ≡ 1 → StaysAt (map S.layer stages.new) (first_task self.new.items) }
         ensures capacity { self.new.capacity ≡ self.old.capacity }
     {
@@ -159,8 +169,8 @@ impl Tasks {
         to
     }
 
-    /// A layer takes the event of the first task, which stands at a place, and what it sends becomes tasks behind the others. What it decided
-    /// is joined to what was decided before.
+    /// A layer takes the event of the first task, which stands at a place, and what it sends becomes tasks behind the
+    /// others. What it decided is joined to what was decided before.
     pub(crate) fn visit<S: Stage>(
         &mut self,
         at: u16,
@@ -175,21 +185,29 @@ impl Tasks {
         requires lie { TasksLie pool.old self.old.items }
         requires covers { Covers pool.old (S.refs stage.old ++ tasks_refs self.old.items) }
         requires counts { CountsWithin most_counted pool.old }
-        requires headers { headers_met (first_task self.old.items).direction (event_seen pool.old (first_task self.old.items).event) ≤ most_above }
-        requires slots { slots_needed (S.layer stage.old) (first_task self.old.items).direction (event_seen pool.old (first_task self.old.items).event) ≤ spare pool.old }
+        requires headers { headers_met (first_task self.old.items).direction
+            (event_seen pool.old (first_task self.old.items).event) ≤ most_above }
+        requires slots { slots_needed (S.layer stage.old) (first_task self.old.items).direction
+            (event_seen pool.old (first_task self.old.items).event) ≤ spare pool.old }
         requires places { length (drop 1 self.old.items)
-            + places_needed (S.layer stage.old) (first_task self.old.items).direction (event_seen pool.old (first_task self.old.items).event) ≤ self.old.capacity }
+            + places_needed (S.layer stage.old) (first_task self.old.items).direction
+            (event_seen pool.old (first_task self.old.items).event) ≤ self.old.capacity }
         ensures state { S.state pool.new stage.new ≡
-            (step (S.place stage.old) (S.layer stage.old) (S.state pool.old stage.old) (first_task self.old.items).direction (event_seen pool.old (first_task self.old.items).event)).state }
+            (step (S.place stage.old) (S.layer stage.old) (S.state pool.old stage.old)
+            (first_task self.old.items).direction (event_seen pool.old (first_task self.old.items).event)).state }
         ensures tasks { tasks_seen pool.new self.new.items ≡ tasks_seen pool.old (drop 1 self.old.items) ++ tasks_of at
-            (step (S.place stage.old) (S.layer stage.old) (S.state pool.old stage.old) (first_task self.old.items).direction (event_seen pool.old (first_task self.old.items).event)).sent }
+            (step (S.place stage.old) (S.layer stage.old) (S.state pool.old stage.old)
+            (first_task self.old.items).direction (event_seen pool.old (first_task self.old.items).event)).sent }
         ensures predicted { predicted.new ≡ both predicted.old (as_predicted
-            (step (S.place stage.old) (S.layer stage.old) (S.state pool.old stage.old) (first_task self.old.items).direction (event_seen pool.old (first_task self.old.items).event)).decided) }
+            (step (S.place stage.old) (S.layer stage.old) (S.state pool.old stage.old)
+            (first_task self.old.items).direction (event_seen pool.old (first_task self.old.items).event)).decided) }
 
         // Its references, and those of the tasks, have moved in the pool, and no others.
-        ensures moved { Moved pool.old pool.new (S.refs stage.old ++ tasks_refs self.old.items) (S.refs stage.new ++ tasks_refs self.new.items) }
+        ensures moved { Moved pool.old pool.new (S.refs stage.old ++ tasks_refs self.old.items)
+            (S.refs stage.new ++ tasks_refs self.new.items) }
         ensures spent { spare pool.old ≤ spare pool.new
-            + slots_needed (S.layer stage.old) (first_task self.old.items).direction (event_seen pool.old (first_task self.old.items).event) }
+            + slots_needed (S.layer stage.old) (first_task self.old.items).direction
+            (event_seen pool.old (first_task self.old.items).event) }
         ensures capacity { self.new.capacity ≡ self.old.capacity }
         ensures ready { S.ready pool.new stage.new }
         ensures lie { TasksLie pool.new self.new.items }
@@ -204,14 +222,15 @@ impl Tasks {
         *predicted = predicted.and(decided);
     }
 
-    /// Where others are pending, the event of the first task passes a layer that has no handler for it, and the task becomes the last. Says whether
-    /// it did; where it didn't, nothing has changed. One that is alone was asked before.
+    /// Where others are pending, the event of the first task passes a layer that has no handler for it, and the task
+    /// becomes the last. Says whether it did; where it didn't, nothing has changed. One that is alone was asked before.
     fn pass_round<S: Stage>(&mut self, at: u16, stage: &mut S) -> bool
         requires some { 0 < length self.old.items }
         requires at { (first_task self.old.items).at ≡ at }
         requires place { (1 ≤ at) × (at ≤ 255) }
         requires room { CanPass (first_task self.old.items).direction (first_task self.old.items).event.message }
-        ensures { PassesRound S.place S.layer S.refs S.ready S.state S.taken stage.old self.old stage.new self.new result }
+        ensures { PassesRound S.place S.layer S.refs S.ready S.state S.taken stage.old self.old stage.new self.new
+            result }
     {
         if self.events.len() < 2 {
             return false;
@@ -234,21 +253,29 @@ impl Tasks {
         requires lie { TasksLie pool.old self.old.items }
         requires covers { Covers pool.old (S.refs stage.old ++ tasks_refs self.old.items) }
         requires counts { CountsWithin most_counted pool.old }
-        requires headers { headers_met (first_task self.old.items).direction (event_seen pool.old (first_task self.old.items).event) ≤ most_above }
-        requires slots { slots_needed (S.layer stage.old) (first_task self.old.items).direction (event_seen pool.old (first_task self.old.items).event) ≤ spare pool.old }
+        requires headers { headers_met (first_task self.old.items).direction
+            (event_seen pool.old (first_task self.old.items).event) ≤ most_above }
+        requires slots { slots_needed (S.layer stage.old) (first_task self.old.items).direction
+            (event_seen pool.old (first_task self.old.items).event) ≤ spare pool.old }
         requires places { length (drop 1 self.old.items)
-            + places_needed (S.layer stage.old) (first_task self.old.items).direction (event_seen pool.old (first_task self.old.items).event) ≤ self.old.capacity }
+            + places_needed (S.layer stage.old) (first_task self.old.items).direction
+            (event_seen pool.old (first_task self.old.items).event) ≤ self.old.capacity }
         ensures state { S.state pool.new stage.new ≡
-            (step (S.place stage.old) (S.layer stage.old) (S.state pool.old stage.old) (first_task self.old.items).direction (event_seen pool.old (first_task self.old.items).event)).state }
+            (step (S.place stage.old) (S.layer stage.old) (S.state pool.old stage.old)
+            (first_task self.old.items).direction (event_seen pool.old (first_task self.old.items).event)).state }
         ensures tasks { tasks_seen pool.new self.new.items ≡ tasks_seen pool.old (drop 1 self.old.items) ++ tasks_of at
-            (step (S.place stage.old) (S.layer stage.old) (S.state pool.old stage.old) (first_task self.old.items).direction (event_seen pool.old (first_task self.old.items).event)).sent }
+            (step (S.place stage.old) (S.layer stage.old) (S.state pool.old stage.old)
+            (first_task self.old.items).direction (event_seen pool.old (first_task self.old.items).event)).sent }
         ensures predicted { result ≡ as_predicted
-            (step (S.place stage.old) (S.layer stage.old) (S.state pool.old stage.old) (first_task self.old.items).direction (event_seen pool.old (first_task self.old.items).event)).decided }
+            (step (S.place stage.old) (S.layer stage.old) (S.state pool.old stage.old)
+            (first_task self.old.items).direction (event_seen pool.old (first_task self.old.items).event)).decided }
 
         // Its references, and those of the tasks, have moved in the pool, and no others.
-        ensures moved { Moved pool.old pool.new (S.refs stage.old ++ tasks_refs self.old.items) (S.refs stage.new ++ tasks_refs self.new.items) }
+        ensures moved { Moved pool.old pool.new (S.refs stage.old ++ tasks_refs self.old.items)
+            (S.refs stage.new ++ tasks_refs self.new.items) }
         ensures spent { spare pool.old ≤ spare pool.new
-            + slots_needed (S.layer stage.old) (first_task self.old.items).direction (event_seen pool.old (first_task self.old.items).event) }
+            + slots_needed (S.layer stage.old) (first_task self.old.items).direction
+            (event_seen pool.old (first_task self.old.items).event) }
         ensures capacity { self.new.capacity ≡ self.old.capacity }
         ensures ready { S.ready pool.new stage.new }
         ensures lie { TasksLie pool.new self.new.items }

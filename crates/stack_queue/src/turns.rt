@@ -25,8 +25,9 @@ use layer_stage::Stage;
 use pool_message::Events;
 use slot_pool::Pool;
 
-/// Runs the layers of a stack from the one task that is pending, until no task is left: each task is an event that its layer takes, or one that
-/// comes out at an edge. Says whether each visit decided as predicted. `tasks` is left empty, and no memory is taken.
+/// Runs the layers of a stack from the one task that is pending, until no task is left: each task is an event that its
+/// layer takes, or one that comes out at an edge. Says whether each visit decided as predicted. `tasks` is left empty,
+/// and no memory is taken.
 pub fn run<S: Stage>(
     stages: &mut [S],
     stack: &Stack,
@@ -35,35 +36,53 @@ pub fn run<S: Stage>(
     out: &mut Events,
     visits: &mut u64,
 ) -> Predicted
-    // The stages are the stack's, which is typed; their states are chained, and so is the event, which is one with which a run begins.
+    // The stages are the stack's, which is typed; their states are chained, and so is the event, which is one with
+    // which a run begins.
     requires typed { TypedStack (stack_tree stack.now) }
     requires stand { Stand S.place S.layer S.ready (stack_tree stack.now) pool.old stages.old }
     requires chained { AreChainedStates (stack_tree stack.now) (map (S.state pool.old) stages.old) }
     requires first { IsChainedTask (stack_tree stack.now) (task_seen pool.old (first_task tasks.old.items)) }
-    requires enters { Enters (stack_tree stack.now) (first_task tasks.old.items).at (first_task tasks.old.items).direction (first_task tasks.old.items).event.kind }
+    requires enters { Enters (stack_tree stack.now) (first_task tasks.old.items).at
+        (first_task tasks.old.items).direction (first_task tasks.old.items).event.kind }
 
     // What they refer to is among what the pool counts.
     requires event { EventLies pool.old (first_task tasks.old.items).event }
     requires lie { SentLie pool.old out.old.items }
-    requires covers { Covers pool.old (flat_map S.refs stages.old ++ (event_refs (first_task tasks.old.items).event ++ sent_refs out.old.items)) }
+    requires covers { Covers pool.old
+        (flat_map S.refs stages.old ++ (event_refs (first_task tasks.old.items).event ++ sent_refs out.old.items)) }
     requires counts { CountsWithin most_at_first pool.old }
 
     // There is room for what can follow from the event.
-    requires slots { task_joins (stack_tree stack.now) (task_seen pool.old (first_task tasks.old.items)) ≤ spare pool.old }
-    requires tasks { (tasks.old.items ≡ first_task tasks.old.items ∷ []) × (task_weight (stack_tree stack.now) (task_seen pool.old (first_task tasks.old.items)) ≤ tasks.old.capacity) }
-    requires out { length out.old.items + task_weight (stack_tree stack.now) (task_seen pool.old (first_task tasks.old.items)) ≤ out.old.capacity }
+    requires slots { task_joins (stack_tree stack.now) (task_seen pool.old (first_task tasks.old.items)) ≤ spare
+        pool.old }
+    requires tasks { (tasks.old.items ≡ first_task tasks.old.items ∷ []) ×
+        (task_weight (stack_tree stack.now) (task_seen pool.old (first_task tasks.old.items)) ≤ tasks.old.capacity) }
+    requires out { length out.old.items + task_weight (stack_tree stack.now)
+        (task_seen pool.old (first_task tasks.old.items)) ≤ out.old.capacity }
     requires visits { visits.old ≤ 2 ^ 63 }
-    ensures states { map (S.state pool.new) stages.new ≡ (run_of (stack_tree stack.now) (map (S.state pool.old) stages.old) (task_seen pool.old (first_task tasks.old.items))).world.states }
-    ensures outs { sent_seen pool.new out.new.items ≡ sent_seen pool.old out.old.items ++ (run_of (stack_tree stack.now) (map (S.state pool.old) stages.old) (task_seen pool.old (first_task tasks.old.items))).world.outs }
-    ensures predicted { result ≡ as_predicted (run_of (stack_tree stack.now) (map (S.state pool.old) stages.old) (task_seen pool.old (first_task tasks.old.items))).world.decided }
-    ensures visits { visits.new ≡ visits.old + (run_of (stack_tree stack.now) (map (S.state pool.old) stages.old) (task_seen pool.old (first_task tasks.old.items))).world.visits }
-    ensures taken { map S.taken stages.new ≡ taken_behind (stack_tree stack.now) (map (S.state pool.old) stages.old) (task_seen pool.old (first_task tasks.old.items)) (map S.taken stages.old) }
-    ensures done { (run_of (stack_tree stack.now) (map (S.state pool.old) stages.old) (task_seen pool.old (first_task tasks.old.items))).tasks ≡ [] }
+    ensures states { map (S.state pool.new) stages.new ≡
+        (run_of (stack_tree stack.now) (map (S.state pool.old) stages.old)
+        (task_seen pool.old (first_task tasks.old.items))).world.states }
+    ensures outs { sent_seen pool.new out.new.items ≡ sent_seen pool.old out.old.items ++
+        (run_of (stack_tree stack.now) (map (S.state pool.old) stages.old)
+        (task_seen pool.old (first_task tasks.old.items))).world.outs }
+    ensures predicted { result ≡
+        as_predicted (run_of (stack_tree stack.now) (map (S.state pool.old) stages.old)
+        (task_seen pool.old (first_task tasks.old.items))).world.decided }
+    ensures visits { visits.new ≡
+        visits.old + (run_of (stack_tree stack.now) (map (S.state pool.old) stages.old)
+        (task_seen pool.old (first_task tasks.old.items))).world.visits }
+    ensures taken { map S.taken stages.new ≡ taken_behind (stack_tree stack.now) (map (S.state pool.old) stages.old)
+        (task_seen pool.old (first_task tasks.old.items)) (map S.taken stages.old) }
+    ensures done { (run_of (stack_tree stack.now) (map (S.state pool.old) stages.old)
+        (task_seen pool.old (first_task tasks.old.items))).tasks ≡ [] }
 
     // The references of the stages, of the event and of what came out have moved in the pool, and no others.
-    ensures moved { Moved pool.old pool.new (flat_map S.refs stages.old ++ (event_refs (first_task tasks.old.items).event ++ sent_refs out.old.items))
+    ensures moved { Moved pool.old pool.new
+        (flat_map S.refs stages.old ++ (event_refs (first_task tasks.old.items).event ++ sent_refs out.old.items))
         (flat_map S.refs stages.new ++ sent_refs out.new.items) }
-    ensures spent { spare pool.old ≤ spare pool.new + task_joins (stack_tree stack.now) (task_seen pool.old (first_task tasks.old.items)) }
+    ensures spent { spare pool.old ≤ spare pool.new + task_joins (stack_tree stack.now)
+        (task_seen pool.old (first_task tasks.old.items)) }
     ensures stand { Stand S.place S.layer S.ready (stack_tree stack.now) pool.new stages.new }
     ensures lie { SentLie pool.new out.new.items }
     ensures tasks { tasks.new ≡ buffer [] tasks.old.capacity }

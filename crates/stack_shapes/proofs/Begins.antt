@@ -14,13 +14,17 @@ use Rattle.stack_shapes.specs.Starts.{starts_of}
 use Rattle.stack_shapes.proofs.Held.{held_outs}
 
 -- the groups that stand before others
-of_group : (stack : List LayerTree) (known : Known) (case : Case) (drawn : Result Shape NoShape) (n : ℕ) → drawn ≡ held (shape stack known case) →
+of_group : (stack : List LayerTree) (known : Known) (case : Case) (drawn : Result Shape NoShape) (n : ℕ) →
+    drawn ≡ held (shape stack known case) →
     n ≡ length (packets_in (outs_of drawn)) → n ≡ length (packets_in (outs_of (shape stack known case)))
 of_group stack known case drawn n is many =
-    many ∙ ap (λ d. length (packets_in (outs_of d))) is ∙ ap (λ outs. length (packets_in outs)) (held_outs (shape stack known case))
+    many ∙ ap (λ d. length (packets_in (outs_of d))) is ∙
+    ap (λ outs. length (packets_in outs)) (held_outs (shape stack known case))
 
-pub begins : (stack : List LayerTree) (cast send : CaseShapes) (a b c l m n : ℕ) → cast ≡ shapes_of stack app_cast → send ≡ shapes_of stack app_send →
-    l ≡ length (packets_in (outs_of cast.first)) → m ≡ length (packets_in (outs_of send.first)) → n ≡ length (packets_in (outs_of cast.second)) →
+pub begins : (stack : List LayerTree) (cast send : CaseShapes) (a b c l m n : ℕ) → cast ≡ shapes_of stack app_cast →
+    send ≡ shapes_of stack app_send →
+    l ≡ length (packets_in (outs_of cast.first)) → m ≡ length (packets_in (outs_of send.first)) →
+    n ≡ length (packets_in (outs_of cast.second)) →
     a ≡ l → b ≡ a + m → c ≡ b + n → (0 ∷ a ∷ b ∷ c ∷ []) ≡ starts_of stack
 begins stack cast send a b c l m n casts sends first second third at_a at_b at_c =
     let one = of_group stack app_cast First cast.first l (ap (λ s. s.first) casts) first in

@@ -1,6 +1,8 @@
 -- The shapes of a step's entry tell in which cases it may be common.
-use Rattle.std.proofs.Common.{◌≡◌, ◌∙◌, ℕ, zero, suc, Bool, true, false, List, [], ◌∷◌, map, Option, Some, None, refl, ap, ap₂}
-use Rattle.std.specs.Prelude.{◌&&◌, ◌||◌, nat_le, if◌then◌else◌, is_some, option_map, option_and_then, slice_get, Result, Ok, Err}
+use Rattle.std.proofs.Common.{◌≡◌, ◌∙◌, ℕ, zero, suc, Bool, true, false, List, [], ◌∷◌, map, Option, Some, None, refl}
+use Rattle.std.proofs.Common.{ap, ap₂}
+use Rattle.std.specs.Prelude.{◌&&◌, ◌||◌, nat_le, if◌then◌else◌, is_some, option_map, option_and_then, slice_get}
+use Rattle.std.specs.Prelude.{Result, Ok, Err}
 use Rattle.std.specs.Option.{option_map_or}
 use Rattle.std.specs.Result.{is_ok}
 use Rattle.layer_mean.specs.declared.run.Case.{Case}
@@ -36,11 +38,13 @@ in_case Second shapes = is_ok shapes.second
 abbrev there_in : Case → Option CaseShapes → Bool
 there_in case shapes = option_map_or (in_case case) shapes false
 
-kept_in : (stack : List LayerTree) (known : Known) (case : Case) → in_case case (kept_shapes stack known) ≡ is_short (shape stack known case)
+kept_in : (stack : List LayerTree) (known : Known) (case : Case) → in_case case (kept_shapes stack known) ≡
+    is_short (shape stack known case)
 kept_in stack known First = short_is_kept (shape stack known First)
 kept_in stack known Second = short_is_kept (shape stack known Second)
 
-both_in : (shapes : Option CaseShapes) (a b : Bool) → common_by shapes a b ≡ ((a && there_in First shapes) || (b && there_in Second shapes))
+both_in : (shapes : Option CaseShapes) (a b : Bool) →
+    common_by shapes a b ≡ ((a && there_in First shapes) || (b && there_in Second shapes))
 both_in (Some shapes) a b = refl
 both_in None true true = refl
 both_in None true false = refl
@@ -69,11 +73,13 @@ module _ (stack : List LayerTree) (case : Case) where
 
 module _ (stack : List LayerTree) (plans : List Plan) where
   fit_told : (case : Case) (fit : Option ℕ) → there_in case (shapes_at (short_shapes stack plans) (planned fit))
-      ≡ option_map_or (λ known. is_short (shape stack known case)) (option_and_then (λ k. option_map plan_entry (slice_get plans k)) fit) false
+      ≡ option_map_or (λ known. is_short (shape stack known case))
+      (option_and_then (λ k. option_map plan_entry (slice_get plans k)) fit) false
   fit_told case None = refl
   fit_told case (Some k) = plan_told stack case plans k
 
-  entry_told : (case : Case) (what : Entered) → there_in case (shapes_at (short_shapes stack plans) (entry_for plans what))
+  entry_told : (case : Case) (what : Entered) →
+      there_in case (shapes_at (short_shapes stack plans) (entry_for plans what))
       ≡ option_map_or (λ known. is_short (shape stack known case)) (entry_of plans what) false
   entry_told case (app_cast body) = kept_in stack entry.app_cast case
   entry_told case (app_send to body) = kept_in stack entry.app_send case
@@ -83,16 +89,23 @@ module _ (stack : List LayerTree) (plans : List Plan) where
 
 pub entries_tell_common : EntriesTellCommon
 entries_tell_common stack plans s =
-    both_in (shapes_at (short_shapes stack plans) (entry_for plans s.entered)) (is_predicted First s.work) (is_predicted Second s.work)
+    both_in (shapes_at (short_shapes stack plans) (entry_for plans s.entered)) (is_predicted First s.work)
+    (is_predicted Second s.work)
     ∙ ap₂ (λ a b. a || b)
-    (and_turned (is_predicted First s.work) _ ∙ ap (λ a. a && is_predicted First s.work) (entry_told stack plans First s.entered))
-    (and_turned (is_predicted Second s.work) _ ∙ ap (λ a. a && is_predicted Second s.work) (entry_told stack plans Second s.entered))
+    (and_turned (is_predicted First s.work) _ ∙
+    ap (λ a. a && is_predicted First s.work) (entry_told stack plans First s.entered))
+    (and_turned (is_predicted Second s.work) _ ∙
+    ap (λ a. a && is_predicted Second s.work) (entry_told stack plans Second s.entered))
     ∙ some_case (is_common_in stack plans s First) (is_common_in stack plans s Second)
 
 -- and so where the shapes, the entry and how the run went are given by equations
-pub common_at : (shapes : ShortShapes) (e : EntryOf) (first second b : Bool) → b ≡ common_by (shapes_at shapes e) first second →
-    (stack : List LayerTree) (plans : List Plan) (s : Step) → shapes ≡ short_shapes stack plans → e ≡ entry_for plans s.entered →
+pub common_at : (shapes : ShortShapes) (e : EntryOf) (first second b : Bool) →
+    b ≡ common_by (shapes_at shapes e) first second →
+    (stack : List LayerTree) (plans : List Plan) (s : Step) → shapes ≡ short_shapes stack plans →
+    e ≡ entry_for plans s.entered →
     first ≡ is_predicted First s.work → second ≡ is_predicted Second s.work → b ≡ is_common stack plans s
 common_at shapes e first second b is stack plans s of_stack entered in_first in_second =
-    is ∙ ap (λ x. common_by (shapes_at x e) first second) of_stack ∙ ap (λ x. common_by (shapes_at (short_shapes stack plans) x) first second) entered
-    ∙ ap₂ (common_by (shapes_at (short_shapes stack plans) (entry_for plans s.entered))) in_first in_second ∙ entries_tell_common stack plans s
+    is ∙ ap (λ x. common_by (shapes_at x e) first second) of_stack ∙
+    ap (λ x. common_by (shapes_at (short_shapes stack plans) x) first second) entered
+    ∙ ap₂ (common_by (shapes_at (short_shapes stack plans) (entry_for plans s.entered))) in_first in_second ∙
+    entries_tell_common stack plans s

@@ -26,21 +26,26 @@ group known case = record { entry = known; case = case }
 abbrev drawn_plans : Result Shape NoShape → List mean.Plan
 drawn_plans drawn = map plan_of (packets_in (outs_of drawn))
 
-of_group : (stack : List LayerTree) (known : Known) (case : Case) (drawn : Result Shape NoShape) → drawn ≡ held (shape stack known case) →
+of_group : (stack : List LayerTree) (known : Known) (case : Case) (drawn : Result Shape NoShape) →
+    drawn ≡ held (shape stack known case) →
     drawn_plans drawn ≡ map plan_of (packets_of stack (group known case))
-of_group stack known case drawn is = ap drawn_plans is ∙ ap (λ outs. map plan_of (packets_in outs)) (held_outs (shape stack known case))
+of_group stack known case drawn is = ap drawn_plans is ∙
+    ap (λ outs. map plan_of (packets_in outs)) (held_outs (shape stack known case))
 
 -- a group whose event has no shape has no plans
-pub shapeless : (plans : List mean.Plan) (drawn : Result code.Shape Absent) (reason : Absent) → length plans ≤ 250 → drawn ≡ Err reason →
+pub shapeless : (plans : List mean.Plan) (drawn : Result code.Shape Absent) (reason : Absent) → length plans ≤ 250 →
+    drawn ≡ Err reason →
     plans ≡ take 250 (plans ++ map plan_of (packets_in (outs_of (drawn_tree drawn))))
 shapeless plans drawn reason few is =
-    none_more plans (map plan_of (packets_in (outs_of (drawn_tree drawn)))) few (ap (λ d. map plan_of (packets_in (outs_of (drawn_tree d)))) is)
+    none_more plans (map plan_of (packets_in (outs_of (drawn_tree drawn)))) few
+    (ap (λ d. map plan_of (packets_in (outs_of (drawn_tree d)))) is)
 
 flat_more : {X B : Type 0} (f : X → List B) (xs : List X) (x : X) → flat_map f (xs ++ x ∷ []) ≡ flat_map f xs ++ f x
 flat_more f xs x =
     flat_map-append f xs (x ∷ []) ∙ ap (λ ys. flat_map f xs ++ ys) (flat_map-cons f x [] ∙ append-nil (f x))
 
-group_more : (stack : List LayerTree) (groups : List Group) (known : Known) (case : Case) (drawn : Result Shape NoShape) (done next : List mean.Plan) →
+group_more : (stack : List LayerTree) (groups : List Group) (known : Known) (case : Case) (drawn : Result Shape NoShape)
+    (done next : List mean.Plan) →
     drawn ≡ held (shape stack known case) → done ≡ take 250 (map plan_of (flat_map (packets_of stack) groups)) →
     next ≡ take 250 (done ++ drawn_plans drawn) →
     next ≡ take 250 (map plan_of (flat_map (packets_of stack) (groups ++ group known case ∷ [])))

@@ -34,15 +34,19 @@ limited_held (Ok s) = go (leb s.length 4096) refl where
       ap (choice (held_shape s)) (lt-leb (min s.length 4294967295) 4096 both) ∙ sym (ap (choice s) is)
 
 -- an entry's shapes as they are kept
-pub kept_are : (stack : List LayerTree) (known : Known) (drawn kept : CaseShapes) → drawn ≡ shapes_of stack known → kept ≡ limited_cases drawn →
+pub kept_are : (stack : List LayerTree) (known : Known) (drawn kept : CaseShapes) → drawn ≡ shapes_of stack known →
+    kept ≡ limited_cases drawn →
     kept ≡ kept_shapes stack known
 kept_are stack known drawn kept is of_drawn =
     of_drawn ∙ ap limited_cases is
-    ∙ ap₂ (λ a b. record { first = a; second = b }) (limited_held (shape stack known First)) (limited_held (shape stack known Second))
+    ∙ ap₂ (λ a b. record { first = a; second = b }) (limited_held (shape stack known First))
+    (limited_held (shape stack known Second))
 
 pub all_kept : (stack : List LayerTree) (entries : ShortShapes) (cast send : CaseShapes) (listed plans : List Plan) →
-    cast ≡ shapes_of stack app_cast → send ≡ shapes_of stack app_send → entries.cast ≡ limited_cases cast → entries.send ≡ limited_cases send →
-    entries.plans ≡ map (plan_shapes stack) listed → listed ≡ plans → plans ≡ plans_of stack → entries ≡ short_shapes stack (plans_of stack)
+    cast ≡ shapes_of stack app_cast → send ≡ shapes_of stack app_send → entries.cast ≡ limited_cases cast →
+    entries.send ≡ limited_cases send →
+    entries.plans ≡ map (plan_shapes stack) listed → listed ≡ plans → plans ≡ plans_of stack →
+    entries ≡ short_shapes stack (plans_of stack)
 all_kept stack entries cast send listed plans casts sends first second others same are =
     let kept_cast = kept_are stack app_cast cast entries.cast casts first in
     let kept_send = kept_are stack app_send send entries.send sends second in

@@ -43,4 +43,5 @@ common_by shapes first second = option_map_or (λ s. has_case s first second) sh
 -- A step is common where its entry has such a case.
 abbrev pub EntriesTellCommon : Type 0
 EntriesTellCommon = (stack : List LayerTree) (plans : List Plan) (s : Step) →
-    common_by (shapes_at (short_shapes stack plans) (entry_for plans s.entered)) (is_predicted First s.work) (is_predicted Second s.work) ≡ is_common stack plans s
+    common_by (shapes_at (short_shapes stack plans) (entry_for plans s.entered)) (is_predicted First s.work)
+    (is_predicted Second s.work) ≡ is_common stack plans s

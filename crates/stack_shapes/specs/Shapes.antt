@@ -19,7 +19,8 @@ limited_cases shapes = record { first = limited shapes.first; second = limited s
 
 -- The shapes of an entry that aren't too long, in each case, or why there is none.
 abbrev pub kept_shapes : List LayerTree → Known → CaseShapes
-kept_shapes stack known = record { first = limited (shape stack known First); second = limited (shape stack known Second) }
+kept_shapes stack known =
+    record { first = limited (shape stack known First); second = limited (shape stack known Second) }
 
 -- Those of an application's cast, of its send, and of the packets of each plan.
 pub record ShortShapes : Type 0 where
@@ -32,4 +33,9 @@ plan_shapes stack plan = kept_shapes stack (plan_entry plan)
 
 abbrev pub short_shapes : List LayerTree → List Plan → ShortShapes
 short_shapes stack plans =
-    record { cast = kept_shapes stack app_cast; send = kept_shapes stack app_send; plans = map (plan_shapes stack) plans }
+    record {
+      cast = kept_shapes stack app_cast;
+      send = kept_shapes stack app_send;
+      plans =
+          map (plan_shapes stack) plans;
+    }

@@ -16,8 +16,8 @@ use crate::entry::EntryOf;
 use shape_core::CaseShapes;
 use std::marker::Model;
 
-/// For each entry of a stack, in each case, its shape if it has one that isn't too long, or why it has none: for an application's cast, for its
-/// send, and for the packets of each plan.
+/// For each entry of a stack, in each case, its shape if it has one that isn't too long, or why it has none: for an
+/// application's cast, for its send, and for the packets of each plan.
 #[derive(Drop)]
 pub struct EntryShapes {
     pub(crate) cast: CaseShapes,
@@ -32,7 +32,8 @@ impl Model for EntryShapes {
 
     ghost Value = { ShortShapes };
 
-    ghost view = { λ e. record { cast = case_trees e.cast; send = case_trees e.send; plans = map case_trees e.plans.items } };
+    ghost view = { λ e. record
+        { cast = case_trees e.cast; send = case_trees e.send; plans = map case_trees e.plans.items } };
 }
 
 impl EntryShapes {
@@ -48,11 +49,13 @@ impl EntryShapes {
         }
     }
 
-    /// Whether a step is common that began with an entry, where all decisions of its run went as predicted in the first case, and in the second.
+    /// Whether a step is common that began with an entry, where all decisions of its run went as predicted in the first
+    /// case, and in the second.
     pub fn is_common(&self, entry: EntryOf, first: bool, second: bool) -> bool
         ensures told { result ≡ common_by (shapes_at self.now entry) first second }
         ensures common { (stack : List LayerTree) (plans : List Plan) (s : Step) → self.now ≡ short_shapes stack plans →
-            entry ≡ entry_for plans s.entered → first ≡ is_predicted First s.work → second ≡ is_predicted Second s.work →
+            entry ≡ entry_for plans s.entered → first ≡ is_predicted First s.work →
+            second ≡ is_predicted Second s.work →
             result ≡ is_common stack plans s }
     {
         match self.at(entry) {

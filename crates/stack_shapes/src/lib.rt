@@ -1,5 +1,6 @@
-//! The shapes of a stack's entries, drawn once and kept: what is predicted of an application's own events and of packets; the plans that follow from
-//! them, which are what the receivers of packets know beforehand; and which steps are common.
+//! The shapes of a stack's entries, drawn once and kept: what is predicted of an application's own events and of
+//! packets; the plans that follow from them, which are what the receivers of packets know beforehand; and which steps
+//! are common.
 #![tactic(auto)]
 
 mod cases;

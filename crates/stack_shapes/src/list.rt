@@ -21,7 +21,8 @@ impl PlanList {
         cast: &CaseShapes,
         send: &CaseShapes,
     ) -> Result<PlanList, Memory>
-        ensures { (stack : List LayerTree) → case_trees cast.now ≡ shapes_of stack app_cast → case_trees send.now ≡ shapes_of stack app_send →
+        ensures { (stack : List LayerTree) → case_trees cast.now ≡ shapes_of stack app_cast →
+            case_trees send.now ≡ shapes_of stack app_send →
             IfOk result (λ plans. list_tree plans ≡ plans_of stack) }
     {
         let mut plans = PlanList {
@@ -44,7 +45,8 @@ impl PlanList {
 
     /// Adds the plan of an output, if it is a packet and there is room.
     fn add(&mut self, alloc: Global, out: &ShapeOut) -> Result<(), Memory>
-        ensures { OnOk result (list_tree self.new ≡ take plans_limit (list_tree self.old ++ plan_or_none (out_tree out.now))) }
+        ensures { OnOk result
+            (list_tree self.new ≡ take plans_limit (list_tree self.old ++ plan_or_none (out_tree out.now))) }
     {
         if !is_packet(out) {
             return Ok(());
@@ -57,7 +59,9 @@ impl PlanList {
 
     /// Adds the plans of outputs.
     fn add_outs(&mut self, alloc: Global, outs: &[ShapeOut]) -> Result<(), Memory>
-        ensures { OnOk result (list_tree self.new ≡ take plans_limit (list_tree self.old ++ map plan_of (packets_in (map out_tree outs.now)))) }
+        ensures { OnOk result
+            (list_tree self.new ≡
+            take plans_limit (list_tree self.old ++ map plan_of (packets_in (map out_tree outs.now)))) }
     {
         for out in outs {
             self.add(alloc, out)?;
@@ -67,7 +71,9 @@ impl PlanList {
 
     /// Adds the plans of a shape's packets; there are none where there is no shape.
     fn add_group(&mut self, alloc: Global, drawn: &Result<Shape, Absent>) -> Result<(), Memory>
-        ensures { OnOk result (list_tree self.new ≡ take plans_limit (list_tree self.old ++ map plan_of (packets_in (outs_of (drawn_tree drawn.now))))) }
+        ensures { OnOk result
+            (list_tree self.new ≡
+            take plans_limit (list_tree self.old ++ map plan_of (packets_in (outs_of (drawn_tree drawn.now))))) }
     {
         match drawn {
             Ok(shape) => self.add_outs(alloc, shape.outs.as_slice()),

@@ -20,7 +20,8 @@ use std::alloc::Global;
 /// The shapes of an application's own event of a kind, however long they are.
 pub(crate) fn app_shapes(alloc: Global, stack: &Stack, kind: Kind) -> Result<CaseShapes, Memory>
     ensures few { IfOk result (λ drawn. HaveFewOuts (case_trees drawn)) }
-    ensures drawn { IfOk result (λ drawn. case_trees drawn ≡ shapes_of (stack_tree stack.now) (record { dir = Down; kind = kind; tags = [] })) }
+    ensures drawn { IfOk result
+        (λ drawn. case_trees drawn ≡ shapes_of (stack_tree stack.now) (record { dir = Down; kind = kind; tags = [] })) }
 {
     let known = Known {
         dir: Dir::Down,
@@ -57,7 +58,8 @@ pub(crate) fn all_shapes(
     stack: &Stack,
     plans: &[Plan],
 ) -> Result<Vec<CaseShapes>, Memory>
-    ensures { IfOk result (λ all. map case_trees all.items ≡ map (plan_shapes (stack_tree stack.now)) (map plan_tree plans.now)) }
+    ensures { IfOk result
+        (λ all. map case_trees all.items ≡ map (plan_shapes (stack_tree stack.now)) (map plan_tree plans.now)) }
 {
     let mut all = Vec::with_capacity(alloc, plans.len())?;
     for plan in plans {

@@ -20,7 +20,8 @@ use std::alloc::Global;
 impl Plans {
     /// Those of the shapes of an application's own cast and send.
     pub(crate) fn of(alloc: Global, cast: &CaseShapes, send: &CaseShapes) -> Result<Plans, Memory>
-        ensures { (stack : List LayerTree) → case_trees cast.now ≡ shapes_of stack app_cast → case_trees send.now ≡ shapes_of stack app_send →
+        ensures { (stack : List LayerTree) → case_trees cast.now ≡ shapes_of stack app_cast →
+            case_trees send.now ≡ shapes_of stack app_send →
             IfOk result (λ plans. plans_tree plans ≡ plans_of stack) }
     {
         let list = PlanList::of(alloc, cast, send)?;

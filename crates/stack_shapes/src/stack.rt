@@ -26,12 +26,14 @@ pub struct StackShapes {
 }
 
 impl StackShapes {
-    /// Those of a stack. The plans are one for each packet that an application's own cast, then its send, is predicted to send in the first case,
-    /// then in the second; of later packets than `MOST_PLANS` there are none. Each shape is drawn once. Err comes only where memory runs out.
+    /// Those of a stack. The plans are one for each packet that an application's own cast, then its send, is predicted
+    /// to send in the first case, then in the second; of later packets than `MOST_PLANS` there are none. Each shape is
+    /// drawn once. Err comes only where memory runs out.
     pub fn of(alloc: Global, stack: &Stack) -> Result<StackShapes, Memory>
         ensures plans { IfOk result (λ s. plans_tree s.plans ≡ plans_of (stack_tree stack.now)) }
         ensures starts { IfOk result (λ s. starts_tree s.starts ≡ starts_of (stack_tree stack.now)) }
-        ensures entries { IfOk result (λ s. s.entries ≡ short_shapes (stack_tree stack.now) (plans_of (stack_tree stack.now))) }
+        ensures entries { IfOk result
+            (λ s. s.entries ≡ short_shapes (stack_tree stack.now) (plans_of (stack_tree stack.now))) }
     {
         let cast = app_shapes(alloc, stack, Kind::Cast)?;
         let send = app_shapes(alloc, stack, Kind::Send)?;

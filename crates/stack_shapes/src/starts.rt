@@ -19,8 +19,8 @@ use crate::plan::is_packet;
 use layer_mean::Case;
 use shape_core::{Absent, CaseShapes, Shape, ShapeOut};
 
-/// The numbers of the first plans of an application's own events in each case. They are those of all packets that are predicted, also where the plans
-/// themselves end before. Those of a cast in the first case begin with 0.
+/// The numbers of the first plans of an application's own events in each case. They are those of all packets that are
+/// predicted, also where the plans themselves end before. Those of a cast in the first case begin with 0.
 #[derive(Clone, Copy, Debug, PartialEq, Eq)]
 pub struct PlanStarts {
     pub(crate) first_send: u32,
@@ -60,7 +60,8 @@ impl PlanStarts {
     pub(crate) fn count(cast: &CaseShapes, send: &CaseShapes) -> PlanStarts
         requires casts { HaveFewOuts (case_trees cast.now) }
         requires sends { HaveFewOuts (case_trees send.now) }
-        ensures { (stack : List LayerTree) → case_trees cast.now ≡ shapes_of stack app_cast → case_trees send.now ≡ shapes_of stack app_send →
+        ensures { (stack : List LayerTree) → case_trees cast.now ≡ shapes_of stack app_cast →
+            case_trees send.now ≡ shapes_of stack app_send →
             starts_tree result ≡ starts_of stack }
     {
         let first_send = packets_of(&cast.first);
@@ -78,7 +79,8 @@ impl PlanStarts {
         ensures groups { (stack : List LayerTree) → starts_tree self ≡ starts_of stack →
             result ≡ option_map (plans_before stack) (groups_for entry case) }
         ensures first { (stack : List LayerTree) → starts_tree self ≡ starts_of stack →
-            (plans : List Plan) → (what : Entered) → entry ≡ entry_for plans what → result ≡ first_plan stack what case }
+            (plans : List Plan) → (what : Entered) → entry ≡ entry_for plans what →
+            result ≡ first_plan stack what case }
     {
         match (entry, case) {
             (EntryOf::Cast, Case::First) => Some(0),

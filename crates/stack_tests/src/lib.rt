@@ -1,5 +1,6 @@
-//! What no clause says of blocks and pools, tokens, handlers that are looked up, stack files, accepted stacks, their shapes, plans and packets: that calls go well where there is memory, on stacks that are judged from
-//! their texts, and a table over all causes for which these are refused.
+//! What no clause says of blocks and pools, tokens, handlers that are looked up, stack files, accepted stacks, their
+//! shapes, plans and packets: that calls go well where there is memory, on stacks that are judged from their texts, and
+//! a table over all causes for which these are refused.
 #![tactic(auto)]
 
 #[cfg(test)]

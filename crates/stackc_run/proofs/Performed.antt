@@ -44,7 +44,8 @@ node_is (node file plan turns me patience mode) w is =
     ap job_of same
 node_is (audit file law) w is = absurd (cc is)
 
-does_by : (words : List Text) (job : Job) (way : Way) → way_of job ≡ way → job_of_words words ≡ Some job → (a : Around) (n : Beyond) (e : Errors) (end : Ended) →
+does_by : (words : List Text) (job : Job) (way : Way) → way_of job ≡ way → job_of_words words ≡ Some job →
+    (a : Around) (n : Beyond) (e : Errors) (end : Ended) →
     PerformedBy way job a n end → Said end e → DoesBy way words job a n e
 does_by words job over_files by is a n e end came said = let run = seen words job a e end is came.0 said in record {
   end = end;
@@ -64,24 +65,30 @@ does_by words job (over_network w) by is a n e end came said =
       exact = node_exact words w a n e named run end came said;
     }
 
-pub does : (words : List Text) (job : Option Job) → job_of_words words ≡ job → (a : Around) (n : Beyond) (e : Errors) (end : Ended) →
+pub does : (words : List Text) (job : Option Job) → job_of_words words ≡ job →
+    (a : Around) (n : Beyond) (e : Errors) (end : Ended) →
     Performed job a n end → Said end e → DoesJob words job a n e
 does words None is a n e end came said = let run = jobless_seen words a e end is came.0 said in
     record { end = end; came = came.0; untouched = came.1; said = said; seen = run; due = words_due words a e run is }
 does words (Some job) is a n e end came said = does_by words job (way_of job) refl is a n e end came said
 
 -- Where memory ran out over the words, nothing was done.
-pub wanted : (job : Option Job) (told : Option Shelved) (reads : ℕ) (output : Tells) (faults sends : ℕ) (links : Option Network) (clock : Option (List ℕ)) →
-    Performed job (surrounding told reads reads output output) (lying_beyond faults faults sends sends links links clock clock) no_memory
+pub wanted : (job : Option Job) (told : Option Shelved) (reads : ℕ) (output : Tells) (faults sends : ℕ)
+    (links : Option Network) (clock : Option (List ℕ)) →
+    Performed job (surrounding told reads reads output output)
+    (lying_beyond faults faults sends sends links links clock clock) no_memory
 wanted job told reads output faults sends links clock = go job where
   untouched : Untouched (lying_beyond faults faults sends sends links links clock clock)
   untouched = record { faults = refl; sends = refl; told = refl; clock = refl }
 
   by : (way : Way) (job : Job) →
-      PerformedBy way job (surrounding told reads reads output output) (lying_beyond faults faults sends sends links links clock clock) no_memory
+      PerformedBy way job (surrounding told reads reads output output)
+      (lying_beyond faults faults sends sends links links clock clock) no_memory
   by over_files job = (inl refl, untouched)
   by (over_network w) job = inl (record { unwritten = refl; untouched = untouched })
 
-  go : (job : Option Job) → Performed job (surrounding told reads reads output output) (lying_beyond faults faults sends sends links links clock clock) no_memory
+  go : (job : Option Job) →
+      Performed job (surrounding told reads reads output output)
+      (lying_beyond faults faults sends sends links links clock clock) no_memory
   go None = (record { untouched = refl; unread = refl }, untouched)
   go (Some job) = by (way_of job) job

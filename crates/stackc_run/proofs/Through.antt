@@ -5,7 +5,8 @@ use Rattle.clap.specs.Walk.{Text}
 use Rattle.outside.proofs.Appended.{appends_keeps}
 use Rattle.outside.specs.Shelf.{Shelved}
 use Rattle.job_mean.specs.Job.{Job, job_of_words}
-use Rattle.end_mean.specs.Status.{Ended, done, breached, file_refused, report_refused, words_refused, second_refused, traces_refused, read_failed, write_failed, link_failed, no_memory}
+use Rattle.end_mean.specs.Status.{Ended, done, breached, file_refused, report_refused, words_refused, second_refused}
+use Rattle.end_mean.specs.Status.{traces_refused, read_failed, write_failed, link_failed, no_memory}
 use Rattle.outside.specs.Said.{errors}
 use Rattle.outside.specs.Tells.{Tells}
 use Rattle.job_ends.specs.Comes.{Around, surrounding, NoJob, Whole, Comes}
@@ -13,7 +14,8 @@ use Rattle.job_ends.proofs.Due.{Finished, well, breach, finished}
 use Rattle.node_loop.specs.Serve.{MadeAllTurns}
 use Rattle.node_jobs.specs.Comes.{Beyond, Node, NodeComes, Ran}
 use Rattle.stackc_run.specs.Performed.{Way, over_files, over_network, way_of, PerformedBy, Performed}
-use Rattle.stackc_run.specs.Through.{RunsThrough, IsWhole, closed, DeliversOutput, DeliversJournal, DeliversBy, Delivers, journal_of}
+use Rattle.stackc_run.specs.Through.{RunsThrough, IsWhole, closed, DeliversOutput, DeliversJournal, DeliversBy}
+use Rattle.stackc_run.specs.Through.{Delivers, journal_of}
 use Rattle.program_streams.specs.Streams.{Stream, HandsOn}
 
 -- an end that is whole behind the stream was whole before, and the stream got all
@@ -42,7 +44,8 @@ got_all false link_failed (breach is) = absurd (cc is)
 got_all false no_memory (well is) = absurd (cc is)
 got_all false no_memory (breach is) = absurd (cc is)
 
-module _ (told : Option Shelved) (reads reads_after : ℕ) (n : Beyond) (out : Stream) (put : Tells) (handed : HandsOn put out.after out.holds true) where
+module _ (told : Option Shelved) (reads reads_after : ℕ) (n : Beyond) (out : Stream) (put : Tells)
+    (handed : HandsOn put out.after out.holds true) where
   abbrev a : Around
   a = surrounding told reads reads_after out.before put
 
@@ -57,22 +60,28 @@ module _ (told : Option Shelved) (reads reads_after : ℕ) (n : Beyond) (out : S
   journal w r = record {
     put = put;
     ran = r;
-    gained = appends_keeps out.before.contents put.contents out.holds (concat (journal_of w r.good.node r.served.s)) r.served.written.gained handed.0;
+    gained = appends_keeps out.before.contents put.contents out.holds (concat (journal_of w r.good.node r.served.s))
+        r.served.written.gained handed.0;
   }
 
-  delivered_by : (way : Way) (job : Job) (end : Ended) → PerformedBy way job a n end → Finished end → DeliversBy way job told reads reads_after n out
+  delivered_by : (way : Way) (job : Job) (end : Ended) → PerformedBy way job a n end → Finished end →
+      DeliversBy way job told reads reads_after n out
   delivered_by over_files job end p (well is) = delivered job done (subst (Comes job a) is p.0)
   delivered_by over_files job end p (breach is) = delivered job breached (subst (Comes job a) is p.0)
   delivered_by (over_network w) job end p (well is) = journal w (subst (NodeComes w a n) is p)
   delivered_by (over_network w) job end p (breach is) = absurd (subst (NodeComes w a n) is p)
 
-  by_end : (job : Option Job) (end : Ended) → Performed job a n end → Finished end → Delivers job told reads reads_after n out
+  by_end : (job : Option Job) (end : Ended) → Performed job a n end → Finished end →
+      Delivers job told reads reads_after n out
   by_end None end p (well is) = absurd (subst (NoJob a) is p.0)
   by_end None end p (breach is) = absurd (subst (NoJob a) is p.0)
   by_end (Some job) end p f = delivered_by (way_of job) job end p f
 
-pub delivers : (words : List Text) (told : Option Shelved) (reads reads_after : ℕ) (n : Beyond) (out err : Stream) (status : ℕ) →
-    RunsThrough words told reads reads_after n out err status → IsWhole status → Delivers (job_of_words words) told reads reads_after n out
+pub delivers : (words : List Text) (told : Option Shelved) (reads reads_after : ℕ) (n : Beyond) (out err : Stream)
+    (status : ℕ) →
+    RunsThrough words told reads reads_after n out err status → IsWhole status →
+    Delivers (job_of_words words) told reads reads_after n out
 delivers words told reads reads_after n out err status r is =
     let f = got_all r.whole r.end (finished (closed r.whole r.end) (errors err.before r.closing status) r.said is) in
-    by_end told reads reads_after n out r.put (subst (HandsOn r.put out.after out.holds) f.0 r.handed_on) (job_of_words words) r.end r.performed f.1
+    by_end told reads reads_after n out r.put (subst (HandsOn r.put out.after out.holds) f.0 r.handed_on)
+    (job_of_words words) r.end r.performed f.1

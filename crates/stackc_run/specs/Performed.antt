@@ -39,8 +39,8 @@ abbrev pub Performed : Option Job → Around → Beyond → Ended → Type 0
 Performed None a n end = NoJob a end × Untouched n
 Performed (Some job) a n end = PerformedBy (way_of job) job a n end
 
--- A job over files ended in one way, and that was said; this is a run of the program as the definitions have it; and its status is the one
--- that is due.
+-- A job over files ended in one way, and that was said; this is a run of the program as the definitions have it; and
+-- its status is the one that is due.
 pub record Done (words : List Text) (job : Job) (a : Around) (n : Beyond) (e : Errors) : Type 0 where
   pub end : Ended
   pub came : Comes job a end

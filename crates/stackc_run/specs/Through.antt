@@ -6,7 +6,8 @@ use Rattle.outside.specs.Shelf.{Shelved}
 use Rattle.clap.specs.Walk.{Text}
 use Rattle.stack_mean.specs.Plans.{plans_of}
 use Rattle.job_mean.specs.Job.{Job, job_of_words}
-use Rattle.end_mean.specs.Status.{Ended, done, breached, file_refused, report_refused, words_refused, second_refused, traces_refused, read_failed, write_failed, link_failed, no_memory}
+use Rattle.end_mean.specs.Status.{Ended, done, breached, file_refused, report_refused, words_refused, second_refused}
+use Rattle.end_mean.specs.Status.{traces_refused, read_failed, write_failed, link_failed, no_memory}
 use Rattle.run_mean.specs.Journal.{node_lines}
 use Rattle.group_mean.specs.Node.{node_words}
 use Rattle.group_mean.specs.Node.{Surroundings, failed, noted, played}
@@ -20,7 +21,8 @@ use Rattle.node_loop.specs.Serve.{MadeAllTurns}
 use Rattle.node_jobs.specs.Comes.{Beyond, Node, Ran}
 use Rattle.stackc_run.specs.Performed.{Way, over_files, over_network, way_of, Performed, Does}
 
--- How a job ended whose whole output was written, where its stream got all or lacks something: then that is a fault of writing.
+-- How a job ended whose whole output was written, where its stream got all or lacks something: then that is a fault of
+-- writing.
 abbrev pub closed : Bool → Ended → Ended
 closed true end = end
 closed false done = write_failed
@@ -35,9 +37,11 @@ closed false write_failed = write_failed
 closed false link_failed = link_failed
 closed false no_memory = no_memory
 
--- A run that put so much on the output and ended so; what was handed on to the output's stream; and what was said then, of the end that
--- comes of both, and handed on to the standard error's. Where that is the job's own end, all that `run` does is done.
-pub record RunsThrough (words : List Text) (told : Option Shelved) (reads reads_after : ℕ) (n : Beyond) (out err : Stream) (status : ℕ) : Type 0 where
+-- A run that put so much on the output and ended so; what was handed on to the output's stream; and what was said then,
+-- of the end that comes of both, and handed on to the standard error's. Where that is the job's own end, all that `run`
+-- does is done.
+pub record RunsThrough (words : List Text) (told : Option Shelved) (reads reads_after : ℕ) (n : Beyond)
+    (out err : Stream) (status : ℕ) : Type 0 where
   pub put : Tells
   pub end : Ended
   pub performed : Performed (job_of_words words) (surrounding told reads reads_after out.before put) n end
@@ -45,7 +49,8 @@ pub record RunsThrough (words : List Text) (told : Option Shelved) (reads reads_
   pub handed_on : HandsOn put out.after out.holds whole
   pub closing : Tells
   pub said : Said (closed whole end) (errors err.before closing status)
-  pub does : closed whole end ≡ end → Does words (surrounding told reads reads_after out.before put) n (errors err.before closing status)
+  pub does : closed whole end ≡ end →
+      Does words (surrounding told reads reads_after out.before put) n (errors err.before closing status)
   pub heard : Bool
   pub told_on : HandsOn closing err.after err.holds heard
 
@@ -62,10 +67,12 @@ pub record DeliversOutput (job : Job) (told : Option Shelved) (reads reads_after
 -- The whole journal of a node over what its surroundings told.
 abbrev pub journal_of : {file second : List ℕ} (w : Node) → IsNode file second w.me → Surroundings → List (List ℕ)
 journal_of w node s = let words = node_words w.turns w.me w.patience w.mode in
-    node_lines node.stack (plans_of node.stack) (failed s) (noted node.plan words s) (played node.stack node.plan words s)
+    node_lines node.stack (plans_of node.stack) (failed s) (noted node.plan words s)
+    (played node.stack node.plan words s)
 
 -- A node made all its turns, and the output's stream gained its whole journal.
-pub record DeliversJournal (w : Node) (told : Option Shelved) (reads reads_after : ℕ) (n : Beyond) (out : Stream) : Type 0 where
+pub record DeliversJournal (w : Node) (told : Option Shelved) (reads reads_after : ℕ) (n : Beyond) (out : Stream) : Type
+    0 where
   pub put : Tells
   pub ran : Ran w (surrounding told reads reads_after out.before put) n MadeAllTurns
   pub gained : Appends out.before.contents out.holds (concat (journal_of w ran.good.node ran.served.s))

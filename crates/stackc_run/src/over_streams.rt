@@ -31,18 +31,27 @@ pub fn run_through<S: Shelf, O: Write + Drop, E: Write + Drop, N: Links, C: Cloc
     links: &mut N,
     clock: &mut C,
 ) -> u8
-    ensures through { RunsThrough (map string_bytes words.now) (S.told shelf.old) (S.faults shelf.old) (S.faults shelf.new)
+    ensures through { RunsThrough (map string_bytes words.now) (S.told shelf.old) (S.faults shelf.old)
+        (S.faults shelf.new)
         (beyond N.Links C.Clock links.old links.new clock.old clock.new)
-        (stream (tells (⟦<StdSink<O> as Sink>⟧.contents out.old) (⟦<StdSink<O> as Sink>⟧.failures out.old) (⟦<StdSink<O> as Sink>⟧.faults out.old))
-        (tells (⟦<StdSink<O> as Sink>⟧.contents out.new) (⟦<StdSink<O> as Sink>⟧.failures out.new) (⟦<StdSink<O> as Sink>⟧.faults out.new))
+        (stream (tells (⟦<StdSink<O> as Sink>⟧.contents out.old) (⟦<StdSink<O> as Sink>⟧.failures out.old)
+        (⟦<StdSink<O> as Sink>⟧.faults out.old))
+        (tells (⟦<StdSink<O> as Sink>⟧.contents out.new) (⟦<StdSink<O> as Sink>⟧.failures out.new)
+        (⟦<StdSink<O> as Sink>⟧.faults out.new))
         (O.contents (stream_of out.new)))
-        (stream (tells (⟦<StdSink<E> as Sink>⟧.contents err.old) (⟦<StdSink<E> as Sink>⟧.failures err.old) (⟦<StdSink<E> as Sink>⟧.faults err.old))
-        (tells (⟦<StdSink<E> as Sink>⟧.contents err.new) (⟦<StdSink<E> as Sink>⟧.failures err.new) (⟦<StdSink<E> as Sink>⟧.faults err.new))
+        (stream (tells (⟦<StdSink<E> as Sink>⟧.contents err.old) (⟦<StdSink<E> as Sink>⟧.failures err.old)
+        (⟦<StdSink<E> as Sink>⟧.faults err.old))
+        (tells (⟦<StdSink<E> as Sink>⟧.contents err.new) (⟦<StdSink<E> as Sink>⟧.failures err.new)
+        (⟦<StdSink<E> as Sink>⟧.faults err.new))
         (E.contents (stream_of err.new))) result }
-    ensures delivered { IsWhole result → Delivers (job_of_words (map string_bytes words.now)) (S.told shelf.old) (S.faults shelf.old) (S.faults shelf.new)
+    ensures delivered { IsWhole result →
+        Delivers (job_of_words (map string_bytes words.now)) (S.told shelf.old) (S.faults shelf.old)
+        (S.faults shelf.new)
         (beyond N.Links C.Clock links.old links.new clock.old clock.new)
-        (stream (tells (⟦<StdSink<O> as Sink>⟧.contents out.old) (⟦<StdSink<O> as Sink>⟧.failures out.old) (⟦<StdSink<O> as Sink>⟧.faults out.old))
-        (tells (⟦<StdSink<O> as Sink>⟧.contents out.new) (⟦<StdSink<O> as Sink>⟧.failures out.new) (⟦<StdSink<O> as Sink>⟧.faults out.new))
+        (stream (tells (⟦<StdSink<O> as Sink>⟧.contents out.old) (⟦<StdSink<O> as Sink>⟧.failures out.old)
+        (⟦<StdSink<O> as Sink>⟧.faults out.old))
+        (tells (⟦<StdSink<O> as Sink>⟧.contents out.new) (⟦<StdSink<O> as Sink>⟧.failures out.new)
+        (⟦<StdSink<O> as Sink>⟧.faults out.new))
         (O.contents (stream_of out.new))) }
 {
     let ending = perform(alloc, words, shelf, out, links, clock);

@@ -28,7 +28,8 @@ pub(crate) fn perform<S: Shelf, O: Sink, N: Links, C: Clock>(
     clock: &mut C,
 ) -> Ending
     ensures { Performed (job_of_words (map string_bytes words.now))
-        (around S.Shelf O.Sink shelf.old shelf.new out.old out.new) (beyond N.Links C.Clock links.old links.new clock.old clock.new) (shown result) }
+        (around S.Shelf O.Sink shelf.old shelf.new out.old out.new)
+        (beyond N.Links C.Clock links.old links.new clock.old clock.new) (shown result) }
 {
     match job(alloc, words) {
         Ok(Some(job)) => perform_job(alloc, &job, shelf, out, links, clock),
@@ -47,7 +48,8 @@ fn perform_job<S: Shelf, O: Sink, N: Links, C: Clock>(
     clock: &mut C,
 ) -> Ending
     ensures { Performed (Some (shown_job job.now))
-        (around S.Shelf O.Sink shelf.old shelf.new out.old out.new) (beyond N.Links C.Clock links.old links.new clock.old clock.new) (shown result) }
+        (around S.Shelf O.Sink shelf.old shelf.new out.old out.new)
+        (beyond N.Links C.Clock links.old links.new clock.old clock.new) (shown result) }
 {
     match job {
         Job::Check(file) => check_stack(alloc, *file, shelf, out),

@@ -20,4 +20,9 @@ lack_meant (Absent reason) = mean.absent (reason_tree reason)
 lack_meant (Check k) = mean.missed k
 
 abbrev pub miss_meant : Miss → mean.Miss
-miss_meant m = record { entry = entry_meant m.entry; first = lack_meant m.first; second = option_map lack_meant m.second }
+miss_meant m = record {
+  entry = entry_meant m.entry;
+  first = lack_meant m.first;
+  second =
+      option_map lack_meant m.second;
+}

@@ -14,7 +14,8 @@ pub enum Lack {
     Check(u32),
 }
 
-/// What a step lacked: in the first case of its entry, and in the second, where that is made. The entry of a packet that fits no plan is `None`.
+/// What a step lacked: in the first case of its entry, and in the second, where that is made. The entry of a packet
+/// that fits no plan is `None`.
 #[derive(Clone, Copy, Debug, PartialEq, Eq)]
 pub struct Miss {
     pub entry: EntryOf,

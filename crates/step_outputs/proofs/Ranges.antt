@@ -1,5 +1,6 @@
 -- Ranges of bytes, with more bytes behind.
-use Rattle.std.proofs.Common.{◌≡◌, ℕ, ◌+◌, ◌<◌, ◌≤◌, List, [], ◌∷◌, ◌++◌, Option, None, refl, sym, ap, ◌∙◌, subst, arith, length, length-append, length-drop, map, take, drop}
+use Rattle.std.proofs.Common.{◌≡◌, ℕ, ◌+◌, ◌<◌, ◌≤◌, List, [], ◌∷◌, ◌++◌, Option, None, refl, sym, ap, ◌∙◌, subst}
+use Rattle.std.proofs.Common.{arith, length, length-append, length-drop, map, take, drop}
 use Rattle.std.specs.List.{AllByRecursion}
 use Rattle.std.proofs.lemmas.List.{take-append-le, drop-append-le, map-append}
 use Rattle.slot_pool.specs.Held.{range}
@@ -13,32 +14,38 @@ use Rattle.step_outputs.specs.declared.kept.Kept.{Kept}
 use Rattle.step_outputs.specs.declared.kept.Span.{Span}
 
 -- a range within bytes is the same with more behind
-pub range_stays : (from len : ℕ) (bytes more : List ℕ) → from + len ≤ length bytes → range from len (bytes ++ more) ≡ range from len bytes
+pub range_stays : (from len : ℕ) (bytes more : List ℕ) → from + len ≤ length bytes → range from len (bytes ++ more) ≡
+    range from len bytes
 range_stays from len bytes more within =
     let rest = length-drop from bytes in
-    ap (take len) (drop-append-le from bytes more (omega arith)) ∙ take-append-le len (drop from bytes) more (omega arith)
+    ap (take len) (drop-append-le from bytes more (omega arith)) ∙
+    take-append-le len (drop from bytes) more (omega arith)
 
 within_stays : (bytes more : List ℕ) (span : Span) → LiesWithin bytes span → LiesWithin (bytes ++ more) span
 within_stays bytes more span within = let both = length-append bytes more in omega arith
 
 -- outputs are the same with more bytes behind
-outputs_stay : (here : Here) (bytes more : List ℕ) (list : List Kept) → AllByRecursion (λ k. LiesWithin bytes k.body) list →
+outputs_stay : (here : Here) (bytes more : List ℕ) (list : List Kept) →
+    AllByRecursion (λ k. LiesWithin bytes k.body) list →
     map (output_in here (bytes ++ more)) list ≡ map (output_in here bytes) list
 outputs_stay here bytes more [] lie = refl
 outputs_stay here bytes more (k ∷ list) lie = λ i.
-    output_with here k.what k.headers (range_stays k.body.from k.body.len bytes more lie.0 i) ∷ outputs_stay here bytes more list lie.1 i
+    output_with here k.what k.headers (range_stays k.body.from k.body.len bytes more lie.0 i) ∷
+    outputs_stay here bytes more list lie.1 i
 
 -- one output more, with its bytes
 pub with_one_more : (here : Here) (bytes more : List ℕ) (list : List Kept) (k : Kept) (o : member.Output × Option ℕ) →
     AllByRecursion (λ k. LiesWithin bytes k.body) list → output_in here (bytes ++ more) k ≡ o →
     map (output_in here (bytes ++ more)) (list ++ k ∷ []) ≡ map (output_in here bytes) list ++ o ∷ []
 with_one_more here bytes more list k o lie is =
-    map-append (output_in here (bytes ++ more)) list (k ∷ []) ∙ (λ i. outputs_stay here bytes more list lie i ++ is i ∷ [])
+    map-append (output_in here (bytes ++ more)) list (k ∷ []) ∙
+    (λ i. outputs_stay here bytes more list lie i ++ is i ∷ [])
 
 all_lie : (bytes more : List ℕ) (list : List Kept) (k : Kept) → AllByRecursion (λ k. LiesWithin bytes k.body) list →
     LiesWithin (bytes ++ more) k.body → AllByRecursion (λ k. LiesWithin (bytes ++ more) k.body) (list ++ k ∷ [])
 all_lie bytes more [] k lie within = (within, tt)
-all_lie bytes more (x ∷ list) k lie within = (within_stays bytes more x.body lie.0, all_lie bytes more list k lie.1 within)
+all_lie bytes more (x ∷ list) k lie within =
+    (within_stays bytes more x.body lie.0, all_lie bytes more list k lie.1 within)
 
 pub still_kept : (places room bodies bodies_behind : ℕ) (bytes more : List ℕ) (list : List Kept) (k : Kept) →
     AreKept places room bodies bytes list → length list < places → bodies ≤ bodies_behind → length more ≤ longest_body →
@@ -54,23 +61,32 @@ still_kept places room bodies bodies_behind bytes more list k kept free rises sh
     }
 
 -- a list of one more, with the bytes of all
-pub put_keeps : (places room bodies room_behind bodies_behind : ℕ) (bytes more bytes_behind : List ℕ) (list list_behind : List Kept) (k : Kept)
-    (span : Span) → AreKept places room bodies bytes list → length list < places → bytes_behind ≡ bytes ++ more → list_behind ≡ list ++ k ∷ [] →
-    room_behind ≡ room → bodies ≤ bodies_behind → length more ≤ longest_body → k.body ≡ span → LiesWithin bytes_behind span →
+pub put_keeps : (places room bodies room_behind bodies_behind : ℕ) (bytes more bytes_behind : List ℕ)
+    (list list_behind : List Kept) (k : Kept)
+    (span : Span) → AreKept places room bodies bytes list → length list < places → bytes_behind ≡ bytes ++ more →
+    list_behind ≡ list ++ k ∷ [] →
+    room_behind ≡ room → bodies ≤ bodies_behind → length more ≤ longest_body → k.body ≡ span →
+    LiesWithin bytes_behind span →
     AreKept places room_behind bodies_behind bytes_behind list_behind
-put_keeps places room bodies room_behind bodies_behind bytes more bytes_behind list list_behind k s kept free bytes_is list_is room_is rises few at there =
+put_keeps places room bodies room_behind bodies_behind bytes more bytes_behind list list_behind k s kept free bytes_is
+    list_is room_is rises few at there =
     rw (bytes_is, list_is, room_is) (still_kept places room bodies bodies_behind bytes more list k kept free rises few
     (subst (λ bs. LiesWithin bs k.body) bytes_is (subst (λ x. LiesWithin bytes_behind x) (sym at) there)))
 
-pub put_tells : (here : Here) (bytes more bytes_behind : List ℕ) (list list_behind : List Kept) (k : Kept) (o : member.Output × Option ℕ) →
+pub put_tells : (here : Here) (bytes more bytes_behind : List ℕ) (list list_behind : List Kept) (k : Kept)
+    (o : member.Output × Option ℕ) →
     AllByRecursion (λ k. LiesWithin bytes k.body) list → bytes_behind ≡ bytes ++ more → list_behind ≡ list ++ k ∷ [] →
-    output_in here bytes_behind k ≡ o → map (output_in here bytes_behind) list_behind ≡ map (output_in here bytes) list ++ o ∷ []
+    output_in here bytes_behind k ≡ o → map (output_in here bytes_behind) list_behind ≡
+    map (output_in here bytes) list ++ o ∷ []
 put_tells here bytes more bytes_behind list list_behind k o lie bytes_is list_is is =
-    rw (bytes_is, list_is) (with_one_more here bytes more list k o lie (subst (λ bs. output_in here bs k ≡ o) bytes_is is))
+    rw (bytes_is, list_is)
+    (with_one_more here bytes more list k o lie (subst (λ bs. output_in here bs k ≡ o) bytes_is is))
 
 -- what is kept of an event is its output
-pub kept_tells : (here : Here) (dir : Dir) (e : Event) (bytes body : List ℕ) (k : Kept) (span : Span) → IsFor here dir e k.what →
-    k.headers ≡ (member.content e).headers → k.body ≡ span → bytes_in bytes span ≡ body → body ≡ (member.content e).body →
+pub kept_tells : (here : Here) (dir : Dir) (e : Event) (bytes body : List ℕ) (k : Kept) (span : Span) →
+    IsFor here dir e k.what →
+    k.headers ≡ (member.content e).headers → k.body ≡ span → bytes_in bytes span ≡ body →
+    body ≡ (member.content e).body →
     output_in here bytes k ≡ (member.output_of here (dir, e), None)
 kept_tells here dir e bytes body k span what headers at shown is =
     (λ i. output_with here k.what (headers i) ((ap (bytes_in bytes) at ∙ shown ∙ is) i)) ∙ what

@@ -5,7 +5,8 @@ use Rattle.layer_mean.specs.declared.run.Event.{Event}
 use Rattle.packet_mean.specs.declared.here.Here.{Here}
 use Rattle.run_mean.specs.Member.{Output, output_of}
 
--- Outputs in order, each with the plan under which it is sent short, if it is: where they come from, and how many there may be.
+-- Outputs in order, each with the plan under which it is sent short, if it is: where they come from, and how many there
+-- may be.
 pub record Gathered : Type 0 where
   pub here : Here
   pub outputs : List (Output × Option ℕ)

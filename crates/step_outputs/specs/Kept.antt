@@ -1,5 +1,6 @@
 -- What outputs are that are kept, with the bytes of all.
-use Rattle.std.specs.Prelude.{◌≡◌, ℕ, ◌+◌, ◌*◌, ◌≤◌, Bool, true, false, ◌&&◌, nat_lt, if◌then◌else◌, List, [], ◌∷◌, length, Option, Some, None}
+use Rattle.std.specs.Prelude.{◌≡◌, ℕ, ◌+◌, ◌*◌, ◌≤◌, Bool, true, false, ◌&&◌, nat_lt, if◌then◌else◌, List, [], ◌∷◌}
+use Rattle.std.specs.Prelude.{length, Option, Some, None}
 use Rattle.std.specs.List.{AllByRecursion}
 use Rattle.slot_pool.specs.Held.{range}
 use Rattle.msg_core.specs.Parts.{longest_body}
@@ -13,7 +14,8 @@ use Rattle.step_outputs.specs.Views.{signal_meant}
 use Rattle.step_outputs.specs.declared.kept.Kept.{Kept}
 use Rattle.step_outputs.specs.declared.kept.Span.{Span}
 use Rattle.step_outputs.specs.declared.kept.What.{What}
-use Rattle.step_outputs.specs.declared.kept.What.TheVariants.{Cast, Send, Block, Announce, Timer, Packet, Nowhere, Quiet}
+use Rattle.step_outputs.specs.declared.kept.What.TheVariants.{Cast, Send, Block, Announce, Timer, Packet, Nowhere}
+use Rattle.step_outputs.specs.declared.kept.What.TheVariants.{Quiet}
 
 -- The bytes of a range.
 abbrev pub bytes_in : List ℕ → Span → List ℕ
@@ -40,7 +42,8 @@ output_in here bytes k = output_with here k.what k.headers (bytes_in bytes k.bod
 
 -- What an event is that leaves at the upper edge, or at the lower one, whatever its message.
 abbrev pub IsFor : Here → Dir → Event → What → Type 0
-IsFor here dir e what = output_with here what (member.content e).headers (member.content e).body ≡ (member.output_of here (dir, e), None)
+IsFor here dir e what = output_with here what (member.content e).headers (member.content e).body ≡
+    (member.output_of here (dir, e), None)
 
 -- The view that it announces.
 abbrev pub announced_by : What → Option ℕ
@@ -70,7 +73,8 @@ number_behind count k what = if takes_number what && nat_lt k count then k + 1 e
 -- Outputs that take their numbers in order, from this one on.
 abbrev pub numbered : ℕ → ℕ → List Kept → List Kept
 numbered count k [] = []
-numbered count k (x ∷ list) = record x { what = under (number_below count k) x.what } ∷ numbered count (number_behind count k x.what) list
+numbered count k (x ∷ list) = record x { what = under (number_below count k) x.what } ∷
+    numbered count (number_behind count k x.what) list
 
 -- Outputs are kept in so many places: there is room for the rest of them, and for the longest body of each.
 pub record AreKept (places room room_of_bytes : ℕ) (bytes : List ℕ) (list : List Kept) : Type 0 where

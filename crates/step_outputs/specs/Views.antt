@@ -5,7 +5,8 @@ use Rattle.packet_full.specs.Sent.{sent_packet}
 use Rattle.packet_mean.specs.declared.here.Here.{Here}
 use Rattle.run_mean.specs.Member as member
 use Rattle.step_outputs.specs.declared.view.OutputView.{OutputView}
-use Rattle.step_outputs.specs.declared.view.OutputView.TheVariants.{Cast, Send, Block, Announce, Timer, Packet, Nowhere, Quiet}
+use Rattle.step_outputs.specs.declared.view.OutputView.TheVariants.{Cast, Send, Block, Announce, Timer, Packet, Nowhere}
+use Rattle.step_outputs.specs.declared.view.OutputView.TheVariants.{Quiet}
 use Rattle.step_outputs.specs.declared.view.Signal.{Signal}
 
 -- The event that a signal is: it has no message.

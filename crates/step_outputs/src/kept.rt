@@ -1,6 +1,7 @@
 //! What is kept of an output.
 
-ghost use Rattle.std.specs.Prelude.{◌≡◌, [], ◌∷◌, ◌==◌, ◌&&◌, ◌+◌, ◌<◌, ◌≤◌, ◌++◌, ℕ, true, false, not, nat_lt, if◌then◌else◌, is_some, List, Some, None, length, vec_len, vec_capacity};
+ghost use Rattle.std.specs.Prelude.{◌≡◌, [], ◌∷◌, ◌==◌, ◌&&◌, ◌+◌, ◌<◌, ◌≤◌, ◌++◌, ℕ, true, false, not, nat_lt};
+ghost use Rattle.std.specs.Prelude.{if◌then◌else◌, is_some, List, Some, None, length, vec_len, vec_capacity};
 ghost use Rattle.circular_buffer.specs.Buffer.{buffer};
 ghost use Rattle.slot_pool.specs.Held.{Held};
 ghost use Rattle.msg_core.specs.Chain.{Content};
@@ -15,7 +16,8 @@ ghost use Rattle.packet_mean.specs.declared.here.Here.{Here};
 ghost use Rattle.pool_message.specs.Seen.{event_seen, EventLies};
 ghost use Rattle.run_mean.specs.Member.{content};
 ghost use Rattle.stack_mean.specs.Plans.{plans_limit};
-ghost use Rattle.step_outputs.specs.Kept.{announced_by, bytes_in, number_below, number_behind, under, LiesWithin, output_with, IsFor};
+ghost use Rattle.step_outputs.specs.Kept.{announced_by, bytes_in, number_below, number_behind, under, LiesWithin};
+ghost use Rattle.step_outputs.specs.Kept.{output_with, IsFor};
 ghost use Rattle.step_outputs.specs.Views.{output_meant, signal_meant};
 
 use crate::list::KeptList;
@@ -223,7 +225,8 @@ fn number_more(next: u32, count: u32) -> u32
     if next < count { next + 1 } else { next }
 }
 
-/// An output takes the next number, if it takes one, and is sent short under it where there are more plans. Tells the next number behind it.
+/// An output takes the next number, if it takes one, and is sent short under it where there are more plans. Tells the
+/// next number behind it.
 pub(crate) fn take_number(kept: &mut Kept, next: u32, count: u32) -> u32
     requires { count ≤ plans_limit }
     ensures kept { kept.new ≡ record kept.old { what = under (number_below count next) kept.old.what } }
@@ -245,7 +248,10 @@ pub(crate) fn take_number(kept: &mut Kept, next: u32, count: u32) -> u32
 /// Puts what an event is behind the others, with the headers of its message; there is none where it has no message.
 pub(crate) fn keep(list: &mut KeptList, what: What, event: &PoolEvent, body: Span)
     requires { length list.old.items < list.old.capacity }
-    ensures { (p : List Held) → list.new ≡ buffer (list.old.items ++ record { what = what; headers = (content (event_seen p event.now)).headers; body = body } ∷ []) list.old.capacity }
+    ensures { (p : List Held) →
+        list.new ≡ buffer (list.old.items ++
+        record { what = what; headers = (content (event_seen p event.now)).headers; body = body } ∷ [])
+        list.old.capacity }
 {
     match event.message.get() {
         Some(message) => list.push(what, message.headers(), body),

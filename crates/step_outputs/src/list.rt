@@ -10,8 +10,8 @@ use slot_pool::Memory;
 use std::alloc::Global;
 use std::marker::Model;
 
-/// Outputs in order, in as many places as are chosen once. Their places stay when they go, so that headers are copied to where they lie, and a
-/// place is first touched when it is used.
+/// Outputs in order, in as many places as are chosen once. Their places stay when they go, so that headers are copied
+/// to where they lie, and a place is first touched when it is used.
 #[derive(Drop)]
 pub struct KeptList {
     places: Vec<Kept>,
@@ -69,7 +69,8 @@ impl KeptList {
     /// Puts one with these headers behind the others.
     pub fn push(&mut self, what: What, headers: &Headers, body: Span)
         requires { length self.old.items < self.old.capacity }
-        ensures { self.new ≡ buffer (self.old.items ++ record { what = what; headers = headers.now; body = body } ∷ []) self.old.capacity }
+        ensures { self.new ≡ buffer (self.old.items ++ record { what = what; headers = headers.now; body = body } ∷ [])
+            self.old.capacity }
     {
         self.push_bare(what, body);
         let last = self.count - 1;
@@ -79,7 +80,8 @@ impl KeptList {
     /// Puts one without headers behind the others.
     pub fn push_bare(&mut self, what: What, body: Span)
         requires { length self.old.items < self.old.capacity }
-        ensures { self.new ≡ buffer (self.old.items ++ record { what = what; headers = []; body = body } ∷ []) self.old.capacity }
+        ensures { self.new ≡ buffer (self.old.items ++ record { what = what; headers = []; body = body } ∷ [])
+            self.old.capacity }
     {
         if self.count < self.places.len() {
             become_bare(&mut self.places[self.count], what, body);

@@ -1,6 +1,7 @@
 //! The outputs of a step.
 
-ghost use Rattle.std.specs.Prelude.{◌≡◌, ◌<◌, ◌≤◌, true, false, List, [], ◌∷◌, ◌++◌, map, length, slice_get, is_some, Some, None, IfOk};
+ghost use Rattle.std.specs.Prelude.{◌≡◌, ◌<◌, ◌≤◌, true, false, List, [], ◌∷◌, ◌++◌, map, length, slice_get, is_some};
+ghost use Rattle.std.specs.Prelude.{Some, None, IfOk};
 ghost use Rattle.std.specs.List.{filter_map};
 ghost use Rattle.stack_mean.specs.Acceptance.{largest_weight};
 ghost use Rattle.stack_mean.specs.Plan.{Plan};
@@ -28,8 +29,8 @@ use slot_pool::{Memory, Pool};
 use std::alloc::Global;
 use std::marker::Model;
 
-/// The outputs of a step of a member, in order. All memory is taken at first: for as many outputs as the stack's weight, each with a body of
-/// 8,192 bytes, of which only what is used is ever touched.
+/// The outputs of a step of a member, in order. All memory is taken at first: for as many outputs as the stack's
+/// weight, each with a body of 8,192 bytes, of which only what is used is ever touched.
 #[derive(Drop)]
 pub struct Outputs {
     here: Here,
@@ -97,14 +98,18 @@ impl Outputs {
         requires lies { EventLies pool.now event.now }
         requires brings { is_some event.now.message ≡ carries event.now.kind }
         requires room { length self.old.outputs < self.old.places }
-        ensures { self.new ≡ record self.old { outputs = self.old.outputs ++ (output_of self.old.here (direction, event_seen pool.now event.now), None) ∷ [] } }
+        ensures { self.new ≡ record self.old {
+          outputs = self.old.outputs ++ (output_of self.old.here (direction, event_seen pool.now event.now), None) ∷
+              [];
+        } }
     {
         let body = keep_bytes(body_of(event, pool), &mut self.bytes);
         let what = what_of(&self.here, direction, event);
         keep(&mut self.list, what, event, body);
     }
 
-    /// Puts what an event is that leaves the stack with a message of these headers and a copy of these bytes behind the others.
+    /// Puts what an event is that leaves the stack with a message of these headers and a copy of these bytes behind the
+    /// others.
     pub fn put_content(
         &mut self,
         direction: Dir,
@@ -117,7 +122,8 @@ impl Outputs {
         requires room { length self.old.outputs < self.old.places }
         ensures { self.new ≡ record self.old {
           outputs = self.old.outputs
-              ++ full_output self.old.here (direction, event_in envelope (Some (record { headers = headers.now; body = body.now }))) ∷ [];
+              ++ full_output self.old.here
+              (direction, event_in envelope (Some (record { headers = headers.now; body = body.now }))) ∷ [];
         } }
     {
         let body = keep_bytes(body, &mut self.bytes);
@@ -129,18 +135,20 @@ impl Outputs {
     pub fn put_bare(&mut self, direction: Dir, envelope: Envelope)
         requires carries { carries envelope.kind ≡ false }
         requires room { length self.old.outputs < self.old.places }
-        ensures { self.new ≡ record self.old { outputs = self.old.outputs ++ full_output self.old.here (direction, event_in envelope None) ∷ [] } }
+        ensures { self.new ≡ record self.old
+            { outputs = self.old.outputs ++ full_output self.old.here (direction, event_in envelope None) ∷ [] } }
     {
         let body = keep_bytes(&[], &mut self.bytes);
         let what = what_bare(direction, envelope);
         self.list.push_bare(what, body);
     }
 
-    /// Outputs that are sent in full get their plans, of which there are so many: each packet, and each send that has nowhere to go, takes one
-    /// number, in order, from this one on.
+    /// Outputs that are sent in full get their plans, of which there are so many: each packet, and each send that has
+    /// nowhere to go, takes one number, in order, from this one on.
     pub fn send_short(&mut self, first: u32, count: u32)
         requires { count ≤ plans_limit }
-        ensures { (plans : List Plan) → length plans ≡ count → (outs : List Output) → self.old.outputs ≡ map (λ o. (o, None)) outs →
+        ensures { (plans : List Plan) → length plans ≡ count → (outs : List Output) →
+            self.old.outputs ≡ map (λ o. (o, None)) outs →
             self.new ≡ record self.old { outputs = with_plans plans (Some first) outs } }
     {
         self.list.number(first, count);

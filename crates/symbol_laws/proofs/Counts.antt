@@ -19,7 +19,8 @@ act_outputs (value.output dir kind numbers message) = 1
 act_outputs _ = 0
 
 -- what is so of each operation is so of all
-told_by : (f : Operation → ℕ) (g : Act → ℕ) → ((v : Values) (o : Operation) → f o ≡ sum_by g (act_of v o)) → (os : List Operation) (v : Values) →
+told_by : (f : Operation → ℕ) (g : Act → ℕ) → ((v : Values) (o : Operation) → f o ≡ sum_by g (act_of v o)) →
+    (os : List Operation) (v : Values) →
     sum_by f os ≡ sum_by g (acts_of os v)
 told_by f g one [] v = refl
 told_by f g one (o ∷ os) v = sum_by-cons f o os ∙ (λ z. one v o z + told_by f g one os (known_after v o) z)
@@ -46,7 +47,9 @@ one_output v (take p c e) = refl
 one_output v (output dir kind numbers message) = refl
 
 pub same_writes : (a b : List Operation) → symbolic a ≡ symbolic b → trace_writes a ≡ trace_writes b
-same_writes a b same = told_by a_write act_writes one_write a no_values ∙ ap (sum_by act_writes) same ∙ sym (told_by a_write act_writes one_write b no_values)
+same_writes a b same = told_by a_write act_writes one_write a no_values ∙ ap (sum_by act_writes) same ∙
+    sym (told_by a_write act_writes one_write b no_values)
 
 pub same_outputs : (a b : List Operation) → symbolic a ≡ symbolic b → trace_outputs a ≡ trace_outputs b
-same_outputs a b same = told_by an_output act_outputs one_output a no_values ∙ ap (sum_by act_outputs) same ∙ sym (told_by an_output act_outputs one_output b no_values)
+same_outputs a b same = told_by an_output act_outputs one_output a no_values ∙ ap (sum_by act_outputs) same ∙
+    sym (told_by an_output act_outputs one_output b no_values)

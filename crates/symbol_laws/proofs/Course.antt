@@ -1,6 +1,7 @@
--- What acts do on the states of a member by themselves: values are read from what each cell held behind each write, and from the rows that were
--- taken.
-use Rattle.std.specs.Prelude.{ℕ, suc, ◌+◌, ◌==◌, ◌&&◌, if◌then◌else◌, List, [], ◌∷◌, ◌++◌, map, length, drop, slice_get, slice_index, slice_index_or, Option, Some, None, option_map}
+-- What acts do on the states of a member by themselves: values are read from what each cell held behind each write, and
+-- from the rows that were taken.
+use Rattle.std.specs.Prelude.{ℕ, suc, ◌+◌, ◌==◌, ◌&&◌, if◌then◌else◌, List, [], ◌∷◌, ◌++◌, map, length, drop, slice_get}
+use Rattle.std.specs.Prelude.{slice_index, slice_index_or, Option, Some, None, option_map}
 use Rattle.msg_core.specs.Chain.{Content, plain}
 use Rattle.msg_core.specs.declared.message.Header.{Header}
 use Rattle.msg_core.specs.Parts as parts
@@ -15,7 +16,10 @@ use Rattle.trace_mean.specs.Worth.{Input, state_of}
 use Rattle.trace_mean.specs.Follow.{Answer, reached, stopped}
 use Rattle.guard_mean.specs.Hoist.{is_here}
 use Rattle.guard_laws.proofs.States.{cell_in, celled}
-use Rattle.symbol_mean.specs.Value.{Seen, NumberValue, number, peer, field, me, count, ltime, taken_number, element, square, rows, item, size, binary, apply, pick, MessageValue, body, nothing, taken_message, held, cut, tail, join, LinkValue, ChainedValue, Act, check, set, set_square, push, take, output}
+use Rattle.symbol_mean.specs.Value.{Seen, NumberValue, number, peer, field, me, count, ltime, taken_number, element}
+use Rattle.symbol_mean.specs.Value.{square, rows, item, size, binary, apply, pick, MessageValue, body, nothing}
+use Rattle.symbol_mean.specs.Value.{taken_message, held, cut, tail, join, LinkValue, ChainedValue, Act, check, set}
+use Rattle.symbol_mean.specs.Value.{set_square, push, take, output}
 use Rattle.symbol_mean.specs.Symbolic.{writes_to}
 
 -- what values are read from
@@ -61,7 +65,11 @@ abbrev pub header_of : Input → Past → LinkValue → Header
 header_of i h l = record { layer = l.place; tag = l.tag; fields = map (worth i h) l.fields }
 
 abbrev pub sent_of : Input → Past → ChainedValue → Content
-sent_of i h m = record { headers = map (header_of i h) m.chain ++ (content i h m.message).headers; body = (content i h m.message).body }
+sent_of i h m = record {
+  headers = map (header_of i h) m.chain ++ (content i h m.message).headers;
+  body =
+      (content i h m.message).body;
+}
 
 -- how far acts have come
 pub record Course : Type 0 where
@@ -77,7 +85,10 @@ holding f p c n now x = if (x.writes == n) && is_here x.place x.cell p c then no
 
 abbrev pub writes : Course → ℕ → ℕ → Contents → Course
 writes y p c now = record y {
-  past = record y.past { cells = holding y.past.cells p c (suc (writes_to y.written p c)) (cell_in (celled y.states p c now) p c) };
+  past = record y.past {
+    cells = holding y.past.cells p c (suc (writes_to y.written p c))
+        (cell_in (celled y.states p c now) p c);
+  };
   written = (p, c) ∷ y.written;
   states = celled y.states p c now;
 }
@@ -90,8 +101,10 @@ acts i y (check e) = record y { checks = y.checks + 1 }
 acts i y (set p c e x) = writes y p c (state.written (worth i y.past e) (worth i y.past x) (cell_in y.states p c))
 acts i y (set_square p c r k x) = writes y p c
     (state.written (flat_index i.count (worth i y.past r) (worth i y.past k)) (worth i y.past x) (cell_in y.states p c))
-acts i y (push p c e numbers message) = writes y p c (filled (worth i y.past e) (rows_at (state_of y.states p) c (worth i y.past e)
-    ++ record { numbers = map (worth i y.past) numbers; message = option_map (sent_of i y.past) message } ∷ []) (cell_in y.states p c))
+acts i y (push p c e numbers message) =
+    writes y p c (filled (worth i y.past e) (rows_at (state_of y.states p) c (worth i y.past e)
+    ++ record { numbers = map (worth i y.past) numbers; message = option_map (sent_of i y.past) message } ∷ [])
+    (cell_in y.states p c))
 acts i y (take p c e) = writes (takes y (row_at (state_of y.states p) c (worth i y.past e) 0)) p c
     (filled (worth i y.past e) (drop 1 (rows_at (state_of y.states p) c (worth i y.past e))) (cell_in y.states p c))
 acts i y (output dir kind numbers message) = record y {

@@ -12,15 +12,16 @@ use Rattle.bypass_laws.specs.Stack.{AreOfStack}
 use Rattle.bypass_laws.specs.Making.{made_of, second_of, IsSound, simplest}
 use Rattle.symbol_mean.specs.Symbolic.{symbolic}
 
--- A trace may be run in place of an entry's own: it has the same symbolic list; it names only what it was given, what it has made before and what
--- there is; and it joins no more.
+-- A trace may be run in place of an entry's own: it has the same symbolic list; it names only what it was given, what
+-- it has made before and what there is; and it joins no more.
 pub record Replaces (stack : List LayerTree) (e : Entry) (own trace : List Operation) : Type 0 where
   pub acts : symbolic trace ≡ symbolic own
   pub closed : Closed stack (entry_reach e.fields) trace
   pub there : AreThere stack trace
   pub joins : trace_joins trace ≤ trace_joins own
 
--- What is made of such a trace has its simplest handler. Where nothing is made of the own one, nothing is, for the same reason.
+-- What is made of such a trace has its simplest handler. Where nothing is made of the own one, nothing is, for the same
+-- reason.
 abbrev pub IsReplaced : List LayerTree → Entry → Made → Made → Type 0
 IsReplaced stack e (fused own guarded) (fused trace other) = Replaces stack e own trace × (other ≡ simplest trace)
 IsReplaced stack e (absent reason) (absent other) = other ≡ reason

@@ -10,5 +10,6 @@ use Rattle.symbol_mean.specs.Symbolic.{symbolic}
 
 -- Of traces with one list one is followed safely where the other is.
 abbrev pub SameActsAreSafe : Type 0
-SameActsAreSafe = (stack : List LayerTree) (a b : List Operation) → symbolic a ≡ symbolic b → (i : Input) (states : List State) →
+SameActsAreSafe = (stack : List LayerTree) (a b : List Operation) → symbolic a ≡ symbolic b →
+    (i : Input) (states : List State) →
     SafeTrace stack i a (on (before states)) → SafeTrace stack i b (on (before states))

@@ -10,4 +10,5 @@ use Rattle.symbol_laws.specs.Replaced.{Replaces}
 -- The counter's cast with its binds written out where they can be.
 abbrev pub WrittenOutReplaces : Type 0
 WrittenOutReplaces =
-    (trace_of First (counter ∷ []) cast_entry.known cast_entry.fields ≡ Ok counted) × Replaces (counter ∷ []) cast_entry counted written_out
+    (trace_of First (counter ∷ []) cast_entry.known cast_entry.fields ≡ Ok counted) ×
+    Replaces (counter ∷ []) cast_entry counted written_out

@@ -1,4 +1,5 @@
-//! What the symbolic list of a trace tells, and that traces from outside may be run by it: the contracts of functions that do nothing.
+//! What the symbolic list of a trace tells, and that traces from outside may be run by it: the contracts of functions
+//! that do nothing.
 #![tactic(auto)]
 
 pub mod samples;

@@ -6,7 +6,8 @@ use Rattle.layer_ast.specs.declared.syntax.Operator.TheVariants.{Add, Equal}
 use Rattle.trace_mean.specs.Trace as trace
 use Rattle.trace_mean.specs.Trace.{Atom, bound, noted, TraceNumber, atom, core, Operation, bind, note}
 use Rattle.trace_mean.specs.Samples.{lit, cell, link, with_chain}
-use Rattle.symbol_mean.specs.Value.{NumberValue, number, peer, taken_number, element, binary, body, Act, check, set, set_square, push, take, output}
+use Rattle.symbol_mean.specs.Value.{NumberValue, number, peer, taken_number, element, binary, body, Act, check, set}
+use Rattle.symbol_mean.specs.Value.{set_square, push, take, output}
 use Rattle.symbol_mean.specs.Symbolic.{symbolic}
 
 -- Cell 0 of place 0, behind so many writes.
@@ -19,12 +20,15 @@ next e = trace.binary Add e (lit 1)
 abbrev pub put_out : List Atom → List Atom → Operation
 put_out numbers fields = trace.output Down Cast numbers (with_chain (link 0 1 fields ∷ []) trace.body)
 
--- A number that is read, counted on and sent as it was: as the layer's text has it, and with each bind written out where it can be.
+-- A number that is read, counted on and sent as it was: as the layer's text has it, and with each bind written out
+-- where it can be.
 abbrev pub counted : List Operation
-counted = bind (atom trace.peer) ∷ bind (cell 0 0) ∷ trace.set 0 0 (lit 0) (next (cell 0 0)) ∷ put_out (bound 0 ∷ []) (bound 1 ∷ []) ∷ []
+counted = bind (atom trace.peer) ∷ bind (cell 0 0) ∷ trace.set 0 0 (lit 0) (next (cell 0 0)) ∷
+    put_out (bound 0 ∷ []) (bound 1 ∷ []) ∷ []
 
 abbrev pub written_out : List Operation
-written_out = bind (cell 0 0) ∷ trace.set 0 0 (lit 0) (next (atom (bound 0))) ∷ put_out (trace.peer ∷ []) (bound 0 ∷ []) ∷ []
+written_out = bind (cell 0 0) ∷ trace.set 0 0 (lit 0) (next (atom (bound 0))) ∷
+    put_out (trace.peer ∷ []) (bound 0 ∷ []) ∷ []
 
 abbrev pub counted_acts : List Act
 counted_acts = set 0 0 (number 0) (binary Add (cell_behind 0) (number 1)) ∷ output Down Cast (peer ∷ []) (Some (record {
@@ -61,13 +65,16 @@ ChecksStay = symbolic (is_due ∷ sets ∷ []) ≡ symbolic (sets ∷ is_due ∷
 
 -- Each operation that writes to a cell counts, and no other.
 abbrev pub across : List Operation
-across = bind (cell 0 0) ∷ sets ∷ trace.set_square 0 0 (lit 0) (lit 0) (lit 7) ∷ trace.push 0 0 (lit 0) [] None ∷ trace.take 0 0 (lit 0) ∷
-    trace.set 0 1 (lit 0) (lit 7) ∷ trace.set 1 0 (lit 0) (lit 7) ∷ put_out (bound 0 ∷ []) [] ∷ trace.check (cell 0 0) ∷ []
+across = bind (cell 0 0) ∷ sets ∷ trace.set_square 0 0 (lit 0) (lit 0) (lit 7) ∷ trace.push 0 0 (lit 0) [] None ∷
+    trace.take 0 0 (lit 0) ∷
+    trace.set 0 1 (lit 0) (lit 7) ∷ trace.set 1 0 (lit 0) (lit 7) ∷ put_out (bound 0 ∷ []) [] ∷ trace.check (cell 0 0) ∷
+    []
 
 abbrev pub WritesCount : Type 0
 WritesCount = symbolic across ≡ set 0 0 (number 0) (number 7) ∷ set_square 0 0 (number 0) (number 0) (number 7) ∷
     push 0 0 (number 0) [] None ∷ take 0 0 (number 0) ∷ set 0 1 (number 0) (number 7) ∷ set 1 0 (number 0) (number 7) ∷
-    output Down Cast (cell_behind 0 ∷ []) (Some (record { chain = record { place = 0; tag = 1; fields = [] } ∷ []; message = body })) ∷
+    output Down Cast (cell_behind 0 ∷ [])
+    (Some (record { chain = record { place = 0; tag = 1; fields = [] } ∷ []; message = body })) ∷
     check (cell_behind 4) ∷ []
 
 -- A message that is noted once, or once more where it is pushed.
@@ -78,7 +85,8 @@ abbrev pub pushes : ℕ → Operation
 pushes n = trace.push 0 0 (lit 0) [] (with_chain [] (noted n))
 
 abbrev pub NotesAreValues : Type 0
-NotesAreValues = symbolic (first_bytes ∷ pushes 0 ∷ pushes 0 ∷ []) ≡ symbolic (first_bytes ∷ pushes 0 ∷ first_bytes ∷ pushes 1 ∷ [])
+NotesAreValues = symbolic (first_bytes ∷ pushes 0 ∷ pushes 0 ∷ []) ≡
+    symbolic (first_bytes ∷ pushes 0 ∷ first_bytes ∷ pushes 1 ∷ [])
 
 -- A row is one that was taken before.
 abbrev pub TakenBefore : Type 0

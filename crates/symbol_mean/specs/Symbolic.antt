@@ -1,13 +1,18 @@
--- The symbolic list of a trace: what it does, each expression as its value where it stands. Traces that bind and note otherwise, but do the
--- same with the same values in the same order, have one list.
-use Rattle.std.specs.Prelude.{ℕ, suc, ◌+◌, nat_lt, if◌then◌else◌, List, [], ◌∷◌, ◌++◌, map, slice_index_or, Option, Some, None, option_map}
+-- The symbolic list of a trace: what it does, each expression as its value where it stands. Traces that bind and note
+-- otherwise, but do the same with the same values in the same order, have one list.
+use Rattle.std.specs.Prelude.{ℕ, suc, ◌+◌, nat_lt, if◌then◌else◌, List, [], ◌∷◌, ◌++◌, map, slice_index_or, Option}
+use Rattle.std.specs.Prelude.{Some, None, option_map}
 use Rattle.trace_mean.specs.Trace as trace
-use Rattle.trace_mean.specs.Trace.{Atom, bound, Core, noted, TraceNumber, atom, TraceMessage, core, Link, Chained, Operation, bind, note}
+use Rattle.trace_mean.specs.Trace.{Atom, bound, Core, noted, TraceNumber, atom, TraceMessage, core, Link, Chained}
+use Rattle.trace_mean.specs.Trace.{Operation, bind, note}
 use Rattle.guard_mean.specs.Hoist.{is_here}
-use Rattle.symbol_mean.specs.Value.{Seen, NumberValue, number, peer, field, me, count, ltime, taken_number, element, square, rows, item, size, binary, apply, pick, MessageValue, body, nothing, taken_message, held, cut, tail, join, LinkValue, ChainedValue, Act, check, set, set_square, push, take, output}
+use Rattle.symbol_mean.specs.Value.{Seen, NumberValue, number, peer, field, me, count, ltime, taken_number, element}
+use Rattle.symbol_mean.specs.Value.{square, rows, item, size, binary, apply, pick, MessageValue, body, nothing}
+use Rattle.symbol_mean.specs.Value.{taken_message, held, cut, tail, join, LinkValue, ChainedValue, Act, check, set}
+use Rattle.symbol_mean.specs.Value.{set_square, push, take, output}
 
--- What is known after some operations: the values of what was bound and noted, how many rows were taken, and the cells that were written,
--- each by its place and its number there, the last one first.
+-- What is known after some operations: the values of what was bound and noted, how many rows were taken, and the cells
+-- that were written, each by its place and its number there, the last one first.
 pub record Values : Type 0 where
   pub numbers : List NumberValue
   pub messages : List MessageValue
@@ -107,7 +112,8 @@ act_of v (trace.set_square p c r k x) = set_square p c (number_value v r) (numbe
 act_of v (trace.push p c e numbers message) =
     push p c (number_value v e) (map (number_value v) numbers) (option_map (chained_value v) message) ∷ []
 act_of v (trace.take p c e) = take p c (number_value v e) ∷ []
-act_of v (trace.output dir kind numbers message) = output dir kind (map (atom_value v) numbers) (option_map (chained_value v) message) ∷ []
+act_of v (trace.output dir kind numbers message) =
+    output dir kind (map (atom_value v) numbers) (option_map (chained_value v) message) ∷ []
 
 -- Those of operations where so much is known, and those of a trace.
 abbrev pub acts_of : List Operation → Values → List Act

@@ -1,5 +1,5 @@
--- The values of a trace's expressions. A bound number and a noted message stand in them as their own values; a cell stands in them as it
--- was after so many writes; a taken row is told by its number.
+-- The values of a trace's expressions. A bound number and a noted message stand in them as their own values; a cell
+-- stands in them as it was after so many writes; a taken row is told by its number.
 use Rattle.std.specs.Prelude.{ℕ, List, Option}
 use Rattle.layer_ast.specs.declared.tokens.Dir.{Dir}
 use Rattle.layer_ast.specs.declared.tokens.Kind.{Kind}
@@ -14,8 +14,8 @@ pub record Seen : Type 0 where
   pub writes : ℕ
 
 mutual
-  -- A number: a literal, what the input and the view say, a number of a taken row, none where it wasn't taken yet, or what is read of a cell or made
-  -- of other values.
+  -- A number: a literal, what the input and the view say, a number of a taken row, none where it wasn't taken yet, or
+  -- what is read of a cell or made of other values.
   pub data NumberValue : Type 0 where
     number : ℕ → NumberValue
     peer : NumberValue

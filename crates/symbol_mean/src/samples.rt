@@ -1,7 +1,8 @@
 //! Symbolic lists of small traces, by evaluation: the functions here are empty.
 #![tactic(auto)]
 
-ghost use Rattle.symbol_mean.specs.Samples.{BindsWriteOut, ChecksStay, LateDiffers, NotesAreValues, NumbersDiffer, TakenBefore, WritesCount};
+ghost use Rattle.symbol_mean.specs.Samples.{BindsWriteOut, ChecksStay, LateDiffers, NotesAreValues, NumbersDiffer};
+ghost use Rattle.symbol_mean.specs.Samples.{TakenBefore, WritesCount};
 
 /// A bind that is written out in its place makes no difference.
 pub fn binds_write_out()

@@ -61,16 +61,19 @@ parts_below n nodes.Count b = tt
 parts_below n nodes.Ltime b = tt
 
 -- What some numbers stand for, one by one.
-first_part : (ms : List Meant) (vs : List ℕ) (t : Meant) (rest : List Meant) → AllZip (Stands ms) vs (t ∷ rest) → Stands ms (slice_index vs 0) t
+first_part : (ms : List Meant) (vs : List ℕ) (t : Meant) (rest : List Meant) → AllZip (Stands ms) vs (t ∷ rest) →
+    Stands ms (slice_index vs 0) t
 first_part ms [] t rest h = absurd h
 first_part ms (k ∷ vs) t rest h = h.0
 
-second_part : (ms : List Meant) (vs : List ℕ) (s t : Meant) (rest : List Meant) → AllZip (Stands ms) vs (s ∷ t ∷ rest) → Stands ms (slice_index vs 1) t
+second_part : (ms : List Meant) (vs : List ℕ) (s t : Meant) (rest : List Meant) → AllZip (Stands ms) vs (s ∷ t ∷ rest) →
+    Stands ms (slice_index vs 1) t
 second_part ms [] s t rest h = absurd h
 second_part ms (k ∷ []) s t rest h = absurd h.1
 second_part ms (k ∷ j ∷ vs) s t rest h = h.1.0
 
-third_part : (ms : List Meant) (vs : List ℕ) (r s t : Meant) (rest : List Meant) → AllZip (Stands ms) vs (r ∷ s ∷ t ∷ rest) → Stands ms (slice_index vs 2) t
+third_part : (ms : List Meant) (vs : List ℕ) (r s t : Meant) (rest : List Meant) →
+    AllZip (Stands ms) vs (r ∷ s ∷ t ∷ rest) → Stands ms (slice_index vs 2) t
 third_part ms [] r s t rest h = absurd h
 third_part ms (k ∷ []) r s t rest h = absurd h.1
 third_part ms (k ∷ j ∷ []) r s t rest h = absurd h.1.1
@@ -95,10 +98,12 @@ module _ (ts : List Term) (ms : List Meant) (v : Values) where
     pub is : message_in ms k ≡ message_value v (term.message_in ts i)
 
   number_part : (i k : ℕ) → arena.IsNumber ts i → Stands ms k (meant i) → NumberPart i k
-  number_part i k b s = let n = subst (λ x. Stands ms k x) (number_meant_is i b) s in record { there = number_there n; is = number_is n }
+  number_part i k b s = let n = subst (λ x. Stands ms k x) (number_meant_is i b) s in
+      record { there = number_there n; is = number_is n }
 
   message_part : (i k : ℕ) → arena.IsMessage ts i → Stands ms k (meant i) → MessagePart i k
-  message_part i k b s = let n = subst (λ x. Stands ms k x) (message_meant_is i b) s in record { there = message_there n; is = message_is n }
+  message_part i k b s = let n = subst (λ x. Stands ms k x) (message_meant_is i b) s in
+      record { there = message_there n; is = message_is n }
 
   abbrev Parts : List ℕ → List ℕ → Type 0
   Parts ks vs = AllZip (Stands ms) vs (map meant ks)
@@ -110,8 +115,10 @@ module _ (ts : List Term) (ms : List Meant) (v : Values) where
   n2 : (j i : ℕ) (rest vs : List ℕ) → arena.IsNumber ts i → Parts (j ∷ i ∷ rest) vs → NumberPart i (slice_index vs 1)
   n2 j i rest vs b h = number_part i (slice_index vs 1) b (second_part ms vs (meant j) (meant i) (map meant rest) h)
 
-  n3 : (k j i : ℕ) (rest vs : List ℕ) → arena.IsNumber ts i → Parts (k ∷ j ∷ i ∷ rest) vs → NumberPart i (slice_index vs 2)
-  n3 k j i rest vs b h = number_part i (slice_index vs 2) b (third_part ms vs (meant k) (meant j) (meant i) (map meant rest) h)
+  n3 : (k j i : ℕ) (rest vs : List ℕ) → arena.IsNumber ts i → Parts (k ∷ j ∷ i ∷ rest) vs →
+      NumberPart i (slice_index vs 2)
+  n3 k j i rest vs b h =
+      number_part i (slice_index vs 2) b (third_part ms vs (meant k) (meant j) (meant i) (map meant rest) h)
 
   m1 : (i : ℕ) (rest vs : List ℕ) → arena.IsMessage ts i → Parts (i ∷ rest) vs → MessagePart i (slice_index vs 0)
   m1 i rest vs b h = message_part i (slice_index vs 0) b (first_part ms vs (meant i) (map meant rest) h)
@@ -125,7 +132,8 @@ module _ (ts : List Term) (ms : List Meant) (v : Values) where
       pub well : IsWell ms f
       pub is : meant_of ms f ≡ meant_by v (term_of ts x)
 
-    pub form_is : (x : Node) (vs : List ℕ) → sorts.Parts ≡ sort_of x → arena.IsWell ts x → Parts (parts_of x) vs → FormIs x (form_of sees x vs)
+    pub form_is : (x : Node) (vs : List ℕ) → sorts.Parts ≡ sort_of x → arena.IsWell ts x → Parts (parts_of x) vs →
+        FormIs x (form_of sees x vs)
     form_is (nodes.Atom a) vs e b h = absurd (cc e)
     form_is (nodes.Core c) vs e b h = absurd (cc e)
     form_is nodes.Me vs e b h = record { well = tt; is = refl }
@@ -149,7 +157,11 @@ module _ (ts : List Term) (ms : List Meant) (v : Values) where
         let x = n1 i (j ∷ k ∷ []) vs b.0 h in let y = n2 i j (k ∷ []) vs b.1 h in let z = n3 i j k [] vs b.2 h in
         record { well = (x.there, y.there, z.there); is = λ t. a_number (value.pick (x.is t) (y.is t) (z.is t)) }
     form_is (nodes.Held p c i j load) vs e b h = let x = n1 i (j ∷ []) vs b.0 h in let y = n2 i j [] vs b.1 h in
-        record { well = (x.there, y.there); is = λ t. a_message (value.held (same p c t) (x.is t) (y.is t) (load_tree load)) }
+        record {
+          well = (x.there, y.there);
+          is = λ t.
+              a_message (value.held (same p c t) (x.is t) (y.is t) (load_tree load));
+        }
     form_is (nodes.Cut m i j) vs e b h =
         let x = m1 m (i ∷ j ∷ []) vs b.0 h in let y = n2 m i (j ∷ []) vs b.1 h in let z = n3 m i j [] vs b.2 h in
         record { well = (x.there, y.there, z.there); is = λ t. a_message (value.cut (x.is t) (y.is t) (z.is t)) }

@@ -27,7 +27,8 @@ read_here true n m o f e = let k = f refl in let one : n ≡ suc m = omega (arit
 read_here false n m o f e = refl
 
 pub counted : (old new : Counts) (place cell m n : ℕ) → m ≡ count_in old place cell → n ≡ m + 1 →
-    ((q : ℕ × ℕ) → hash.get same_cell new.counts q ≡ (if same_cell (place, cell) q then Some n else hash.get same_cell old.counts q)) →
+    ((q : ℕ × ℕ) → hash.get same_cell new.counts q ≡
+    (if same_cell (place, cell) q then Some n else hash.get same_cell old.counts q)) →
     Counted old new place cell
 counted old new place cell m n em en h = record {
   counts = λ p c.

@@ -1,5 +1,6 @@
 -- What a form of a list stands for, once others are behind it.
-use Rattle.std.proofs.Common.{◌≡◌, ℕ, zero, suc, ◌+◌, ◌<◌, List, [], ◌∷◌, ◌++◌, length, Option, Some, refl, sym, ap, subst, ◌∙◌, arith}
+use Rattle.std.proofs.Common.{◌≡◌, ℕ, zero, suc, ◌+◌, ◌<◌, List, [], ◌∷◌, ◌++◌, length, Option, Some, refl, sym, ap}
+use Rattle.std.proofs.Common.{subst, ◌∙◌, arith}
 use Rattle.std.specs.List.{fold, slice_get}
 use Rattle.std.proofs.lemmas.List.Sums.{fold-append}
 use Rattle.std.proofs.lemmas.Option.{slice_get_within}
@@ -16,10 +17,13 @@ use Rattle.symbol_table.specs.declared.form.SentForm as sent_form
 use Rattle.symbol_table.specs.declared.form.SentForm.TheVariants as sent
 use Rattle.symbol_table.specs.declared.form.Form.{Form}
 use Rattle.symbol_table.specs.declared.form.Form.TheVariants as forms
-use Rattle.symbol_table.specs.Meant.{Meant, a_number, a_message, a_row, a_chain, a_sending, number_of, message_of, row_of, chain_of, seen_tree, number_meant, message_meant, sent_meant, meant_of, with_next, meanings}
+use Rattle.symbol_table.specs.Meant.{Meant, a_number, a_message, a_row, a_chain, a_sending, number_of, message_of}
+use Rattle.symbol_table.specs.Meant.{row_of, chain_of, seen_tree, number_meant, message_meant, sent_meant, meant_of}
+use Rattle.symbol_table.specs.Meant.{with_next, meanings}
 use Rattle.symbol_table.specs.Table.{Stands, IsWellNumber, IsWellMessage, IsWellSent, IsWell, AreWell}
 
-pub meanings_more : (old : List Form) (x : Form) → meanings (old ++ x ∷ []) ≡ meanings old ++ meant_of (meanings old) x ∷ []
+pub meanings_more : (old : List Form) (x : Form) → meanings (old ++ x ∷ []) ≡ meanings old ++
+    meant_of (meanings old) x ∷ []
 unfolding meanings
 meanings_more old x = fold-append with_next [] old (x ∷ [])
 
@@ -31,13 +35,16 @@ pub meanings_long : (fs : List Form) → length (meanings fs) ≡ length fs
 unfolding meanings
 meanings_long fs = let none : 0 + length fs ≡ length fs = omega arith in fold_long [] fs ∙ none
 
-fold_keeps : (ms : List Meant) (fs : List Form) (k : ℕ) (x : Meant) → slice_get ms k ≡ Some x → slice_get (fold with_next ms fs) k ≡ Some x
+fold_keeps : (ms : List Meant) (fs : List Form) (k : ℕ) (x : Meant) → slice_get ms k ≡ Some x →
+    slice_get (fold with_next ms fs) k ≡ Some x
 fold_keeps ms [] k x e = e
 fold_keeps ms (f ∷ fs) k x e = fold_keeps (with_next ms f) fs k x (get_more ms (meant_of ms f) k x e)
 
-pub meanings_keep : (fs more : List Form) (k : ℕ) (x : Meant) → slice_get (meanings fs) k ≡ Some x → slice_get (meanings (fs ++ more)) k ≡ Some x
+pub meanings_keep : (fs more : List Form) (k : ℕ) (x : Meant) → slice_get (meanings fs) k ≡ Some x →
+    slice_get (meanings (fs ++ more)) k ≡ Some x
 unfolding meanings
-meanings_keep fs more k x e = ap (λ ms. slice_get ms k) (fold-append with_next [] fs more) ∙ fold_keeps (meanings fs) more k x e
+meanings_keep fs more k x e = ap (λ ms. slice_get ms k) (fold-append with_next [] fs more) ∙
+    fold_keeps (meanings fs) more k x e
 
 -- Lists that agree below a number.
 abbrev pub Agree : List Meant → List Meant → Type 0
@@ -67,15 +74,18 @@ module _ (ms us : List Meant) (h : Agree ms us) where
   number_stays (numbers.Size m) b = λ t. value.size (message_of (at b t))
   number_stays (numbers.Binary o i j) b = λ t. value.binary o (number_of (at b.0 t)) (number_of (at b.1 t))
   number_stays (numbers.Apply f i) b = λ t. value.apply f (number_of (at b t))
-  number_stays (numbers.Pick i j k) b = λ t. value.pick (number_of (at b.0 t)) (number_of (at b.1 t)) (number_of (at b.2 t))
+  number_stays (numbers.Pick i j k) b = λ t. value.pick (number_of (at b.0 t)) (number_of (at b.1 t))
+      (number_of (at b.2 t))
 
   message_stays : (x : message_form.MessageForm) → IsWellMessage ms x → message_meant us x ≡ message_meant ms x
   message_stays messages.Body b = refl
   message_stays messages.Nothing b = refl
   message_stays (messages.Taken row r) b = refl
   message_stays (messages.Untaken r) b = refl
-  message_stays (messages.Held s i j r) b = λ t. value.held (seen_tree s) (number_of (at b.0 t)) (number_of (at b.1 t)) (load_tree r)
-  message_stays (messages.Cut m i j) b = λ t. value.cut (message_of (at b.0 t)) (number_of (at b.1 t)) (number_of (at b.2 t))
+  message_stays (messages.Held s i j r) b = λ t. value.held (seen_tree s) (number_of (at b.0 t)) (number_of (at b.1 t))
+      (load_tree r)
+  message_stays (messages.Cut m i j) b = λ t. value.cut (message_of (at b.0 t)) (number_of (at b.1 t))
+      (number_of (at b.2 t))
   message_stays (messages.Tail m i) b = λ t. value.tail (message_of (at b.0 t)) (number_of (at b.1 t))
   message_stays (messages.Join m w) b = λ t. value.join (message_of (at b.0 t)) (message_of (at b.1 t))
 
@@ -83,9 +93,11 @@ module _ (ms us : List Meant) (h : Agree ms us) where
   sent_stays sent.NoNumbers b = refl
   sent_stays (sent.Numbers i j) b = λ t. a_row (number_of (at b.0 t) ∷ row_of (at b.1 t))
   sent_stays sent.NoLinks b = refl
-  sent_stays (sent.Link p q i j) b = λ t. a_chain (record { place = p; tag = q; fields = row_of (at b.0 t) } ∷ chain_of (at b.1 t))
+  sent_stays (sent.Link p q i j) b = λ t. a_chain
+      (record { place = p; tag = q; fields = row_of (at b.0 t) } ∷ chain_of (at b.1 t))
   sent_stays sent.Nothing b = refl
-  sent_stays (sent.Message i j) b = λ t. a_sending (Some (record { chain = chain_of (at b.0 t); message = message_of (at b.1 t) }))
+  sent_stays (sent.Message i j) b = λ t.
+      a_sending (Some (record { chain = chain_of (at b.0 t); message = message_of (at b.1 t) }))
 
   pub meant_stays : (x : Form) → IsWell ms x → meant_of us x ≡ meant_of ms x
   meant_stays (forms.Number x) b = λ t. a_number (number_stays x b t)
@@ -93,20 +105,24 @@ module _ (ms us : List Meant) (h : Agree ms us) where
   meant_stays (forms.Sent x) b = sent_stays x b
 
   -- A number of a kind is one of that kind still.
-  kind_stays : {X : Type 0} (make : X → Meant) (read : Option Meant → X) (k : ℕ) → Stands ms k (make (read (slice_get ms k))) →
+  kind_stays : {X : Type 0} (make : X → Meant) (read : Option Meant → X) (k : ℕ) →
+      Stands ms k (make (read (slice_get ms k))) →
       Stands us k (make (read (slice_get us k)))
   kind_stays make read k b = record { stands = at b ∙ b.stands ∙ ap (λ o. Some (make (read o))) (sym (at b)) }
 
-  number_kind : (k : ℕ) → Stands ms k (a_number (number_of (slice_get ms k))) → Stands us k (a_number (number_of (slice_get us k)))
+  number_kind : (k : ℕ) → Stands ms k (a_number (number_of (slice_get ms k))) →
+      Stands us k (a_number (number_of (slice_get us k)))
   number_kind k = kind_stays a_number number_of k
 
-  message_kind : (k : ℕ) → Stands ms k (a_message (message_of (slice_get ms k))) → Stands us k (a_message (message_of (slice_get us k)))
+  message_kind : (k : ℕ) → Stands ms k (a_message (message_of (slice_get ms k))) →
+      Stands us k (a_message (message_of (slice_get us k)))
   message_kind k = kind_stays a_message message_of k
 
   row_kind : (k : ℕ) → Stands ms k (a_row (row_of (slice_get ms k))) → Stands us k (a_row (row_of (slice_get us k)))
   row_kind k = kind_stays a_row row_of k
 
-  chain_kind : (k : ℕ) → Stands ms k (a_chain (chain_of (slice_get ms k))) → Stands us k (a_chain (chain_of (slice_get us k)))
+  chain_kind : (k : ℕ) → Stands ms k (a_chain (chain_of (slice_get ms k))) →
+      Stands us k (a_chain (chain_of (slice_get us k)))
   chain_kind k = kind_stays a_chain chain_of k
 
   number_well : (x : number_form.NumberForm) → IsWellNumber ms x → IsWellNumber us x
@@ -164,7 +180,8 @@ pub record FormIn (us : List Meant) (n : ℕ) (x : Form) : Type 0 where
   pub stands : slice_get us n ≡ Some (meant_of us x)
   pub well : IsWell us x
 
-form_in : (ms : List Meant) (fs : List Form) (j n : ℕ) (x : Form) → n ≡ length ms + j → AreWell ms fs → slice_get fs j ≡ Some x →
+form_in : (ms : List Meant) (fs : List Form) (j n : ℕ) (x : Form) → n ≡ length ms + j → AreWell ms fs →
+    slice_get fs j ≡ Some x →
     FormIn (fold with_next ms fs) n x
 form_in ms [] j n x e h is = absurd (omega (arith, slice_get_within [] j x is))
 form_in ms (y ∷ fs) zero n x e h is =
@@ -181,18 +198,22 @@ form_in ms (y ∷ fs) (suc j) n x e h is =
     let longer : length (with_next ms y) ≡ suc (length ms) = length_one ms (meant_of ms y) in
     form_in (with_next ms y) fs j n x (omega (arith, e, longer)) h.1 is
 
-pub form_found : (fs : List Form) (k : ℕ) (x : Form) → AreWell [] fs → slice_get fs k ≡ Some x → FormIn (meanings fs) k x
+pub form_found : (fs : List Form) (k : ℕ) (x : Form) → AreWell [] fs → slice_get fs k ≡ Some x →
+    FormIn (meanings fs) k x
 unfolding meanings
 form_found fs k x h e = let same : k ≡ 0 + k = omega arith in form_in [] fs k k x same h e
 
 -- what a form stands for stays where it is put behind its parts
-pub last_stays : (old : List Form) (x : Form) → IsWell (meanings old) x → meant_of (meanings (old ++ x ∷ [])) x ≡ meant_of (meanings old) x
+pub last_stays : (old : List Form) (x : Form) → IsWell (meanings old) x → meant_of (meanings (old ++ x ∷ [])) x ≡
+    meant_of (meanings old) x
 last_stays old x b = meant_stays (meanings old) (meanings (old ++ x ∷ [])) (meanings_agree old (x ∷ [])) x b
 
-well_one : (ms : List Meant) (old : List Form) (x : Form) → AreWell ms old → IsWell (fold with_next ms old) x → AreWell ms (old ++ x ∷ [])
+well_one : (ms : List Meant) (old : List Form) (x : Form) → AreWell ms old → IsWell (fold with_next ms old) x →
+    AreWell ms (old ++ x ∷ [])
 well_one ms [] x h b = (b, tt)
 well_one ms (y ∷ old) x h b = (h.0, well_one (with_next ms y) old x h.1 b)
 
-pub one_behind : (old new : List Form) (x : Form) → new ≡ old ++ x ∷ [] → AreWell [] old → IsWell (meanings old) x → AreWell [] new
+pub one_behind : (old new : List Form) (x : Form) → new ≡ old ++ x ∷ [] → AreWell [] old → IsWell (meanings old) x →
+    AreWell [] new
 unfolding meanings
 one_behind old new x e h b = subst (λ l. AreWell [] l) (sym e) (well_one [] old x h b)

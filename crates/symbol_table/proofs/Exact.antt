@@ -28,7 +28,12 @@ use Rattle.symbol_table.specs.contracts.form.ActFormPartialEq.TheImpl as act_eq
 seen_exact : (a b : Seen) → seen_eq.eq-value.it a b ≡ true → a ≡ b
 seen_exact a b is =
     let x = and_parts (a.place == b.place) _ is in let y = and_parts (a.cell == b.cell) _ x.1 in
-    λ t. record { place = eqb-true a.place b.place x.0 t; cell = eqb-true a.cell b.cell y.0 t; writes = eqb-true a.writes b.writes y.1 t }
+    λ t. record {
+      place = eqb-true a.place b.place x.0 t;
+      cell = eqb-true a.cell b.cell y.0 t;
+      writes =
+          eqb-true a.writes b.writes y.1 t;
+    }
 
 number_exact : (a b : number_form.NumberForm) → number_eq.eq-value.it a b ≡ true → a ≡ b
 number_exact (numbers.Number n) (numbers.Number m) is = ap numbers.Number (eqb-true n m is)
@@ -48,7 +53,8 @@ number_exact (numbers.Square s a b) (numbers.Square r c d) is =
 number_exact (numbers.Rows s i) (numbers.Rows r j) is = let x = and_parts (seen_eq.eq-value.it s r) _ is in
     ap₂ numbers.Rows (seen_exact s r x.0) (eqb-true i j x.1)
 number_exact (numbers.Item s a b m) (numbers.Item r c d n) is =
-    let x = and_parts (seen_eq.eq-value.it s r) _ is in let y = and_parts (a == c) _ x.1 in let z = and_parts (b == d) _ y.1 in
+    let x = and_parts (seen_eq.eq-value.it s r) _ is in let y = and_parts (a == c) _ x.1 in let z =
+    and_parts (b == d) _ y.1 in
     λ t. numbers.Item (seen_exact s r x.0 t) (eqb-true a c y.0 t) (eqb-true b d z.0 t) (eqb-true m n z.1 t)
 number_exact (numbers.Size n) (numbers.Size m) is = ap numbers.Size (eqb-true n m is)
 number_exact (numbers.Binary o a b) (numbers.Binary r c d) is =
@@ -69,7 +75,8 @@ message_exact (messages.Taken n x) (messages.Taken m y) is = let p = and_parts (
     ap₂ messages.Taken (eqb-true n m p.0) (load_exact x y p.1)
 message_exact (messages.Untaken x) (messages.Untaken y) is = ap messages.Untaken (load_exact x y is)
 message_exact (messages.Held s a b m) (messages.Held r c d n) is =
-    let x = and_parts (seen_eq.eq-value.it s r) _ is in let y = and_parts (a == c) _ x.1 in let z = and_parts (b == d) _ y.1 in
+    let x = and_parts (seen_eq.eq-value.it s r) _ is in let y = and_parts (a == c) _ x.1 in let z =
+    and_parts (b == d) _ y.1 in
     λ t. messages.Held (seen_exact s r x.0 t) (eqb-true a c y.0 t) (eqb-true b d z.0 t) (load_exact m n z.1 t)
 message_exact (messages.Cut a b c) (messages.Cut d e f) is =
     let x = and_parts (a == d) _ is in let y = and_parts (b == e) _ x.1 in
@@ -105,15 +112,21 @@ act_exact (acts.Set p q a b) (acts.Set r s d e) is =
     let x = and_parts (p == r) _ is in let y = and_parts (q == s) _ x.1 in let z = and_parts (a == d) _ y.1 in
     λ t. acts.Set (eqb-true p r x.0 t) (eqb-true q s y.0 t) (eqb-true a d z.0 t) (eqb-true b e z.1 t)
 act_exact (acts.SetSquare p q a b c) (acts.SetSquare r s d e f) is =
-    let x = and_parts (p == r) _ is in let y = and_parts (q == s) _ x.1 in let z = and_parts (a == d) _ y.1 in let w = and_parts (b == e) _ z.1 in
-    λ t. acts.SetSquare (eqb-true p r x.0 t) (eqb-true q s y.0 t) (eqb-true a d z.0 t) (eqb-true b e w.0 t) (eqb-true c f w.1 t)
+    let x = and_parts (p == r) _ is in let y = and_parts (q == s) _ x.1 in let z = and_parts (a == d) _ y.1 in let w =
+    and_parts (b == e) _ z.1 in
+    λ t. acts.SetSquare (eqb-true p r x.0 t) (eqb-true q s y.0 t) (eqb-true a d z.0 t) (eqb-true b e w.0 t)
+    (eqb-true c f w.1 t)
 act_exact (acts.Push p q a b c) (acts.Push r s d e f) is =
-    let x = and_parts (p == r) _ is in let y = and_parts (q == s) _ x.1 in let z = and_parts (a == d) _ y.1 in let w = and_parts (b == e) _ z.1 in
-    λ t. acts.Push (eqb-true p r x.0 t) (eqb-true q s y.0 t) (eqb-true a d z.0 t) (eqb-true b e w.0 t) (eqb-true c f w.1 t)
+    let x = and_parts (p == r) _ is in let y = and_parts (q == s) _ x.1 in let z = and_parts (a == d) _ y.1 in let w =
+    and_parts (b == e) _ z.1 in
+    λ t. acts.Push (eqb-true p r x.0 t) (eqb-true q s y.0 t) (eqb-true a d z.0 t) (eqb-true b e w.0 t)
+    (eqb-true c f w.1 t)
 act_exact (acts.Take p q a) (acts.Take r s d) is =
     let x = and_parts (p == r) _ is in let y = and_parts (q == s) _ x.1 in
     λ t. acts.Take (eqb-true p r x.0 t) (eqb-true q s y.0 t) (eqb-true a d y.1 t)
 act_exact (acts.Output p q a b) (acts.Output r s d e) is =
-    let x = and_parts (sameb dir_row.the_type p r) _ is in let y = and_parts (sameb kind_row.the_type q s) _ x.1 in let z = and_parts (a == d) _ y.1 in
-    λ t. acts.Output (same_true dir_row.the_type tt p r x.0 t) (same_true kind_row.the_type tt q s y.0 t) (eqb-true a d z.0 t) (eqb-true b e z.1 t)
+    let x = and_parts (sameb dir_row.the_type p r) _ is in let y = and_parts (sameb kind_row.the_type q s) _ x.1 in
+    let z = and_parts (a == d) _ y.1 in
+    λ t. acts.Output (same_true dir_row.the_type tt p r x.0 t) (same_true kind_row.the_type tt q s y.0 t)
+    (eqb-true a d z.0 t) (eqb-true b e z.1 t)
 act_exact _ _ is = absurd (false≢true is)

@@ -52,25 +52,32 @@ message_is s = ap message_of s.stands
 pub message_there : {ms : List Meant} {k : ℕ} {x : MessageValue} → Stands ms k (a_message x) → IsMessage ms k
 message_there {ms} {k} {x} s = subst (λ v. Stands ms k (a_message v)) (sym (message_is s)) s
 
-pub zip_map : {A B : Type 0} (R Q : A → B → Type 0) (xs : List A) (ys : List B) → ((x : A) (y : B) → R x y → Q x y) → AllZip R xs ys → AllZip Q xs ys
+pub zip_map : {A B : Type 0} (R Q : A → B → Type 0) (xs : List A) (ys : List B) → ((x : A) (y : B) → R x y → Q x y) →
+    AllZip R xs ys → AllZip Q xs ys
 zip_map R Q [] [] f h = h
 zip_map R Q [] (y ∷ ys) f h = h
 zip_map R Q (x ∷ xs) [] f h = h
 zip_map R Q (x ∷ xs) (y ∷ ys) f h = (f x y h.0, zip_map R Q xs ys f h.1)
 
-pub zip_last : {A B : Type 0} (R : A → B → Type 0) (xs : List A) (ys : List B) (x : A) (y : B) → AllZip R xs ys → R x y → AllZip R (xs ++ x ∷ []) (ys ++ y ∷ [])
+pub zip_last : {A B : Type 0} (R : A → B → Type 0) (xs : List A) (ys : List B) (x : A) (y : B) → AllZip R xs ys →
+    R x y → AllZip R (xs ++ x ∷ []) (ys ++ y ∷ [])
 zip_last R [] [] x y h r = (r, h)
 zip_last R [] (z ∷ ys) x y h r = absurd h
 zip_last R (z ∷ xs) [] x y h r = absurd h
 zip_last R (z ∷ xs) (w ∷ ys) x y h r = (h.0, zip_last R xs ys x y h.1 r)
 
-pub numbers_grown : {a b : List Form} → Grown a b → (ks : List ℕ) (xs : List NumberValue) → AreNumbers (meanings a) ks xs → AreNumbers (meanings b) ks xs
-numbers_grown {a} {b} g ks xs h = zip_map (λ k x. Stands (meanings a) k (a_number x)) (λ k x. Stands (meanings b) k (a_number x)) ks xs (λ k x s. stands_grown g s) h
+pub numbers_grown : {a b : List Form} → Grown a b → (ks : List ℕ) (xs : List NumberValue) →
+    AreNumbers (meanings a) ks xs → AreNumbers (meanings b) ks xs
+numbers_grown {a} {b} g ks xs h = zip_map (λ k x. Stands (meanings a) k (a_number x))
+    (λ k x. Stands (meanings b) k (a_number x)) ks xs (λ k x s. stands_grown g s) h
 
-pub messages_grown : {a b : List Form} → Grown a b → (ks : List ℕ) (xs : List MessageValue) → AreMessages (meanings a) ks xs → AreMessages (meanings b) ks xs
-messages_grown {a} {b} g ks xs h = zip_map (λ k x. Stands (meanings a) k (a_message x)) (λ k x. Stands (meanings b) k (a_message x)) ks xs (λ k x s. stands_grown g s) h
+pub messages_grown : {a b : List Form} → Grown a b → (ks : List ℕ) (xs : List MessageValue) →
+    AreMessages (meanings a) ks xs → AreMessages (meanings b) ks xs
+messages_grown {a} {b} g ks xs h = zip_map (λ k x. Stands (meanings a) k (a_message x))
+    (λ k x. Stands (meanings b) k (a_message x)) ks xs (λ k x s. stands_grown g s) h
 
-pub all_grown : {a b : List Form} → Grown a b → (ks : List ℕ) (xs : List Meant) → AllZip (Stands (meanings a)) ks xs → AllZip (Stands (meanings b)) ks xs
+pub all_grown : {a b : List Form} → Grown a b → (ks : List ℕ) (xs : List Meant) → AllZip (Stands (meanings a)) ks xs →
+    AllZip (Stands (meanings b)) ks xs
 all_grown {a} {b} g ks xs h = zip_map (Stands (meanings a)) (Stands (meanings b)) ks xs (λ k x s. stands_grown g s) h
 
 pub knows_grown : {a b : List Form} {w : Walk} {v : Values} → Grown a b → KnowsAs a w v → KnowsAs b w v
@@ -82,22 +89,27 @@ knows_grown {a} {b} {w} {v} g k = record {
 }
 
 -- The same, behind what was made.
-pub knows_made : {a b : List Form} {w : Walk} {k : ℕ} {x : Meant} → Made a b k x → KnowsAs a w (known_to w) → KnowsAs b w (known_to w)
+pub knows_made : {a b : List Form} {w : Walk} {k : ℕ} {x : Meant} → Made a b k x → KnowsAs a w (known_to w) →
+    KnowsAs b w (known_to w)
 knows_made m h = knows_grown m.grows h
 
-pub knows_two : {a b c : List Form} {w : Walk} {k j : ℕ} {x y : Meant} → Made a b k x → Made b c j y → KnowsAs a w (known_to w) → KnowsAs c w (known_to w)
+pub knows_two : {a b c : List Form} {w : Walk} {k j : ℕ} {x y : Meant} → Made a b k x → Made b c j y →
+    KnowsAs a w (known_to w) → KnowsAs c w (known_to w)
 knows_two m n h = knows_grown (grown_on m.grows n.grows) h
 
 pub message_later : {a b : List Form} {k : ℕ} {x : MessageValue} → Made a b k (a_message x) → IsMessage (meanings b) k
 message_later m = message_there m.stands
 
-pub knows_three : {a b c d : List Form} {w : Walk} {k r : ℕ} {x y : Meant} {xs : List NumberValue} {ks : List ℕ} → Made a b k x → NumbersMade b c xs ks → Made c d r y →
+pub knows_three : {a b c d : List Form} {w : Walk} {k r : ℕ} {x y : Meant} {xs : List NumberValue} {ks : List ℕ} →
+    Made a b k x → NumbersMade b c xs ks → Made c d r y →
     KnowsAs a w (known_to w) → KnowsAs d w (known_to w)
 knows_three m n o h = knows_grown (grown_far m.grows n.grows o.grows) h
 
-pub knows_numbers : {a b c : List Form} {w : Walk} {k : ℕ} {x : Meant} {xs : List NumberValue} {ks : List ℕ} → Made a b k x → NumbersMade b c xs ks →
+pub knows_numbers : {a b c : List Form} {w : Walk} {k : ℕ} {x : Meant} {xs : List NumberValue} {ks : List ℕ} →
+    Made a b k x → NumbersMade b c xs ks →
     KnowsAs a w (known_to w) → KnowsAs c w (known_to w)
 knows_numbers m n h = knows_grown (grown_on m.grows n.grows) h
 
-pub knows_act : {a b : List Form} {w : Walk} {does : List Act} {x : Option ActForm} → ActMade a b does x → KnowsAs a w (known_to w) → KnowsAs b w (known_to w)
+pub knows_act : {a b : List Form} {w : Walk} {does : List Act} {x : Option ActForm} → ActMade a b does x →
+    KnowsAs a w (known_to w) → KnowsAs b w (known_to w)
 knows_act m h = knows_grown m.grows h

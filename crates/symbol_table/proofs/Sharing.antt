@@ -1,5 +1,6 @@
 -- Forms that are put where they aren't there.
-use Rattle.std.proofs.Common.{◌≡◌, ℕ, ◌<◌, ◌≤◌, ◌⊎◌, inl, inr, Bool, true, false, List, [], ◌∷◌, ◌++◌, length, Some, Result, Ok, Err, arith, sym, ap, subst, ◌∙◌}
+use Rattle.std.proofs.Common.{◌≡◌, ℕ, ◌<◌, ◌≤◌, ◌⊎◌, inl, inr, Bool, true, false, List, [], ◌∷◌, ◌++◌, length, Some}
+use Rattle.std.proofs.Common.{Result, Ok, Err, arith, sym, ap, subst, ◌∙◌}
 use Rattle.std.proofs.lemmas.List.{append-nil}
 use Rattle.std.specs.List.{slice_get}
 use Rattle.std.specs.Prelude.{if◌then◌else◌}
@@ -11,11 +12,13 @@ use Rattle.symbol_table.specs.Table.{IsWell, AreWell, Made}
 use Rattle.symbol_table.specs.Set.{IsPut, Puts}
 use Rattle.symbol_table.proofs.Earlier.{form_found, last_stays, one_behind}
 
-pub key_put : (b : Bool) (old new : List Form) (x : Form) → new ≡ (if b then old else old ++ x ∷ []) → (new ≡ old) ⊎ (new ≡ old ++ x ∷ [])
+pub key_put : (b : Bool) (old new : List Form) (x : Form) → new ≡ (if b then old else old ++ x ∷ []) →
+    (new ≡ old) ⊎ (new ≡ old ++ x ∷ [])
 key_put true old new x e = inl e
 key_put false old new x e = inr e
 
-pub put_well : (old new : List Form) (x : Form) (k : ℕ) → IsPut old new x k → AreWell [] old → IsWell (meanings old) x → AreWell [] new
+pub put_well : (old new : List Form) (x : Form) (k : ℕ) → IsPut old new x k → AreWell [] old → IsWell (meanings old) x →
+    AreWell [] new
 put_well old new x k put h b = go put.grown where
   go : (new ≡ old) ⊎ (new ≡ old ++ x ∷ []) → AreWell [] new
   go (inl e) = subst (λ l. AreWell [] l) (sym e) h
@@ -28,7 +31,8 @@ put_made old new x k put h b = go put.grown where
   go (inl e) = record {
     grows = record { more = []; grown = e ∙ sym (append-nil old) };
     stands = record {
-      stands = ap (λ l. slice_get (meanings l) k) e ∙ (form_found old k x h (ap (λ l. slice_get l k) (sym e) ∙ put.stands)).stands;
+      stands = ap (λ l. slice_get (meanings l) k) e ∙
+          (form_found old k x h (ap (λ l. slice_get l k) (sym e) ∙ put.stands)).stands;
     };
   }
   go (inr e) = record {
@@ -39,7 +43,8 @@ put_made old new x k put h b = go put.grown where
     };
   }
 
-pub puts_well : {E : Type 0} (old new : List Form) (x : Form) (r : Result ℕ E) → Puts old new x r → AreWell [] old → IsWell (meanings old) x →
+pub puts_well : {E : Type 0} (old new : List Form) (x : Form) (r : Result ℕ E) → Puts old new x r → AreWell [] old →
+    IsWell (meanings old) x →
     length old < MOST_VALUES → (length new ≤ MOST_VALUES) × AreWell [] new
 puts_well old new x (Ok k) put h b few = (long put.grown, put_well old new x k put h b) where
   long : (new ≡ old) ⊎ (new ≡ old ++ x ∷ []) → length new ≤ MOST_VALUES

@@ -13,4 +13,5 @@ count_in counts p c = unwrap_or (hash.get same_cell counts.counts (p, c)) 0
 
 -- A cell was written once more, and no other.
 pub record Counted (old new : Counts) (place cell : ℕ) : Type 0 where
-  pub counts : (p c : ℕ) → count_in new p c ≡ (if is_here p c place cell then suc (count_in old p c) else count_in old p c)
+  pub counts : (p c : ℕ) →
+      count_in new p c ≡ (if is_here p c place cell then suc (count_in old p c) else count_in old p c)

@@ -80,14 +80,16 @@ number_meant ms (numbers.Item s index row k) = value.item (seen_tree s) (number_
 number_meant ms (numbers.Size m) = value.size (message_in ms m)
 number_meant ms (numbers.Binary operator left right) = value.binary operator (number_in ms left) (number_in ms right)
 number_meant ms (numbers.Apply function operand) = value.apply function (number_in ms operand)
-number_meant ms (numbers.Pick condition first second) = value.pick (number_in ms condition) (number_in ms first) (number_in ms second)
+number_meant ms (numbers.Pick condition first second) = value.pick (number_in ms condition) (number_in ms first)
+    (number_in ms second)
 
 abbrev pub message_meant : List Meant → message_form.MessageForm → MessageValue
 message_meant ms messages.Body = value.body
 message_meant ms messages.Nothing = value.nothing
 message_meant ms (messages.Taken row load) = value.taken_message (Some row) (load_tree load)
 message_meant ms (messages.Untaken load) = value.taken_message None (load_tree load)
-message_meant ms (messages.Held s index row load) = value.held (seen_tree s) (number_in ms index) (number_in ms row) (load_tree load)
+message_meant ms (messages.Held s index row load) = value.held (seen_tree s) (number_in ms index) (number_in ms row)
+    (load_tree load)
 message_meant ms (messages.Cut m from n) = value.cut (message_in ms m) (number_in ms from) (number_in ms n)
 message_meant ms (messages.Tail m from) = value.tail (message_in ms m) (number_in ms from)
 message_meant ms (messages.Join first second) = value.join (message_in ms first) (message_in ms second)
@@ -96,9 +98,11 @@ abbrev pub sent_meant : List Meant → sent_form.SentForm → Meant
 sent_meant ms sent.NoNumbers = a_row []
 sent_meant ms (sent.Numbers first rest) = a_row (number_in ms first ∷ row_in ms rest)
 sent_meant ms sent.NoLinks = a_chain []
-sent_meant ms (sent.Link place tag fields rest) = a_chain (record { place = place; tag = tag; fields = row_in ms fields } ∷ chain_in ms rest)
+sent_meant ms (sent.Link place tag fields rest) = a_chain
+    (record { place = place; tag = tag; fields = row_in ms fields } ∷ chain_in ms rest)
 sent_meant ms sent.Nothing = a_sending None
-sent_meant ms (sent.Message chain message) = a_sending (Some (record { chain = chain_in ms chain; message = message_in ms message }))
+sent_meant ms (sent.Message chain message) =
+    a_sending (Some (record { chain = chain_in ms chain; message = message_in ms message }))
 
 abbrev pub meant_of : List Meant → Form → Meant
 meant_of ms (forms.Number x) = a_number (number_meant ms x)
@@ -118,6 +122,7 @@ act_in ms (acts.Check n) = value.check (number_in ms n)
 act_in ms (acts.Set place cell index n) = value.set place cell (number_in ms index) (number_in ms n)
 act_in ms (acts.SetSquare place cell row column n) =
     value.set_square place cell (number_in ms row) (number_in ms column) (number_in ms n)
-act_in ms (acts.Push place cell index row message) = value.push place cell (number_in ms index) (row_in ms row) (sending_in ms message)
+act_in ms (acts.Push place cell index row message) = value.push place cell (number_in ms index) (row_in ms row)
+    (sending_in ms message)
 act_in ms (acts.Take place cell index) = value.take place cell (number_in ms index)
 act_in ms (acts.Output dir kind row message) = value.output dir kind (row_in ms row) (sending_in ms message)

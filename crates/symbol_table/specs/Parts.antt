@@ -52,9 +52,12 @@ form_of seen (nodes.Item p c i j k) vs = forms.Number (numbers.Item (seen p c) (
 form_of seen (nodes.Size m) vs = forms.Number (numbers.Size (slice_index vs 0))
 form_of seen (nodes.Binary o i j) vs = forms.Number (numbers.Binary o (slice_index vs 0) (slice_index vs 1))
 form_of seen (nodes.Apply f i) vs = forms.Number (numbers.Apply f (slice_index vs 0))
-form_of seen (nodes.Pick i j k) vs = forms.Number (numbers.Pick (slice_index vs 0) (slice_index vs 1) (slice_index vs 2))
-form_of seen (nodes.Held p c i j load) vs = forms.Message (messages.Held (seen p c) (slice_index vs 0) (slice_index vs 1) load)
-form_of seen (nodes.Cut m i j) vs = forms.Message (messages.Cut (slice_index vs 0) (slice_index vs 1) (slice_index vs 2))
+form_of seen (nodes.Pick i j k) vs =
+    forms.Number (numbers.Pick (slice_index vs 0) (slice_index vs 1) (slice_index vs 2))
+form_of seen (nodes.Held p c i j load) vs =
+    forms.Message (messages.Held (seen p c) (slice_index vs 0) (slice_index vs 1) load)
+form_of seen (nodes.Cut m i j) vs =
+    forms.Message (messages.Cut (slice_index vs 0) (slice_index vs 1) (slice_index vs 2))
 form_of seen (nodes.Tail m i) vs = forms.Message (messages.Tail (slice_index vs 0) (slice_index vs 1))
 form_of seen (nodes.Join m n) vs = forms.Message (messages.Join (slice_index vs 0) (slice_index vs 1))
 form_of seen _ vs = forms.Number (numbers.Number 0)

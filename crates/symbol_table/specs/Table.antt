@@ -11,7 +11,8 @@ use Rattle.symbol_table.specs.declared.form.Form.{Form}
 use Rattle.symbol_table.specs.declared.form.Form.TheVariants as forms
 use Rattle.symbol_table.specs.declared.form.ActForm.{ActForm}
 use Rattle.symbol_table.specs.declared.form.ActForm.TheVariants as acts
-use Rattle.symbol_table.specs.Meant.{Meant, a_number, a_message, a_row, a_chain, a_sending, number_in, message_in, row_in, chain_in, sending_in, with_next, meanings}
+use Rattle.symbol_table.specs.Meant.{Meant, a_number, a_message, a_row, a_chain, a_sending, number_in, message_in}
+use Rattle.symbol_table.specs.Meant.{row_in, chain_in, sending_in, with_next, meanings}
 
 -- This is what a number stands for.
 pub record Stands (ms : List Meant) (k : ℕ) (x : Meant) : Type 0 where

@@ -26,10 +26,12 @@ fn set_act(
     index: u32,
     item: u32,
 ) -> Result<Option<ActForm>, AllocError>
-    requires there { IsPart (terms walk.now.trace.now.nodes) (chains walk.now.trace.now.links) (operations.Set place cell index item) }
+    requires there { IsPart (terms walk.now.trace.now.nodes) (chains walk.now.trace.now.links)
+        (operations.Set place cell index item) }
     requires knows { Knows table.old walk.now }
     ensures { MakesAct table.old table.new (act_of (known_to walk.now)
-        (operation_in (terms walk.now.trace.now.nodes) (chains walk.now.trace.now.links) (operations.Set place cell index item))) result }
+        (operation_in (terms walk.now.trace.now.nodes) (chains walk.now.trace.now.links)
+        (operations.Set place cell index item))) result }
 {
     let index = number(table, walk, index)?;
     let value = number(table, walk, item)?;
@@ -51,10 +53,12 @@ fn square_act(
     column: u32,
     item: u32,
 ) -> Result<Option<ActForm>, AllocError>
-    requires there { IsPart (terms walk.now.trace.now.nodes) (chains walk.now.trace.now.links) (operations.SetSquare place cell row column item) }
+    requires there { IsPart (terms walk.now.trace.now.nodes) (chains walk.now.trace.now.links)
+        (operations.SetSquare place cell row column item) }
     requires knows { Knows table.old walk.now }
     ensures { MakesAct table.old table.new (act_of (known_to walk.now)
-        (operation_in (terms walk.now.trace.now.nodes) (chains walk.now.trace.now.links) (operations.SetSquare place cell row column item))) result }
+        (operation_in (terms walk.now.trace.now.nodes) (chains walk.now.trace.now.links)
+        (operations.SetSquare place cell row column item))) result }
 {
     let row = number(table, walk, row)?;
     let column = number(table, walk, column)?;
@@ -79,10 +83,12 @@ fn push_act(
     nodes: &Fields,
     sent: Option<Chained>,
 ) -> Result<Option<ActForm>, AllocError>
-    requires there { IsPart (terms walk.now.trace.now.nodes) (chains walk.now.trace.now.links) (operations.Push place cell index nodes.now sent) }
+    requires there { IsPart (terms walk.now.trace.now.nodes) (chains walk.now.trace.now.links)
+        (operations.Push place cell index nodes.now sent) }
     requires knows { Knows table.old walk.now }
     ensures { MakesAct table.old table.new (act_of (known_to walk.now)
-        (operation_in (terms walk.now.trace.now.nodes) (chains walk.now.trace.now.links) (operations.Push place cell index nodes.now sent))) result }
+        (operation_in (terms walk.now.trace.now.nodes) (chains walk.now.trace.now.links)
+        (operations.Push place cell index nodes.now sent))) result }
 {
     let index = number(table, walk, index)?;
     let values = numbers(table, walk, nodes)?;
@@ -110,7 +116,8 @@ fn output_act(
     requires there { HasChain (chains walk.now.trace.now.links) sent }
     requires knows { Knows table.old walk.now }
     ensures { MakesAct table.old table.new (act_of (known_to walk.now)
-        (operation_in (terms walk.now.trace.now.nodes) (chains walk.now.trace.now.links) (operations.Output dir kind atoms.now sent))) result }
+        (operation_in (terms walk.now.trace.now.nodes) (chains walk.now.trace.now.links)
+        (operations.Output dir kind atoms.now sent))) result }
 {
     let numbers = atom_row(table, walk, atoms)?;
     let message = sending(table, walk, sent)?;

@@ -22,7 +22,8 @@ fn bind(table: &mut Table, walk: &mut Walk<'_>, node: u32) -> Result<(), AllocEr
     requires node { IsNumber (terms walk.old.trace.now.nodes) node }
     requires knows { Knows table.old walk.old }
     requires more { walk.old.done < length walk.old.trace.now.operations.items }
-    ensures { OnOk result (Learns table.old table.new walk.old walk.new (trace.bind (number_in (terms walk.old.trace.now.nodes) node))) }
+    ensures { OnOk result
+        (Learns table.old table.new walk.old walk.new (trace.bind (number_in (terms walk.old.trace.now.nodes) node))) }
 {
     let value = number(table, walk, node)?;
     walk.numbers.push(value)?;
@@ -36,7 +37,8 @@ fn note(table: &mut Table, walk: &mut Walk<'_>, node: u32) -> Result<(), AllocEr
     requires node { IsMessage (terms walk.old.trace.now.nodes) node }
     requires knows { Knows table.old walk.old }
     requires more { walk.old.done < length walk.old.trace.now.operations.items }
-    ensures { OnOk result (Learns table.old table.new walk.old walk.new (trace.note (message_in (terms walk.old.trace.now.nodes) node))) }
+    ensures { OnOk result
+        (Learns table.old table.new walk.old walk.new (trace.note (message_in (terms walk.old.trace.now.nodes) node))) }
 {
     let value = message(table, walk, node)?;
     walk.messages.push(value)?;

@@ -1,4 +1,5 @@
-//! Whether traces do the same: their acts are compared by the numbers of their values, each of which stands once in one table.
+//! Whether traces do the same: their acts are compared by the numbers of their values, each of which stands once in one
+//! table.
 #![tactic(auto)]
 
 mod acts;

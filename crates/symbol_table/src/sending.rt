@@ -41,7 +41,8 @@ fn atom_values(
     requires few { length atoms.now ≤ most_fields }
     requires many { many ≤ length atoms.now }
     requires knows { Knows table.old walk.now }
-    ensures { MakesSome table.old table.new (map (atom_value (known_to walk.now)) (map atom_tree (take many atoms.now))) many result }
+    ensures { MakesSome table.old table.new (map (atom_value (known_to walk.now)) (map atom_tree (take many atoms.now)))
+        many result }
 {
     if many == 0 {
         return Ok(Fields::none());
@@ -96,7 +97,9 @@ pub(crate) fn atom_row(table: &mut Table, walk: &Walk<'_>, atoms: &Atoms) -> Res
 fn chain(table: &mut Table, walk: &Walk<'_>, number: u32) -> Result<u32, AllocError>
     requires there { links.IsChain (chains walk.now.trace.now.links) number }
     requires knows { Knows table.old walk.now }
-    ensures { Makes table.old table.new (a_chain (map (link_value (known_to walk.now)) (links.chain_in (chains walk.now.trace.now.links) number))) result }
+    ensures { Makes table.old table.new
+        (a_chain (map (link_value (known_to walk.now)) (links.chain_in (chains walk.now.trace.now.links) number)))
+        result }
 {
     match walk.trace.links.front(number) {
         None => {
@@ -122,7 +125,9 @@ fn chain(table: &mut Table, walk: &Walk<'_>, number: u32) -> Result<u32, AllocEr
 fn sent_message(table: &mut Table, walk: &Walk<'_>, sent: Chained) -> Result<u32, AllocError>
     requires there { links.IsChain (chains walk.now.trace.now.links) sent.chain }
     requires knows { Knows table.old walk.now }
-    ensures { Makes table.old table.new (a_sending (Some (chained_value (known_to walk.now) (chained_in (chains walk.now.trace.now.links) sent)))) result }
+    ensures { Makes table.old table.new
+        (a_sending (Some (chained_value (known_to walk.now) (chained_in (chains walk.now.trace.now.links) sent))))
+        result }
 {
     let chain = chain(table, walk, sent.chain)?;
     let message = core_value(table, walk, sent.core)?;
@@ -138,7 +143,9 @@ pub(crate) fn sending(
 ) -> Result<u32, AllocError>
     requires there { HasChain (chains walk.now.trace.now.links) sent }
     requires knows { Knows table.old walk.now }
-    ensures { Makes table.old table.new (a_sending (option_map (chained_value (known_to walk.now)) (option_map (chained_in (chains walk.now.trace.now.links)) sent))) result }
+    ensures { Makes table.old table.new
+        (a_sending (option_map (chained_value (known_to walk.now))
+        (option_map (chained_in (chains walk.now.trace.now.links)) sent))) result }
 {
     match sent {
         None => {

@@ -62,7 +62,8 @@ fn taken_message_form(takes: u32, row: u32, load: Load) -> MessageForm
 #[tactic(auto, using(crate::proofs::Leaves::bound_known, crate::proofs::Leaves::bound_unknown))]
 fn bound_value(table: &mut Table, walk: &Walk<'_>, number: u32) -> Result<u32, AllocError>
     requires { Knows table.old walk.now }
-    ensures { Makes table.old table.new (a_number (slice_index_or (known_to walk.now).numbers number (value.number 0))) result }
+    ensures { Makes table.old table.new (a_number (slice_index_or (known_to walk.now).numbers number (value.number 0)))
+        result }
 {
     match bound_at(walk, number) {
         Some(value) => Ok(value),
@@ -77,7 +78,8 @@ fn bound_value(table: &mut Table, walk: &Walk<'_>, number: u32) -> Result<u32, A
 #[tactic(auto, using(crate::proofs::Leaves::noted_known, crate::proofs::Leaves::noted_unknown))]
 fn noted_value(table: &mut Table, walk: &Walk<'_>, message: u32) -> Result<u32, AllocError>
     requires { Knows table.old walk.now }
-    ensures { Makes table.old table.new (a_message (slice_index_or (known_to walk.now).messages message value.nothing)) result }
+    ensures { Makes table.old table.new (a_message (slice_index_or (known_to walk.now).messages message value.nothing))
+        result }
 {
     match noted_at(walk, message) {
         Some(value) => Ok(value),
@@ -208,7 +210,8 @@ fn node_values(
 pub(crate) fn number(table: &mut Table, walk: &Walk<'_>, node: u32) -> Result<u32, AllocError>
     requires node { IsNumber (terms walk.now.trace.now.nodes) node }
     requires knows { Knows table.old walk.now }
-    ensures { Makes table.old table.new (a_number (number_value (known_to walk.now) (number_in (terms walk.now.trace.now.nodes) node))) result }
+    ensures { Makes table.old table.new
+        (a_number (number_value (known_to walk.now) (number_in (terms walk.now.trace.now.nodes) node))) result }
 {
     let made = node_value(table, walk, node)?;
     Ok(made)
@@ -219,7 +222,8 @@ pub(crate) fn number(table: &mut Table, walk: &Walk<'_>, node: u32) -> Result<u3
 pub(crate) fn message(table: &mut Table, walk: &Walk<'_>, node: u32) -> Result<u32, AllocError>
     requires node { IsMessage (terms walk.now.trace.now.nodes) node }
     requires knows { Knows table.old walk.now }
-    ensures { Makes table.old table.new (a_message (message_value (known_to walk.now) (message_in (terms walk.now.trace.now.nodes) node))) result }
+    ensures { Makes table.old table.new
+        (a_message (message_value (known_to walk.now) (message_in (terms walk.now.trace.now.nodes) node))) result }
 {
     let made = node_value(table, walk, node)?;
     Ok(made)
@@ -234,7 +238,8 @@ pub(crate) fn numbers(
 ) -> Result<Fields, AllocError>
     requires nodes { AllNumbers (terms walk.now.trace.now.nodes) nodes.now }
     requires knows { Knows table.old walk.now }
-    ensures { MakesNumbers table.old table.new (map (number_value (known_to walk.now)) (map (number_in (terms walk.now.trace.now.nodes)) nodes.now)) result }
+    ensures { MakesNumbers table.old table.new
+        (map (number_value (known_to walk.now)) (map (number_in (terms walk.now.trace.now.nodes)) nodes.now)) result }
 {
     let many = nodes.len();
     let made = node_values(table, walk, walk.trace.nodes.count(), nodes, many)?;

@@ -3,7 +3,8 @@
 use crate::counts::Counts;
 use trace_core::Trace;
 
-/// A trace behind so many operations: the values of what was bound and noted, how many rows were taken, and how often cells were written.
+/// A trace behind so many operations: the values of what was bound and noted, how many rows were taken, and how often
+/// cells were written.
 #[derive(Drop)]
 pub(crate) struct Walk<'a> {
     pub trace: &'a Trace,

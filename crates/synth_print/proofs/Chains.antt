@@ -17,7 +17,8 @@ later_get : {X : Type 0} (x : X) (xs : List X) (k : ℕ) → 0 < k → slice_get
 later_get x xs zero lt = absurd (omega (arith, lt))
 later_get x xs (suc k) lt = let same : k ≡ suc k - 1 = omega arith in ap (slice_get xs) same
 
-pub declared_behind : {E : Type 0} (r : Result (Unit {0}) E) (layer : LayerTree) (tag number : ℕ) (old new : List ℕ) → 0 < tag → number ≡ tag - 1 →
+pub declared_behind : {E : Type 0} (r : Result (Unit {0}) E) (layer : LayerTree) (tag number : ℕ) (old new : List ℕ) →
+    0 < tag → number ≡ tag - 1 →
     OnOk r (new ≡ old ++ header_called (slice_get layer.headers number)) →
     OnOk r (new ≡ old ++ header_called (declared layer tag))
 declared_behind r layer tag number old new lt is put =
@@ -25,7 +26,8 @@ declared_behind r layer tag number old new lt is put =
     (ap (slice_get layer.headers) is ∙ sym (later_get _ layer.headers tag lt)) put
 
 module _ (stack : List LayerTree) (w : Written) (cs : List (List trace.Link)) (k : ℕ) where
-  pub rest_read : {E : Type 0} (r : Result (Unit {0}) E) (l : Link) (a b c d : List ℕ) → IsFrontLink cs k l → b ≡ a ++ codes "/" →
+  pub rest_read : {E : Type 0} (r : Result (Unit {0}) E) (l : Link) (a b c d : List ℕ) → IsFrontLink cs k l →
+      b ≡ a ++ codes "/" →
       c ≡ b ++ link_text stack (atom_text w) (link_tree l) → OnOk r (d ≡ c ++ more_links stack w (chain_in cs l.rest)) →
       OnOk r (d ≡ a ++ more_links stack w (chain_in cs k))
   rest_read (Ok done) l a b c d is eb ec ed =
@@ -39,7 +41,8 @@ module _ (stack : List LayerTree) (w : Written) (cs : List (List trace.Link)) (k
   pub rest_empty : (a : List ℕ) → chain_in cs k ≡ [] → a ≡ a ++ more_links stack w (chain_in cs k)
   rest_empty a is = sym (append-nil a) ∙ ap (λ ls. a ++ more_links stack w ls) (sym is)
 
-  pub behind_read : {E : Type 0} (r : Result (Unit {0}) E) (l : Link) (a b c d : List ℕ) → IsFrontLink cs k l → b ≡ a ++ codes " " →
+  pub behind_read : {E : Type 0} (r : Result (Unit {0}) E) (l : Link) (a b c d : List ℕ) → IsFrontLink cs k l →
+      b ≡ a ++ codes " " →
       c ≡ b ++ link_text stack (atom_text w) (link_tree l) → OnOk r (d ≡ c ++ more_links stack w (chain_in cs l.rest)) →
       OnOk r (d ≡ a ++ behind stack w (chain_in cs k))
   behind_read (Ok done) l a b c d is eb ec ed =
@@ -57,4 +60,5 @@ module _ (stack : List LayerTree) (w : Written) (cs : List (List trace.Link)) (k
 pub count_behind : (layer : LayerTree) (tag number count : ℕ) → 0 < tag → number ≡ tag - 1 →
     count ≡ option_map_or (λ h. h.fields) (slice_get layer.headers number) 0 → count ≡ fields_of layer tag
 count_behind layer tag number count lt is found =
-    found ∙ ap (λ h. option_map_or (λ h. h.fields) h 0) (ap (slice_get layer.headers) is ∙ sym (later_get _ layer.headers tag lt))
+    found ∙ ap (λ h. option_map_or (λ h. h.fields) h 0)
+    (ap (slice_get layer.headers) is ∙ sym (later_get _ layer.headers tag lt))

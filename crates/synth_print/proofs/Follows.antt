@@ -1,5 +1,6 @@
 -- What was written, operation by operation.
-use Rattle.std.proofs.Common.{◌≡◌, ℕ, Bool, false, true, List, [], ◌∷◌, ◌++◌, length, map, Option, Some, None, option_to_list, refl, sym, append-nil}
+use Rattle.std.proofs.Common.{◌≡◌, ℕ, Bool, false, true, List, [], ◌∷◌, ◌++◌, length, map, Option, Some, None}
+use Rattle.std.proofs.Common.{option_to_list, refl, sym, append-nil}
 use Rattle.std.specs.Fmt.{decimal}
 use Rattle.std.specs.Option.{option_map_or}
 use Rattle.std.specs.Prelude.{codes, slice_index_or}
@@ -7,7 +8,8 @@ use Rattle.layer_ast.specs.Spelling.{kind_word}
 use Rattle.layer_ast.specs.Printed.{direction_sign, function_sign, operator_sign}
 use Rattle.layer_mean.specs.Headers.{declared}
 use Rattle.bypass_mean.specs.Text as mean
-use Rattle.bypass_mean.specs.Text.{atom_text, core_text, cell_text, cell_name, indexed, listed, number_text, message_text, line_of, writes, sign_text}
+use Rattle.bypass_mean.specs.Text.{atom_text, core_text, cell_text, cell_name, indexed, listed, number_text}
+use Rattle.bypass_mean.specs.Text.{message_text, line_of, writes, sign_text}
 use Rattle.layer_mean.specs.Tree.{LayerTree}
 use Rattle.synth_print.specs.Headers.{header_called, more_links}
 use Rattle.synth_print.specs.Lines.{bare}
@@ -74,7 +76,8 @@ module _ (stack : List LayerTree) (many : ℕ) (w : mean.Written) where
 
   link_bare : (l : trace.Link) →
       mean.link_text stack (atom_text (counting many w)) l ≡ mean.link_text stack (atom_text w) l
-  link_bare l = λ t. (mean.layer_of stack l.place).name ++ codes "." ++ header_called (declared (mean.layer_of stack l.place) l.tag)
+  link_bare l = λ t. (mean.layer_of stack l.place).name ++ codes "." ++
+      header_called (declared (mean.layer_of stack l.place) l.tag)
       ++ listed (atoms_bare l.fields t)
 
   more_bare : (ls : List trace.Link) → more_links stack (counting many w) ls ≡ more_links stack w ls
@@ -86,12 +89,14 @@ module _ (stack : List LayerTree) (many : ℕ) (w : mean.Written) where
   behind_bare (l ∷ ls) = λ t. codes " " ++ (link_bare l t ++ more_bare ls t)
 
   message_parts : (m : Option trace.Chained) →
-      map (mean.pushed_text stack (counting many w)) (option_to_list m) ≡ map (mean.pushed_text stack w) (option_to_list m)
+      map (mean.pushed_text stack (counting many w)) (option_to_list m) ≡
+      map (mean.pushed_text stack w) (option_to_list m)
   message_parts None = refl
   message_parts (Some m) = λ t. (core_bare m.core t ++ behind_bare m.chain t) ∷ []
 
   core_parts : (m : Option trace.Chained) →
-      map (λ (m : trace.Chained). core_text (counting many w) m.core) (option_to_list m) ≡ map (λ (m : trace.Chained). core_text w m.core) (option_to_list m)
+      map (λ (m : trace.Chained). core_text (counting many w) m.core) (option_to_list m) ≡
+      map (λ (m : trace.Chained). core_text w m.core) (option_to_list m)
   core_parts None = refl
   core_parts (Some m) = λ t. core_bare m.core t ∷ []
 
@@ -102,26 +107,33 @@ module _ (stack : List LayerTree) (many : ℕ) (w : mean.Written) where
   header_parts (Some m) = behind_bare m.chain
 
 line_bare : (stack : List LayerTree) (w : mean.Written) (o : Operation) → line_of stack (bare w) o ≡ line_of stack w o
-line_bare stack w (trace.bind e) = λ t. codes "bind t." ++ decimal w.binds ++ codes " = " ++ number_bare stack w.binds w e t
+line_bare stack w (trace.bind e) = λ t. codes "bind t." ++ decimal w.binds ++ codes " = " ++
+    number_bare stack w.binds w e t
 line_bare stack w (trace.note m) = refl
 line_bare stack w (trace.check e) = λ t. codes "check " ++ number_bare stack w.binds w e t
 line_bare stack w (trace.set p c e x) =
-    λ t. codes "set " ++ cell_text stack p c (number_bare stack w.binds w e t) ++ codes " = " ++ number_bare stack w.binds w x t
+    λ t. codes "set " ++ cell_text stack p c (number_bare stack w.binds w e t) ++ codes " = " ++
+    number_bare stack w.binds w x t
 line_bare stack w (trace.set_square p c i j x) =
-    λ t. codes "set " ++ number_bare stack w.binds w (trace.square p c i j) t ++ codes " = " ++ number_bare stack w.binds w x t
-line_bare stack w (trace.push p c e row message) = λ t. codes "push " ++ cell_text stack p c (number_bare stack w.binds w e t) ++ codes " "
+    λ t. codes "set " ++ number_bare stack w.binds w (trace.square p c i j) t ++ codes " = " ++
+    number_bare stack w.binds w x t
+line_bare stack w (trace.push p c e row message) = λ t. codes "push " ++
+    cell_text stack p c (number_bare stack w.binds w e t) ++ codes " "
     ++ listed (numbers_bare stack w.binds w row t ++ message_parts stack w.binds w message t)
 line_bare stack w (trace.take p c e) =
-    λ t. codes "take " ++ cell_text stack p c (number_bare stack w.binds w e t) ++ codes " row." ++ decimal (length w.rows)
+    λ t. codes "take " ++ cell_text stack p c (number_bare stack w.binds w e t) ++ codes " row." ++
+    decimal (length w.rows)
 line_bare stack w (trace.output dir kind arguments message) =
     λ t. codes "out " ++ sign_text (direction_sign dir) ++ codes " " ++ kind_word kind
-    ++ listed (atoms_bare stack w.binds w arguments t ++ core_parts stack w.binds w message t) ++ header_parts stack w.binds w message t
+    ++ listed (atoms_bare stack w.binds w arguments t ++ core_parts stack w.binds w message t) ++
+    header_parts stack w.binds w message t
 
 -- an operation does the same to what was written without lines, and puts its line behind those that there are
 pub writes_bare : (noting : Bool) (stack : List LayerTree) (w : mean.Written) (o : Operation) →
     bare (writes noting stack (bare w) o) ≡ bare (writes noting stack w o)
 writes_bare noting stack w (trace.bind e) = refl
-writes_bare false stack w (trace.note m) = λ t. record (bare w) { notes = w.notes ++ message_bare stack w.binds w m t ∷ [] }
+writes_bare false stack w (trace.note m) = λ t.
+    record (bare w) { notes = w.notes ++ message_bare stack w.binds w m t ∷ [] }
 writes_bare true stack w (trace.note m) = refl
 writes_bare noting stack w (trace.check e) = refl
 writes_bare noting stack w (trace.set p c e x) = refl
@@ -139,10 +151,12 @@ pub writes_lines : (noting : Bool) (stack : List LayerTree) (w : mean.Written) (
 writes_lines noting stack w (trace.bind e) = with_one stack w (trace.bind e)
 writes_lines false stack w (trace.note m) = sym (append-nil w.lines)
 writes_lines true stack w (trace.note m) =
-    sym (λ t. w.lines ++ (codes "note " ++ (codes "m." ++ decimal (length w.notes)) ++ codes " = " ++ message_bare stack w.binds w m t) ∷ [])
+    sym (λ t. w.lines ++ (codes "note " ++ (codes "m." ++ decimal (length w.notes)) ++ codes " = " ++
+    message_bare stack w.binds w m t) ∷ [])
 writes_lines noting stack w (trace.check e) = with_one stack w (trace.check e)
 writes_lines noting stack w (trace.set p c e x) = with_one stack w (trace.set p c e x)
 writes_lines noting stack w (trace.set_square p c i j x) = with_one stack w (trace.set_square p c i j x)
 writes_lines noting stack w (trace.push p c e row message) = with_one stack w (trace.push p c e row message)
 writes_lines noting stack w (trace.take p c e) = with_one stack w (trace.take p c e)
-writes_lines noting stack w (trace.output dir kind arguments message) = with_one stack w (trace.output dir kind arguments message)
+writes_lines noting stack w (trace.output dir kind arguments message) =
+    with_one stack w (trace.output dir kind arguments message)

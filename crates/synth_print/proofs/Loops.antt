@@ -1,5 +1,6 @@
 -- The lines of a handler, put one by one.
-use Rattle.std.proofs.Common.{◌≡◌, ℕ, suc, ◌+◌, ◌<◌, ◌≤◌, Bool, false, true, List, [], ◌∷◌, ◌++◌, drop, get_or, length, map, take, refl, sym, ap, subst, ◌∙◌, append-nil, arith}
+use Rattle.std.proofs.Common.{◌≡◌, ℕ, suc, ◌+◌, ◌<◌, ◌≤◌, Bool, false, true, List, [], ◌∷◌, ◌++◌, drop, get_or, length}
+use Rattle.std.proofs.Common.{map, take, refl, sym, ap, subst, ◌∙◌, append-nil, arith}
 use Rattle.std.proofs.lemmas.List.{append_assoc, map-append, map-id, take_more, take_all, take-append-drop}
 use Rattle.std.proofs.lemmas.List.Sums.{fold-append}
 use Rattle.std.specs.List.{enumerate_from, flat_map, fold}
@@ -26,10 +27,12 @@ put_lines noting lines = ended (map (opened_line noting) lines)
 ended_both : (xs ys : List (List ℕ)) → ended (xs ++ ys) ≡ ended xs ++ ended ys
 ended_both xs ys = map-append ended_line xs ys
 
-put_both : (noting : Bool) (xs ys : List (List ℕ)) → put_lines noting (xs ++ ys) ≡ put_lines noting xs ++ put_lines noting ys
+put_both : (noting : Bool) (xs ys : List (List ℕ)) → put_lines noting (xs ++ ys) ≡ put_lines noting xs ++
+    put_lines noting ys
 unfolding put_lines
 put_both noting xs ys =
-    ap ended (map-append (opened_line noting) xs ys) ∙ ended_both (map (opened_line noting) xs) (map (opened_line noting) ys)
+    ap ended (map-append (opened_line noting) xs ys) ∙
+    ended_both (map (opened_line noting) xs) (map (opened_line noting) ys)
 
 -- lines are put behind those that there are
 grown : (noting : Bool) (stack : List LayerTree) (w : Written) (os : List Operation) →
@@ -40,7 +43,8 @@ grown noting stack w (o ∷ os) =
     let own = (writes noting stack (bare w) o).lines in
     (own ++ rest.0, rest.1 ∙ ap (λ ls. ls ++ rest.0) (writes_lines noting stack w o) ∙ append_assoc w.lines own rest.0)
 
-module _ (noting : Bool) (stack : List LayerTree) (os : List Operation) (k : ℕ) (o d : Operation) (lt : k < length os) (at : o ≡ get_or os k d)
+module _ (noting : Bool) (stack : List LayerTree) (os : List Operation) (k : ℕ) (o d : Operation) (lt : k < length os)
+    (at : o ≡ get_or os k d)
     (w : Written) (same : w ≡ bare (so_far noting stack (take k os))) where
   abbrev before : Written
   before = so_far noting stack (take k os)
@@ -49,31 +53,40 @@ module _ (noting : Bool) (stack : List LayerTree) (os : List Operation) (k : ℕ
   next = ap (so_far noting stack) (take_more os k d lt ∙ ap (λ y. take k os ++ y ∷ []) (sym at))
       ∙ fold-append (writes noting stack) nothing_written (take k os) (o ∷ [])
 
-  lines_next : all_done noting stack (take (k + 1) os) ≡ all_done noting stack (take k os) ++ done_lines noting stack w o
+  lines_next : all_done noting stack (take (k + 1) os) ≡ all_done noting stack (take k os) ++
+      done_lines noting stack w o
   unfolding put_lines
   lines_next = ap (λ x. put_lines noting x.lines) next ∙ ap (put_lines noting) (writes_lines noting stack before o)
       ∙ put_both noting before.lines (writes noting stack (bare before) o).lines
       ∙ ap (λ v. all_done noting stack (take k os) ++ done_lines noting stack v o) (sym same)
 
-  pub written_next : (v : Written) → v ≡ bare (writes noting stack w o) → v ≡ bare (so_far noting stack (take (k + 1) os))
-  written_next v is = is ∙ ap (λ x. bare (writes noting stack x o)) same ∙ writes_bare noting stack before o ∙ ap bare (sym next)
+  pub written_next : (v : Written) → v ≡ bare (writes noting stack w o) →
+      v ≡ bare (so_far noting stack (take (k + 1) os))
+  written_next v is = is ∙ ap (λ x. bare (writes noting stack x o)) same ∙ writes_bare noting stack before o ∙
+      ap bare (sym next)
 
-  pub operations_more : (a b c : Tells) → Gains a b (all_done noting stack (take k os)) → Gains b c (done_lines noting stack w o) →
+  pub operations_more : (a b c : Tells) → Gains a b (all_done noting stack (take k os)) →
+      Gains b c (done_lines noting stack w o) →
       Gains a c (all_done noting stack (take (k + 1) os))
   operations_more a b c h now = gains_then a b c _ _ _ h now lines_next
 
-  pub operations_cut : (a b c : Tells) (e : SinkError) → Gains a b (all_done noting stack (take k os)) → Wrote (done_lines noting stack w o) b c (Err e) →
+  pub operations_cut : (a b c : Tells) (e : SinkError) → Gains a b (all_done noting stack (take k os)) →
+      Wrote (done_lines noting stack w o) b c (Err e) →
       Wrote (all_done noting stack os) a c (Err e)
   unfolding put_lines
   operations_cut a b c e h now =
       let up_to = so_far noting stack (take (k + 1) os) in
       let rest = grown noting stack up_to (drop (k + 1) os) in
-      cut_short a b c (all_done noting stack (take k os)) (done_lines noting stack w o) (all_done noting stack os) (put_lines noting rest.0) e h now
+      cut_short a b c (all_done noting stack (take k os)) (done_lines noting stack w o) (all_done noting stack os)
+      (put_lines noting rest.0) e h now
       (ap (λ x. put_lines noting x.lines)
-      (ap (so_far noting stack) (sym (take-append-drop (k + 1) os)) ∙ fold-append (writes noting stack) nothing_written (take (k + 1) os) (drop (k + 1) os))
-      ∙ ap (put_lines noting) rest.1 ∙ put_both noting up_to.lines rest.0 ∙ ap (λ ls. ls ++ put_lines noting rest.0) lines_next)
+      (ap (so_far noting stack) (sym (take-append-drop (k + 1) os)) ∙
+      fold-append (writes noting stack) nothing_written (take (k + 1) os) (drop (k + 1) os))
+      ∙ ap (put_lines noting) rest.1 ∙ put_both noting up_to.lines rest.0 ∙
+      ap (λ ls. ls ++ put_lines noting rest.0) lines_next)
 
-pub operations_done : (noting : Bool) (stack : List LayerTree) (os : List Operation) (n : ℕ) (a b : Tells) → Gains a b (all_done noting stack (take n os)) → length os ≤ n →
+pub operations_done : (noting : Bool) (stack : List LayerTree) (os : List Operation) (n : ℕ) (a b : Tells) →
+    Gains a b (all_done noting stack (take n os)) → length os ≤ n →
     Gains a b (all_done noting stack os)
 operations_done noting stack os n a b h le = subst (λ xs. Gains a b (all_done noting stack xs)) (take_all n os le) h
 
@@ -101,7 +114,8 @@ handler_lines stack noting g spelled =
     let done = map done_line (operation_lines false stack g.operations) in
     ap (λ n. flat_map (value_turn stack) (enumerate_from 0 g.values) ++ flat_map (conjunct_turn stack)
     (enumerate_from 0 g.conjuncts) ++ all_done n stack g.operations) spelled
-    ∙ ap (λ ls. ls ++ flat_map (conjunct_turn stack) (enumerate_from 0 g.conjuncts) ++ ended done) (values_turns stack 0 g.values)
+    ∙ ap (λ ls. ls ++ flat_map (conjunct_turn stack) (enumerate_from 0 g.conjuncts) ++ ended done)
+    (values_turns stack 0 g.values)
     ∙ ap (λ ls. ended values ++ ls ++ ended done) (conjuncts_turns stack 0 g.conjuncts)
     ∙ ap (λ ls. ls ++ ended done) (sym (ended_both values conjuncts))
     ∙ sym (ended_both (values ++ conjuncts) done)

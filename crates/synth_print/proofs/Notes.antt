@@ -1,7 +1,9 @@
 -- Noted messages, which are written anew wherever they are read.
-use Rattle.std.proofs.Common.{◌≡◌, ℕ, zero, suc, ◌+◌, ◌≤◌, ◌&&◌, true, List, [], ◌∷◌, ◌++◌, codes, length, min, take, Some, None, refl, sym, ap, subst, ◌∙◌, append-nil, arith}
+use Rattle.std.proofs.Common.{◌≡◌, ℕ, zero, suc, ◌+◌, ◌≤◌, ◌&&◌, true, List, [], ◌∷◌, ◌++◌, codes, length, min, take}
+use Rattle.std.proofs.Common.{Some, None, refl, sym, ap, subst, ◌∙◌, append-nil, arith}
 use Rattle.std.proofs.lemmas.Bool.{and_parts, le-leb, leb-true}
-use Rattle.std.proofs.lemmas.List.{append_assoc, get_or_past, length-map, length-take, map-append, take-append-le, take_all, take-take}
+use Rattle.std.proofs.lemmas.List.{append_assoc, get_or_past, length-map, length-take, map-append, take-append-le}
+use Rattle.std.proofs.lemmas.List.{take_all, take-take}
 use Rattle.std.proofs.lemmas.List.Folds.{list_all-append}
 use Rattle.std.proofs.lemmas.List.Sums.{fold-append}
 use Rattle.std.proofs.lemmas.Option.{get_or_from_slice_get, slice_get_within}
@@ -14,7 +16,8 @@ use Rattle.layer_mean.specs.Tree.{LayerTree}
 use Rattle.synth_print.specs.Lines.{done_text, message_of, noted_text, operation_of, with_row}
 use Rattle.synth_print.specs.Texts.{layers_in, terms_in, written_in, written_of}
 use Rattle.synth_print.specs.Within.{are_within, is_within, rows_named}
-use Rattle.synth_print.specs.Written.{before_note, note_text, note_texts, row_called, rows_called, with_text, written_all}
+use Rattle.synth_print.specs.Written.{before_note, note_text, note_texts, row_called, rows_called, with_text}
+use Rattle.synth_print.specs.Written.{written_all}
 use Rattle.synth_print.specs.declared.scope.Scope.{Scope}
 use Rattle.synth_print.specs.declared.written.Note.{Note}
 use Rattle.synth_print.specs.declared.written.Note.TheVariants as told
@@ -34,18 +37,22 @@ module _ (stack : List LayerTree) (ts : List Term) (rows : List Spot) where
   abbrev texts_of : List (List ℕ) → List Note → List (List ℕ)
   texts_of texts notes = fold (with_text stack ts rows) texts notes
 
-  kept : (texts : List (List ℕ)) (notes : List Note) (k : ℕ) (x : List ℕ) → slice_get texts k ≡ Some x → slice_get (texts_of texts notes) k ≡ Some x
+  kept : (texts : List (List ℕ)) (notes : List Note) (k : ℕ) (x : List ℕ) → slice_get texts k ≡ Some x →
+      slice_get (texts_of texts notes) k ≡ Some x
   kept texts [] k x is = is
-  kept texts (note ∷ notes) k x is = kept (with_text stack ts rows texts note) notes k x (get_more texts (note_text stack ts rows texts note) k x is)
+  kept texts (note ∷ notes) k x is = kept (with_text stack ts rows texts note) notes k x
+      (get_more texts (note_text stack ts rows texts note) k x is)
 
   -- a note's text is told from those before it
   text_at : (texts : List (List ℕ)) (notes : List Note) (k : ℕ) (note : Note) → slice_get notes k ≡ Some note →
-      slice_get (texts_of texts notes) (length texts + k) ≡ Some (note_text stack ts rows (texts_of texts (take k notes)) note)
+      slice_get (texts_of texts notes) (length texts + k) ≡
+      Some (note_text stack ts rows (texts_of texts (take k notes)) note)
   text_at texts [] k note is = absurd (cc is)
   text_at texts (x ∷ notes) zero note is =
       let here : length texts + 0 ≡ length texts = omega arith in
       ap (λ k. slice_get (texts_of (with_text stack ts rows texts x) notes) k) here
-      ∙ kept (with_text stack ts rows texts x) notes (length texts) (note_text stack ts rows texts x) (last_get texts (note_text stack ts rows texts x))
+      ∙ kept (with_text stack ts rows texts x) notes (length texts) (note_text stack ts rows texts x)
+      (last_get texts (note_text stack ts rows texts x))
       ∙ ap (λ o. Some (note_text stack ts rows texts (unwrap_or o x))) is
   text_at texts (x ∷ notes) (suc k) note is =
       let next : length texts + suc k ≡ suc (length texts) + k = omega arith in
@@ -56,10 +63,15 @@ module _ (stack : List LayerTree) (ts : List Term) (rows : List Spot) where
   many_texts : (texts : List (List ℕ)) (notes : List Note) → length (texts_of texts notes) ≡ length texts + length notes
   many_texts texts [] = omega arith
   many_texts texts (note ∷ notes) =
-      omega (arith, many_texts (with_text stack ts rows texts note) notes, length_one texts (note_text stack ts rows texts note))
+      omega (
+        arith,
+        many_texts (with_text stack ts rows texts note) notes,
+        length_one texts (note_text stack ts rows texts note),
+      )
 
   read_note : (notes : List Note) (k : ℕ) (note : Note) → slice_get notes k ≡ Some note →
-      slice_index_or (note_texts stack ts rows notes) k [] ≡ note_text stack ts rows (note_texts stack ts rows (take k notes)) note
+      slice_index_or (note_texts stack ts rows notes) k [] ≡
+      note_text stack ts rows (note_texts stack ts rows (take k notes)) note
   unfolding note_texts
   read_note notes k note is =
       let at : 0 + k ≡ k = omega arith in
@@ -70,7 +82,8 @@ module _ (stack : List LayerTree) (ts : List Term) (rows : List Spot) where
   unfolding note_texts
   all_texts notes = let same : 0 + length notes ≡ length notes = omega arith in many_texts [] notes ∙ same
 
-  read_none : (notes : List Note) (k : ℕ) → slice_get notes k ≡ None → slice_index_or (note_texts stack ts rows notes) k [] ≡ []
+  read_none : (notes : List Note) (k : ℕ) → slice_get notes k ≡ None →
+      slice_index_or (note_texts stack ts rows notes) k [] ≡ []
   unfolding note_texts
   read_none notes k is = get_or_past (texts_of [] notes) k [] (omega (arith, many_texts [] notes, past_none notes k is))
 
@@ -103,32 +116,38 @@ module _ (stack : List LayerTree) (ts : List Term) (rows : List Spot) where
   later_row row notes within = same_texts row [] notes within
 
 -- a note more
-one_within : (n : ℕ) (notes : List Note) (note : Note) (more : List Note) → more ≡ notes ++ note ∷ [] → is_within n note ≡ true →
+one_within : (n : ℕ) (notes : List Note) (note : Note) (more : List Note) → more ≡ notes ++ note ∷ [] →
+    is_within n note ≡ true →
     are_within n notes ≡ true → are_within n more ≡ true
 one_within n notes note more is one within =
     ap (are_within n) is ∙ list_all-append (is_within n) notes (note ∷ []) ∙ (λ t. within t && (one t && true))
 
-pub spelled_within : (n : ℕ) (notes : List Note) (message rows : ℕ) (more : List Note) → more ≡ notes ++ told.Spelled message rows ∷ [] → rows ≡ n →
+pub spelled_within : (n : ℕ) (notes : List Note) (message rows : ℕ) (more : List Note) →
+    more ≡ notes ++ told.Spelled message rows ∷ [] → rows ≡ n →
     are_within n notes ≡ true → are_within n more ≡ true
 spelled_within n notes message rows more is all within =
     one_within n notes (told.Spelled message rows) more is (le-leb rows n (omega (arith, all))) within
 
-pub called_within : (n : ℕ) (notes more : List Note) → more ≡ notes ++ told.Called ∷ [] → are_within n notes ≡ true → are_within n more ≡ true
+pub called_within : (n : ℕ) (notes more : List Note) → more ≡ notes ++ told.Called ∷ [] → are_within n notes ≡ true →
+    are_within n more ≡ true
 called_within n notes more is within = one_within n notes told.Called more is (le-leb 0 n (omega arith)) within
 
 pub called_more : (stack : List LayerTree) (ts : List Term) (many : ℕ) (spots : List Spot) (notes more : List Note) →
     more ≡ notes ++ told.Called ∷ [] →
     written_all stack ts many spots more
-    ≡ with_note (codes "m." ++ decimal (length (written_all stack ts many spots notes).notes)) (written_all stack ts many spots notes)
+    ≡ with_note (codes "m." ++ decimal (length (written_all stack ts many spots notes).notes))
+    (written_all stack ts many spots notes)
 called_more stack ts many spots notes more is =
     λ t. record (written_all stack ts many spots notes) {
       notes = (ap (note_texts stack ts spots) is ∙ more_texts stack ts spots notes told.Called) t;
     }
 
-pub noted : (stack : List LayerTree) (ts : List Term) (many : ℕ) (spots : List Spot) (notes more : List Note) (message rows : ℕ) →
+pub noted : (stack : List LayerTree) (ts : List Term) (many : ℕ) (spots : List Spot) (notes more : List Note)
+    (message rows : ℕ) →
     rows ≡ length spots → more ≡ notes ++ told.Spelled message rows ∷ [] →
     written_all stack ts many spots more
-    ≡ with_note (message_text stack (written_all stack ts many spots notes) (message_in ts message)) (written_all stack ts many spots notes)
+    ≡ with_note (message_text stack (written_all stack ts many spots notes) (message_in ts message))
+    (written_all stack ts many spots notes)
 noted stack ts many spots notes more message rows all is =
     λ t. record (written_all stack ts many spots notes) {
       notes = (ap (note_texts stack ts spots) is ∙ more_texts stack ts spots notes note
@@ -140,7 +159,8 @@ noted stack ts many spots notes more message rows all is =
 
     own : note_text stack ts spots (note_texts stack ts spots notes) note
         ≡ message_text stack (written_all stack ts many spots notes) (message_in ts message)
-    own = ap (λ xs. message_text stack (record (counting 0 (written_all stack ts many spots notes)) { rows = rows_called stack xs })
+    own = ap (λ xs. message_text stack
+        (record (counting 0 (written_all stack ts many spots notes)) { rows = rows_called stack xs })
         (message_in ts message)) (take_all rows spots (omega (arith, all)))
         ∙ message_bare stack 0 (written_all stack ts many spots notes) (message_in ts message)
 
@@ -149,14 +169,17 @@ within_more : (n : ℕ) (notes : List Note) → are_within n notes ≡ true → 
 within_more n [] within = refl
 within_more n (note ∷ notes) within =
     let x = and_parts (is_within n note) _ within in
-    λ t. le-leb (rows_named note) (suc n) (omega (arith, leb-true (rows_named note) n x.0)) t && within_more n notes x.1 t
+    λ t. le-leb (rows_named note) (suc n) (omega (arith, leb-true (rows_named note) n x.0)) t &&
+    within_more n notes x.1 t
 
-pub taken_within : (rows more : List Spot) (row : Spot) (notes : List Note) → more ≡ rows ++ row ∷ [] → are_within (length rows) notes ≡ true →
+pub taken_within : (rows more : List Spot) (row : Spot) (notes : List Note) → more ≡ rows ++ row ∷ [] →
+    are_within (length rows) notes ≡ true →
     are_within (length more) notes ≡ true
 taken_within rows more row notes is within =
     ap (λ n. are_within n notes) (ap length is ∙ length_one rows row) ∙ within_more (length rows) notes within
 
-pub taken : (stack : List LayerTree) (ts : List Term) (many : ℕ) (spots more : List Spot) (notes : List Note) (row : Spot) →
+pub taken : (stack : List LayerTree) (ts : List Term) (many : ℕ) (spots more : List Spot) (notes : List Note)
+    (row : Spot) →
     more ≡ spots ++ row ∷ [] → are_within (length spots) notes ≡ true →
     written_all stack ts many more notes ≡ with_row (row_called stack row) (written_all stack ts many spots notes)
 taken stack ts many spots more notes row is within = λ t. record (written_all stack ts many spots notes) {
@@ -166,13 +189,15 @@ taken stack ts many spots more notes row is within = λ t. record (written_all s
 
 -- a note is read in its own scope
 module _ {E : Type 0} (r : Result (Unit {0}) E) (s : Scope) (k : ℕ) (old new : List ℕ) where
-  few_notes : (note : Note) → Some note ≡ slice_get (take s.notes s.written.now.notes.items) k → k ≤ min s.notes (length s.written.now.notes.items)
+  few_notes : (note : Note) → Some note ≡ slice_get (take s.notes s.written.now.notes.items) k →
+      k ≤ min s.notes (length s.written.now.notes.items)
   few_notes note is =
       let notes = s.written.now.notes.items in
       omega (arith, slice_get_within (take s.notes notes) k note (sym is), length-take s.notes notes)
 
   -- the text of a note that may be named, told from those before it
-  text_of : (note : Note) → Some note ≡ slice_get (take s.notes s.written.now.notes.items) k → slice_index_or (written_in s).notes k []
+  text_of : (note : Note) → Some note ≡ slice_get (take s.notes s.written.now.notes.items) k →
+      slice_index_or (written_in s).notes k []
       ≡ note_text (layers_in s) (terms_in s) s.written.now.rows.items
       (note_texts (layers_in s) (terms_in s) s.written.now.rows.items (take k s.written.now.notes.items)) note
   text_of note is =
@@ -182,13 +207,16 @@ module _ {E : Type 0} (r : Result (Unit {0}) E) (s : Scope) (k : ℕ) (old new :
       ∙ ap (λ xs. note_text (layers_in s) (terms_in s) spots (note_texts (layers_in s) (terms_in s) spots xs) note)
       (take-take k s.notes notes (omega (arith, few_notes note is)))
 
-  pub note_read : (message rows : ℕ) → Some (told.Spelled message rows) ≡ slice_get (take s.notes s.written.now.notes.items) k →
-      OnOk r (new ≡ old ++ message_text (layers_in s) (written_in (record s { rows = rows; notes = k })) (message_in (terms_in s) message)) →
+  pub note_read : (message rows : ℕ) → Some (told.Spelled message rows) ≡
+      slice_get (take s.notes s.written.now.notes.items) k →
+      OnOk r (new ≡ old ++ message_text (layers_in s) (written_in (record s { rows = rows; notes = k }))
+      (message_in (terms_in s) message)) →
       OnOk r (new ≡ old ++ slice_index_or (written_in s).notes k [])
   note_read message rows is put =
       subst (λ text. OnOk r (new ≡ old ++ text))
       (sym (text_of (told.Spelled message rows) is
-      ∙ message_bare (layers_in s) 0 (written_in (record s { rows = rows; notes = k })) (message_in (terms_in s) message))) put
+      ∙ message_bare (layers_in s) 0 (written_in (record s { rows = rows; notes = k }))
+      (message_in (terms_in s) message))) put
 
   pub note_called : Some told.Called ≡ slice_get (take s.notes s.written.now.notes.items) k →
       OnOk r (new ≡ old ++ codes "m." ++ decimal k) → OnOk r (new ≡ old ++ slice_index_or (written_in s).notes k [])
@@ -209,7 +237,8 @@ pub no_note : (s : Scope) (k : ℕ) (old : List ℕ) → None ≡ slice_get (tak
     old ≡ old ++ slice_index_or (written_in s).notes k []
 no_note s k old is =
     let notes = take s.notes s.written.now.notes.items in
-    sym (append-nil old) ∙ ap (λ text. old ++ text) (sym (read_none (layers_in s) (terms_in s) s.written.now.rows.items notes k (sym is)))
+    sym (append-nil old) ∙
+    ap (λ text. old ++ text) (sym (read_none (layers_in s) (terms_in s) s.written.now.rows.items notes k (sym is)))
 
 -- rows that may be named
 pub no_row : (s : Scope) (row k : ℕ) (old : List ℕ) → None ≡ slice_get (take s.rows s.written.now.rows.items) row →
@@ -221,12 +250,16 @@ no_row s row k old is =
     (omega (arith, past_none spots row (sym is), length-map spots (row_called (layers_in s))))))
 
 pub many_rows : (s : Scope) (n : ℕ) → n ≡ min s.rows (length s.written.now.rows.items) → n ≡ length (written_in s).rows
-many_rows s n is = is ∙ sym (length-map (take s.rows s.written.now.rows.items) (row_called (layers_in s)) ∙ length-take s.rows s.written.now.rows.items)
+many_rows s n is = is ∙
+    sym (length-map (take s.rows s.written.now.rows.items) (row_called (layers_in s)) ∙
+    length-take s.rows s.written.now.rows.items)
 
-pub many_notes : (s : Scope) (n : ℕ) → n ≡ min s.notes (length s.written.now.notes.items) → n ≡ length (written_in s).notes
+pub many_notes : (s : Scope) (n : ℕ) → n ≡ min s.notes (length s.written.now.notes.items) →
+    n ≡ length (written_in s).notes
 many_notes s n is =
     let notes = take s.notes s.written.now.notes.items in
-    is ∙ sym (all_texts (layers_in s) (terms_in s) s.written.now.rows.items notes ∙ length-take s.notes s.written.now.notes.items)
+    is ∙ sym (all_texts (layers_in s) (terms_in s) s.written.now.rows.items notes ∙
+    length-take s.notes s.written.now.notes.items)
 
 -- a scope in which all that was written may be named
 pub whole : (s : Scope) → s.rows ≡ length s.written.now.rows.items → s.notes ≡ length s.written.now.notes.items →
@@ -234,22 +267,31 @@ pub whole : (s : Scope) → s.rows ≡ length s.written.now.rows.items → s.not
 whole s rows notes = λ t. record {
   binds = s.written.now.binds;
   rows = rows_called (layers_in s) (take_all s.rows s.written.now.rows.items (omega (arith, rows)) t);
-  notes = note_texts (layers_in s) (terms_in s) s.written.now.rows.items (take_all s.notes s.written.now.notes.items (omega (arith, notes)) t);
+  notes = note_texts (layers_in s) (terms_in s) s.written.now.rows.items
+      (take_all s.notes s.written.now.notes.items (omega (arith, notes)) t);
   lines = [];
 }
 
-pub whole_nothing : (s : Scope) → s.rows ≡ length s.written.now.rows.items → s.notes ≡ length s.written.now.notes.items →
+pub whole_nothing : (s : Scope) → s.rows ≡ length s.written.now.rows.items →
+    s.notes ≡ length s.written.now.notes.items →
     written_of s.stack.now s.source.now s.written.now ≡ nothing_written → written_in s ≡ nothing_written
 whole_nothing s rows notes is = whole s rows notes ∙ is
 
-pub whole_text : {E : Type 0} (r : Result (Unit {0}) E) (s : Scope) (o : Operation) (old new : List ℕ) → s.rows ≡ length s.written.now.rows.items →
-    s.notes ≡ length s.written.now.notes.items → OnOk r (new ≡ old ++ done_text s.source.now.noting (layers_in s) (written_in s) (operation_of s.source.now o)) →
-    OnOk r (new ≡ old ++ done_text s.source.now.noting (layers_in s) (written_of s.stack.now s.source.now s.written.now) (operation_of s.source.now o))
+pub whole_text : {E : Type 0} (r : Result (Unit {0}) E) (s : Scope) (o : Operation) (old new : List ℕ) →
+    s.rows ≡ length s.written.now.rows.items →
+    s.notes ≡ length s.written.now.notes.items →
+    OnOk r (new ≡ old ++ done_text s.source.now.noting (layers_in s) (written_in s) (operation_of s.source.now o)) →
+    OnOk r (new ≡ old ++ done_text s.source.now.noting (layers_in s) (written_of s.stack.now s.source.now s.written.now)
+    (operation_of s.source.now o))
 whole_text r s o old new rows notes put =
-    subst (λ w. OnOk r (new ≡ old ++ done_text s.source.now.noting (layers_in s) w (operation_of s.source.now o))) (whole s rows notes) put
+    subst (λ w. OnOk r (new ≡ old ++ done_text s.source.now.noting (layers_in s) w (operation_of s.source.now o)))
+    (whole s rows notes) put
 
-pub whole_noted : {E : Type 0} (r : Result (Unit {0}) E) (s : Scope) (k : ℕ) (old new : List ℕ) → s.rows ≡ length s.written.now.rows.items →
-    s.notes ≡ length s.written.now.notes.items → OnOk r (new ≡ old ++ noted_text (layers_in s) (written_in s) (message_of s.source.now k)) →
-    OnOk r (new ≡ old ++ noted_text (layers_in s) (written_of s.stack.now s.source.now s.written.now) (message_of s.source.now k))
+pub whole_noted : {E : Type 0} (r : Result (Unit {0}) E) (s : Scope) (k : ℕ) (old new : List ℕ) →
+    s.rows ≡ length s.written.now.rows.items →
+    s.notes ≡ length s.written.now.notes.items →
+    OnOk r (new ≡ old ++ noted_text (layers_in s) (written_in s) (message_of s.source.now k)) →
+    OnOk r (new ≡ old ++ noted_text (layers_in s) (written_of s.stack.now s.source.now s.written.now)
+    (message_of s.source.now k))
 whole_noted r s k old new rows notes put =
     subst (λ w. OnOk r (new ≡ old ++ noted_text (layers_in s) w (message_of s.source.now k))) (whole s rows notes) put

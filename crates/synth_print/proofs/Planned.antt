@@ -1,5 +1,6 @@
 -- The headers of a plan.
-use Rattle.std.proofs.Common.{◌≡◌, ℕ, zero, suc, ◌+◌, ◌≤◌, List, [], ◌∷◌, ◌++◌, codes, drop, length, map, take, Option, Some, None, refl, sym, ap, ◌∙◌, arith}
+use Rattle.std.proofs.Common.{◌≡◌, ℕ, zero, suc, ◌+◌, ◌≤◌, List, [], ◌∷◌, ◌++◌, codes, drop, length, map, take, Option}
+use Rattle.std.proofs.Common.{Some, None, refl, sym, ap, ◌∙◌, arith}
 use Rattle.std.proofs.lemmas.List.{append_assoc, drop-drop, drop_all, take_all}
 use Rattle.std.specs.List.{flat_map, join_by}
 use Rattle.bypass_mean.specs.Lines.{ended_line, packet_word, plan_line, plan_name, planned_field}
@@ -30,7 +31,8 @@ behind_map : {X : Type 0} (f : X → List ℕ) (sep : List ℕ) (xs : List X) �
 behind_map f sep [] = refl
 behind_map f sep (x ∷ xs) = ap (λ rest. (sep ++ f x) ++ rest) (behind_map f sep xs)
 
-join_map : {X : Type 0} (f : X → List ℕ) (sep : List ℕ) (xs : List X) → join_by (λ piece. piece) sep (map f xs) ≡ join_by f sep xs
+join_map : {X : Type 0} (f : X → List ℕ) (sep : List ℕ) (xs : List X) → join_by (λ piece. piece) sep (map f xs) ≡
+    join_by f sep xs
 join_map f sep [] = refl
 join_map f sep (x ∷ xs) = ap (λ rest. f x ++ rest) (behind_map f sep xs)
 
@@ -40,7 +42,8 @@ first_atoms (suc k) n [] = refl
 first_atoms (suc k) n (Some m ∷ fields) = λ t. trace.number m ∷ first_atoms k n fields t
 first_atoms (suc k) n (None ∷ fields) = λ t. trace.field n ∷ first_atoms k (suc n) fields t
 
-later_atoms : (k n : ℕ) (fields : List (Option ℕ)) → (m : ℕ) × (drop k (field_atoms n fields) ≡ field_atoms m (drop k fields))
+later_atoms : (k n : ℕ) (fields : List (Option ℕ)) →
+    (m : ℕ) × (drop k (field_atoms n fields) ≡ field_atoms m (drop k fields))
 later_atoms zero n fields = (n, refl)
 later_atoms (suc k) n [] = (n, refl)
 later_atoms (suc k) n (Some m ∷ fields) = later_atoms k n fields
@@ -91,14 +94,17 @@ module _ (stack : List LayerTree) (place tag : ℕ) (tags : List ℕ) (n : ℕ) 
   next_place = omega arith
 
   chain_next : entry_chain place (drop place stack) (tag ∷ tags) (field_atoms n fields)
-      ≡ linked place tag (field_atoms n (take own fields)) ∷ entry_chain (place + 1) (drop (place + 1) stack) tags (field_atoms
+      ≡ linked place tag (field_atoms n (take own fields)) ∷ entry_chain
+      (place + 1) (drop (place + 1) stack) tags (field_atoms
       (later_atoms own n fields).0 (drop own fields))
   chain_next = entry_next place (drop place stack) tag tags (field_atoms n fields)
       ∙ ap (λ layer. linked place tag (take (fields_of layer tag) (field_atoms n fields))
-      ∷ entry_chain (suc place) (drop 1 (drop place stack)) tags (drop (fields_of layer tag) (field_atoms n fields))) (first_at stack place)
+      ∷ entry_chain (suc place) (drop 1 (drop place stack)) tags (drop (fields_of layer tag) (field_atoms n fields)))
+      (first_at stack place)
       ∙ (λ t. linked place tag (first_atoms own n fields t) ∷ entry_chain (suc place) (drop-drop 1 place stack t) tags
       ((later_atoms own n fields).1 t))
-      ∙ ap (λ p. linked place tag (field_atoms n (take own fields)) ∷ entry_chain p (drop (place + 1) stack) tags (field_atoms
+      ∙ ap (λ p. linked place tag (field_atoms n (take own fields)) ∷ entry_chain
+      p (drop (place + 1) stack) tags (field_atoms
       (later_atoms own n fields).0 (drop own fields)))
       next_place
 
@@ -106,13 +112,15 @@ abbrev slashed : List LayerTree → Link → List ℕ
 slashed stack l = codes "/" ++ link_text stack planned_field l
 
 more_is : (stack : List LayerTree) (place : ℕ) (tags : List ℕ) (n : ℕ) (fields : List (Option ℕ)) →
-    flat_map (slashed stack) (entry_chain place (drop place stack) tags (field_atoms n fields)) ≡ more_headers stack place tags fields
+    flat_map (slashed stack) (entry_chain place (drop place stack) tags (field_atoms n fields)) ≡
+    more_headers stack place tags fields
 more_is stack place [] n fields = refl
 more_is stack place (tag ∷ tags) n fields =
     let own = count_of stack place tag in
     ap (flat_map (slashed stack)) (chain_next stack place tag tags n fields)
     ∙ ap (λ text. codes "/" ++ text ++ flat_map (slashed stack)
-    (entry_chain (place + 1) (drop (place + 1) stack) tags (field_atoms (later_atoms own n fields).0 (drop own fields))))
+    (entry_chain (place + 1) (drop (place + 1) stack) tags
+    (field_atoms (later_atoms own n fields).0 (drop own fields))))
     (link_planned stack place tag n (take own fields))
     ∙ ap (λ text. codes "/" ++ planned_header stack place tag (take own fields) ++ text)
     (more_is stack (place + 1) tags (later_atoms own n fields).0 (drop own fields))
@@ -129,6 +137,8 @@ all_are stack (tag ∷ tags) fields =
     ∙ ap (λ text. planned_header stack 0 tag (take own fields) ++ text)
     (more_is stack 1 tags (later_atoms own 0 fields).0 (drop own fields))
 
-pub plan_is : (stack : List LayerTree) (k : ℕ) (plan : Plan) → ended_line (plan_line stack k plan) ≡ plan_text stack k plan
+pub plan_is : (stack : List LayerTree) (k : ℕ) (plan : Plan) → ended_line (plan_line stack k plan) ≡
+    plan_text stack k plan
 plan_is stack k plan =
-    ap (λ text. ended_line (plan_name k ++ codes " " ++ packet_word plan.kind ++ codes " " ++ text)) (all_are stack plan.tags plan.fields)
+    ap (λ text. ended_line (plan_name k ++ codes " " ++ packet_word plan.kind ++ codes " " ++ text))
+    (all_are stack plan.tags plan.fields)

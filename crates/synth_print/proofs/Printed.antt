@@ -1,5 +1,6 @@
 -- The whole text, part by part.
-use Rattle.std.proofs.Common.{◌≡◌, ℕ, suc, ◌+◌, List, [], ◌∷◌, ◌++◌, codes, get_or, length, map, Option, Some, None, refl, sym, ap, subst, ◌∙◌, append-nil, add-zero, zero-add, arith, ◌<◌, true, false}
+use Rattle.std.proofs.Common.{◌≡◌, ℕ, suc, ◌+◌, List, [], ◌∷◌, ◌++◌, codes, get_or, length, map, Option, Some, None}
+use Rattle.std.proofs.Common.{refl, sym, ap, subst, ◌∙◌, append-nil, add-zero, zero-add, arith, ◌<◌, true, false}
 use Rattle.std.proofs.lemmas.List.{map-append}
 use Rattle.std.proofs.lemmas.List.Sums.{sum_by-append, sum_by-cons}
 use Rattle.std.proofs.lemmas.Option.{get_or_from_slice_get, slice_get-get_or, slice_get-map}
@@ -8,11 +9,13 @@ use Rattle.std.specs.List.{enumerate_from, flat_map, fold, slice_get, sum_by}
 use Rattle.std.specs.Option.{option_flatten, option_map}
 use Rattle.std.specs.Prelude.{OnOk, Result, option_to_list}
 use Rattle.bypass_mean.specs.Bypasses as mean
-use Rattle.bypass_mean.specs.Lines.{a_fused, all_made, an_absent, end_line, ended_line, entry_lines, made_lines, plan_line, plan_name, plans_lines, printed_lines}
+use Rattle.bypass_mean.specs.Lines.{a_fused, all_made, an_absent, end_line, ended_line, entry_lines, made_lines}
+use Rattle.bypass_mean.specs.Lines.{plan_line, plan_name, plans_lines, printed_lines}
 use Rattle.layer_mean.specs.Tree.{LayerTree}
 use Rattle.stack_mean.specs.Plan.{Plan}
 use Rattle.synth_print.specs.Counts.{counts_of, no_counts, with_cases, with_made, with_second}
-use Rattle.synth_print.specs.Entries.{case_lines, counted_line, found_lines, heading, if_made, name_text, plan_text, plan_turn}
+use Rattle.synth_print.specs.Entries.{case_lines, counted_line, found_lines, heading, if_made, name_text, plan_text}
+use Rattle.synth_print.specs.Entries.{plan_turn}
 use Rattle.synth_print.specs.Lines.{ended}
 use Rattle.synth_print.specs.declared.counts.Counts.{Counts}
 use Rattle.synth_print.specs.declared.name.Name.{Name}
@@ -30,21 +33,26 @@ module _ (f g : mean.Made → List (List ℕ)) where
   abbrev told : Option mean.Made → Option (Option mean.Made) → List (List ℕ)
   told first second = flat_map f (option_to_list first) ++ flat_map g (option_to_list (option_flatten second))
 
-  told_is : (first : mean.Made) (second : Option mean.Made) → ended (f first) ++ if_made g second ≡ ended (told (Some first) (Some second))
+  told_is : (first : mean.Made) (second : Option mean.Made) → ended (f first) ++ if_made g second ≡
+      ended (told (Some first) (Some second))
   told_is first None = append-nil (ended (f first)) ∙ ap ended (sym (append-nil (f first ++ []) ∙ append-nil (f first)))
-  told_is first (Some m) = sym (ended_both (f first) (g m)) ∙ ap ended (sym (λ t. append-nil (f first) t ++ append-nil (g m) t))
+  told_is first (Some m) = sym (ended_both (f first) (g m)) ∙
+      ap ended (sym (λ t. append-nil (f first) t ++ append-nil (g m) t))
 
   pub entry_told : (b : mean.Bypasses) (n : ℕ) (first : mean.Made) (second : Option mean.Made) →
       slice_get b.made n ≡ Some first → slice_get b.second n ≡ Some second →
       ended (f first) ++ if_made g second ≡ ended (told (slice_get b.made n) (slice_get b.second n))
   entry_told b n first second is also =
-      told_is first second ∙ ap (λ o. ended (told o (Some second))) (sym is) ∙ ap (λ o. ended (told (slice_get b.made n) o)) (sym also)
+      told_is first second ∙ ap (λ o. ended (told o (Some second))) (sym is) ∙
+      ap (λ o. ended (told (slice_get b.made n) o)) (sym also)
 
   pub entry_none : (b : mean.Bypasses) (n : ℕ) → slice_get b.made n ≡ None → slice_get b.second n ≡ None →
       [] ≡ ended (told (slice_get b.made n) (slice_get b.second n))
-  entry_none b n is also = ap (λ o. ended (told o None)) (sym is) ∙ ap (λ o. ended (told (slice_get b.made n) o)) (sym also)
+  entry_none b n is also = ap (λ o. ended (told o None)) (sym is) ∙
+      ap (λ o. ended (told (slice_get b.made n) o)) (sym also)
 
-entry_is : (stack : List LayerTree) (b : mean.Bypasses) (n : ℕ) (name : Name) (first : mean.Made) (second : Option mean.Made) →
+entry_is : (stack : List LayerTree) (b : mean.Bypasses) (n : ℕ) (name : Name) (first : mean.Made)
+    (second : Option mean.Made) →
     slice_get b.made n ≡ Some first → slice_get b.second n ≡ Some second →
     case_lines stack name first second ≡ ended (entry_lines stack b n (name_text name))
 entry_is stack b n name first second is also =
@@ -56,18 +64,22 @@ later_two x y xs k = let same : k + 2 ≡ suc (suc k) = omega arith in ap (slice
 
 pub plan_made : {Y : Type 0} (f : Cases → Y) (b : Bypasses) (k : ℕ) (o : Option Cases) → o ≡ slice_get b.plans.items k →
     slice_get (map f (b.cast ∷ b.send ∷ b.plans.items)) (k + 2) ≡ option_map f o
-plan_made f b k o is = later_two (f b.cast) (f b.send) (map f b.plans.items) k ∙ slice_get-map f b.plans.items k ∙ ap (option_map f) (sym is)
+plan_made f b k o is = later_two (f b.cast) (f b.send) (map f b.plans.items) k ∙ slice_get-map f b.plans.items k ∙
+    ap (option_map f) (sym is)
 
 found_is : (stack : List LayerTree) (b : Bypasses) (k : ℕ) (o : Option Cases) → o ≡ slice_get b.plans.items k →
     found_lines stack (names.Plan k) o ≡ ended (entry_lines stack (bypasses_tree b) (k + 2) (plan_name k))
 found_is stack b k None is =
-    entry_none (made_lines stack (heading (names.Plan k) false)) (made_lines stack (heading (names.Plan k) true)) (bypasses_tree b) (k + 2)
+    entry_none (made_lines stack (heading (names.Plan k) false)) (made_lines stack (heading (names.Plan k) true))
+    (bypasses_tree b) (k + 2)
     (plan_made first_tree b k None is) (plan_made second_tree b k None is)
 found_is stack b k (Some c) is =
-    entry_is stack (bypasses_tree b) (k + 2) (names.Plan k) (first_tree c) (second_tree c) (plan_made first_tree b k (Some c) is)
+    entry_is stack (bypasses_tree b) (k + 2) (names.Plan k) (first_tree c) (second_tree c)
+    (plan_made first_tree b k (Some c) is)
     (plan_made second_tree b k (Some c) is)
 
-pub turn_is : (stack : List LayerTree) (b : Bypasses) (k : ℕ) (plan : Plan) (o : Option Cases) → o ≡ slice_get b.plans.items k →
+pub turn_is : (stack : List LayerTree) (b : Bypasses) (k : ℕ) (plan : Plan) (o : Option Cases) →
+    o ≡ slice_get b.plans.items k →
     (plan_text stack k plan ∷ []) ++ found_lines stack (names.Plan k) o ≡ plan_turn stack (bypasses_tree b) (k, plan)
 turn_is stack b k plan o is =
     ap (λ text. text ∷ found_lines stack (names.Plan k) o) (sym (plan_is stack k plan))
@@ -80,11 +92,14 @@ turns_are stack b k (plan ∷ plans) =
     let next : k + 1 ≡ suc k = omega arith in
     ap (λ lines. plan_turn stack b (k, plan) ++ lines)
     (ap (λ n. flat_map (plan_turn stack b) (enumerate_from n plans)) next ∙ turns_are stack b (suc k) plans)
-    ∙ sym (ended_both (plan_line stack k plan ∷ entry_lines stack b (k + 2) (plan_name k)) (plans_lines stack b (suc k) plans))
+    ∙ sym (ended_both (plan_line stack k plan ∷ entry_lines stack b (k + 2) (plan_name k))
+    (plans_lines stack b (suc k) plans))
 
 pub all_is : (stack : List LayerTree) (plans : List Plan) (b : Bypasses) →
-    case_lines stack names.Cast (first_tree b.cast) (second_tree b.cast) ++ case_lines stack names.Send (first_tree b.send) (second_tree b.send)
-    ++ flat_map (plan_turn stack (bypasses_tree b)) (enumerate_from 0 plans) ++ ended_line (end_line (bypasses_tree b)) ∷ []
+    case_lines stack names.Cast (first_tree b.cast) (second_tree b.cast) ++
+    case_lines stack names.Send (first_tree b.send) (second_tree b.send)
+    ++ flat_map (plan_turn stack (bypasses_tree b)) (enumerate_from 0 plans) ++
+    ended_line (end_line (bypasses_tree b)) ∷ []
     ≡ printed_lines stack plans (bypasses_tree b)
 all_is stack plans b =
     let bs = bypasses_tree b in
@@ -103,12 +118,15 @@ all_is stack plans b =
     ∙ sym (ended_both (cast ++ send ++ rest) last)
 
 -- an element of a list that is mapped
-pub plan_at : {X Y : Type 0} (f : X → Y) (xs : List X) (k : ℕ) (x : X) → k < length xs → x ≡ get_or xs k x → f x ≡ get_or (map f xs) k (f x)
+pub plan_at : {X Y : Type 0} (f : X → Y) (xs : List X) (k : ℕ) (x : X) → k < length xs → x ≡ get_or xs k x →
+    f x ≡ get_or (map f xs) k (f x)
 plan_at f xs k x lt is =
-    sym (get_or_from_slice_get (map f xs) k (f x) (f x) (slice_get-map f xs k ∙ ap (option_map f) (slice_get-get_or xs k x lt ∙ ap Some (sym is))))
+    sym (get_or_from_slice_get (map f xs) k (f x) (f x)
+    (slice_get-map f xs k ∙ ap (option_map f) (slice_get-get_or xs k x lt ∙ ap Some (sym is))))
 
 -- how many there are
-second_adds : (get : Counts → ℕ) (f : mean.Made → ℕ) → ((c : Counts) (m : mean.Made) → get (with_made c m) ≡ get c + f m) →
+second_adds : (get : Counts → ℕ) (f : mean.Made → ℕ) →
+    ((c : Counts) (m : mean.Made) → get (with_made c m) ≡ get c + f m) →
     (c : Counts) (o : Option mean.Made) → get (with_second c o) ≡ get c + sum_by f (option_to_list o)
 second_adds get f one c None = sym (add-zero (get c))
 second_adds get f one c (Some m) = one c m ∙ ap (λ n. get c + n) (sym (sum_by-cons f m [] ∙ add-zero (f m)))
@@ -121,34 +139,43 @@ sum_of : (f : mean.Made → ℕ) (c : Cases) (cs : List Cases) →
 sum_of f c cs =
     let firsts = map first_tree cs in
     let seconds = flat_map option_to_list (map second_tree cs) in
-    let here : sum_by f (option_to_list (second_tree c) ++ seconds) ≡ sum_by f (option_to_list (second_tree c)) + sum_by f seconds =
+    let here : sum_by f (option_to_list (second_tree c) ++ seconds) ≡
+    sum_by f (option_to_list (second_tree c)) + sum_by f seconds =
     sum_by-append f (option_to_list (second_tree c)) seconds in
     let both : sum_by f (firsts ++ seconds) ≡ sum_by f firsts + sum_by f seconds = sum_by-append f firsts seconds in
-    let all : sum_by f (all_of (c ∷ cs)) ≡ sum_by f (first_tree c ∷ firsts) + sum_by f (option_to_list (second_tree c) ++ seconds) =
+    let all : sum_by f (all_of (c ∷ cs)) ≡
+    sum_by f (first_tree c ∷ firsts) + sum_by f (option_to_list (second_tree c) ++ seconds) =
     sum_by-append f (first_tree c ∷ firsts) (option_to_list (second_tree c) ++ seconds) in
-    let one : sum_by f (first_tree c ∷ firsts) ≡ f (first_tree c) + sum_by f firsts = sum_by-cons f (first_tree c) firsts in
+    let one : sum_by f (first_tree c ∷ firsts) ≡ f (first_tree c) + sum_by f firsts =
+    sum_by-cons f (first_tree c) firsts in
     omega (arith, here, both, all, one)
 
-counts_add : (get : Counts → ℕ) (f : mean.Made → ℕ) → ((c : Counts) (m : mean.Made) → get (with_made c m) ≡ get c + f m) →
+counts_add : (get : Counts → ℕ) (f : mean.Made → ℕ) →
+    ((c : Counts) (m : mean.Made) → get (with_made c m) ≡ get c + f m) →
     (c : Counts) (cs : List Cases) → get (fold with_cases c cs) ≡ get c + sum_by f (all_of cs)
 counts_add get f one c [] = sym (add-zero (get c))
 counts_add get f one c (x ∷ cs) =
     let first : get (with_made c (first_tree x)) ≡ get c + f (first_tree x) = one c (first_tree x) in
     let second : get (with_cases c x) ≡ get (with_made c (first_tree x)) + sum_by f (option_to_list (second_tree x)) =
     second_adds get f one (with_made c (first_tree x)) (second_tree x) in
-    let rest : get (fold with_cases (with_cases c x) cs) ≡ get (with_cases c x) + sum_by f (all_of cs) = counts_add get f one (with_cases c x) cs in
+    let rest : get (fold with_cases (with_cases c x) cs) ≡ get (with_cases c x) + sum_by f (all_of cs) =
+    counts_add get f one (with_cases c x) cs in
     omega (arith, first, second, rest, sum_of f x cs)
 
-count_is : (get : Counts → ℕ) (f : mean.Made → ℕ) → ((c : Counts) (m : mean.Made) → get (with_made c m) ≡ get c + f m) → get no_counts ≡ 0 →
+count_is : (get : Counts → ℕ) (f : mean.Made → ℕ) → ((c : Counts) (m : mean.Made) → get (with_made c m) ≡ get c + f m) →
+    get no_counts ≡ 0 →
     (b : Bypasses) → get (counts_of b) ≡ sum_by f (all_made (bypasses_tree b))
 count_is get f one none b =
-    counts_add get f one no_counts (b.cast ∷ b.send ∷ b.plans.items) ∙ ap (λ n. n + sum_by f (all_made (bypasses_tree b))) none
+    counts_add get f one no_counts (b.cast ∷ b.send ∷ b.plans.items) ∙
+    ap (λ n. n + sum_by f (all_made (bypasses_tree b))) none
     ∙ zero-add (sum_by f (all_made (bypasses_tree b)))
 
 end_is : (b : Bypasses) → counted_line (counts_of b) ≡ end_line (bypasses_tree b)
 end_is b = λ t. codes "end " ++ decimal (count_is (λ c. c.fused) a_fused (λ c m. refl) refl b t) ++ codes " fused "
     ++ decimal (count_is (λ c. c.absent) an_absent (λ c m. refl) refl b t) ++ codes " absent"
 
-pub counted_is : {E : Type 0} (b : Bypasses) (c : Counts) (r : Result (Unit {0}) E) (old new : List ℕ) → c ≡ counts_of b →
+pub counted_is : {E : Type 0} (b : Bypasses) (c : Counts) (r : Result (Unit {0}) E) (old new : List ℕ) →
+    c ≡ counts_of b →
     OnOk r (new ≡ old ++ ended_line (counted_line c)) → OnOk r (new ≡ old ++ ended_line (end_line (bypasses_tree b)))
-counted_is b c r old new is put = subst (λ text. OnOk r (new ≡ old ++ ended_line text)) (ap counted_line is ∙ end_is b) put
+counted_is b c r old new is put = subst (λ text. OnOk r (new ≡ old ++ ended_line text)) (ap counted_line is ∙ end_is b)
+    put

@@ -1,5 +1,6 @@
 -- The file of traces, part by part.
-use Rattle.std.proofs.Common.{◌≡◌, ℕ, suc, ◌+◌, List, [], ◌∷◌, ◌++◌, codes, Option, Some, None, refl, sym, ap, ◌∙◌, arith, true, false}
+use Rattle.std.proofs.Common.{◌≡◌, ℕ, suc, ◌+◌, List, [], ◌∷◌, ◌++◌, codes, Option, Some, None, refl, sym, ap, ◌∙◌}
+use Rattle.std.proofs.Common.{arith, true, false}
 use Rattle.std.specs.List.{enumerate_from, flat_map, slice_get}
 use Rattle.bypass_mean.specs.Bypasses as mean
 use Rattle.bypass_mean.specs.Lines.{ended_line, entry_traces, file_lines, plan_name, plans_traces, trace_lines}
@@ -20,19 +21,23 @@ use Rattle.trace_core.specs.declared.bypass.Cases.{Cases}
 pub no_plan : Plan
 no_plan = record { kind = Cast; tags = []; fields = [] }
 
-entry_is : (stack : List LayerTree) (b : mean.Bypasses) (n : ℕ) (name : Name) (first : mean.Made) (second : Option mean.Made) →
+entry_is : (stack : List LayerTree) (b : mean.Bypasses) (n : ℕ) (name : Name) (first : mean.Made)
+    (second : Option mean.Made) →
     slice_get b.made n ≡ Some first → slice_get b.second n ≡ Some second →
     case_traces stack name first second ≡ ended (entry_traces stack b n (name_text name))
 entry_is stack b n name first second is also =
-    entry_told (trace_lines stack (trace_heading name false)) (trace_lines stack (trace_heading name true)) b n first second is also
+    entry_told (trace_lines stack (trace_heading name false)) (trace_lines stack (trace_heading name true)) b n first
+    second is also
 
 pub found_is : (stack : List LayerTree) (b : Bypasses) (k : ℕ) (o : Option Cases) → o ≡ slice_get b.plans.items k →
     found_traces stack (names.Plan k) o ≡ plan_traces stack (bypasses_tree b) k
 found_is stack b k None is =
-    entry_none (trace_lines stack (trace_heading (names.Plan k) false)) (trace_lines stack (trace_heading (names.Plan k) true)) (bypasses_tree b) (k + 2)
+    entry_none (trace_lines stack (trace_heading (names.Plan k) false))
+    (trace_lines stack (trace_heading (names.Plan k) true)) (bypasses_tree b) (k + 2)
     (plan_made first_tree b k None is) (plan_made second_tree b k None is)
 found_is stack b k (Some c) is =
-    entry_is stack (bypasses_tree b) (k + 2) (names.Plan k) (first_tree c) (second_tree c) (plan_made first_tree b k (Some c) is)
+    entry_is stack (bypasses_tree b) (k + 2) (names.Plan k) (first_tree c) (second_tree c)
+    (plan_made first_tree b k (Some c) is)
     (plan_made second_tree b k (Some c) is)
 
 turns_are : (stack : List LayerTree) (b : mean.Bypasses) (k : ℕ) (plans : List Plan) →

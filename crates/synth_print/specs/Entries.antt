@@ -36,7 +36,8 @@ abbrev pub second_lines : List LayerTree → Name → Option mean.Made → List 
 second_lines stack name second = if_made (made_lines stack (heading name true)) second
 
 abbrev pub case_lines : List LayerTree → Name → mean.Made → Option mean.Made → List (List ℕ)
-case_lines stack name first second = ended (made_lines stack (heading name false) first) ++ second_lines stack name second
+case_lines stack name first second = ended (made_lines stack (heading name false) first) ++
+    second_lines stack name second
 
 -- A field of a plan.
 abbrev pub planned : Option ℕ → List ℕ
@@ -64,12 +65,14 @@ more_headers stack place (tag ∷ tags) fields =
 abbrev pub all_headers : List LayerTree → List ℕ → List (Option ℕ) → List ℕ
 all_headers stack [] fields = []
 all_headers stack (tag ∷ tags) fields =
-    planned_header stack 0 tag (take (count_of stack 0 tag) fields) ++ more_headers stack 1 tags (drop (count_of stack 0 tag) fields)
+    planned_header stack 0 tag (take (count_of stack 0 tag) fields) ++
+    more_headers stack 1 tags (drop (count_of stack 0 tag) fields)
 
 -- The line of a plan, and the lines of its entry behind it.
 abbrev pub plan_text : List LayerTree → ℕ → Plan → List ℕ
 plan_text stack k plan =
-    ended_line (plan_name k ++ codes " " ++ packet_word plan.kind ++ codes " " ++ all_headers stack plan.tags plan.fields)
+    ended_line (plan_name k ++ codes " " ++ packet_word plan.kind ++ codes " " ++
+    all_headers stack plan.tags plan.fields)
 
 abbrev pub plan_turn : List LayerTree → mean.Bypasses → ℕ × Plan → List (List ℕ)
 plan_turn stack b x = ended (plan_line stack x.0 x.1 ∷ entry_lines stack b (x.0 + 2) (plan_name x.0))

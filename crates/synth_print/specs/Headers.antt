@@ -15,7 +15,8 @@ header_called header = option_map_or (λ h. h.name) header []
 
 -- LAYER.HEADER(
 abbrev pub header_front : List LayerTree → (place tag : ℕ) → List ℕ
-header_front stack place tag = (layer_of stack place).name ++ codes "." ++ header_called (declared (layer_of stack place) tag) ++ codes "("
+header_front stack place tag = (layer_of stack place).name ++ codes "." ++
+    header_called (declared (layer_of stack place) tag) ++ codes "("
 
 -- Parts with commas between.
 abbrev pub joined : List (List ℕ) → List ℕ

@@ -2,7 +2,8 @@
 use Rattle.std.specs.Prelude.{ℕ, Bool, true, false, List, [], ◌∷◌, ◌++◌, codes, length, map}
 use Rattle.std.specs.Fmt.{decimal}
 use Rattle.bypass_mean.specs.Lines.{conjunct_line, ended_line}
-use Rattle.bypass_mean.specs.Text.{Written, line_of, message_text, nothing_written, number_text, operation_lines, writes}
+use Rattle.bypass_mean.specs.Text.{Written, line_of, message_text, nothing_written, number_text, operation_lines}
+use Rattle.bypass_mean.specs.Text.{writes}
 use Rattle.layer_mean.specs.Tree.{LayerTree}
 use Rattle.synth_print.specs.Source.{nodes_in, operations_in}
 use Rattle.synth_print.specs.declared.source.Source.{Source}
@@ -66,12 +67,14 @@ handler_in s values conjuncts =
 abbrev pub message_of : Source → ℕ → TraceMessage
 message_of s k = message_in (terms (nodes_in s.nodes)) k
 
--- The line of an operation that isn't a note, as it is put, and that of a note; and what is written behind an operation, without the lines so far.
+-- The line of an operation that isn't a note, as it is put, and that of a note; and what is written behind an
+-- operation, without the lines so far.
 abbrev pub done_text : Bool → List LayerTree → Written → Operation → List ℕ
 done_text noting stack w o = ended_line (opened_line noting (line_of stack w o))
 
 abbrev pub noted_text : List LayerTree → Written → TraceMessage → List ℕ
-noted_text stack w m = ended_line (codes "note " ++ (codes "m." ++ decimal (length w.notes)) ++ codes " = " ++ message_text stack w m)
+noted_text stack w m =
+    ended_line (codes "note " ++ (codes "m." ++ decimal (length w.notes)) ++ codes " = " ++ message_text stack w m)
 
 abbrev pub follows : Bool → List LayerTree → Written → Operation → Written
 follows noting stack w o = bare (writes noting stack w o)

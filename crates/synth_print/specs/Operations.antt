@@ -1,5 +1,6 @@
 -- The parts of operations, as text.
-use Rattle.std.specs.Prelude.{ℕ, Bool, true, false, List, [], ◌++◌, codes, map, Option, Some, None, option_map, option_to_list}
+use Rattle.std.specs.Prelude.{ℕ, Bool, true, false, List, [], ◌++◌, codes, map, Option, Some, None, option_map}
+use Rattle.std.specs.Prelude.{option_to_list}
 use Rattle.bypass_mean.specs.Text.{Written, behind, core_text, listed, number_text, pushed_text}
 use Rattle.layer_mean.specs.Tree.{LayerTree}
 use Rattle.report_lines.specs.Lead.{lead}
@@ -41,8 +42,11 @@ behind_of stack w m = behind stack w m.chain
 -- The parts of an output, and those of a row that is pushed.
 abbrev pub listed_cores : Written → List (List trace.Link) → List Atom → Option Chained → List ℕ
 listed_cores w cs atoms message =
-    listed (atom_texts w atoms ++ map (λ (m : trace.Chained). core_text w m.core) (option_to_list (option_map (chained_in cs) message)))
+    listed (atom_texts w atoms ++
+    map (λ (m : trace.Chained). core_text w m.core) (option_to_list (option_map (chained_in cs) message)))
 
-abbrev pub listed_rows : List LayerTree → Written → List Term → List (List trace.Link) → List ℕ → Option Chained → List ℕ
+abbrev pub listed_rows : List LayerTree → Written → List Term → List (List trace.Link) → List ℕ → Option Chained →
+    List ℕ
 listed_rows stack w ts cs ks message =
-    listed (number_texts stack w ts ks ++ map (pushed_text stack w) (option_to_list (option_map (chained_in cs) message)))
+    listed (number_texts stack w ts ks ++
+    map (pushed_text stack w) (option_to_list (option_map (chained_in cs) message)))

@@ -23,7 +23,8 @@ abbrev pub second_traces : List LayerTree → Name → Option mean.Made → List
 second_traces stack name second = if_made (trace_lines stack (trace_heading name true)) second
 
 abbrev pub case_traces : List LayerTree → Name → mean.Made → Option mean.Made → List (List ℕ)
-case_traces stack name first second = ended (trace_lines stack (trace_heading name false) first) ++ second_traces stack name second
+case_traces stack name first second = ended (trace_lines stack (trace_heading name false) first) ++
+    second_traces stack name second
 
 -- Those of an entry of which something is made, and those of the entry of a numbered plan.
 abbrev pub found_traces : List LayerTree → Name → Option Cases → List (List ℕ)
@@ -39,5 +40,6 @@ plan_turn stack b x = plan_traces stack b x.0
 -- The traces of all entries.
 abbrev pub all_traces : List LayerTree → List Plan → Bypasses → List (List ℕ)
 all_traces stack plans b =
-    case_traces stack names.Cast (first_tree b.cast) (second_tree b.cast) ++ case_traces stack names.Send (first_tree b.send) (second_tree b.send)
+    case_traces stack names.Cast (first_tree b.cast) (second_tree b.cast) ++
+    case_traces stack names.Send (first_tree b.send) (second_tree b.send)
     ++ flat_map (plan_turn stack (bypasses_tree b)) (enumerate_from 0 plans)

@@ -37,7 +37,8 @@ fn row_at(scope: &Scope<'_>, number: u32) -> Option<Spot>
 /// How a number of a taken row is called.
 #[tactic(auto, using(crate::proofs::Notes::no_row))]
 fn push_row_called(line: &mut Line, scope: &Scope<'_>, row: u32, number: u8) -> Result<(), Memory>
-    ensures { OnOk result (line.new ≡ line.old ++ slice_index_or (slice_index_or (written_in scope.now).rows row []) number []) }
+    ensures { OnOk result
+        (line.new ≡ line.old ++ slice_index_or (slice_index_or (written_in scope.now).rows row []) number []) }
 {
     match row_at(scope, row) {
         Some(row) => push_called(line, scope.stack, row.place, row.cell, number),

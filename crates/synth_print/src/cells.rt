@@ -104,7 +104,8 @@ fn push_word(line: &mut Line, items: &Items, number: u8) -> Result<(), Memory>
 
 /// How a number of the rows of a cell that there may be is called.
 fn push_number_of(line: &mut Line, cell: Option<&Cell>, number: u8) -> Result<(), Memory>
-    ensures { OnOk result (line.new ≡ line.old ++ slice_index_or (numbers_called (form_shown (cell_shown cell.entry))) number []) }
+    ensures { OnOk result
+        (line.new ≡ line.old ++ slice_index_or (numbers_called (form_shown (cell_shown cell.entry))) number []) }
 {
     let Some(cell) = cell else { return Ok(()) };
     match &cell.form {

@@ -7,7 +7,8 @@ ghost use Rattle.trace_core.specs.Bypasses.{made_tree};
 use msg_core::Memory;
 use trace_core::{Bypasses, Cases, Made};
 
-/// How many have a trace, and how many have none. More than 64 bits count, which no memory holds, are answered as want of memory is.
+/// How many have a trace, and how many have none. More than 64 bits count, which no memory holds, are answered as want
+/// of memory is.
 #[derive(Clone, Copy)]
 pub(crate) struct Counts {
     pub fused: u64,

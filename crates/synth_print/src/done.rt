@@ -4,7 +4,8 @@ ghost use Rattle.std.specs.Prelude.{◌≡◌, ◌+◌, ◌^◌, ◌<◌, ◌≤
 ghost use Rattle.std.specs.Fmt.{decimal};
 ghost use Rattle.bypass_mean.specs.Text.{message_text, nothing_written, with_note};
 ghost use Rattle.event_graph.specs.Answer.{stack_tree};
-ghost use Rattle.synth_print.specs.Lines.{done_lines, done_text, follows, line_if, message_of, noted_text, opening, operation_of, with_row};
+ghost use Rattle.synth_print.specs.Lines.{done_lines, done_text, follows, line_if, message_of, noted_text, opening};
+ghost use Rattle.synth_print.specs.Lines.{operation_of, with_row};
 ghost use Rattle.synth_print.specs.Source.{nodes_in};
 ghost use Rattle.synth_print.specs.Texts.{chains_in, layers_in, terms_in, written_in, written_of};
 ghost use Rattle.synth_print.specs.Written.{row_called};
@@ -92,7 +93,8 @@ fn push_opening(line: &mut Line, noting: bool) -> Result<(), Memory>
 /// Builds the line of an operation.
 fn build_line(line: &mut Line, scope: &Scope<'_>, operation: Operation) -> Result<(), Memory>
     requires { IsPart (terms_in scope.now) (chains_in scope.now) operation }
-    ensures { OnOk result (line.new ≡ line.old ++ done_text scope.now.source.now.noting (layers_in scope.now) (written_in scope.now)
+    ensures { OnOk result
+        (line.new ≡ line.old ++ done_text scope.now.source.now.noting (layers_in scope.now) (written_in scope.now)
         (operation_of scope.now.source.now operation)) }
 {
     push_opening(line, scope.source.noting)?;
@@ -191,7 +193,8 @@ fn note_message(
     }
 }
 
-/// Builds the line of an operation on an empty line, if it has one: whether it has. What it binds, takes or notes may be named from then on.
+/// Builds the line of an operation on an empty line, if it has one: whether it has. What it binds, takes or notes may
+/// be named from then on.
 pub(crate) fn build_operation(
     line: &mut Line,
     stack: &Stack,

@@ -72,7 +72,9 @@ fn push_reason(line: &mut Line, reason: Absent) -> Result<(), Memory>
 
 /// Builds the line of a case without a trace.
 fn build_absent(line: &mut Line, name: Name, second: bool, reason: Absent) -> Result<(), Memory>
-    ensures { OnOk result (line.new ≡ line.old ++ ended_line (heading name second ++ codes " absent " ++ reason_text (reason_tree reason))) }
+    ensures { OnOk result
+        (line.new ≡ line.old ++
+        ended_line (heading name second ++ codes " absent " ++ reason_text (reason_tree reason))) }
 {
     push_heading(line, name, second)?;
     line.text(b" absent ")?;

@@ -8,7 +8,8 @@ ghost use Rattle.bypass_mean.specs.Text.{nothing_written, number_text, operation
 ghost use Rattle.event_graph.specs.Answer.{stack_tree};
 ghost use Rattle.outside.specs.Lines.{Wrote};
 ghost use Rattle.outside.specs.Tells.{tells_of};
-ghost use Rattle.synth_print.specs.Lines.{all_done, conjunct_turn, done_lines, ended, follows, handler_in, numbers_of, operation_of, value_turn};
+ghost use Rattle.synth_print.specs.Lines.{all_done, conjunct_turn, done_lines, ended, follows, handler_in, numbers_of};
+ghost use Rattle.synth_print.specs.Lines.{operation_of, value_turn};
 ghost use Rattle.synth_print.specs.Source.{nodes_in, operations_in};
 ghost use Rattle.synth_print.specs.Texts.{layers_in, terms_in, written_in, written_of};
 ghost use Rattle.trace_core.specs.Links.{chains};
@@ -76,7 +77,8 @@ fn write_values<O: Sink>(
     out: &mut O,
 ) -> Result<(), SinkError>
     requires { written_in scope.now ≡ nothing_written }
-    ensures { Wrote (flat_map (value_turn (layers_in scope.now)) (enumerate_from 0 (numbers_of scope.now.source.now values.now)))
+    ensures { Wrote (flat_map (value_turn (layers_in scope.now))
+        (enumerate_from 0 (numbers_of scope.now.source.now values.now)))
         (tells_of O.Sink out.old) (tells_of O.Sink out.new) result }
 {
     for k in 0..values.len() {
@@ -123,7 +125,8 @@ fn write_conjuncts<O: Sink>(
     out: &mut O,
 ) -> Result<(), SinkError>
     requires { written_in scope.now ≡ nothing_written }
-    ensures { Wrote (flat_map (conjunct_turn (layers_in scope.now)) (enumerate_from 0 (numbers_of scope.now.source.now conjuncts.now)))
+    ensures { Wrote (flat_map (conjunct_turn (layers_in scope.now))
+        (enumerate_from 0 (numbers_of scope.now.source.now conjuncts.now)))
         (tells_of O.Sink out.old) (tells_of O.Sink out.new) result }
 {
     for k in 0..conjuncts.len() {
@@ -171,10 +174,12 @@ fn write_operation<O: Sink>(
 ) -> Result<(), SinkError>
     requires few { written.old.binds + 1 < 2 ^ 64 }
     requires parts { IsPart (terms (nodes_in source.now.nodes)) (chains source.now.links.now) operation }
-    ensures wrote { Wrote (done_lines source.now.noting (stack_tree stack.now) (written_of stack.now source.now written.old)
+    ensures wrote { Wrote
+        (done_lines source.now.noting (stack_tree stack.now) (written_of stack.now source.now written.old)
         (operation_of source.now operation)) (tells_of O.Sink out.old) (tells_of O.Sink out.new) result }
     ensures written { OnOk result (written_of stack.now source.now written.new
-        ≡ follows source.now.noting (stack_tree stack.now) (written_of stack.now source.now written.old) (operation_of source.now operation)) }
+        ≡ follows source.now.noting (stack_tree stack.now) (written_of stack.now source.now written.old)
+        (operation_of source.now operation)) }
     ensures few { OnOk result (written.new.binds ≤ written.old.binds + 1) }
 {
     line.clear();

@@ -1,7 +1,7 @@
 //! Numbers and messages over nodes, as text.
 //!
-//! What a node names is below it, and a note names the notes before it. Where there is no node of the right sort, the definitions read the number
-//! 0 and no bytes, and so does this.
+//! What a node names is below it, and a note names the notes before it. Where there is no node of the right sort, the
+//! definitions read the number 0 and no bytes, and so does this.
 
 ghost use Rattle.std.specs.Prelude.{◌≡◌, ◌<◌, ◌++◌, ◌∷◌, [], OnOk, Some, codes, slice_get, slice_index_or, take};
 ghost use Rattle.bypass_mean.specs.Text.{cell_name, core_text, indexed, layer_of, listed, numbers_called};
@@ -27,8 +27,10 @@ use trace_core::{Atom, Core, Node};
 #[tactic(auto, using(crate::proofs::Read::no_number, crate::proofs::Read::no_message))]
 fn node_at(nodes: &Nodes<'_>, number: u32) -> Node
     ensures before { IsBelow number result }
-    ensures number { number_in (terms (nodes_in nodes.now)) number ≡ number_of (Some (term_of (terms (nodes_in nodes.now)) result)) }
-    ensures message { message_in (terms (nodes_in nodes.now)) number ≡ message_of (Some (term_of (terms (nodes_in nodes.now)) result)) }
+    ensures number { number_in (terms (nodes_in nodes.now)) number ≡
+        number_of (Some (term_of (terms (nodes_in nodes.now)) result)) }
+    ensures message { message_in (terms (nodes_in nodes.now)) number ≡
+        message_of (Some (term_of (terms (nodes_in nodes.now)) result)) }
 {
     if number < nodes.count() {
         nodes.node(number)

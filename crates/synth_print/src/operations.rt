@@ -5,7 +5,8 @@ ghost use Rattle.std.specs.Option.{option_map_or};
 ghost use Rattle.bypass_mean.specs.Text.{cell_name, indexed};
 ghost use Rattle.layer_ast.specs.Printed.{direction_sign};
 ghost use Rattle.synth_print.specs.Headers.{atom_texts, joined};
-ghost use Rattle.synth_print.specs.Operations.{behind_of, core_of, is_change, last_part, listed_cores, listed_rows, number_texts, pushed_of};
+ghost use Rattle.synth_print.specs.Operations.{behind_of, core_of, is_change, last_part, listed_cores, listed_rows};
+ghost use Rattle.synth_print.specs.Operations.{number_texts, pushed_of};
 ghost use Rattle.synth_print.specs.Texts.{chains_in, layers_in, number_at, operation_text, terms_in, written_in};
 ghost use Rattle.trace_core.specs.Operations.{HasChain, IsPart, chained_in};
 ghost use Rattle.trace_core.specs.declared.operation.Operation.TheVariants as operations;
@@ -63,7 +64,8 @@ fn push_row_parts(
     requires { HasChain (chains_in scope.now) message }
     ensures { OnOk result (line.new ≡ line.old ++ codes "("
         ++ joined (number_texts (layers_in scope.now) (written_in scope.now) (terms_in scope.now) numbers.now)
-        ++ last_part (length numbers.now) (option_map (pushed_of (layers_in scope.now) (written_in scope.now) (chains_in scope.now)) message)
+        ++ last_part (length numbers.now)
+        (option_map (pushed_of (layers_in scope.now) (written_in scope.now) (chains_in scope.now)) message)
         ++ codes ")") }
 {
     line.text(b"(")?;
@@ -81,7 +83,8 @@ fn push_row(
 ) -> Result<(), Memory>
     requires { HasChain (chains_in scope.now) message }
     ensures { OnOk result (line.new ≡ line.old
-        ++ listed_rows (layers_in scope.now) (written_in scope.now) (terms_in scope.now) (chains_in scope.now) numbers.now message) }
+        ++ listed_rows (layers_in scope.now) (written_in scope.now) (terms_in scope.now) (chains_in scope.now)
+        numbers.now message) }
 {
     push_row_parts(line, scope, numbers, message)
 }
@@ -127,7 +130,8 @@ fn push_arguments(
     numbers: &Atoms,
     message: Option<Chained>,
 ) -> Result<(), Memory>
-    ensures { OnOk result (line.new ≡ line.old ++ listed_cores (written_in scope.now) (chains_in scope.now) numbers.now message) }
+    ensures { OnOk result
+        (line.new ≡ line.old ++ listed_cores (written_in scope.now) (chains_in scope.now) numbers.now message) }
 {
     push_output_parts(line, scope, numbers, message)
 }
@@ -181,7 +185,8 @@ fn push_set(
     index: u32,
     value: u32,
 ) -> Result<(), Memory>
-    ensures { OnOk result (line.new ≡ line.old ++ operation_text scope.now (operations.Set spot.place spot.cell index value)) }
+    ensures { OnOk result
+        (line.new ≡ line.old ++ operation_text scope.now (operations.Set spot.place spot.cell index value)) }
 {
     line.text(b"set ")?;
     push_cell(line, scope, spot, index)?;
@@ -213,7 +218,8 @@ fn push_set_square(
     column: u32,
     value: u32,
 ) -> Result<(), Memory>
-    ensures { OnOk result (line.new ≡ line.old ++ operation_text scope.now (operations.SetSquare spot.place spot.cell row column value)) }
+    ensures { OnOk result
+        (line.new ≡ line.old ++ operation_text scope.now (operations.SetSquare spot.place spot.cell row column value)) }
 {
     line.text(b"set ")?;
     push_pair(line, scope, spot, row, column)?;
@@ -230,7 +236,9 @@ fn push_push(
     message: Option<Chained>,
 ) -> Result<(), Memory>
     requires { HasChain (chains_in scope.now) message }
-    ensures { OnOk result (line.new ≡ line.old ++ operation_text scope.now (operations.Push spot.place spot.cell index numbers.now message)) }
+    ensures { OnOk result
+        (line.new ≡ line.old ++
+        operation_text scope.now (operations.Push spot.place spot.cell index numbers.now message)) }
 {
     line.text(b"push ")?;
     push_cell(line, scope, spot, index)?;
@@ -266,7 +274,8 @@ fn push_output(
     message: Option<Chained>,
 ) -> Result<(), Memory>
     requires { HasChain (chains_in scope.now) message }
-    ensures { OnOk result (line.new ≡ line.old ++ operation_text scope.now (operations.Output dir kind numbers.now message)) }
+    ensures { OnOk result
+        (line.new ≡ line.old ++ operation_text scope.now (operations.Output dir kind numbers.now message)) }
 {
     line.text(b"out ")?;
     line.text(direction_text(dir))?;

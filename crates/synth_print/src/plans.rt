@@ -6,7 +6,8 @@ ghost use Rattle.std.specs.Option.{option_map_or};
 ghost use Rattle.event_graph.specs.Answer.{stack_tree};
 ghost use Rattle.stack_shapes.specs.Lists.{plan_tree};
 ghost use Rattle.synth_print.specs.Cells.{layer_or_none};
-ghost use Rattle.synth_print.specs.Entries.{all_headers, more_headers, more_planned, plan_text, planned, planned_header};
+ghost use Rattle.synth_print.specs.Entries.{all_headers, more_headers, more_planned, plan_text, planned};
+ghost use Rattle.synth_print.specs.Entries.{planned_header};
 ghost use Rattle.trace_mean.specs.Fuse.{fields_of};
 
 use crate::cells::layer_at;

@@ -102,7 +102,8 @@ fn write_plans<O: Sink>(
     bypasses: &Bypasses,
     out: &mut O,
 ) -> Result<(), SinkError>
-    ensures { Wrote (flat_map (plan_turn (stack_tree stack.now) (bypasses_tree bypasses.now)) (enumerate_from 0 (map plan_tree plans.now)))
+    ensures { Wrote (flat_map (plan_turn (stack_tree stack.now) (bypasses_tree bypasses.now))
+        (enumerate_from 0 (map plan_tree plans.now)))
         (tells_of O.Sink out.old) (tells_of O.Sink out.new) result }
 {
     for k in 0..plans.len() {
@@ -151,7 +152,8 @@ fn write_own<O: Sink>(
     bypasses: &Bypasses,
     out: &mut O,
 ) -> Result<(), SinkError>
-    ensures { Wrote (case_lines (stack_tree stack.now) names.Cast (first_tree bypasses.now.cast) (second_tree bypasses.now.cast)
+    ensures { Wrote (case_lines (stack_tree stack.now) names.Cast (first_tree bypasses.now.cast)
+        (second_tree bypasses.now.cast)
         ++ case_lines (stack_tree stack.now) names.Send (first_tree bypasses.now.send) (second_tree bypasses.now.send))
         (tells_of O.Sink out.old) (tells_of O.Sink out.new) result }
 {
@@ -168,9 +170,11 @@ fn write_entries<O: Sink>(
     bypasses: &Bypasses,
     out: &mut O,
 ) -> Result<(), SinkError>
-    ensures { Wrote (case_lines (stack_tree stack.now) names.Cast (first_tree bypasses.now.cast) (second_tree bypasses.now.cast)
+    ensures { Wrote (case_lines (stack_tree stack.now) names.Cast (first_tree bypasses.now.cast)
+        (second_tree bypasses.now.cast)
         ++ case_lines (stack_tree stack.now) names.Send (first_tree bypasses.now.send) (second_tree bypasses.now.send)
-        ++ flat_map (plan_turn (stack_tree stack.now) (bypasses_tree bypasses.now)) (enumerate_from 0 (map plan_tree plans.now)))
+        ++ flat_map (plan_turn (stack_tree stack.now) (bypasses_tree bypasses.now))
+        (enumerate_from 0 (map plan_tree plans.now)))
         (tells_of O.Sink out.old) (tells_of O.Sink out.new) result }
 {
     write_own(alloc, line, stack, bypasses, out)?;
@@ -193,8 +197,8 @@ fn write_all<O: Sink>(
     write_end(line, bypasses, out)
 }
 
-/// Puts the text of a stack's bypasses, a line a put: each entry with what is made of it, each plan before its entry, and how many there are. No
-/// more than one line is held at a time.
+/// Puts the text of a stack's bypasses, a line a put: each entry with what is made of it, each plan before its entry,
+/// and how many there are. No more than one line is held at a time.
 pub fn print_bypasses<O: Sink>(
     alloc: Global,
     stack: &Stack,

@@ -4,7 +4,8 @@ use crate::source::Source;
 use crate::written::Written;
 use event_graph::Stack;
 
-/// Operations of a stack, what those so far have left, and how many of the taken rows and of the noted messages may be named.
+/// Operations of a stack, what those so far have left, and how many of the taken rows and of the noted messages may be
+/// named.
 #[derive(Clone, Copy)]
 pub(crate) struct Scope<'a> {
     pub stack: &'a Stack,

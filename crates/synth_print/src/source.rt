@@ -30,7 +30,8 @@ impl Nodes<'_> {
     pub(crate) fn node(&self, number: u32) -> Node
         requires { number < length (nodes_in self.now) }
         ensures before { IsBelow number result }
-        ensures stands { slice_get (terms (nodes_in self.now)) number ≡ Some (term_of (terms (nodes_in self.now)) result) }
+        ensures stands { slice_get (terms (nodes_in self.now)) number ≡
+            Some (term_of (terms (nodes_in self.now)) result) }
     {
         match self {
             Nodes::OfTrace(nodes) => nodes.node(number),

@@ -11,7 +11,8 @@ ghost use Rattle.stack_shapes.specs.Lists.{plan_tree};
 ghost use Rattle.stack_shapes.specs.Trees.{plans_tree};
 ghost use Rattle.synth_print.specs.Entries.{cases_shown};
 ghost use Rattle.synth_print.specs.Lines.{ended};
-ghost use Rattle.synth_print.specs.Traces.{all_traces, case_traces, found_traces, plan_traces, plan_turn, second_traces, trace_heading};
+ghost use Rattle.synth_print.specs.Traces.{all_traces, case_traces, found_traces, plan_traces, plan_turn};
+ghost use Rattle.synth_print.specs.Traces.{second_traces, trace_heading};
 ghost use Rattle.synth_print.specs.declared.name.Name.TheVariants as names;
 ghost use Rattle.trace_core.specs.Bypasses.{bypasses_tree, first_tree, made_tree, second_tree};
 ghost use Rattle.trace_core.specs.Trees.{trace_tree};
@@ -48,7 +49,8 @@ fn write_heading<O: Sink>(
     second: bool,
     out: &mut O,
 ) -> Result<(), SinkError>
-    ensures { Wrote (ended_line (trace_heading name second) ∷ []) (tells_of O.Sink out.old) (tells_of O.Sink out.new) result }
+    ensures { Wrote (ended_line (trace_heading name second) ∷ []) (tells_of O.Sink out.old) (tells_of O.Sink out.new)
+        result }
 {
     line.clear();
     match build_heading(line, name, second) {
@@ -67,7 +69,8 @@ fn write_headed<O: Sink>(
     trace: &Trace,
     out: &mut O,
 ) -> Result<(), SinkError>
-    ensures { Wrote (ended_line (trace_heading name second) ∷ ended (operation_lines true (stack_tree stack.now) (trace_tree trace.now)))
+    ensures { Wrote (ended_line (trace_heading name second) ∷
+        ended (operation_lines true (stack_tree stack.now) (trace_tree trace.now)))
         (tells_of O.Sink out.old) (tells_of O.Sink out.new) result }
 {
     write_heading(line, name, second, out)?;
@@ -170,7 +173,8 @@ fn write_plans<O: Sink>(
     bypasses: &Bypasses,
     out: &mut O,
 ) -> Result<(), SinkError>
-    ensures { Wrote (flat_map (plan_turn (stack_tree stack.now) (bypasses_tree bypasses.now)) (enumerate_from 0 (map plan_tree plans.now)))
+    ensures { Wrote (flat_map (plan_turn (stack_tree stack.now) (bypasses_tree bypasses.now))
+        (enumerate_from 0 (map plan_tree plans.now)))
         (tells_of O.Sink out.old) (tells_of O.Sink out.new) result }
 {
     for k in 0..plans.len() {
@@ -187,7 +191,8 @@ fn write_own<O: Sink>(
     bypasses: &Bypasses,
     out: &mut O,
 ) -> Result<(), SinkError>
-    ensures { Wrote (case_traces (stack_tree stack.now) names.Cast (first_tree bypasses.now.cast) (second_tree bypasses.now.cast)
+    ensures { Wrote (case_traces (stack_tree stack.now) names.Cast (first_tree bypasses.now.cast)
+        (second_tree bypasses.now.cast)
         ++ case_traces (stack_tree stack.now) names.Send (first_tree bypasses.now.send) (second_tree bypasses.now.send))
         (tells_of O.Sink out.old) (tells_of O.Sink out.new) result }
 {
@@ -219,7 +224,8 @@ fn write_rest<O: Sink>(
     bypasses: &Bypasses,
     out: &mut O,
 ) -> Result<(), SinkError>
-    ensures { Wrote (all_traces (stack_tree stack.now) (map plan_tree plans.now) bypasses.now ++ ended_line (codes "end") ∷ [])
+    ensures { Wrote (all_traces (stack_tree stack.now) (map plan_tree plans.now) bypasses.now ++
+        ended_line (codes "end") ∷ [])
         (tells_of O.Sink out.old) (tells_of O.Sink out.new) result }
 {
     let mut line = Line::new(alloc);
@@ -235,15 +241,16 @@ fn write_file<O: Sink>(
     bypasses: &Bypasses,
     out: &mut O,
 ) -> Result<(), SinkError>
-    ensures { Wrote (map ended_line (file_lines (stack_tree stack.now) (map plan_tree plans.now) (bypasses_tree bypasses.now)))
+    ensures { Wrote (map ended_line
+        (file_lines (stack_tree stack.now) (map plan_tree plans.now) (bypasses_tree bypasses.now)))
         (tells_of O.Sink out.old) (tells_of O.Sink out.new) result }
 {
     put_line(b"bypasses 1\n", out)?;
     write_rest(alloc, stack, plans, bypasses, out)
 }
 
-/// Puts the traces of a stack's bypasses as a file, a line a put: each trace that was made behind its entry and case, with a line for each note.
-/// No more than one line is held at a time.
+/// Puts the traces of a stack's bypasses as a file, a line a put: each trace that was made behind its entry and case,
+/// with a line for each note. No more than one line is held at a time.
 pub fn print_traces<O: Sink>(
     alloc: Global,
     stack: &Stack,
@@ -251,7 +258,8 @@ pub fn print_traces<O: Sink>(
     bypasses: &Bypasses,
     out: &mut O,
 ) -> Result<(), SinkError>
-    ensures { Wrote (map ended_line (file_lines (stack_tree stack.now) (plans_tree plans.now) (bypasses_tree bypasses.now)))
+    ensures { Wrote (map ended_line
+        (file_lines (stack_tree stack.now) (plans_tree plans.now) (bypasses_tree bypasses.now)))
         (tells_of O.Sink out.old) (tells_of O.Sink out.new) result }
 {
     write_file(alloc, stack, plans.slice(), bypasses, out)

@@ -10,8 +10,8 @@ pub(crate) struct Spot {
     pub cell: u8,
 }
 
-/// How a noted message is told: by the number of its note; or written out, from its node and from how many rows were taken before it, since it
-/// names these and the messages noted before it.
+/// How a noted message is told: by the number of its note; or written out, from its node and from how many rows were
+/// taken before it, since it names these and the messages noted before it.
 #[derive(Clone, Copy)]
 pub(crate) enum Note {
     Called,

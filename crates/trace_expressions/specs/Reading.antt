@@ -35,19 +35,23 @@ TargetMade old new (targets.Element spot index) = NumberMade old new index
 TargetMade old new (targets.Square spot row column) = NumberMade old new row × NumberMade old new column
 
 -- What was taken, the bytes after it, and the nodes that stand for it.
-pub record NumberRead (taken : Option (TraceNumber × List ℕ)) (old new : List Node) (rest : List ℕ) (k : ℕ) : Type 0 where
-  pub is : taken ≡ Some (number_in (terms new) k, rest)
-  pub made : NumberMade old new k
+pub record NumberRead (taken : Option (TraceNumber × List ℕ)) (old new : List Node) (rest : List ℕ) (k : ℕ) : Type 0
+  where
+    pub is : taken ≡ Some (number_in (terms new) k, rest)
+    pub made : NumberMade old new k
 
-pub record MessageRead (taken : Option (TraceMessage × List ℕ)) (old new : List Node) (rest : List ℕ) (k : ℕ) : Type 0 where
-  pub is : taken ≡ Some (message_in (terms new) k, rest)
-  pub made : Made old new k (a_message (message_in (terms new) k))
+pub record MessageRead (taken : Option (TraceMessage × List ℕ)) (old new : List Node) (rest : List ℕ) (k : ℕ) : Type 0
+  where
+    pub is : taken ≡ Some (message_in (terms new) k, rest)
+    pub made : Made old new k (a_message (message_in (terms new) k))
 
-pub record QueueRead (taken : Option (QueueNamed × List ℕ)) (old new : List Node) (rest : List ℕ) (q : Queue) : Type 0 where
-  pub is : taken ≡ Some (queue_in (terms new) q, rest)
-  pub made : NumberMade old new q.index
+pub record QueueRead (taken : Option (QueueNamed × List ℕ)) (old new : List Node) (rest : List ℕ) (q : Queue) : Type 0
+  where
+    pub is : taken ≡ Some (queue_in (terms new) q, rest)
+    pub made : NumberMade old new q.index
 
-pub record TargetRead (taken : Option (TraceNumber × List ℕ)) (old new : List Node) (rest : List ℕ) (t : Target) : Type 0 where
+pub record TargetRead (taken : Option (TraceNumber × List ℕ)) (old new : List Node) (rest : List ℕ) (t : Target) : Type
+    0 where
   pub is : taken ≡ Some (target_in (terms new) t, rest)
   pub made : TargetMade old new t
 
@@ -67,7 +71,8 @@ ReadsQueue taken old new rest (Ok q) = QueueRead taken old new rest q
 ReadsQueue taken old new rest (Err Form) = taken ≡ None
 ReadsQueue taken old new rest (Err Memory) = Unit {0}
 
-abbrev pub ReadsTarget : Option (TraceNumber × List ℕ) → List Node → List Node → List ℕ → Result Target LineError → Type 0
+abbrev pub ReadsTarget : Option (TraceNumber × List ℕ) → List Node → List Node → List ℕ → Result Target LineError →
+    Type 0
 ReadsTarget taken old new rest (Ok t) = TargetRead taken old new rest t
 ReadsTarget taken old new rest (Err Form) = taken ≡ None
 ReadsTarget taken old new rest (Err Memory) = Unit {0}

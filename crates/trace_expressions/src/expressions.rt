@@ -39,7 +39,8 @@ fn index(
     room: u32,
     nodes: &mut Arena,
 ) -> Result<u32, LineError>
-    ensures { ReadsNumber (expression.an_index (inner scope.now room) (left text.old)) nodes.old nodes.new (left text.new) result }
+    ensures { ReadsNumber (expression.an_index (inner scope.now room) (left text.old)) nodes.old nodes.new
+        (left text.new) result }
 {
     text.the(b"[")?;
     let index = number(text, scope, room, nodes)?;
@@ -89,7 +90,8 @@ pub(crate) fn target_named(
     name: Name<'_>,
     nodes: &mut Arena,
 ) -> Result<Target, LineError>
-    ensures { ReadsTarget (expression.a_cell (layers_in scope.now) (inner scope.now room) (words_in name.entry) (left text.old))
+    ensures { ReadsTarget
+        (expression.a_cell (layers_in scope.now) (inner scope.now room) (words_in name.entry) (left text.old))
         nodes.old nodes.new (left text.new) result }
 {
     let Some(spot) = cell_named(scope.stack, name)? else {
@@ -109,7 +111,8 @@ fn cell_number(
     name: Name<'_>,
     nodes: &mut Arena,
 ) -> Result<u32, LineError>
-    ensures { ReadsNumber (expression.a_cell (layers_in scope.now) (inner scope.now room) (words_in name.entry) (left text.old))
+    ensures { ReadsNumber
+        (expression.a_cell (layers_in scope.now) (inner scope.now room) (words_in name.entry) (left text.old))
         nodes.old nodes.new (left text.new) result }
 {
     match target_named(text, scope, room, name, nodes)? {
@@ -189,7 +192,8 @@ fn length(
     room: u32,
     nodes: &mut Arena,
 ) -> Result<u32, LineError>
-    ensures { ReadsNumber (expression.a_length (inner scope.now room) (left text.old)) nodes.old nodes.new (left text.new) result }
+    ensures { ReadsNumber (expression.a_length (inner scope.now room) (left text.old)) nodes.old nodes.new
+        (left text.new) result }
 {
     text.the(b"(")?;
     let queue = queue(text, scope, room, nodes)?;
@@ -211,7 +215,8 @@ fn item(
     room: u32,
     nodes: &mut Arena,
 ) -> Result<u32, LineError>
-    ensures { ReadsNumber (expression.an_item (layers_in scope.now) (inner scope.now room) (left text.old)) nodes.old nodes.new (left text.new) result }
+    ensures { ReadsNumber (expression.an_item (layers_in scope.now) (inner scope.now room) (left text.old)) nodes.old
+        nodes.new (left text.new) result }
 {
     text.the(b"(")?;
     let queue = queue(text, scope, room, nodes)?;
@@ -241,7 +246,8 @@ fn size(
     room: u32,
     nodes: &mut Arena,
 ) -> Result<u32, LineError>
-    ensures { ReadsNumber (expression.a_size (inner scope.now room) (left text.old)) nodes.old nodes.new (left text.new) result }
+    ensures { ReadsNumber (expression.a_size (inner scope.now room) (left text.old)) nodes.old nodes.new (left text.new)
+        result }
 {
     text.the(b"(")?;
     let whole = message(text, scope, room, nodes)?;
@@ -259,7 +265,8 @@ fn choice(
     room: u32,
     nodes: &mut Arena,
 ) -> Result<u32, LineError>
-    ensures { ReadsNumber (expression.a_choice (inner scope.now room) (left text.old)) nodes.old nodes.new (left text.new) result }
+    ensures { ReadsNumber (expression.a_choice (inner scope.now room) (left text.old)) nodes.old nodes.new
+        (left text.new) result }
 {
     text.the(b"(")?;
     let condition = number(text, scope, room, nodes)?;
@@ -286,7 +293,8 @@ fn application(
     function: Function,
     nodes: &mut Arena,
 ) -> Result<u32, LineError>
-    ensures { ReadsNumber (expression.an_application (inner scope.now room) function (left text.old)) nodes.old nodes.new (left text.new) result }
+    ensures { ReadsNumber (expression.an_application (inner scope.now room) function (left text.old)) nodes.old
+        nodes.new (left text.new) result }
 {
     text.the(b"(")?;
     let operand = number(text, scope, room, nodes)?;
@@ -304,7 +312,8 @@ fn operation(
     room: u32,
     nodes: &mut Arena,
 ) -> Result<u32, LineError>
-    ensures { ReadsNumber (expression.an_operation (inner scope.now room) (left text.old)) nodes.old nodes.new (left text.new) result }
+    ensures { ReadsNumber (expression.an_operation (inner scope.now room) (left text.old)) nodes.old nodes.new
+        (left text.new) result }
 {
     let left = number(text, scope, room, nodes)?;
     text.the(b" ")?;
@@ -331,7 +340,8 @@ fn begun_by(
     word: &[u8],
     nodes: &mut Arena,
 ) -> Result<u32, LineError>
-    ensures { ReadsNumber (expression.begun_by (layers_in scope.now) (inner scope.now room) (word.now ∷ []) (left text.old))
+    ensures { ReadsNumber
+        (expression.begun_by (layers_in scope.now) (inner scope.now room) (word.now ∷ []) (left text.old))
         nodes.old nodes.new (left text.new) result }
 {
     if word == b"me".as_slice() {
@@ -369,8 +379,10 @@ fn number_named(
     name: Name<'_>,
     nodes: &mut Arena,
 ) -> Result<u32, LineError>
-    ensures { ReadsNumber (expression.number_named (layers_in scope.now) (named_in scope.now) (inner scope.now room) (words_in name.entry)
-        (named.atom_named (named_in scope.now) (words_in name.entry)) (left text.old)) nodes.old nodes.new (left text.new) result }
+    ensures { ReadsNumber
+        (expression.number_named (layers_in scope.now) (named_in scope.now) (inner scope.now room) (words_in name.entry)
+        (named.atom_named (named_in scope.now) (words_in name.entry)) (left text.old)) nodes.old nodes.new
+        (left text.new) result }
 {
     if let Some(atom) = atom_named(scope, name)? {
         let number = nodes.push(Node::Atom(atom))?;
@@ -411,7 +423,8 @@ fn held(
     room: u32,
     nodes: &mut Arena,
 ) -> Result<u32, LineError>
-    ensures { ReadsMessage (expression.a_held (layers_in scope.now) (inner scope.now room) (left text.old)) nodes.old nodes.new (left text.new) result }
+    ensures { ReadsMessage (expression.a_held (layers_in scope.now) (inner scope.now room) (left text.old)) nodes.old
+        nodes.new (left text.new) result }
 {
     text.the(b"(")?;
     let queue = queue(text, scope, room, nodes)?;
@@ -440,7 +453,8 @@ fn cut(
     room: u32,
     nodes: &mut Arena,
 ) -> Result<u32, LineError>
-    ensures { ReadsMessage (expression.a_cut (inner scope.now room) (left text.old)) nodes.old nodes.new (left text.new) result }
+    ensures { ReadsMessage (expression.a_cut (inner scope.now room) (left text.old)) nodes.old nodes.new (left text.new)
+        result }
 {
     text.the(b"(")?;
     let whole = message(text, scope, room, nodes)?;
@@ -466,7 +480,8 @@ fn tail(
     room: u32,
     nodes: &mut Arena,
 ) -> Result<u32, LineError>
-    ensures { ReadsMessage (expression.a_tail (inner scope.now room) (left text.old)) nodes.old nodes.new (left text.new) result }
+    ensures { ReadsMessage (expression.a_tail (inner scope.now room) (left text.old)) nodes.old nodes.new
+        (left text.new) result }
 {
     text.the(b"(")?;
     let whole = message(text, scope, room, nodes)?;
@@ -489,7 +504,8 @@ fn join(
     room: u32,
     nodes: &mut Arena,
 ) -> Result<u32, LineError>
-    ensures { ReadsMessage (expression.a_join (inner scope.now room) (left text.old)) nodes.old nodes.new (left text.new) result }
+    ensures { ReadsMessage (expression.a_join (inner scope.now room) (left text.old)) nodes.old nodes.new
+        (left text.new) result }
 {
     text.the(b"(")?;
     let first = message(text, scope, room, nodes)?;
@@ -509,7 +525,8 @@ fn built_by(
     word: &[u8],
     nodes: &mut Arena,
 ) -> Result<u32, LineError>
-    ensures { ReadsMessage (expression.built_by (layers_in scope.now) (inner scope.now room) (word.now ∷ []) (left text.old))
+    ensures { ReadsMessage
+        (expression.built_by (layers_in scope.now) (inner scope.now room) (word.now ∷ []) (left text.old))
         nodes.old nodes.new (left text.new) result }
 {
     if word == b"held".as_slice() {
@@ -536,7 +553,8 @@ fn message_named(
     nodes: &mut Arena,
 ) -> Result<u32, LineError>
     ensures { ReadsMessage (expression.message_named (layers_in scope.now) (inner scope.now room) (words_in name.entry)
-        (named.core_named (named_in scope.now) (words_in name.entry)) (left text.old)) nodes.old nodes.new (left text.new) result }
+        (named.core_named (named_in scope.now) (words_in name.entry)) (left text.old)) nodes.old nodes.new
+        (left text.new) result }
 {
     if let Some(core) = core_named(scope, name) {
         let message = nodes.push(Node::Core(core))?;

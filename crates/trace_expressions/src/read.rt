@@ -17,21 +17,24 @@ pub const MOST_BRACKETS: u32 = 200;
 
 /// A number, as a node.
 pub fn number(text: &mut Text<'_>, scope: &Scope<'_>, nodes: &mut Arena) -> Result<u32, LineError>
-    ensures { ReadsNumber (a_number (layers_in scope.now) (named_in scope.now) (left text.old)) nodes.old nodes.new (left text.new) result }
+    ensures { ReadsNumber (a_number (layers_in scope.now) (named_in scope.now) (left text.old)) nodes.old nodes.new
+        (left text.new) result }
 {
     expressions::number(text, scope, MOST_BRACKETS + 1, nodes)
 }
 
 /// A message, as a node.
 pub fn message(text: &mut Text<'_>, scope: &Scope<'_>, nodes: &mut Arena) -> Result<u32, LineError>
-    ensures { ReadsMessage (a_message (layers_in scope.now) (named_in scope.now) (left text.old)) nodes.old nodes.new (left text.new) result }
+    ensures { ReadsMessage (a_message (layers_in scope.now) (named_in scope.now) (left text.old)) nodes.old nodes.new
+        (left text.new) result }
 {
     expressions::message(text, scope, MOST_BRACKETS + 1, nodes)
 }
 
 /// A queue, with a node for its index.
 pub fn queue(text: &mut Text<'_>, scope: &Scope<'_>, nodes: &mut Arena) -> Result<Queue, LineError>
-    ensures { ReadsQueue (a_queue (layers_in scope.now) (named_in scope.now) (left text.old)) nodes.old nodes.new (left text.new) result }
+    ensures { ReadsQueue (a_queue (layers_in scope.now) (named_in scope.now) (left text.old)) nodes.old nodes.new
+        (left text.new) result }
 {
     expressions::queue(text, scope, MOST_BRACKETS + 1, nodes)
 }
@@ -42,7 +45,8 @@ pub fn target(
     scope: &Scope<'_>,
     nodes: &mut Arena,
 ) -> Result<Target, LineError>
-    ensures { ReadsTarget (a_target (layers_in scope.now) (named_in scope.now) (left text.old)) nodes.old nodes.new (left text.new) result }
+    ensures { ReadsTarget (a_target (layers_in scope.now) (named_in scope.now) (left text.old)) nodes.old nodes.new
+        (left text.new) result }
 {
     let name = text.name();
     expressions::target_named(text, scope, MOST_BRACKETS, name, nodes)

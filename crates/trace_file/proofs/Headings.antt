@@ -1,5 +1,6 @@
 -- Whole lines that are told part by part.
-use Rattle.std.proofs.Common.{◌≡◌, ℕ, suc, arith, Bool, true, false, if◌then◌else◌, List, [], ◌∷◌, ◌++◌, length, take, drop, Option, Some, None, Result, Err, refl, sym, ap, subst, ◌∙◌, append_assoc}
+use Rattle.std.proofs.Common.{◌≡◌, ℕ, suc, arith, Bool, true, false, if◌then◌else◌, List, [], ◌∷◌, ◌++◌, length, take}
+use Rattle.std.proofs.Common.{drop, Option, Some, None, Result, Err, refl, sym, ap, subst, ◌∙◌, append_assoc}
 use Rattle.std.specs.Prelude.{◌==◌, ◌&&◌, bytes_eq, nat_eq}
 use Rattle.std.proofs.lemmas.Bool.{eqb-true}
 use Rattle.std.proofs.lemmas.Option.{none-some}
@@ -28,7 +29,8 @@ empty_text [] = refl
 empty_text (byte ∷ text) = not_none (length text) (length (byte ∷ text) == 0) refl
 
 -- a text that is told whole, and after which nothing is left, is it
-pub whole_told : (wanted text end : List ℕ) → the_text wanted text ≡ Some (tt, end) → bytes_eq text wanted ≡ (length end == 0)
+pub whole_told : (wanted text end : List ℕ) → the_text wanted text ≡ Some (tt, end) →
+    bytes_eq text wanted ≡ (length end == 0)
 whole_told [] text end e = empty_text text ∙ ap (λ t. length (after t end) == 0) e
 whole_told (x ∷ wanted) [] end e = absurd (none-some (tt, end) e)
 whole_told (x ∷ wanted) (y ∷ text) end e = go (nat_eq y x) (whole_told wanted text end) e where
@@ -49,16 +51,19 @@ not_told (x ∷ wanted) (y ∷ text) e = go (nat_eq y x) (not_told wanted text) 
   go false whole e = refl
 
 -- a heading after the name of its entry
-pub heading_told : (a c d t0 t1 t2 : List ℕ) (r : Result (Unit {0}) LineError) → the_text a t0 ≡ Some (tt, t1) → Takes (the_text (c ++ d) t1) r t2 →
+pub heading_told : (a c d t0 t1 t2 : List ℕ) (r : Result (Unit {0}) LineError) → the_text a t0 ≡ Some (tt, t1) →
+    Takes (the_text (c ++ d) t1) r t2 →
     Takes (the_text (a ++ c ++ d) t0) r t2
 heading_told a c d t0 t1 t2 r front h =
     subst (λ w. Takes (the_text w t0) r t2) (sym (append_assoc a c d)) (both_texts a (c ++ d) t0 t1 t2 r front h)
 
-pub heading_fails : (a c d t0 t1 t2 : List ℕ) (r fault : Result (Unit {0}) LineError) (e : LineError) → Takes (the_text a t0) r t1 → r ≡
+pub heading_fails : (a c d t0 t1 t2 : List ℕ) (r fault : Result (Unit {0}) LineError) (e : LineError) →
+    Takes (the_text a t0) r t1 → r ≡
     Err e → fault ≡ Err e →
     Takes (the_text (a ++ c ++ d) t0) fault t2
 heading_fails a c d t0 t1 t2 r fault e h fails told =
-    subst (λ z. Takes (the_text (a ++ c ++ d) t0) z t2) (sym told) (go e (subst (λ z. Takes (the_text a t0) z t1) fails h))
+    subst (λ z. Takes (the_text (a ++ c ++ d) t0) z t2) (sym told)
+    (go e (subst (λ z. Takes (the_text a t0) z t1) fails h))
   where
     go : (e : LineError) → Takes (the_text a t0) (Err e) t1 → Takes (the_text (a ++ c ++ d) t0) (Err e) t2
     go Form h = ap (λ w. the_text w t0) (append_assoc a c d) ∙ not_front a (c ++ d) t0 h

@@ -1,5 +1,6 @@
 -- A case that is read, operation by operation.
-use Rattle.std.specs.Prelude.{ℕ, zero, suc, ◌≡◌, List, [], ◌∷◌, ◌++◌, map, option_and_then, Option, Some, None, Result, Ok, Err}
+use Rattle.std.specs.Prelude.{ℕ, zero, suc, ◌≡◌, List, [], ◌∷◌, ◌++◌, map, option_and_then, Option, Some, None, Result}
+use Rattle.std.specs.Prelude.{Ok, Err}
 use Rattle.std.specs.List.{AllByRecursion}
 use Rattle.layer_mean.specs.Tree.{LayerTree}
 use Rattle.trace_mean.specs.Trace as trace
@@ -21,7 +22,8 @@ abbrev pub held_in : Open → List trace.Operation
 held_in o = operations_of o.store.nodes o.store.links o.operations.items
 
 abbrev pub named_of : List LayerTree → Open → Named
-named_of stack o = record { fields = o.fields; binds = o.binds; notes = o.notes; rows = map (row_of stack) o.rows.items }
+named_of stack o = record
+    { fields = o.fields; binds = o.binds; notes = o.notes; rows = map (row_of stack) o.rows.items }
 
 -- All that its operations name is there.
 abbrev pub AreParts : Open → Type 0
@@ -43,13 +45,16 @@ left_after zero o = None
 left_after (suc left) o = Some left
 
 abbrev pub LeavesAfter : ℕ → Operation → Result ℕ LineError → Type 0
-LeavesAfter left o (Ok n) = (ts : List Term) (cs : List (List trace.Link)) → left_after left (operation_in ts cs o) ≡ Some n
-LeavesAfter left o (Err Form) = (ts : List Term) (cs : List (List trace.Link)) → left_after left (operation_in ts cs o) ≡ None
+LeavesAfter left o (Ok n) = (ts : List Term) (cs : List (List trace.Link)) → left_after left (operation_in ts cs o) ≡
+    Some n
+LeavesAfter left o (Err Form) = (ts : List Term) (cs : List (List trace.Link)) →
+    left_after left (operation_in ts cs o) ≡ None
 LeavesAfter left o (Err Memory) = ⊥
 
 -- What an operation gives a name to.
 pub record IsNamed (old new : Open) (o : Operation) : Type 0 where
-  pub named : (stack : List LayerTree) (ts : List Term) (cs : List (List trace.Link)) → named_of stack new ≡ naming stack
+  pub named : (stack : List LayerTree) (ts : List Term) (cs : List (List trace.Link)) →
+      named_of stack new ≡ naming stack
       (named_of stack old) (operation_in ts cs o)
   pub store : new.store ≡ old.store
   pub operations : new.operations.items ≡ old.operations.items
@@ -61,7 +66,8 @@ Names old new o (Err e) = Unit {0}
 
 -- The same, and it is put after the others.
 pub record IsPut (old new : Open) (o : Operation) : Type 0 where
-  pub named : (stack : List LayerTree) (ts : List Term) (cs : List (List trace.Link)) → named_of stack new ≡ naming stack
+  pub named : (stack : List LayerTree) (ts : List Term) (cs : List (List trace.Link)) →
+      named_of stack new ≡ naming stack
       (named_of stack old) (operation_in ts cs o)
   pub store : new.store ≡ old.store
   pub operations : new.operations.items ≡ old.operations.items ++ o ∷ []
@@ -72,9 +78,10 @@ Puts old new o (Ok done) = IsPut old new o
 Puts old new o (Err e) = Unit {0}
 
 -- What a line says in it: nodes and links are added, and nothing else changes.
-pub record SaysIn (stack : List LayerTree) (line : List ℕ) (old new : Open) (r : Result Operation LineError) : Type 0 where
-  pub said : Says (operation_said stack (named_of stack old) line) old.store new.store r
-  pub rest : new ≡ record old { store = new.store }
+pub record SaysIn (stack : List LayerTree) (line : List ℕ) (old new : Open) (r : Result Operation LineError) : Type 0
+  where
+    pub said : Says (operation_said stack (named_of stack old) line) old.store new.store r
+    pub rest : new ≡ record old { store = new.store }
 
 -- One operation more was read from a line.
 pub record IsAdded (stack : List LayerTree) (line : List ℕ) (old new : Open) : Type 0 where
@@ -87,5 +94,6 @@ pub record IsAdded (stack : List LayerTree) (line : List ℕ) (old new : Open) :
 
 abbrev pub Adds : List LayerTree → List ℕ → Open → Open → Result (Unit {0}) LineError → Type 0
 Adds stack line old new (Ok done) = IsAdded stack line old new
-Adds stack line old new (Err Form) = option_and_then (left_after old.left) (operation_said stack (named_of stack old) line) ≡ None
+Adds stack line old new (Err Form) =
+    option_and_then (left_after old.left) (operation_said stack (named_of stack old) line) ≡ None
 Adds stack line old new (Err Memory) = Unit {0}

@@ -1,5 +1,6 @@
 -- What was read of a file.
-use Rattle.std.specs.Prelude.{ℕ, ◌≡◌, Bool, List, [], ◌∷◌, ◌++◌, map, bytes_eq, codes, Option, Some, None, Result, Ok, Err, Vec}
+use Rattle.std.specs.Prelude.{ℕ, ◌≡◌, Bool, List, [], ◌∷◌, ◌++◌, map, bytes_eq, codes, Option, Some, None, Result, Ok}
+use Rattle.std.specs.Prelude.{Err, Vec}
 use Rattle.std.specs.declared.alloc.Global.{Global}
 use Rattle.layer_mean.specs.Tree.{LayerTree}
 use Rattle.trace_mean.specs.Trace as trace
@@ -40,7 +41,8 @@ begins (d ∷ due) line = bytes_eq line (file.heading d.entry d.case)
 -- What is read then.
 abbrev pub onward : List file.Due → List (List trace.Operation) → file.Reading
 onward [] traces = record { stage = file.ended; held = []; traces = traces }
-onward (d ∷ due) traces = record { stage = file.within due (nothing_named d.fields) most_operations; held = []; traces = traces }
+onward (d ∷ due) traces =
+    record { stage = file.within due (nothing_named d.fields) most_operations; held = []; traces = traces }
 
 -- A file as it is read.
 abbrev pub stage_in : List LayerTree → Stage → List Due → Open → file.Stage
@@ -52,7 +54,12 @@ abbrev pub traces_of : Reading → List (List trace.Operation)
 traces_of r = map trace_tree r.traces.items
 
 abbrev pub reading_in : List LayerTree → Reading → file.Reading
-reading_in stack r = record { stage = stage_in stack r.stage r.due.now r.open; held = held_in r.open; traces = traces_of r }
+reading_in stack r = record {
+  stage = stage_in stack r.stage r.due.now r.open;
+  held = held_in r.open;
+  traces =
+      traces_of r;
+}
 
 -- What is read after the first line.
 abbrev pub begun_after : List Due → file.Reading

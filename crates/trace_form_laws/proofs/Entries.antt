@@ -1,5 +1,6 @@
 -- An entry whose input is chained is one whose tags are declared.
-use Rattle.std.proofs.Common.{◌≡◌, ℕ, suc, Bool, true, false, List, [], ◌∷◌, ◌++◌, map, length, take, drop, Option, Some, None, is_some, refl, sym, subst}
+use Rattle.std.proofs.Common.{◌≡◌, ℕ, suc, Bool, true, false, List, [], ◌∷◌, ◌++◌, map, length, take, drop, Option}
+use Rattle.std.proofs.Common.{Some, None, is_some, refl, sym, subst}
 use Rattle.std.specs.Prelude.{if◌then◌else◌, MatchBool, IsSomeAnd, slice_index}
 use Rattle.msg_core.specs.Chain.{Content}
 use Rattle.msg_core.specs.declared.message.Header.{Header}
@@ -24,19 +25,23 @@ made b kind ns m = if b
     then record { kind = kind; peer = slice_index ns 0; a = 0; b = 0; message = m }
     else record { kind = kind; peer = 0; a = slice_index ns 0; b = slice_index ns 1; message = m }
 
-parts : (b : Bool) (kind : Kind) (ns : List ℕ) (m : Option Content) → ((made b kind ns m).kind ≡ kind) × ((made b kind ns m).message ≡ m)
+parts : (b : Bool) (kind : Kind) (ns : List ℕ) (m : Option Content) → ((made b kind ns m).kind ≡ kind) ×
+    ((made b kind ns m).message ≡ m)
 parts true kind ns m = (refl, refl)
 parts false kind ns m = (refl, refl)
 
 brought : (C : List Header → Type 0) (kind : Kind) (ns : List ℕ) (m : Content) → IsEvent C (event_of kind ns (Some m)) →
     (carries kind ≡ true) × IsMessage C m
-brought C kind ns m h = go (carries kind) refl (subst {A = Kind × Option Content} (λ x. Brings C (carries x.0) x.1) (λ t. (p.0 t, p.1 t)) h.message) where
-  p : ((made (carries kind) kind ns (Some m)).kind ≡ kind) × ((made (carries kind) kind ns (Some m)).message ≡ Some m)
-  p = parts (carries kind) kind ns (Some m)
+brought C kind ns m h =
+    go (carries kind) refl
+    (subst {A = Kind × Option Content} (λ x. Brings C (carries x.0) x.1) (λ t. (p.0 t, p.1 t)) h.message) where
+      p : ((made (carries kind) kind ns (Some m)).kind ≡ kind) ×
+          ((made (carries kind) kind ns (Some m)).message ≡ Some m)
+      p = parts (carries kind) kind ns (Some m)
 
-  go : (b : Bool) → carries kind ≡ b → Brings C b (Some m) → (carries kind ≡ true) × IsMessage C m
-  go true is h = (is, h)
-  go false is h = absurd h
+      go : (b : Bool) → carries kind ≡ b → Brings C b (Some m) → (carries kind ≡ true) × IsMessage C m
+      go true is h = (is, h)
+      go false is h = absurd h
 
 no_tags : (i : Input) (p : ℕ) (layers : List LayerTree) (tags : List ℕ) (atoms : List Atom) →
     map (header_at i nothing_kept) (entry_chain p layers tags atoms) ++ [] ≡ [] → tags ≡ []
@@ -56,12 +61,14 @@ tags_declared i p (layer ∷ above) (tag ∷ tags) atoms h =
       hs : List Header
       hs = map (header_at i nothing_kept) (entry_chain (suc p) above tags (drop (fields_of layer tag) atoms)) ++ []
 
-      over : (b : Bool) → MatchBool b (hs ≡ []) (IsChain above (suc p) hs) → (IsChain above (suc p) hs → AreDeclared above tags) → AreDeclared above tags
+      over : (b : Bool) → MatchBool b (hs ≡ []) (IsChain above (suc p) hs) →
+          (IsChain above (suc p) hs → AreDeclared above tags) → AreDeclared above tags
       over true k later = none_declared above tags (no_tags i (suc p) above tags (drop (fields_of layer tag) atoms) k)
       over false k later = later k
 
       go : (o : Option HeaderTree) →
-          IsSomeAnd o (λ d. (p ≡ p) × (length (map (atom_at i nothing_kept) (take (fields_of layer tag) atoms)) ≡ d.fields)
+          IsSomeAnd o (λ d. (p ≡ p) ×
+          (length (map (atom_at i nothing_kept) (take (fields_of layer tag) atoms)) ≡ d.fields)
           × MatchBool d.ends (hs ≡ []) (IsChain above (suc p) hs)) →
           (IsChain above (suc p) hs → AreDeclared above tags) → (is_some o ≡ true) × AreDeclared above tags
       go None k later = absurd k
@@ -74,12 +81,14 @@ nothing_left (layer ∷ above) = nothing_left above
 pub chained_is_entry : ChainedIsEntry
 chained_is_entry stack k fields i task =
     let b = brought (IsFrom stack (task_place k.dir (entry_place stack k.dir))) k.kind (i.peer ∷ [])
-    (content_at i nothing_kept (record { chain = entry_chain 0 stack k.tags (field_atoms 0 fields); core = body })) task.event in
+    (content_at i nothing_kept (record { chain = entry_chain 0 stack k.tags (field_atoms 0 fields); core = body }))
+    task.event in
     record { carried = b.0; tags = go k.dir b.1.headers.chain } where
       headers : List Header
       headers = map (header_at i nothing_kept) (entry_chain 0 stack k.tags (field_atoms 0 fields)) ++ []
 
-      go : (dir : Dir) → IsChain (drop (task_place dir (entry_place stack dir)) stack) (task_place dir (entry_place stack dir)) headers →
+      go : (dir : Dir) → IsChain (drop (task_place dir (entry_place stack dir)) stack)
+          (task_place dir (entry_place stack dir)) headers →
           AreDeclared (entry_layers stack dir) k.tags
       go Up h = tags_declared i 0 stack k.tags (field_atoms 0 fields) h
       go Down h = none_declared [] k.tags (no_tags i 0 stack k.tags (field_atoms 0 fields)

@@ -24,14 +24,16 @@ front_fits [] (suc p) (l ∷ ls) h = absurd h
 front_fits (layer ∷ above) zero (l ∷ ls) h = h.0
 front_fits (layer ∷ above) (suc p) (l ∷ ls) h = front_fits above p (l ∷ ls) h
 
-pub rest_fits : (stack : List LayerTree) (p : ℕ) (l : Link) (ls : List Link) → LinksFit (drop p stack) (l ∷ ls) → LinksFit (drop (suc p) stack) ls
+pub rest_fits : (stack : List LayerTree) (p : ℕ) (l : Link) (ls : List Link) → LinksFit (drop p stack) (l ∷ ls) →
+    LinksFit (drop (suc p) stack) ls
 rest_fits [] zero l ls h = absurd h
 rest_fits [] (suc p) l ls h = absurd h
 rest_fits (layer ∷ above) zero l ls h = h.1
 rest_fits (layer ∷ above) (suc p) l ls h = rest_fits above p l ls h
 
 pub more_fits : (stack : List LayerTree) (p : ℕ) (l : Link) (ls : List Link) → p < length stack →
-    is_some (declared (slice_index_or stack p no_layer) l.tag) ≡ true → LinksFit (drop (suc p) stack) ls → LinksFit (drop p stack) (l ∷ ls)
+    is_some (declared (slice_index_or stack p no_layer) l.tag) ≡ true → LinksFit (drop (suc p) stack) ls →
+    LinksFit (drop p stack) (l ∷ ls)
 more_fits [] p l ls less h k = absurd (omega arith)
 more_fits (layer ∷ above) zero l ls less h k = (h, k)
 more_fits (layer ∷ above) (suc p) l ls less h k = more_fits above p l ls (omega arith) h k
@@ -42,7 +44,8 @@ entry_fits p layers [] fields h = tt
 entry_fits p [] (tag ∷ tags) fields h = absurd h
 entry_fits p (layer ∷ above) (tag ∷ tags) fields h = (h.0, entry_fits (suc p) above tags _ h.1)
 
-pub entry_tag : (p : ℕ) (layers : List LayerTree) (tags : List ℕ) (fields : List Atom) → link_tag (entry_chain p layers tags fields) ≡ first_of tags
+pub entry_tag : (p : ℕ) (layers : List LayerTree) (tags : List ℕ) (fields : List Atom) →
+    link_tag (entry_chain p layers tags fields) ≡ first_of tags
 entry_tag p layers [] fields = refl
 entry_tag p [] (tag ∷ tags) fields = refl
 entry_tag p (layer ∷ above) (tag ∷ tags) fields = refl

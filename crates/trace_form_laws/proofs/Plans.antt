@@ -1,6 +1,7 @@
--- What goes down out of a traced stack has headers that its layers declare, so plans have declared tags: their shapes have the outputs of
--- traces.
-use Rattle.std.proofs.Common.{◌≡◌, ℕ, zero, suc, ◌+◌, ◌-◌, ◌≤◌, Bool, true, false, List, [], ◌∷◌, ◌++◌, map, length, flat_map, Option, Some, None, refl, sym, subst, arith}
+-- What goes down out of a traced stack has headers that its layers declare, so plans have declared tags: their shapes
+-- have the outputs of traces.
+use Rattle.std.proofs.Common.{◌≡◌, ℕ, zero, suc, ◌+◌, ◌-◌, ◌≤◌, Bool, true, false, List, [], ◌∷◌, ◌++◌, map, length}
+use Rattle.std.proofs.Common.{flat_map, Option, Some, None, refl, sym, subst, arith}
 use Rattle.std.specs.Prelude.{if◌then◌else◌, ◌&&◌, nat_le, Result, Ok, Err}
 use Rattle.std.proofs.lemmas.Bool.{leb-false}
 use Rattle.std.proofs.lemmas.Grind.{flat_map-append}
@@ -22,7 +23,8 @@ use Rattle.chain_laws.proofs.Lists.{each_append, each_map, each_take}
 use Rattle.weight_laws.specs.Orderly.{IsOrderly}
 use Rattle.trace_mean.specs.Trace.{Link, Chained, Operation, output}
 use Rattle.trace_mean.specs.Fuse.{TracedEvent, Fused, traced_visit, trace_of}
-use Rattle.trace_laws.specs.Shapes.{Outlet, tags_of_links, tags_of_message, shape_outlet, outlets_of, trace_outlets, told_by_shape, told_by_trace}
+use Rattle.trace_laws.specs.Shapes.{Outlet, tags_of_links, tags_of_message, shape_outlet, outlets_of, trace_outlets}
+use Rattle.trace_laws.specs.Shapes.{told_by_shape, told_by_trace}
 use Rattle.trace_laws.proofs.Shapes.{traces_stand_for_shapes}
 use Rattle.trace_form_laws.specs.Entries.{AreDeclared, IsEntry}
 use Rattle.trace_form_laws.specs.Plans.{PlanIsEntry, PlansAreEntries}
@@ -45,7 +47,8 @@ links_declared layers [] h = tt
 links_declared [] (l ∷ ls) h = absurd h
 links_declared (layer ∷ above) (l ∷ ls) h = (h.0, links_declared above ls h.1)
 
-message_declared : (stack : List LayerTree) (kind : Kind) (m : Option Chained) → MessageFits stack 0 kind m → AreDeclared stack (tags_of_message m)
+message_declared : (stack : List LayerTree) (kind : Kind) (m : Option Chained) → MessageFits stack 0 kind m →
+    AreDeclared stack (tags_of_message m)
 message_declared stack kind None h = tt
 message_declared stack kind (Some m) h = links_declared stack m.chain h.1
 
@@ -61,25 +64,30 @@ lowest places (suc at) off le = absurd (over (nat_le 1 (suc at)) (nat_le (suc at
 task_out : (stack : List LayerTree) (t : Task TracedEvent) → TaskFits stack t → is_place (length stack) t.at ≡ false →
     TagsFit stack t.dir (tags_of_message t.event.message)
 task_out stack t fits off = go t.dir t.at t.event.message fits.way fits.message off where
-  go : (dir : Dir) (at : ℕ) (m : Option Chained) → IsOnItsWay stack dir at → MessageFits stack (arrival dir at) t.event.kind m →
+  go : (dir : Dir) (at : ℕ) (m : Option Chained) → IsOnItsWay stack dir at →
+      MessageFits stack (arrival dir at) t.event.kind m →
       is_place (length stack) at ≡ false → TagsFit stack dir (tags_of_message m)
   go Up at m way h off = tt
   go Down at m way h off =
-      message_declared stack t.event.kind m (subst (λ j. MessageFits stack j t.event.kind m) (lowest (length stack) at off way) h)
+      message_declared stack t.event.kind m
+      (subst (λ j. MessageFits stack j t.event.kind m) (lowest (length stack) at off way) h)
 
 module _ (case : Case) (stack : List LayerTree) (orderly : IsOrderly stack) where
   record Good (f : Fused) (pending : List (Task TracedEvent)) : Type 0 where
     outlets : AllByRecursion (OutletFits stack) (trace_outlets f.made.operations)
     fit : AllByRecursion (TaskFits stack) pending
 
-  output_keeps : (f : Fused) (t : Task TracedEvent) (rest : List (Task TracedEvent)) → is_place (length stack) t.at ≡ false → Good f (t ∷ rest) →
-      AllByRecursion (OutletFits stack) (trace_outlets (f.made.operations ++ output t.dir t.event.kind t.event.numbers t.event.message ∷ []))
+  output_keeps : (f : Fused) (t : Task TracedEvent) (rest : List (Task TracedEvent)) → is_place (length stack) t.at ≡
+      false → Good f (t ∷ rest) →
+      AllByRecursion (OutletFits stack)
+      (trace_outlets (f.made.operations ++ output t.dir t.event.kind t.event.numbers t.event.message ∷ []))
   output_keeps f t rest off h =
       let o : Operation = output t.dir t.event.kind t.event.numbers t.event.message in
       subst (AllByRecursion (OutletFits stack)) (sym (flat_map-append outlets_of f.made.operations (o ∷ [])))
       (each_append (OutletFits stack) (trace_outlets f.made.operations) _ h.outlets (task_out stack t h.fit.0 off, tt))
 
-  visit_keeps : (f : Fused) (t : Task TracedEvent) (rest : List (Task TracedEvent)) → is_place (length stack) t.at ≡ true → Good f (t ∷ rest) →
+  visit_keeps : (f : Fused) (t : Task TracedEvent) (rest : List (Task TracedEvent)) → is_place (length stack) t.at ≡
+      true → Good f (t ∷ rest) →
       IfMade (λ v. Good (record { visits = f.visits + 1; made = v.made }) (rest ++ tasks_of t.at v.sent))
       (traced_visit case (layer_at stack t.at) (t.at - 1) f.made t.dir t.event)
   visit_keeps f t rest place h =
@@ -87,7 +95,11 @@ module _ (case : Case) (stack : List LayerTree) (orderly : IsOrderly stack) wher
       (λ v. Good (record { visits = f.visits + 1; made = v.made }) (rest ++ tasks_of t.at v.sent)) _
       (visit_sends case stack (λ n. 0) f t rest orderly place h.fit)
       (visit_few f.made case (layer_at stack t.at) (t.at - 1) t.dir t.event)
-      (λ v k few. record { outlets = subst (AllByRecursion (OutletFits stack)) (sym few.outlets) h.outlets; fit = k.fit })
+      (λ v k few. record {
+        outlets = subst (AllByRecursion (OutletFits stack)) (sym few.outlets) h.outlets;
+        fit =
+            k.fit;
+      })
 
   trace_outs : (k : Known) (operations : List Operation) → IsEntry stack k → trace_of case stack k [] ≡ Ok operations →
       AllByRecursion (OutletFits stack) (trace_outlets operations)
@@ -99,26 +111,31 @@ module _ (case : Case) (stack : List LayerTree) (orderly : IsOrderly stack) wher
       subst (λ o. AllByRecursion (OutletFits stack) (trace_outlets o)) come.is come.so.outlets
 
   -- a shape has the outputs of its trace
-  shape_outs : (k : Known) → IsEntry stack k → AllByRecursion (λ o. OutletFits stack (shape_outlet o)) (outs_of (shape stack k case))
-  shape_outs k is = go (shape stack k case) (trace_of case stack k []) refl (traces_stand_for_shapes case stack k []) where
-    each : (outs : List ShapeOut) → AllByRecursion (OutletFits stack) (map shape_outlet outs) → AllByRecursion (λ o. OutletFits stack (shape_outlet o)) outs
-    each [] h = tt
-    each (o ∷ outs) h = (h.0, each outs h.1)
+  shape_outs : (k : Known) → IsEntry stack k →
+      AllByRecursion (λ o. OutletFits stack (shape_outlet o)) (outs_of (shape stack k case))
+  shape_outs k is = go (shape stack k case) (trace_of case stack k []) refl (traces_stand_for_shapes case stack k [])
+    where
+      each : (outs : List ShapeOut) → AllByRecursion (OutletFits stack) (map shape_outlet outs) →
+          AllByRecursion (λ o. OutletFits stack (shape_outlet o)) outs
+      each [] h = tt
+      each (o ∷ outs) h = (h.0, each outs h.1)
 
-    go : (r : Result Shape NoShape) (q : Result (List Operation) NoShape) → trace_of case stack k [] ≡ q →
-        drawn_from (λ s. Ok (told_by_shape s)) r ≡ drawn_from (λ operations. Ok (told_by_trace operations)) q →
-        AllByRecursion (λ o. OutletFits stack (shape_outlet o)) (outs_of r)
-    go (Err reason) q made same = tt
-    go (Ok s) (Err reason) made same = absurd (cc same)
-    go (Ok s) (Ok operations) made same =
-        let told : told_by_shape s ≡ told_by_trace operations = cc in
-        each s.outs (subst (λ t. AllByRecursion (OutletFits stack) t.outlets) (sym told) (trace_outs k operations is made))
+      go : (r : Result Shape NoShape) (q : Result (List Operation) NoShape) → trace_of case stack k [] ≡ q →
+          drawn_from (λ s. Ok (told_by_shape s)) r ≡ drawn_from (λ operations. Ok (told_by_trace operations)) q →
+          AllByRecursion (λ o. OutletFits stack (shape_outlet o)) (outs_of r)
+      go (Err reason) q made same = tt
+      go (Ok s) (Err reason) made same = absurd (cc same)
+      go (Ok s) (Ok operations) made same =
+          let told : told_by_shape s ≡ told_by_trace operations = cc in
+          each s.outs (subst (λ t. AllByRecursion (OutletFits stack) t.outlets) (sym told)
+          (trace_outs k operations is made))
 
 -- so have the packets of a group
 abbrev PacketFits : List LayerTree → ShapeOut → Type 0
 PacketFits stack o = PlanIsEntry stack (plan_of o)
 
-filtered : (stack : List LayerTree) (outs : List ShapeOut) → AllByRecursion (λ o. OutletFits stack (shape_outlet o)) outs →
+filtered : (stack : List LayerTree) (outs : List ShapeOut) →
+    AllByRecursion (λ o. OutletFits stack (shape_outlet o)) outs →
     AllByRecursion (PacketFits stack) (filter (λ out. is_packet out out.dir) outs)
 filtered stack [] h = tt
 filtered stack (o ∷ outs) h = go (is_packet o o.dir) refl (filtered stack outs h.1) where
@@ -126,18 +143,22 @@ filtered stack (o ∷ outs) h = go (is_packet o o.dir) refl (filtered stack outs
   fits Up is k = absurd (cc is)
   fits Down is k = record { carried = is; tags = k }
 
-  go : (b : Bool) → is_packet o o.dir ≡ b → AllByRecursion (PacketFits stack) (filter (λ out. is_packet out out.dir) outs) →
+  go : (b : Bool) → is_packet o o.dir ≡ b →
+      AllByRecursion (PacketFits stack) (filter (λ out. is_packet out out.dir) outs) →
       AllByRecursion (PacketFits stack)
       (if b then o ∷ filter (λ out. is_packet out out.dir) outs else filter (λ out. is_packet out out.dir) outs)
   go true is rest = (fits o.dir is h.0, rest)
   go false is rest = rest
 
 group_fits : (stack : List LayerTree) → IsOrderly stack → (case : Case) (kind : Kind) → carries kind ≡ true →
-    AllByRecursion (PacketFits stack) (packets_of stack (record { entry = record { dir = Down; kind = kind; tags = [] }; case = case }))
+    AllByRecursion (PacketFits stack)
+    (packets_of stack (record { entry = record { dir = Down; kind = kind; tags = [] }; case = case }))
 group_fits stack orderly case kind carried = filtered stack _
-    (shape_outs case stack orderly (record { dir = Down; kind = kind; tags = [] }) (record { carried = carried; tags = tt }))
+    (shape_outs case stack orderly (record { dir = Down; kind = kind; tags = [] })
+    (record { carried = carried; tags = tt }))
 
-flat_all : {A B : Type 0} (P : B → Type 0) (f : A → List B) (xs : List A) → AllByRecursion (λ x. AllByRecursion P (f x)) xs →
+flat_all : {A B : Type 0} (P : B → Type 0) (f : A → List B) (xs : List A) →
+    AllByRecursion (λ x. AllByRecursion P (f x)) xs →
     AllByRecursion P (flat_map f xs)
 flat_all P f [] h = tt
 flat_all P f (x ∷ xs) h = each_append P (f x) (flat_map f xs) h.0 (flat_all P f xs h.1)

@@ -4,7 +4,8 @@ use Rattle.std.specs.List.{AllByRecursion}
 use Rattle.layer_ast.specs.declared.syntax.Likely.TheVariants as likely
 use Rattle.layer_mean.specs.declared.run.Case.{Case}
 use Rattle.layer_mean.specs.declared.run.Case.TheVariants.{First, Second}
-use Rattle.layer_mean.specs.Tree.{EmissionTree, StatementTree, bind, assign, assign_square, push, take, branch, each, emit, StatementTrees, none, more, LayerTree}
+use Rattle.layer_mean.specs.Tree.{EmissionTree, StatementTree, bind, assign, assign_square, push, take, branch, each}
+use Rattle.layer_mean.specs.Tree.{emit, StatementTrees, none, more, LayerTree}
 use Rattle.layer_mean.specs.Way.{Step, put, get, send, way, ways}
 use Rattle.stack_mean.specs.Emissions.{joins_in_emission, joins_in_row, joins, joins_of}
 use Rattle.weight_laws.specs.Orderly.{KeepsMessage, IsOrderlyContent, IsOrderlyStatement, IsOrderlyBlock}
@@ -50,7 +51,8 @@ mutual
       omega (arith, priced_append step_joins (way case x) (ways case rest), way_joins case x, ways_join case rest)
 
 mutual
-  pub way_sends : (bound : EmissionTree → ℕ) (case : Case) (x : StatementTree) → priced (step_sends bound) (way case x) ≤ total bound x
+  pub way_sends : (bound : EmissionTree → ℕ) (case : Case) (x : StatementTree) →
+      priced (step_sends bound) (way case x) ≤ total bound x
   way_sends bound case (bind k e) = omega arith
   way_sends bound case (assign c i e) = omega arith
   way_sends bound case (assign_square c row column e) = omega arith
@@ -63,10 +65,16 @@ mutual
   way_sends bound case (each k below most block) = omega arith
   way_sends bound case (emit e) = omega arith
 
-  pub ways_send : (bound : EmissionTree → ℕ) (case : Case) (xs : StatementTrees) → priced (step_sends bound) (ways case xs) ≤ total_in bound xs
+  pub ways_send : (bound : EmissionTree → ℕ) (case : Case) (xs : StatementTrees) →
+      priced (step_sends bound) (ways case xs) ≤ total_in bound xs
   ways_send bound case none = omega arith
   ways_send bound case (more x rest) =
-      omega (arith, priced_append (step_sends bound) (way case x) (ways case rest), way_sends bound case x, ways_send bound case rest)
+      omega (
+        arith,
+        priced_append (step_sends bound) (way case x) (ways case rest),
+        way_sends bound case x,
+        ways_send bound case rest,
+      )
 
 -- each step of an orderly block is orderly
 abbrev pub OrderlyStep : LayerTree → Bool → Step → Type 0
@@ -75,7 +83,8 @@ OrderlyStep layer down (get c i taken) = KeepsMessage down taken.message
 OrderlyStep layer down _ = Unit {0}
 
 mutual
-  pub way_orderly : (layer : LayerTree) (down : Bool) (case : Case) (x : StatementTree) → IsOrderlyStatement layer down x →
+  pub way_orderly : (layer : LayerTree) (down : Bool) (case : Case) (x : StatementTree) →
+      IsOrderlyStatement layer down x →
       AllByRecursion (OrderlyStep layer down) (way case x)
   way_orderly layer down case (bind k e) h = (tt, tt)
   way_orderly layer down case (assign c i e) h = (tt, tt)
@@ -83,14 +92,18 @@ mutual
   way_orderly layer down case (push c i capacity row otherwise) h = (tt, tt)
   way_orderly layer down case (take c i taken block otherwise) h = (h.0, ways_orderly layer down case block h.1)
   way_orderly layer down case (branch likely.First e block otherwise) h = (tt, ways_orderly layer down case block h.0)
-  way_orderly layer down case (branch likely.Else e block otherwise) h = (tt, ways_orderly layer down case otherwise h.1)
+  way_orderly layer down case (branch likely.Else e block otherwise) h =
+      (tt, ways_orderly layer down case otherwise h.1)
   way_orderly layer down First (branch likely.Two e block otherwise) h = (tt, ways_orderly layer down First block h.0)
-  way_orderly layer down Second (branch likely.Two e block otherwise) h = (tt, ways_orderly layer down Second otherwise h.1)
+  way_orderly layer down Second (branch likely.Two e block otherwise) h =
+      (tt, ways_orderly layer down Second otherwise h.1)
   way_orderly layer down case (each k below most block) h = (tt, tt)
   way_orderly layer down case (emit e) h = (h, tt)
 
-  pub ways_orderly : (layer : LayerTree) (down : Bool) (case : Case) (xs : StatementTrees) → IsOrderlyBlock layer down xs →
+  pub ways_orderly : (layer : LayerTree) (down : Bool) (case : Case) (xs : StatementTrees) →
+      IsOrderlyBlock layer down xs →
       AllByRecursion (OrderlyStep layer down) (ways case xs)
   ways_orderly layer down case none h = tt
   ways_orderly layer down case (more x rest) h =
-      each_append (OrderlyStep layer down) (way case x) (ways case rest) (way_orderly layer down case x h.0) (ways_orderly layer down case rest h.1)
+      each_append (OrderlyStep layer down) (way case x) (ways case rest) (way_orderly layer down case x h.0)
+      (ways_orderly layer down case rest h.1)

@@ -1,5 +1,8 @@
--- What a predicted step adds to a trace: joins and sends are no more than are counted of it, and known headers are of their places.
-use Rattle.std.proofs.Common.{◌≡◌, ℕ, zero, suc, ◌+◌, ◌-◌, ◌≤◌, Bool, true, false, ◌&&◌, List, [], ◌∷◌, ◌++◌, map, length, drop, Option, Some, None, is_some, option_map, slice_set, refl, sym, ap, ◌∙◌, subst, inl, arith}
+-- What a predicted step adds to a trace: joins and sends are no more than are counted of it, and known headers are of
+-- their places.
+use Rattle.std.proofs.Common.{◌≡◌, ℕ, zero, suc, ◌+◌, ◌-◌, ◌≤◌, Bool, true, false, ◌&&◌, List, [], ◌∷◌, ◌++◌, map}
+use Rattle.std.proofs.Common.{length, drop, Option, Some, None, is_some, option_map, slice_set, refl, sym, ap, ◌∙◌}
+use Rattle.std.proofs.Common.{subst, inl, arith}
 use Rattle.std.specs.Prelude.{if◌then◌else◌, slice_index_or}
 use Rattle.std.specs.List.{sum_by, AllByRecursion}
 use Rattle.std.specs.Option.{option_map_or}
@@ -12,7 +15,8 @@ use Rattle.layer_mean.specs.declared.run.Case.TheVariants.{First, Second}
 use Rattle.layer_mean.specs.Event.{carries}
 use Rattle.layer_mean.specs.Headers.{declared}
 use Rattle.layer_mean.specs.Tree as tree
-use Rattle.layer_mean.specs.Tree.{Carried, ExpressionTree, MessageTree, ContentTree, EmissionTree, RowTree, TakenTree, LayerTree, no_layer}
+use Rattle.layer_mean.specs.Tree.{Carried, ExpressionTree, MessageTree, ContentTree, EmissionTree, RowTree, TakenTree}
+use Rattle.layer_mean.specs.Tree.{LayerTree, no_layer}
 use Rattle.layer_mean.specs.Way.{Step, test, fork, set_slot, set_number, set_square, put, get, send, loop}
 use Rattle.layer_mean.specs.Queue.{beyond, layer_at}
 use Rattle.stack_mean.specs.Emissions.{joins_in_message, joins_in_emission, joins_in_row}
@@ -24,15 +28,19 @@ use Rattle.weight_laws.proofs.Members.{In, in_map}
 use Rattle.weight_laws.proofs.Nodes.{tag_in, is_zero}
 use Rattle.weight_laws.proofs.Visits.{at_most_largest}
 use Rattle.trace_mean.specs.Trace.{Atom, Core, TraceMessage, Link, Chained, Operation, bind, note, check, push}
-use Rattle.trace_mean.specs.Scope.{Named, Names, no_message, Worded, traced_number, traced_message, fill_message, taken_name, bounds, taken_names}
-use Rattle.trace_mean.specs.Fuse.{TracedEvent, Tracing, settled, notes_of, notes_in, core_of, pushing, chained_of, room_in, form_at, items_of, row_word, binding, sent_chain, sending, sending_known, traced_send, stepping, trace_step, trace_steps}
+use Rattle.trace_mean.specs.Scope.{Named, Names, no_message, Worded, traced_number, traced_message, fill_message}
+use Rattle.trace_mean.specs.Scope.{taken_name, bounds, taken_names}
+use Rattle.trace_mean.specs.Fuse.{TracedEvent, Tracing, settled, notes_of, notes_in, core_of, pushing, chained_of}
+use Rattle.trace_mean.specs.Fuse.{room_in, form_at, items_of, row_word, binding, sent_chain, sending, sending_known}
+use Rattle.trace_mean.specs.Fuse.{traced_send, stepping, trace_step, trace_steps}
 use Rattle.trace_mean.specs.Counts.{message_joins, note_joins, trace_joins}
 use Rattle.trace_form_laws.proofs.Turns.{IfMade, from_made, more_made}
 use Rattle.trace_form_laws.proofs.Links.{LinksFit, link_tag, front_fits, more_fits}
 use Rattle.trace_form_laws.proofs.Prices.{priced, step_joins, step_sends, OrderlyStep}
 
 -- joins of what is noted
-pub message_joins_in : (p : ℕ) (l : Names) (m : MessageTree) → message_joins (traced_message p l m).message ≤ joins_in_message m
+pub message_joins_in : (p : ℕ) (l : Names) (m : MessageTree) →
+    message_joins (traced_message p l m).message ≤ joins_in_message m
 message_joins_in p l (tree.message k) = omega arith
 message_joins_in p l tree.nothing = omega arith
 message_joins_in p l (tree.held c e row carried) = omega arith
@@ -48,7 +56,8 @@ notes_join m = go (settled m) where
 
 binds_join : (p : ℕ) (l : Names) (es : List ExpressionTree) → trace_joins (binding p l es) ≡ 0
 binds_join p l [] = omega arith
-binds_join p l (e ∷ es) = omega (arith, sum_by-cons note_joins (bind (traced_number p l e)) (binding p l es), binds_join p l es)
+binds_join p l (e ∷ es) =
+    omega (arith, sum_by-cons note_joins (bind (traced_number p l e)) (binding p l es), binds_join p l es)
 
 -- the tag of an event's message
 abbrev pub traced_tag : Option Chained → ℕ
@@ -75,13 +84,15 @@ pub record NamesFit (stack : List LayerTree) (n : Node) (l : Names) : Type 0 whe
   pub first : goes_down n.dir n.kind ≡ true → link_tag (slice_index_or l.messages 0 no_message).message.chain ≡ n.tag
 
 -- another slot than the first is filled
-pub set_other : (xs : List Named) (k : ℕ) (x : Named) → 1 ≤ k → slice_index_or (slice_set xs k x) 0 no_message ≡ slice_index_or xs 0 no_message
+pub set_other : (xs : List Named) (k : ℕ) (x : Named) → 1 ≤ k → slice_index_or (slice_set xs k x) 0 no_message ≡
+    slice_index_or xs 0 no_message
 set_other [] k x h = refl
 set_other (y ∷ ys) zero x h = absurd (omega arith)
 set_other (y ∷ ys) (suc k) x h = refl
 
 -- the headers of a message expression
-worded_fits : (stack : List LayerTree) (n : Node) (p : ℕ) (l : Names) (m : MessageTree) → AllByRecursion (NamedFits stack n.at) l.messages →
+worded_fits : (stack : List LayerTree) (n : Node) (p : ℕ) (l : Names) (m : MessageTree) →
+    AllByRecursion (NamedFits stack n.at) l.messages →
     LinksFit (drop n.at stack) (traced_message p l m).chain
 worded_fits stack n p l (tree.message k) h = each_or (NamedFits stack n.at) l.messages k no_message h tt
 worded_fits stack n p l tree.nothing h = tt
@@ -92,7 +103,8 @@ worded_fits stack n p l (tree.join q m) h = worded_fits stack n p l m h
 
 worded_first : (p : ℕ) (l : Names) (m : MessageTree) → keeps_headers m ≡ true →
     link_tag (traced_message p l m).chain ≡ link_tag (slice_index_or l.messages 0 no_message).message.chain
-worded_first p l (tree.message k) h = ap (λ j. link_tag (slice_index_or l.messages j no_message).message.chain) (is_zero k h)
+worded_first p l (tree.message k) h = ap (λ j. link_tag (slice_index_or l.messages j no_message).message.chain)
+    (is_zero k h)
 worded_first p l tree.nothing h = absurd (cc h)
 worded_first p l (tree.held c e row carried) h = absurd (cc h)
 worded_first p l (tree.cut m from n) h = absurd (cc h)
@@ -110,9 +122,11 @@ module _ (stack : List LayerTree) (f : Node → ℕ) (n : Node) where
   worth x = f (record { at = beyond x.0 n.at; dir = x.0; kind = x.1.kind; tag = traced_tag x.1.message })
 
   pub leads : (dir : Dir) (kind : Kind) (tags : List ℕ) (tag : ℕ) → In tag tags →
-      f (record { at = beyond dir n.at; dir = dir; kind = kind; tag = tag }) ≤ largest (map f (arrow_to 1 n dir kind tags).targets)
+      f (record { at = beyond dir n.at; dir = dir; kind = kind; tag = tag }) ≤ largest
+      (map f (arrow_to 1 n dir kind tags).targets)
   leads dir kind tags tag m = at_most_largest (f _) (map f (arrow_to 1 n dir kind tags).targets)
-      (in_map f _ (arrow_to 1 n dir kind tags).targets (in_map (λ t. record { at = beyond dir n.at; dir = dir; kind = kind; tag = t }) tag tags m))
+      (in_map f _ (arrow_to 1 n dir kind tags).targets
+      (in_map (λ t. record { at = beyond dir n.at; dir = dir; kind = kind; tag = t }) tag tags m))
 
   -- the tag with which a message goes
   tag_leads : (p : ℕ) (l : Names) (dir : Dir) (c : ContentTree) (fields : List Atom) → NamesFit stack n l →
@@ -120,21 +134,25 @@ module _ (stack : List LayerTree) (f : Node → ℕ) (n : Node) where
   tag_leads p l Down c fields h = inl refl
   tag_leads p l Up c fields h = go (goes_down n.dir n.kind && keeps_headers c.message) refl where
     go : (b : Bool) → (goes_down n.dir n.kind && keeps_headers c.message) ≡ b →
-        In (link_tag (traced_message p l c.message).chain) (if b then n.tag ∷ [] else tags_of (layer_at stack (n.at + 1)))
+        In (link_tag (traced_message p l c.message).chain)
+        (if b then n.tag ∷ [] else tags_of (layer_at stack (n.at + 1)))
     go true both = let halves = and_parts (goes_down n.dir n.kind) (keeps_headers c.message) both in
         inl (worded_first p l c.message halves.1 ∙ h.first halves.0)
     go false both = tag_in (layer_at stack (n.at + 1)) (link_tag (traced_message p l c.message).chain)
-        (subst (λ j. is_some (declared (slice_index_or stack j no_layer) (link_tag (traced_message p l c.message).chain)) ≡ true) (sym (one_more n.at))
+        (subst (λ j. is_some (declared (slice_index_or stack j no_layer)
+        (link_tag (traced_message p l c.message).chain)) ≡ true) (sym (one_more n.at))
         (front_fits stack n.at (traced_message p l c.message).chain (worded_fits stack n p l c.message h.each)))
 
-  chain_fits : (dir : Dir) (kind : Kind) (c : ContentTree) (fields : List Atom) (chain : List Link) → (1 ≤ n.at) × (n.at ≤ length stack) →
+  chain_fits : (dir : Dir) (kind : Kind) (c : ContentTree) (fields : List Atom) (chain : List Link) →
+      (1 ≤ n.at) × (n.at ≤ length stack) →
       IsOrderlyContent (layer_at stack n.at) dir kind (Some c) → LinksFit (drop n.at stack) chain →
       (carries kind ≡ true) × LinksFit (drop (sent_gap dir n.at) stack) (sent_chain (n.at - 1) dir c.tag fields chain)
   chain_fits Up kind c fields chain here o h = (o, h)
   chain_fits Down kind c fields chain here o h =
       let above : n.at ≡ suc (n.at - 1) = omega (arith, here.0) in (
         o.0,
-        more_fits stack (n.at - 1) (record { place = n.at - 1; tag = c.tag; fields = fields }) chain (omega (arith, here.0, here.1)) o.1
+        more_fits stack (n.at - 1) (record { place = n.at - 1; tag = c.tag; fields = fields }) chain
+            (omega (arith, here.0, here.1)) o.1
             (subst (λ j. LinksFit (drop j stack) chain) above h),
       )
 
@@ -145,8 +163,10 @@ module _ (stack : List LayerTree) (f : Node → ℕ) (n : Node) where
     pub sent : sum_by worth z.sent ≤ sends
     pub joined : trace_joins z.made.operations ≤ joins
 
-  quiet : (y : Tracing) (operations : List Operation) (binds notes takes : ℕ) (names : Names) (s j d : ℕ) → Comes s j y →
-      NamesFit stack n names → trace_joins operations ≤ d → Comes (s + 0) (j + d) (stepping y operations binds notes takes names)
+  quiet : (y : Tracing) (operations : List Operation) (binds notes takes : ℕ) (names : Names) (s j d : ℕ) →
+      Comes s j y →
+      NamesFit stack n names → trace_joins operations ≤ d →
+      Comes (s + 0) (j + d) (stepping y operations binds notes takes names)
   quiet y operations binds notes takes names s j d h fit le = record {
     names = fit;
     each = h.each;
@@ -154,7 +174,8 @@ module _ (stack : List LayerTree) (f : Node → ℕ) (n : Node) where
     joined = omega (arith, sum_by-append note_joins y.made.operations operations, h.joined, le);
   }
 
-  loud : (y : Tracing) (e : EmissionTree) (operations : List Operation) (binds notes : ℕ) (message : Option Chained) (s j d b : ℕ) → Comes s j y →
+  loud : (y : Tracing) (e : EmissionTree) (operations : List Operation) (binds notes : ℕ) (message : Option Chained)
+      (s j d b : ℕ) → Comes s j y →
       MessageFits stack (sent_gap e.direction n.at) e.kind message → trace_joins operations ≤ d →
       f (record { at = beyond e.direction n.at; dir = e.direction; kind = e.kind; tag = traced_tag message }) ≤ b →
       Comes (s + b) (j + d) (sending y e operations binds notes message)
@@ -163,38 +184,51 @@ module _ (stack : List LayerTree) (f : Node → ℕ) (n : Node) where
     each = each_append (SentFits stack n.at) y.sent _ h.each (fits, tt);
     sent = omega (
       arith,
-      sum_by-append worth y.sent ((e.direction, record { kind = e.kind; numbers = bounds y.made.binds e.numbers; message = message }) ∷ []),
+      sum_by-append worth y.sent
+          ((e.direction, record { kind = e.kind; numbers = bounds y.made.binds e.numbers; message = message }) ∷ []),
       h.sent,
       worth_le,
     );
     joined = omega (arith, sum_by-append note_joins y.made.operations operations, h.joined, le);
   }
 
-  renumbered : (l : Names) (numbers : List Atom) → NamesFit stack n l → NamesFit stack n (record l { numbers = numbers })
+  renumbered : (l : Names) (numbers : List Atom) → NamesFit stack n l →
+      NamesFit stack n (record l { numbers = numbers })
   renumbered l numbers h = record { each = h.each; first = h.first }
 
-  refilled : (row items : ℕ) (t : TakenTree) (l : Names) → KeepsMessage (goes_down n.dir n.kind) t.message → NamesFit stack n l →
+  refilled : (row items : ℕ) (t : TakenTree) (l : Names) → KeepsMessage (goes_down n.dir n.kind) t.message →
+      NamesFit stack n l →
       NamesFit stack n (taken_names row items t l)
   refilled row items t l keeps h = go t.message keeps where
     go : (m : Option (ℕ × Carried)) → KeepsMessage (goes_down n.dir n.kind) m →
-        NamesFit stack n (record { numbers = (taken_names row items t l).numbers; messages = fill_message row m l.messages })
+        NamesFit stack n (record
+        { numbers = (taken_names row items t l).numbers; messages = fill_message row m l.messages })
     go None k = record { each = h.each; first = h.first }
     go (Some slot) k = record {
       each = each_set (NamedFits stack n.at) l.messages slot.0 (taken_name row slot.1) h.each tt;
-      first = λ down. ap (λ x. link_tag x.message.chain) (set_other l.messages slot.0 (taken_name row slot.1) (late down)) ∙ h.first down;
+      first = λ down. ap (λ x. link_tag x.message.chain)
+          (set_other l.messages slot.0 (taken_name row slot.1) (late down)) ∙ h.first down;
     } where
       late : goes_down n.dir n.kind ≡ true → 1 ≤ slot.0
       late down = subst (λ b. KeepsMessage b (Some slot)) down k
 
-  pushing_joins : (p : ℕ) (l : Names) (c : ℕ) (e : ExpressionTree) (numbers : List ExpressionTree) (next : ℕ) (row : Option MessageTree) →
-      trace_joins (pushing p l c e numbers next (option_map (traced_message p l) row)) ≤ option_map_or joins_in_message row 0
+  pushing_joins : (p : ℕ) (l : Names) (c : ℕ) (e : ExpressionTree) (numbers : List ExpressionTree) (next : ℕ)
+      (row : Option MessageTree) →
+      trace_joins (pushing p l c e numbers next (option_map (traced_message p l) row)) ≤ option_map_or joins_in_message
+      row 0
   pushing_joins p l c e numbers next None = omega arith
   pushing_joins p l c e numbers next (Some m) =
       let x : Worded = traced_message p l m in
       let o : Operation = push p c (traced_number p l e) (map (traced_number p l) numbers) (Some (chained_of next x)) in
-      omega (arith, sum_by-append note_joins (notes_of x.message) (o ∷ []), notes_join x.message, message_joins_in p l m)
+      omega (
+        arith,
+        sum_by-append note_joins (notes_of x.message) (o ∷ []),
+        notes_join x.message,
+        message_joins_in p l m,
+      )
 
-  send_comes : (dir : Dir) (kind : Kind) (numbers : List ExpressionTree) (content : Option ContentTree) (y : Tracing) (s j : ℕ) →
+  send_comes : (dir : Dir) (kind : Kind) (numbers : List ExpressionTree) (content : Option ContentTree) (y : Tracing)
+      (s j : ℕ) →
       (1 ≤ n.at) × (n.at ≤ length stack) → IsOrderlyContent (layer_at stack n.at) dir kind content → Comes s j y →
       let e : EmissionTree = record { direction = dir; kind = kind; numbers = numbers; content = content } in
       IfMade (Comes (s + bound_of stack f n e) (j + joins_in_emission e)) (traced_send (n.at - 1) y e content)
@@ -209,12 +243,14 @@ module _ (stack : List LayerTree) (f : Node → ℕ) (n : Node) where
     x : Worded
     x = traced_message (n.at - 1) y.names c.message
 
-    go : (b : Bool) → IfMade (Comes (s + bound_of stack f n (record { direction = dir; kind = kind; numbers = numbers; content = Some c }))
+    go : (b : Bool) → IfMade
+        (Comes (s + bound_of stack f n (record { direction = dir; kind = kind; numbers = numbers; content = Some c }))
         (j + joins_in_emission (record { direction = dir; kind = kind; numbers = numbers; content = Some c })))
         (sending_known b (n.at - 1) y (record { direction = dir; kind = kind; numbers = numbers; content = Some c }) c
         (traced_message (n.at - 1) y.names c.message))
     go false = tt
-    go true = loud y e (binding (n.at - 1) y.names (numbers ++ c.fields) ++ notes_of x.message) (length (numbers ++ c.fields)) (notes_in x.message)
+    go true = loud y e (binding (n.at - 1) y.names (numbers ++ c.fields) ++ notes_of x.message)
+        (length (numbers ++ c.fields)) (notes_in x.message)
         (Some (record {
           chain = sent_chain (n.at - 1) dir c.tag (bounds (y.made.binds + length numbers) c.fields) x.chain;
           core = core_of y.made.notes x.message;
@@ -238,7 +274,8 @@ module _ (stack : List LayerTree) (f : Node → ℕ) (n : Node) where
   step_comes layer (test false e) y s j here o h = quiet y _ 0 0 0 y.names s j 0 h h.names (omega arith)
   step_comes layer (fork First e) y s j here o h = quiet y _ 0 0 0 y.names s j 0 h h.names (omega arith)
   step_comes layer (fork Second e) y s j here o h = quiet y _ 0 0 0 y.names s j 0 h h.names (omega arith)
-  step_comes layer (set_slot k e) y s j here o h = quiet y _ 1 0 0 _ s j 0 h (renumbered y.names _ h.names) (omega arith)
+  step_comes layer (set_slot k e) y s j here o h = quiet y _ 1 0 0 _ s j 0 h (renumbered y.names _ h.names)
+      (omega arith)
   step_comes layer (set_number c i e) y s j here o h = quiet y _ 0 0 0 y.names s j 0 h h.names (omega arith)
   step_comes layer (set_square c row column e) y s j here o h = quiet y _ 0 0 0 y.names s j 0 h h.names (omega arith)
   step_comes layer (put c i capacity row) y s j here o h = quiet y _ 0 _ 0 y.names s j (joins_in_row row) h h.names
@@ -249,20 +286,31 @@ module _ (stack : List LayerTree) (f : Node → ℕ) (n : Node) where
         pushing_joins (n.at - 1) y.names c i row.numbers y.made.notes row.message,
       ))
   step_comes layer (get c i taken) y s j here o h =
-      quiet y _ 0 0 1 _ s j 0 h (refilled y.made.takes (items_of (form_at layer c)) taken y.names o h.names) (omega arith)
+      quiet y _ 0 0 1 _ s j 0 h (refilled y.made.takes (items_of (form_at layer c)) taken y.names o h.names)
+      (omega arith)
   step_comes layer (send e) y s j here o h = send_comes e.direction e.kind e.numbers e.content y s j here o h
   step_comes layer loop y s j here o h = tt
 
   pub steps_come : (layer : LayerTree) (xs : List Step) (y : Tracing) (s j : ℕ) → (1 ≤ n.at) × (n.at ≤ length stack) →
       AllByRecursion (OrderlyStep (layer_at stack n.at) (goes_down n.dir n.kind)) xs → Comes s j y →
-      IfMade (Comes (s + priced (step_sends (bound_of stack f n)) xs) (j + priced step_joins xs)) (trace_steps layer (n.at - 1) xs y)
-  steps_come layer [] y s j here o h = record { names = h.names; each = h.each; sent = omega (arith, h.sent); joined = omega (arith, h.joined) }
+      IfMade (Comes (s + priced (step_sends (bound_of stack f n)) xs) (j + priced step_joins xs))
+      (trace_steps layer (n.at - 1) xs y)
+  steps_come layer [] y s j here o h =
+      record { names = h.names; each = h.each; sent = omega (arith, h.sent); joined = omega (arith, h.joined) }
   steps_come layer (x ∷ xs) y s j here o h =
       from_made (Comes (s + step_sends (bound_of stack f n) x) (j + step_joins x))
       (Comes (s + priced (step_sends (bound_of stack f n)) (x ∷ xs)) (j + priced step_joins (x ∷ xs)))
       (trace_steps layer (n.at - 1) xs) (trace_step layer (n.at - 1) x y) (step_comes layer x y s j here o.0 h)
       (λ z k. more_made
-      (Comes (s + step_sends (bound_of stack f n) x + priced (step_sends (bound_of stack f n)) xs) (j + step_joins x + priced step_joins xs))
-      (Comes (s + priced (step_sends (bound_of stack f n)) (x ∷ xs)) (j + priced step_joins (x ∷ xs))) (trace_steps layer (n.at - 1) xs z)
+      (Comes (s + step_sends (bound_of stack f n) x + priced (step_sends (bound_of stack f n)) xs)
+      (j + step_joins x + priced step_joins xs))
+      (Comes (s + priced (step_sends (bound_of stack f n)) (x ∷ xs)) (j + priced step_joins (x ∷ xs)))
+      (trace_steps layer (n.at - 1) xs z)
       (steps_come layer xs z (s + step_sends (bound_of stack f n) x) (j + step_joins x) here o.1 k)
-      (λ w c. record { names = c.names; each = c.each; sent = omega (arith, c.sent); joined = omega (arith, c.joined) }))
+      (λ w c. record {
+        names = c.names;
+        each = c.each;
+        sent = omega (arith, c.sent);
+        joined =
+            omega (arith, c.joined);
+      }))

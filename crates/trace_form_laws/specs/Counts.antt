@@ -13,7 +13,8 @@ use Rattle.trace_form_laws.specs.Entries.{IsEntry, entry_node}
 
 -- A trace joins no more than acceptance counts for its entry.
 abbrev pub TracesJoinLess : Type 0
-TracesJoinLess = (case : Case) (stack : List LayerTree) (k : Known) (fields : List (Option ℕ)) (operations : List Operation) →
+TracesJoinLess = (case : Case) (stack : List LayerTree) (k : Known) (fields : List (Option ℕ))
+    (operations : List Operation) →
     IsOrderly stack → first_on_cycle stack ≡ None → IsEntry stack k →
     trace_of case stack k fields ≡ Ok operations →
     trace_joins operations ≤ most_joins stack (entry_node stack k)
@@ -28,7 +29,8 @@ pub record IsFew (stack : List LayerTree) (k : Known) (operations : List Operati
   pub outputs : trace_outputs operations ≤ weight stack (entry_node stack k)
 
 abbrev pub TracesAreFew : Type 0
-TracesAreFew = (case : Case) (stack : List LayerTree) (k : Known) (fields : List (Option ℕ)) (operations : List Operation) →
+TracesAreFew = (case : Case) (stack : List LayerTree) (k : Known) (fields : List (Option ℕ))
+    (operations : List Operation) →
     IsOrderly stack → first_on_cycle stack ≡ None → IsEntry stack k → weight stack (entry_node stack k) ≤ weight_limit →
     trace_of case stack k fields ≡ Ok operations → IsFew stack k operations
 
@@ -39,6 +41,7 @@ pub record IsWithin (operations : List Operation) : Type 0 where
   pub outputs : trace_outputs operations ≤ weight_limit
 
 abbrev pub AcceptedTracesFit : Type 0
-AcceptedTracesFit = (case : Case) (stack : List LayerTree) (k : Known) (fields : List (Option ℕ)) (operations : List Operation) →
+AcceptedTracesFit = (case : Case) (stack : List LayerTree) (k : Known) (fields : List (Option ℕ))
+    (operations : List Operation) →
     IsOrderly stack → accepted stack ≡ Ok stack → IsEntry stack k →
     trace_of case stack k fields ≡ Ok operations → IsWithin operations

@@ -1,10 +1,12 @@
 -- What the operations of a trace name.
 use Rattle.std.specs.Prelude.{ℕ, Option, Some, None}
 use Rattle.std.specs.List.{AllByRecursion}
-use Rattle.trace_mean.specs.Trace.{Atom, Core, TraceNumber, atom, me, count, ltime, element, square, rows, item, size, binary, apply, pick, TraceMessage, core, held, cut, tail, join, Link, Chained, Operation, bind, note, check, set, set_square, push, take, output}
+use Rattle.trace_mean.specs.Trace.{Atom, Core, TraceNumber, atom, me, count, ltime, element, square, rows, item, size}
+use Rattle.trace_mean.specs.Trace.{binary, apply, pick, TraceMessage, core, held, cut, tail, join, Link, Chained}
+use Rattle.trace_mean.specs.Trace.{Operation, bind, note, check, set, set_square, push, take, output}
 
--- A name: of a number or a message that the trace was given or has made, or of something at a place of its stack. That is a number of a
--- cell, a square of numbers, a queue, or a number of a queue's rows.
+-- A name: of a number or a message that the trace was given or has made, or of something at a place of its stack. That
+-- is a number of a cell, a square of numbers, a queue, or a number of a queue's rows.
 pub data Name : Type 0 where
   a_number : Atom → Name
   a_message : Core → Name
@@ -57,7 +59,8 @@ OperationNames So (bind e) = NumberNames So e
 OperationNames So (note m) = MessageNames So m
 OperationNames So (check e) = NumberNames So e
 OperationNames So (set p c e x) = So (a_cell p c e) × NumberNames So e × NumberNames So x
-OperationNames So (set_square p c row column x) = So (a_square p c) × NumberNames So row × NumberNames So column × NumberNames So x
+OperationNames So (set_square p c row column x) = So (a_square p c) × NumberNames So row × NumberNames So column ×
+    NumberNames So x
 OperationNames So (push p c e numbers message) =
     So (a_queue p c e) × NumberNames So e × AllByRecursion (NumberNames So) numbers × SentNames So message
 OperationNames So (take p c e) = So (a_queue p c e) × NumberNames So e

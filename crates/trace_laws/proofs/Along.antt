@@ -16,16 +16,19 @@ use Rattle.layer_mean.specs.declared.run.Case.TheVariants.{First, Second}
 use Rattle.layer_mean.specs.declared.run.Event.{Event}
 use Rattle.layer_mean.specs.declared.run.Row.{Row}
 use Rattle.layer_mean.specs.Event.{carries}
-use Rattle.layer_mean.specs.Tree.{TakenTree, StatementTree, bind, assign, assign_square, push, take, branch, each, emit, StatementTrees, none, more, Expected, always, common, rare, HandlerTree, LayerTree}
+use Rattle.layer_mean.specs.Tree.{TakenTree, StatementTree, bind, assign, assign_square, push, take, branch, each, emit}
+use Rattle.layer_mean.specs.Tree.{StatementTrees, none, more, Expected, always, common, rare, HandlerTree, LayerTree}
 use Rattle.layer_mean.specs.State.{State, flat_index, row_at, has_room, with_number, with_row, without_front}
 use Rattle.layer_mean.specs.Value.{Scope, is_true, val}
 use Rattle.layer_mean.specs.Effect.{with_slot, row_of, with_taken}
 use Rattle.layer_mean.specs.Visit.{Met, met, is_for, handler_for, entered}
-use Rattle.layer_mean.specs.Way.{Step, test, fork, set_slot, set_number, set_square, put, get, send, loop, way, ways, expected_way}
+use Rattle.layer_mean.specs.Way.{Step, test, fork, set_slot, set_number, set_square, put, get, send, loop, way, ways}
+use Rattle.layer_mean.specs.Way.{expected_way}
 use Rattle.packet_mean.specs.ChainedState.{IsState, IsEvent}
 use Rattle.shape_laws.specs.Bare.{BareBeyond}
 use Rattle.shape_laws.specs.Walk.{Here, took}
-use Rattle.chain_laws.specs.Typed.{Small, Sends, Pushes, Takes, with_taken_sort, Typed, TypedAll, sorts_of, TypedHandler, TypedLayer}
+use Rattle.chain_laws.specs.Typed.{Small, Sends, Pushes, Takes, with_taken_sort, Typed, TypedAll, sorts_of}
+use Rattle.chain_laws.specs.Typed.{TypedHandler, TypedLayer}
 use Rattle.chain_laws.proofs.Lists.{Where}
 use Rattle.chain_laws.proofs.Sorts.{IsScope, kept, number_keeps, front_keeps, row_keeps}
 use Rattle.chain_laws.proofs.Values.{val_small}
@@ -42,7 +45,8 @@ beyond_unless true P h is = tt
 beyond_unless false P h is = is
 
 beyond_took : (row : Option Row) (P : Here → Type 0) (c i : ℕ) (taken : TakenTree) (h : Here) →
-    ((r : Row) → row ≡ Some r → P (record h { state = without_front h.state c i; scope = with_taken taken r h.scope })) →
+    ((r : Row) → row ≡ Some r → P (record h { state = without_front h.state c i; scope = with_taken taken r h.scope }))
+    →
     BareBeyond P (took c i taken h row)
 beyond_took None P c i taken h is = tt
 beyond_took (Some r) P c i taken h is = is r refl
@@ -51,12 +55,15 @@ beyond_took (Some r) P c i taken h is = is r refl
 abbrev pub TypedStep : LayerTree → List Header → List Sort → Step → Type 0
 TypedStep layer blank sorts (put c i capacity row) = Pushes layer blank sorts c capacity row
 TypedStep layer blank sorts (get c i taken) = Takes layer blank sorts c taken.message
-TypedStep layer blank sorts (send e) = AllByRecursion Small e.numbers × Sends layer blank sorts (carries e.kind) e.direction e.content
+TypedStep layer blank sorts (send e) = AllByRecursion Small e.numbers ×
+    Sends layer blank sorts (carries e.kind) e.direction e.content
 TypedStep layer blank sorts _ = Unit {0}
 
-module _ (P Q : List Header → Type 0) (layer : LayerTree) (place : ℕ) (blank : List Header) (laws : Stands P Q layer place blank)
+module _ (P Q : List Header → Type 0) (layer : LayerTree) (place : ℕ) (blank : List Header)
+    (laws : Stands P Q layer place blank)
     (At : Step → Here → Type 0)
-    (fact : (x : Step) (sorts : List Sort) (s : State) (l : Scope) (sent : List (Dir × Event)) → TypedStep layer blank sorts x →
+    (fact : (x : Step) (sorts : List Sort) (s : State) (l : Scope) (sent : List (Dir × Event)) →
+    TypedStep layer blank sorts x →
     IsState P layer s → IsScope P sorts l → At x (record { state = s; scope = l; sent = sent })) where
   -- in whatever typed state and scope
   abbrev Going : List Sort → List Step → Type 0
@@ -64,23 +71,27 @@ module _ (P Q : List Header → Type 0) (layer : LayerTree) (place : ℕ) (blank
       Along At place steps (record { state = s; scope = l; sent = sent })
 
   mutual
-    statement_goes : (case : Case) (x : StatementTree) (sorts : List Sort) (rest : List Step) → Typed layer blank sorts x →
+    statement_goes : (case : Case) (x : StatementTree) (sorts : List Sort) (rest : List Step) →
+        Typed layer blank sorts x →
         Going sorts rest → Going sorts (way case x ++ rest)
     statement_goes case (bind k e) sorts rest h go s l sent state scope = (
       fact (set_slot k e) sorts s l sent tt state scope,
       go s (with_slot k (val e s l) l) sent state
-          (slot_keeps P Q layer place blank laws sorts k (val e s l) l (val_small s l (kept P layer sorts s l state scope) e h) scope),
+          (slot_keeps P Q layer place blank laws sorts k (val e s l) l
+          (val_small s l (kept P layer sorts s l state scope) e h) scope),
     )
     statement_goes case (assign c i e) sorts rest h go s l sent state scope = (
       fact (set_number c i e) sorts s l sent tt state scope,
       go (with_number s c (val i s l) (val e s l)) l sent
-          (number_keeps P layer s c (val i s l) (val e s l) state (val_small s l (kept P layer sorts s l state scope) e h)) scope,
+          (number_keeps P layer s c (val i s l) (val e s l) state
+          (val_small s l (kept P layer sorts s l state scope) e h)) scope,
     )
     statement_goes case (assign_square c row column e) sorts rest h go s l sent state scope =
         let i = flat_index s.count (val row s l) (val column s l) in (
           fact (set_square c row column e) sorts s l sent tt state scope,
           go (with_number s c i (val e s l)) l sent
-              (number_keeps P layer s c i (val e s l) state (val_small s l (kept P layer sorts s l state scope) e h)) scope,
+              (number_keeps P layer s c i (val e s l) state (val_small s l (kept P layer sorts s l state scope) e h))
+              scope,
         )
     statement_goes case (push c i capacity row otherwise) sorts rest h go s l sent state scope = (
       fact (put c i capacity row) sorts s l sent h.0 state scope,
@@ -94,9 +105,11 @@ module _ (P Q : List Header → Type 0) (layer : LayerTree) (place : ℕ) (blank
           fact (get c i taken) sorts s l sent h.0 state scope,
           beyond_took (row_at s c (val i s l) 0) (Along At place (ways case block ++ rest)) c (val i s l) taken _
               (λ row is. block_goes case block typed rest h.1
-              (λ t m sent state scope. go t m sent state (taken_back P Q layer place blank laws sorts taken.message c m h.0 scope))
+              (λ t m sent state scope.
+              go t m sent state (taken_back P Q layer place blank laws sorts taken.message c m h.0 scope))
               (without_front s c (val i s l)) (with_taken taken row l) sent (front_keeps P layer s c (val i s l) state)
-              (taken_keeps P Q layer place blank laws sorts c (val i s l) taken.numbers taken.message row s l h.0 state is
+              (taken_keeps P Q layer place blank laws sorts c (val i s l) taken.numbers taken.message row s l h.0 state
+              is
               (row_numbers P Q layer place blank laws s c (val i s l) row
               (kept P layer [] s _ state (record { numbers_are = tt; messages_are = tt })) is) scope)),
         )
@@ -120,40 +133,51 @@ module _ (P Q : List Header → Type 0) (layer : LayerTree) (place : ℕ) (blank
       beyond_unless (is_true (val e s l)) (Along At place (ways Second otherwise ++ rest)) _
           (block_goes Second otherwise sorts rest h.1 go s l sent state scope),
     )
-    statement_goes case (each k below most block) sorts rest h go s l sent state scope = (fact loop sorts s l sent tt state scope, tt)
-    statement_goes case (emit e) sorts rest h go s l sent state scope = (fact (send e) sorts s l sent h state scope, go s l _ state scope)
+    statement_goes case (each k below most block) sorts rest h go s l sent state scope =
+        (fact loop sorts s l sent tt state scope, tt)
+    statement_goes case (emit e) sorts rest h go s l sent state scope =
+        (fact (send e) sorts s l sent h state scope, go s l _ state scope)
 
-    block_goes : (case : Case) (xs : StatementTrees) (sorts : List Sort) (rest : List Step) → TypedAll layer blank sorts xs →
+    block_goes : (case : Case) (xs : StatementTrees) (sorts : List Sort) (rest : List Step) →
+        TypedAll layer blank sorts xs →
         Going sorts rest → Going sorts (ways case xs ++ rest)
     block_goes case none sorts rest h go = go
-    block_goes case (more x xs) sorts rest h go = subst (Going sorts) (sym (append_assoc (way case x) (ways case xs) rest))
+    block_goes case (more x xs) sorts rest h go =
+        subst (Going sorts) (sym (append_assoc (way case x) (ways case xs) rest))
         (statement_goes case x sorts (ways case xs ++ rest) h.0 (block_goes case xs sorts rest h.1 go))
 
   ended : (sorts : List Sort) → Going sorts []
   ended sorts s l sent state scope = tt
 
-  way_goes : (case : Case) (xs : StatementTrees) (sorts : List Sort) → TypedAll layer blank sorts xs → Going sorts (ways case xs)
+  way_goes : (case : Case) (xs : StatementTrees) (sorts : List Sort) → TypedAll layer blank sorts xs →
+      Going sorts (ways case xs)
   way_goes case none sorts h = ended sorts
   way_goes case (more x xs) sorts h = statement_goes case x sorts (ways case xs) h.0 (way_goes case xs sorts h.1)
 
   expected_goes : (x : Expected) (steps : List Step) (sorts : List Sort) (s : State) (l : Scope) → Going sorts steps →
       IsState P layer s → IsScope P sorts l → AlongWay At place (expected_way x steps) s l
   expected_goes always steps sorts s l go state scope = go s l [] state scope
-  expected_goes (common e) steps sorts s l go state scope =
-      (fact (test true e) sorts s l [] tt state scope, beyond_if (is_true (val e s l)) (Along At place steps) _ (λ holds. go s l [] state scope))
+  expected_goes (common e) steps sorts s l go state scope = (
+    fact (test true e) sorts s l [] tt state scope,
+    beyond_if (is_true (val e s l)) (Along At place steps) _ (λ holds. go s l [] state scope),
+  )
   expected_goes rare steps sorts s l go state scope = tt
 
   handled_goes : (case : Case) (o : Option HandlerTree) (s : State) (dir : Dir) (e : Event) (m : Met) →
-      Where (λ h. TypedHandler layer blank h × (is_for dir e.kind m.tag h ≡ true)) o → IsState P layer s → IsEvent (come_headers P Q dir) e →
+      Where (λ h. TypedHandler layer blank h × (is_for dir e.kind m.tag h ≡ true)) o → IsState P layer s →
+      IsEvent (come_headers P Q dir) e →
       IsMet P layer dir (carries e.kind) m → AlongHandled At case place o s e m
   handled_goes case None s dir e m h state event is = tt
   handled_goes case (Some h) s dir e m typed state event is =
-      let all = and_parts (sameb dir_row.the_type h.direction dir && sameb kind_row.the_type h.kind e.kind) (h.tag == m.tag) typed.1 in
+      let all = and_parts (sameb dir_row.the_type h.direction dir && sameb kind_row.the_type h.kind e.kind)
+      (h.tag == m.tag) typed.1 in
       let both = and_parts (sameb dir_row.the_type h.direction dir) (sameb kind_row.the_type h.kind e.kind) all.0 in
-      let scope = entered_is P Q layer place blank laws h e m dir (carries e.kind) (same_true dir_row.the_type tt h.direction dir both.0)
+      let scope = entered_is P Q layer place blank laws h e m dir (carries e.kind)
+      (same_true dir_row.the_type tt h.direction dir both.0)
       (ap carries (same_true kind_row.the_type tt h.kind e.kind both.1)) (eqb-true h.tag m.tag all.1)
       (arguments_small (come_headers P Q dir) e.kind e event) is in
-      expected_goes h.expected (ways case h.block) (sorts_of layer h) s (entered h e m) (way_goes case h.block (sorts_of layer h) typed.0)
+      expected_goes h.expected (ways case h.block) (sorts_of layer h) s (entered h e m)
+      (way_goes case h.block (sorts_of layer h) typed.0)
       state scope
 
   pub visit_goes : (case : Case) (s : State) (dir : Dir) (e : Event) → TypedLayer blank layer → IsState P layer s →

@@ -1,5 +1,7 @@
--- What a visit does and decides is what walking the predicted way does, as far as that goes, with its decisions counted.
-use Rattle.std.proofs.Common.{◌≡◌, ℕ, ◌+◌, Bool, true, false, List, [], ◌∷◌, ◌++◌, Option, Some, None, refl, sym, ap, ◌∙◌}
+-- What a visit does and decides is what walking the predicted way does, as far as that goes, with its decisions
+-- counted.
+use Rattle.std.proofs.Common.{◌≡◌, ℕ, ◌+◌, Bool, true, false, List, [], ◌∷◌, ◌++◌, Option, Some, None, refl, sym, ap}
+use Rattle.std.proofs.Common.{◌∙◌}
 use Rattle.std.specs.Prelude.{if◌then◌else◌}
 use Rattle.std.specs.List.{fold}
 use Rattle.std.proofs.lemmas.List.{append-nil, append_assoc}
@@ -9,10 +11,12 @@ use Rattle.layer_mean.specs.declared.run.Case.{Case}
 use Rattle.layer_mean.specs.declared.run.Case.TheVariants.{First, Second}
 use Rattle.layer_mean.specs.declared.run.Event.{Event}
 use Rattle.layer_mean.specs.declared.run.Row.{Row}
-use Rattle.layer_mean.specs.Tree.{StatementTree, bind, assign, assign_square, push, take, branch, each, emit, StatementTrees, none, more, Expected, always, common, rare, HandlerTree, TakenTree}
+use Rattle.layer_mean.specs.Tree.{StatementTree, bind, assign, assign_square, push, take, branch, each, emit}
+use Rattle.layer_mean.specs.Tree.{StatementTrees, none, more, Expected, always, common, rare, HandlerTree, TakenTree}
 use Rattle.layer_mean.specs.State.{State, has_room, row_at, without_front}
 use Rattle.layer_mean.specs.Value.{Scope, is_true, val}
-use Rattle.layer_mean.specs.Effect.{Decision, usual, unusual, went_as, Outcome, Act, after, done, decides, in_order, does, acts, chosen, taking, with_taken}
+use Rattle.layer_mean.specs.Effect.{Decision, usual, unusual, went_as, Outcome, Act, after, done, decides, in_order}
+use Rattle.layer_mean.specs.Effect.{does, acts, chosen, taking, with_taken}
 use Rattle.layer_mean.specs.Visit.{expecting}
 use Rattle.layer_mean.specs.Way.{Step, test, fork, put, get, way, ways, expected_way, handler_way}
 use Rattle.shape_laws.specs.Walk.{Here, walk_step, took}
@@ -82,7 +86,8 @@ pub walk_both : (place : ℕ) (xs ys : List Step) (n : ℕ) (h : Here) →
     walk place (xs ++ ys) n h ≡ onward (walk place ys) (walk place xs n h)
 walk_both place [] ys n h = refl
 walk_both place (x ∷ xs) ys n h =
-    walked_same (walk place (xs ++ ys)) (λ m g. onward (walk place ys) (walk place xs m g)) (walk_both place xs ys) (decides_it x) n (walk_step place x h)
+    walked_same (walk place (xs ++ ys)) (λ m g. onward (walk place ys) (walk place xs m g)) (walk_both place xs ys)
+    (decides_it x) n (walk_step place x h)
     ∙ walked_both (walk place xs) (walk place ys) (decides_it x) n (walk_step place x h)
 
 -- what was decided before, and what is behind it
@@ -95,9 +100,11 @@ counted_both : (f g h : ℕ → Tally) (n : ℕ) (b : Bool) → f (n + 1) ≡ co
 counted_both f g h n true same = same
 counted_both f g h n false same = refl
 
-pub tally_both : (case : Case) (xs ys : List Decision) (n : ℕ) → tally case (xs ++ ys) n ≡ counting_on (tally case ys) (tally case xs n)
+pub tally_both : (case : Case) (xs ys : List Decision) (n : ℕ) →
+    tally case (xs ++ ys) n ≡ counting_on (tally case ys) (tally case xs n)
 tally_both case [] ys n = refl
-tally_both case (x ∷ xs) ys n = counted_both (tally case (xs ++ ys)) (tally case xs) (tally case ys) n (went_as case x) (tally_both case xs ys (n + 1))
+tally_both case (x ∷ xs) ys n = counted_both (tally case (xs ++ ys)) (tally case xs) (tally case ys) n (went_as case x)
+    (tally_both case xs ys (n + 1))
 
 told_on : (t : Tally) (f : ℕ → Tally) (g : ℕ → Here → Walked) (h h' : Here) → ((n : ℕ) → told (f n) h' ≡ g n h) →
     told (counting_on f t) h' ≡ onward g (told t h)
@@ -106,57 +113,68 @@ told_on (missed_at n) f g h h' same = refl
 
 abbrev Block : Case → ℕ → List Step → List Act → Type 0
 Block case place steps fs = (o : Outcome) (pre : List (Dir × Event)) (n : ℕ) →
-    told (tally case (fold after o fs).decided n) (here pre (fold after o fs)) ≡ onward (walk place steps) (told (tally case o.decided n) (here pre o))
+    told (tally case (fold after o fs).decided n) (here pre (fold after o fs)) ≡
+    onward (walk place steps) (told (tally case o.decided n) (here pre o))
 
 abbrev Goes : Case → ℕ → StatementTree → Type 0
 Goes case place x = (s : State) (l : Scope) (pre : List (Dir × Event)) (n : ℕ) →
-    told (tally case (does place x s l).decided n) (here pre (does place x s l)) ≡ walk place (way case x) n (start pre s l)
+    told (tally case (does place x s l).decided n) (here pre (does place x s l)) ≡
+    walk place (way case x) n (start pre s l)
 
 -- nothing sent: the same place
-unsent : (n : ℕ) (pre : List (Dir × Event)) (s : State) (l : Scope) → went n (start (pre ++ []) s l) ≡ went n (start pre s l)
+unsent : (n : ℕ) (pre : List (Dir × Event)) (s : State) (l : Scope) → went n (start (pre ++ []) s l) ≡
+    went n (start pre s l)
 unsent n pre s l = ap (λ x. went n (start x s l)) (append-nil pre)
 
 -- a block from a place at which nothing was sent yet
 from_start : (case : Case) (place : ℕ) (steps : List Step) (fs : List Act) → Block case place steps fs →
     (s : State) (l : Scope) (pre : List (Dir × Event)) (n : ℕ) →
     told (tally case (in_order fs s l).decided n) (here pre (in_order fs s l)) ≡ walk place steps n (start pre s l)
-from_start case place steps fs block s l pre n = block (done s l) pre n ∙ ap (λ x. walk place steps n (start x s l)) (append-nil pre)
+from_start case place steps fs block s l pre n = block (done s l) pre n ∙
+    ap (λ x. walk place steps n (start x s l)) (append-nil pre)
 
-push_goes : (case : Case) (place : ℕ) (room : Bool) (t : State) (l : Scope) (pre : List (Dir × Event)) (n : ℕ) (other : Outcome) →
+push_goes : (case : Case) (place : ℕ) (room : Bool) (t : State) (l : Scope) (pre : List (Dir × Event)) (n : ℕ)
+    (other : Outcome) →
     let o = if room then decides usual (done t l) else decides unusual other in
-    told (tally case o.decided n) (here pre o) ≡ walked_on (walk place []) true n (if room then Some (start pre t l) else None)
+    told (tally case o.decided n) (here pre o) ≡
+    walked_on (walk place []) true n (if room then Some (start pre t l) else None)
 push_goes case place true t l pre n other = unsent (n + 1) pre t l
 push_goes case place false t l pre n other = refl
 
-first_goes : (case : Case) (place : ℕ) (steps : List Step) (st : Here) (pre : List (Dir × Event)) (n : ℕ) (b : Bool) (first second : Outcome) →
+first_goes : (case : Case) (place : ℕ) (steps : List Step) (st : Here) (pre : List (Dir × Event)) (n : ℕ) (b : Bool)
+    (first second : Outcome) →
     told (tally case first.decided (n + 1)) (here pre first) ≡ walk place steps (n + 1) st →
     told (tally case (chosen b likely.First first second).decided n) (here pre (chosen b likely.First first second)) ≡
     walked_on (walk place steps) true n (if b then Some st else None)
 first_goes case place steps st pre n true first second leads = leads
 first_goes case place steps st pre n false first second leads = refl
 
-else_goes : (case : Case) (place : ℕ) (steps : List Step) (st : Here) (pre : List (Dir × Event)) (n : ℕ) (b : Bool) (first second : Outcome) →
+else_goes : (case : Case) (place : ℕ) (steps : List Step) (st : Here) (pre : List (Dir × Event)) (n : ℕ) (b : Bool)
+    (first second : Outcome) →
     told (tally case second.decided (n + 1)) (here pre second) ≡ walk place steps (n + 1) st →
     told (tally case (chosen b likely.Else first second).decided n) (here pre (chosen b likely.Else first second)) ≡
     walked_on (walk place steps) true n (if b then None else Some st)
 else_goes case place steps st pre n false first second leads = leads
 else_goes case place steps st pre n true first second leads = refl
 
-two_first : (place : ℕ) (steps : List Step) (st : Here) (pre : List (Dir × Event)) (n : ℕ) (b : Bool) (first second : Outcome) →
+two_first : (place : ℕ) (steps : List Step) (st : Here) (pre : List (Dir × Event)) (n : ℕ) (b : Bool)
+    (first second : Outcome) →
     told (tally First first.decided (n + 1)) (here pre first) ≡ walk place steps (n + 1) st →
     told (tally First (chosen b likely.Two first second).decided n) (here pre (chosen b likely.Two first second)) ≡
     walked_on (walk place steps) true n (if b then Some st else None)
 two_first place steps st pre n true first second leads = leads
 two_first place steps st pre n false first second leads = refl
 
-two_second : (place : ℕ) (steps : List Step) (st : Here) (pre : List (Dir × Event)) (n : ℕ) (b : Bool) (first second : Outcome) →
+two_second : (place : ℕ) (steps : List Step) (st : Here) (pre : List (Dir × Event)) (n : ℕ) (b : Bool)
+    (first second : Outcome) →
     told (tally Second second.decided (n + 1)) (here pre second) ≡ walk place steps (n + 1) st →
     told (tally Second (chosen b likely.Two first second).decided n) (here pre (chosen b likely.Two first second)) ≡
     walked_on (walk place steps) true n (if b then None else Some st)
 two_second place steps st pre n true first second leads = refl
 two_second place steps st pre n false first second leads = leads
 
-take_goes : (case : Case) (place : ℕ) (steps : List Step) (c i : ℕ) (taken : TakenTree) (s : State) (l : Scope) (pre : List (Dir × Event)) (n : ℕ)
+take_goes : (case : Case) (place : ℕ) (steps : List Step) (c i : ℕ) (taken : TakenTree) (s : State) (l : Scope)
+    (pre : List (Dir × Event)) (n : ℕ)
     (row : Option Row) (first : Row → Outcome) (second : Outcome) →
     ((r : Row) → told (tally case (first r).decided (n + 1)) (here pre (first r)) ≡
     walk place steps (n + 1) (start pre (without_front s c i) (with_taken taken r l))) →
@@ -181,13 +199,15 @@ mutual
       (from_start case place (ways case block) (acts place block) (block_goes case place block) s l pre (n + 1))
   statement_goes case place (branch likely.Else e block otherwise) s l pre n =
       else_goes case place (ways case otherwise) (start pre s l) pre n (is_true (val e s l)) _ _
-      (from_start case place (ways case otherwise) (acts place otherwise) (block_goes case place otherwise) s l pre (n + 1))
+      (from_start case place (ways case otherwise) (acts place otherwise) (block_goes case place otherwise) s l pre
+      (n + 1))
   statement_goes First place (branch likely.Two e block otherwise) s l pre n =
       two_first place (ways First block) (start pre s l) pre n (is_true (val e s l)) _ _
       (from_start First place (ways First block) (acts place block) (block_goes First place block) s l pre (n + 1))
   statement_goes Second place (branch likely.Two e block otherwise) s l pre n =
       two_second place (ways Second otherwise) (start pre s l) pre n (is_true (val e s l)) _ _
-      (from_start Second place (ways Second otherwise) (acts place otherwise) (block_goes Second place otherwise) s l pre (n + 1))
+      (from_start Second place (ways Second otherwise) (acts place otherwise) (block_goes Second place otherwise) s l
+      pre (n + 1))
   statement_goes case place (each k below most block) s l pre n = refl
   statement_goes case place (emit e) s l pre n = refl
 
@@ -200,7 +220,8 @@ mutual
       ∙ ap (onward (walk place (ways case rest))) (
       ap (λ t. told t (here pre whole)) (tally_both case o.decided p.decided n)
       ∙ told_on (tally case o.decided n) (tally case p.decided) (walk place (way case x)) (here pre o) (here pre whole)
-      (λ m. ap (λ sent. told (tally case p.decided m) (record { state = p.state; scope = p.scope; sent = sent })) (sym (append_assoc pre o.sent p.sent))
+      (λ m. ap (λ sent. told (tally case p.decided m) (record { state = p.state; scope = p.scope; sent = sent }))
+      (sym (append_assoc pre o.sent p.sent))
       ∙ statement_goes case place x o.state o.scope (pre ++ o.sent) m)
       )
       ∙ twice (told (tally case o.decided n) (here pre o)) where
@@ -214,13 +235,15 @@ abbrev pub Went : Case → ℕ → Option (List Step) → State → Scope → Ou
 Went case place None s l o n = Unit {0}
 Went case place (Some steps) s l o n = told (tally case o.decided n) (here [] o) ≡ walk place steps n (start [] s l)
 
-expected_goes : (case : Case) (place : ℕ) (x : Expected) (steps : List Step) (s : State) (l : Scope) (o : Outcome) (n : ℕ) →
+expected_goes : (case : Case) (place : ℕ) (x : Expected) (steps : List Step) (s : State) (l : Scope) (o : Outcome)
+    (n : ℕ) →
     ((n : ℕ) → told (tally case o.decided n) (here [] o) ≡ walk place steps n (start [] s l)) →
     Went case place (expected_way x steps) s l (expecting x s l o) n
 expected_goes case place always steps s l o n leads = leads n
 expected_goes case place (common e) steps s l o n leads = go (is_true (val e s l)) where
   go : (b : Bool) → let p : Outcome = if b then decides usual o else decides unusual o in
-      told (tally case p.decided n) (here [] p) ≡ walked_on (walk place steps) true n (if b then Some (start [] s l) else None)
+      told (tally case p.decided n) (here [] p) ≡
+      walked_on (walk place steps) true n (if b then Some (start [] s l) else None)
   go true = leads (n + 1)
   go false = refl
 expected_goes case place rare steps s l o n leads = tt

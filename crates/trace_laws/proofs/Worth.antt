@@ -1,5 +1,7 @@
--- What the expressions of a trace are worth is what those of the layer are, wherever the names of the scope are worth what the scope holds.
-use Rattle.std.proofs.Common.{◌≡◌, ℕ, zero, suc, ◌+◌, Bool, true, false, List, [], ◌∷◌, ◌++◌, map, length, refl, sym, ap, ◌∙◌}
+-- What the expressions of a trace are worth is what those of the layer are, wherever the names of the scope are worth
+-- what the scope holds.
+use Rattle.std.proofs.Common.{◌≡◌, ℕ, zero, suc, ◌+◌, Bool, true, false, List, [], ◌∷◌, ◌++◌, map, length, refl, sym}
+use Rattle.std.proofs.Common.{ap, ◌∙◌}
 use Rattle.std.specs.Prelude.{if◌then◌else◌, nat_le, slice_index_or}
 use Rattle.std.proofs.Math.ListN.{get_or-map}
 use Rattle.std.proofs.lemmas.List.{append-nil}
@@ -40,13 +42,23 @@ abbrev pub scope_of : Split → Scope
 scope_of l = record { numbers = l.numbers; messages = map together l.messages }
 
 abbrev pub named_at : Input → Kept → Named → Apart
-named_at i k x = record { known = x.known; headers = map (header_at i k) x.message.chain; behind = core_at i k x.message.core }
+named_at i k x = record {
+  known = x.known;
+  headers = map (header_at i k) x.message.chain;
+  behind =
+      core_at i k x.message.core;
+}
 
 abbrev pub split_at : Input → Kept → Names → Split
 split_at i k l = record { numbers = map (atom_at i k) l.numbers; messages = map (named_at i k) l.messages }
 
 abbrev pub worded_at : Input → Kept → List State → Worded → Apart
-worded_at i k ss x = record { known = x.known; headers = map (header_at i k) x.chain; behind = message_of i k ss x.message }
+worded_at i k ss x = record {
+  known = x.known;
+  headers = map (header_at i k) x.chain;
+  behind =
+      message_of i k ss x.message;
+}
 
 -- a message expression on a scope whose messages are apart
 abbrev pub apart_of : MessageTree → State → Split → Apart
@@ -89,11 +101,13 @@ pub together_is : (m : MessageTree) (s : State) (l : Split) → together (apart_
 together_is (tree.message k) s l = sym (get_or-map together l.messages k no_apart)
 together_is tree.nothing s l = refl
 together_is (tree.held c e row carried) s l = refl
-together_is (tree.cut m from n) s l = cut_bodies (apart_of m s l).behind (mval m s (scope_of l)) _ _ (ap (λ x. x.body) (together_is m s l))
+together_is (tree.cut m from n) s l = cut_bodies (apart_of m s l).behind (mval m s (scope_of l)) _ _
+    (ap (λ x. x.body) (together_is m s l))
 together_is (tree.tail m from) s l = ap (λ x. parts.tail x (val from s (scope_of l))) (together_is m s l)
 together_is (tree.join q m) s l =
     join_apart (apart_of q s l).behind (apart_of m s l).headers (apart_of m s l).behind
-    ∙ join_bodies (apart_of q s l).behind (mval q s (scope_of l)) (together (apart_of m s l)) (ap (λ x. x.body) (together_is q s l))
+    ∙ join_bodies (apart_of q s l).behind (mval q s (scope_of l)) (together (apart_of m s l))
+    (ap (λ x. x.body) (together_is q s l))
     ∙ ap (parts.join (mval q s (scope_of l))) (together_is m s l)
 
 -- what is known has no headers behind those in front
@@ -147,10 +161,12 @@ module _ (i : Input) (k : Kept) (ss : List State) (p : ℕ) (l : Names) (of : Is
     number_worth tree.ltime = sym of.ltime
     number_worth (tree.local n) = sym (get_or-map (atom_at i k) l.numbers n no_number)
     number_worth (tree.element c e) = ap (number_at s c) (number_worth e)
-    number_worth (tree.square c row column) = λ t. number_at s c (flat_index (sym of.count t) (number_worth row t) (number_worth column t))
+    number_worth (tree.square c row column) = λ t.
+        number_at s c (flat_index (sym of.count t) (number_worth row t) (number_worth column t))
     number_worth (tree.rows c e) = ap (λ n. length (rows_at s c n)) (number_worth e)
     number_worth (tree.item c e row n) = λ t. number_in n (row_at s c (number_worth e t) (number_worth row t))
-    number_worth (tree.size m) = ap (λ x. length x.behind.body) (message_worth m) ∙ ap (λ x. length x.body) (together_is m s v)
+    number_worth (tree.size m) = ap (λ x. length x.behind.body) (message_worth m) ∙
+        ap (λ x. length x.body) (together_is m s v)
     number_worth (tree.binary operator a b) = λ t. applied operator (number_worth a t) (number_worth b t)
     number_worth (tree.apply function a) = ap (function_of function) (number_worth a)
     number_worth (tree.pick c a b) = λ t. if is_true (number_worth c t) then number_worth a t else number_worth b t

@@ -1,4 +1,5 @@
--- That an entry has a trace in a case exactly where it has a shape, and that the trace has the shape's length and its outputs.
+-- That an entry has a trace in a case exactly where it has a shape, and that the trace has the shape's length and its
+-- outputs.
 use Rattle.std.specs.Prelude.{◌≡◌, ℕ, List, [], ◌∷◌, map, length, Option, Ok}
 use Rattle.std.specs.List.{flat_map}
 use Rattle.std.specs.Option.{option_map_or}

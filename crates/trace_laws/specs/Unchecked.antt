@@ -7,8 +7,10 @@ use Rattle.trace_mean.specs.Worth.{Input}
 use Rattle.trace_mean.specs.Follow.{Trail, on, before, reached, follow, follows, perform, unchecked}
 use Rattle.trace_laws.specs.Safe.{SafeTrace}
 
--- Where a trace is followed to its end, and safely, so are its operations without checks, which leave the same but for the count of checks.
-pub record GoesUnchecked (stack : List LayerTree) (i : Input) (operations : List Operation) (states : List State) (u : Trail) : Type 0 where
+-- Where a trace is followed to its end, and safely, so are its operations without checks, which leave the same but for
+-- the count of checks.
+pub record GoesUnchecked (stack : List LayerTree) (i : Input) (operations : List Operation) (states : List State)
+    (u : Trail) : Type 0 where
   pub answer : follow i (unchecked operations) states ≡ reached u.states u.outs
   pub performed : perform i (unchecked operations) states ≡ record u { checks = 0 }
   pub safe : SafeTrace stack i (unchecked operations) (on (before states))

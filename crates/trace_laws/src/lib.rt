@@ -7,14 +7,14 @@ ghost use Rattle.trace_laws.specs.Members.{RunsKeepMembers};
 ghost use Rattle.trace_laws.specs.Right.{TracesAreRight};
 ghost use Rattle.trace_laws.specs.Shapes.{OutputsAreTold, TracesStandForShapes};
 
-/// The trace of an entry of typed layers, from chained states, comes to what the run of its entry comes to, and is safe as far as it is
-/// followed.
+/// The trace of an entry of typed layers, from chained states, comes to what the run of its entry comes to, and is safe
+/// as far as it is followed.
 pub fn traces_are_right()
     ensures { TracesAreRight }
 {}
 
-/// An entry has a trace exactly where it has a shape, for the same reason none; a trace is as long as the shape, and its outputs are the
-/// shape's.
+/// An entry has a trace exactly where it has a shape, for the same reason none; a trace is as long as the shape, and
+/// its outputs are the shape's.
 pub fn traces_stand_for_shapes()
     ensures { TracesStandForShapes }
 {}

@@ -19,7 +19,9 @@ use Rattle.stack_mean.specs.Cases.{parting}
 use Rattle.stack_mean.specs.Samples.{kept}
 use Rattle.stack_mean.specs.Shape.{app_cast, app_send, packet_entry}
 use Rattle.stack_mean.specs.TwoCases.{flip}
-use Rattle.trace_mean.specs.Trace.{Atom, number, peer, field, bound, taken_number, Core, body, noted, taken_message, TraceNumber, atom, me, count, element, rows, binary, core, held, cut, join, Link, Chained, Operation, bind, note, check, set, push, take, output}
+use Rattle.trace_mean.specs.Trace.{Atom, number, peer, field, bound, taken_number, Core, body, noted, taken_message}
+use Rattle.trace_mean.specs.Trace.{TraceNumber, atom, me, count, element, rows, binary, core, held, cut, join, Link}
+use Rattle.trace_mean.specs.Trace.{Chained, Operation, bind, note, check, set, push, take, output}
 use Rattle.trace_mean.specs.Follow.{Answer, follow, reached, stopped}
 use Rattle.trace_mean.specs.Fuse.{trace_of}
 use Rattle.trace_mean.specs.Worth.{Input}
@@ -43,18 +45,21 @@ CounterTraces =
     (trace_of First (counter ∷ []) app_cast [] ≡ Ok
     (bind (atom peer) ∷ bind (cell 0 0) ∷ set 0 0 (lit 0) (binary Add (cell 0 0) (lit 1)) ∷
     output Down Cast (bound 0 ∷ []) (with_chain (link 0 1 (bound 1 ∷ []) ∷ []) body) ∷ [])) ×
-    (trace_of First (counter ∷ []) app_send [] ≡ Ok (output Down Send (peer ∷ []) (with_chain (link 0 0 [] ∷ []) body) ∷ [])) ×
+    (trace_of First (counter ∷ []) app_send [] ≡
+    Ok (output Down Send (peer ∷ []) (with_chain (link 0 0 [] ∷ []) body) ∷ [])) ×
     (trace_of First (counter ∷ []) (packet_entry Cast (1 ∷ [])) (None ∷ []) ≡ Ok
     (check (binary Equal (atom (field 0)) (element 0 1 (atom peer))) ∷
     set 0 1 (atom peer) (binary Add (atom (field 0)) (lit 1)) ∷ bind (atom peer) ∷
     output Up Cast (bound 0 ∷ []) (with_chain [] body) ∷ [])) ×
-    (trace_of First (counter ∷ []) (packet_entry Send (0 ∷ [])) [] ≡ Ok (output Up Send (peer ∷ []) (with_chain [] body) ∷ []))
+    (trace_of First (counter ∷ []) (packet_entry Send (0 ∷ [])) [] ≡
+    Ok (output Up Send (peer ∷ []) (with_chain [] body) ∷ []))
 
--- A cast that comes back to its sender before its packet goes out: one bind for each number argument, the headers' fields behind the
--- event's peer, and the delivery first.
+-- A cast that comes back to its sender before its packet goes out: one bind for each number argument, the headers'
+-- fields behind the event's peer, and the delivery first.
 abbrev pub KeptTrace : Type 0
 KeptTrace = trace_of First kept app_cast [] ≡ Ok
-    (check (binary Equal me (lit 0)) ∷ bind (atom peer) ∷ bind me ∷ bind (cell 3 0) ∷ set 3 0 (lit 0) (binary Add (cell 3 0) (lit 1)) ∷
+    (check (binary Equal me (lit 0)) ∷ bind (atom peer) ∷ bind me ∷ bind (cell 3 0) ∷
+    set 3 0 (lit 0) (binary Add (cell 3 0) (lit 1)) ∷
     bind (atom (bound 0)) ∷ bind me ∷
     check (binary Less (rows 1 4 (lit 0)) (lit 64)) ∷
     push 1 4 (lit 0) [] (with_chain (link 2 0 [] ∷ link 3 1 (bound 1 ∷ bound 2 ∷ []) ∷ []) body) ∷
@@ -64,7 +69,8 @@ KeptTrace = trace_of First kept app_cast [] ≡ Ok
     bind (atom (bound 5)) ∷ bind (lit 1) ∷
     output Up Cast (bound 7 ∷ []) (with_chain [] body) ∷
     output Down Cast (bound 8 ∷ []) (with_chain
-    (link 0 1 (bound 9 ∷ []) ∷ link 1 1 (bound 6 ∷ []) ∷ link 2 0 [] ∷ link 3 1 (bound 1 ∷ bound 2 ∷ []) ∷ []) body) ∷ [])
+    (link 0 1 (bound 9 ∷ []) ∷ link 1 1 (bound 6 ∷ []) ∷ link 2 0 [] ∷ link 3 1 (bound 1 ∷ bound 2 ∷ []) ∷ []) body) ∷
+    [])
 
 abbrev pub KeptLength : Type 0
 KeptLength = drawn_from (λ ops. Ok (length ops)) (trace_of First kept app_cast []) ≡ Ok 20
@@ -79,7 +85,8 @@ FlipTraces =
     (set 0 0 (lit 0) (binary Add (cell 0 0) (lit 1)) ∷ check odd ∷ bind (atom peer) ∷ bind (cell 0 0) ∷
     output Down Cast (bound 0 ∷ []) (with_chain (link 0 1 (bound 1 ∷ []) ∷ []) body) ∷ [])) ×
     (trace_of Second (flip ∷ []) app_cast [] ≡ Ok
-    (set 0 0 (lit 0) (binary Add (cell 0 0) (lit 1)) ∷ check (binary Equal odd (lit 0)) ∷ bind (atom peer) ∷ bind (cell 0 0) ∷
+    (set 0 0 (lit 0) (binary Add (cell 0 0) (lit 1)) ∷ check (binary Equal odd (lit 0)) ∷ bind (atom peer) ∷
+    bind (cell 0 0) ∷
     output Down Cast (bound 0 ∷ []) (with_chain (link 0 2 (bound 1 ∷ []) ∷ []) body) ∷ [])) ×
     (trace_of Second (flip ∷ []) app_send [] ≡ Err no_shape.same)
 
@@ -88,7 +95,8 @@ NoTraces =
     (trace_of First (bottom ∷ surprised ∷ late ∷ []) app_cast [] ≡ Err (no_shape.stored 2)) ×
     (trace_of First (flip ∷ []) (packet_entry Cast (1 ∷ [])) (None ∷ []) ≡ Err (no_shape.rare 0))
 
--- The counter's cast followed by the first of two members, and a packet that comes too early, which stops at the first check.
+-- The counter's cast followed by the first of two members, and a packet that comes too early, which stops at the first
+-- check.
 abbrev pub first_input : Input
 first_input = record { me = 0; count = 2; ltime = 0; peer = 0; fields = []; body = codes "x" }
 
@@ -114,12 +122,14 @@ abbrev pub CounterFollowed : Type 0
 CounterFollowed =
     (followed first_input (fresh counter 0 2 0) (trace_of First (counter ∷ []) app_cast []) ≡
     Ok (reached (counting 1 ∷ []) ((Down, cast_of 0 (codes "x")) ∷ []))) ×
-    (followed early_input (fresh counter 0 2 0) (trace_of First (counter ∷ []) (packet_entry Cast (1 ∷ [])) (None ∷ [])) ≡ Ok (stopped 0))
+    (followed early_input (fresh counter 0 2 0) (trace_of First (counter ∷ []) (packet_entry Cast (1 ∷ [])) (None ∷ []))
+    ≡ Ok (stopped 0))
 
 -- A part is cut, kept, taken back and sent, and then one that is held: each is noted where it is pushed or sent.
 abbrev pub NotedTrace : Type 0
 NotedTrace = trace_of First (parting ∷ []) app_cast [] ≡ Ok
-    (check (binary Less (rows 0 0 (lit 0)) (lit 4)) ∷ note (cut (core body) (lit 0) (lit 8)) ∷ push 0 0 (lit 0) [] (with_chain [] (noted 0)) ∷
+    (check (binary Less (rows 0 0 (lit 0)) (lit 4)) ∷ note (cut (core body) (lit 0) (lit 8)) ∷
+    push 0 0 (lit 0) [] (with_chain [] (noted 0)) ∷
     check (binary Greater (rows 0 0 (lit 0)) (lit 0)) ∷ take 0 0 (lit 0) ∷
     bind (atom peer) ∷ note (core (taken_message 0 part)) ∷ bind (atom peer) ∷ note (held 0 0 (lit 0) (lit 0) part) ∷
     output Down Cast (bound 0 ∷ []) (with_chain (link 0 1 [] ∷ []) (noted 1)) ∷
@@ -135,7 +145,9 @@ joiner = record {
   cells = named (codes "q") (queue 4 (record { numbers = codes "x" ∷ []; message = Some (codes "p", part) })) ∷ [];
   headers = [];
   handlers = on Down Cast 0 always
-      (tree.push 0 (tree.number 0) 4 (record { numbers = tree.number 7 ∷ []; message = Some (tree.cut (message 0) (tree.number 0) (tree.number 2)) }) none ∷
+      (tree.push 0 (tree.number 0) 4
+      (record { numbers = tree.number 7 ∷ []; message = Some (tree.cut (message 0) (tree.number 0) (tree.number 2)) })
+      none ∷
       tree.take 0 (tree.number 0) (record { numbers = 1 ∷ []; message = Some (1, part) })
       (block (sends Down Cast (local 1) (tree.join (message 1) (message 0)) 0 [] ∷ [])) none ∷ []) ∷ [];
 }
@@ -154,8 +166,10 @@ JoinedTrace = joined ≡ Ok
 -- It counts for six operations, with two notes, one join and one output.
 abbrev pub JoinedCounts : Type 0
 JoinedCounts =
-    (drawn_from (λ ops. Ok (trace_length ops)) joined ≡ Ok 6) × (drawn_from (λ ops. Ok (trace_notes ops)) joined ≡ Ok 2) ×
-    (drawn_from (λ ops. Ok (trace_joins ops)) joined ≡ Ok 1) × (drawn_from (λ ops. Ok (trace_outputs ops)) joined ≡ Ok 1)
+    (drawn_from (λ ops. Ok (trace_length ops)) joined ≡ Ok 6) ×
+    (drawn_from (λ ops. Ok (trace_notes ops)) joined ≡ Ok 2) ×
+    (drawn_from (λ ops. Ok (trace_joins ops)) joined ≡ Ok 1) ×
+    (drawn_from (λ ops. Ok (trace_outputs ops)) joined ≡ Ok 1)
 
 -- Followed, it sends what it took in front of what it was given, and leaves its queue empty.
 abbrev pub abc : Input
@@ -205,13 +219,15 @@ leaver = record {
 
 abbrev pub LeaverTrace : Type 0
 LeaverTrace = trace_of First (leaver ∷ []) app_cast [] ≡ Ok
-    (bind (atom peer) ∷ note (held 0 0 (lit 0) (lit 0) part) ∷ check (binary Greater (rows 0 0 (lit 0)) (lit 0)) ∷ take 0 0 (lit 0) ∷
+    (bind (atom peer) ∷ note (held 0 0 (lit 0) (lit 0) part) ∷ check (binary Greater (rows 0 0 (lit 0)) (lit 0)) ∷
+    take 0 0 (lit 0) ∷
     output Down Cast (bound 0 ∷ []) (with_chain (link 0 0 [] ∷ []) (noted 0)) ∷ [])
 
 -- With its note directly before the output it would send nothing of the part.
 abbrev pub noted_late : List Operation
 noted_late = bind (atom peer) ∷ check (binary Greater (rows 0 0 (lit 0)) (lit 0)) ∷ take 0 0 (lit 0) ∷
-    note (held 0 0 (lit 0) (lit 0) part) ∷ output Down Cast (bound 0 ∷ []) (with_chain (link 0 0 [] ∷ []) (noted 0)) ∷ []
+    note (held 0 0 (lit 0) (lit 0) part) ∷ output Down Cast (bound 0 ∷ []) (with_chain (link 0 0 [] ∷ []) (noted 0)) ∷
+    []
 
 abbrev pub leaving : List Row → State
 leaving kept = record (fresh leaver 0 2 0) { cells = state.queues (kept ∷ []) ∷ [] }
@@ -233,5 +249,6 @@ left_with text = reached (leaving [] ∷ []) ((
 
 abbrev pub LeaverFollowed : Type 0
 LeaverFollowed =
-    (followed first_input (leaving (kept_part ∷ [])) (trace_of First (leaver ∷ []) app_cast []) ≡ Ok (left_with (codes "ab"))) ×
+    (followed first_input (leaving (kept_part ∷ [])) (trace_of First (leaver ∷ []) app_cast []) ≡
+    Ok (left_with (codes "ab"))) ×
     (follow first_input noted_late (leaving (kept_part ∷ []) ∷ []) ≡ left_with [])

@@ -26,7 +26,8 @@ use Rattle.trace_operations.specs.declared.store.Store.{Store}
 use Rattle.trace_operations.specs.declared.header.Header.{Header}
 use Rattle.trace_operations.specs.declared.sent.Sent.{Sent}
 
--- What a reader took from the front as definitions see it, and the bytes after it; or that it takes nothing. Of want of memory nothing is said.
+-- What a reader took from the front as definitions see it, and the bytes after it; or that it takes nothing. Of want of
+-- memory nothing is said.
 abbrev pub TakesAs : {A B : Type 0} → (A → B) → Option (B × List ℕ) → Result A LineError → List ℕ → Type 0
 TakesAs tree taken (Ok value) after = taken ≡ Some (tree value, after)
 TakesAs tree taken (Err Form) after = taken ≡ None
@@ -70,10 +71,11 @@ abbrev pub header_at : ℕ → Header → trace.Link
 header_at place header = record { place = place; tag = header.tag; fields = map atom_tree header.fields }
 
 -- A chain that a reader took: links were added, and it has this number.
-pub record ChainRead (taken : Option (List trace.Link × List ℕ)) (old new : List Link) (after : List ℕ) (k : ℕ) : Type 0 where
-  pub is : taken ≡ Some (chain_in (chains new) k, after)
-  pub there : IsChain (chains new) k
-  pub more : Grown old new
+pub record ChainRead (taken : Option (List trace.Link × List ℕ)) (old new : List Link) (after : List ℕ) (k : ℕ) : Type 0
+  where
+    pub is : taken ≡ Some (chain_in (chains new) k, after)
+    pub there : IsChain (chains new) k
+    pub more : Grown old new
 
 abbrev pub ReadsChain : Option (List trace.Link × List ℕ) → List Link → List Link → List ℕ → Result ℕ LineError → Type 0
 ReadsChain taken old new after (Ok k) = ChainRead taken old new after k
@@ -81,29 +83,34 @@ ReadsChain taken old new after (Err Form) = taken ≡ None
 ReadsChain taken old new after (Err Memory) = Unit {0}
 
 -- A message that a reader took, with its chain.
-pub record ChainedRead (taken : Option (trace.Chained × List ℕ)) (old new : List Link) (after : List ℕ) (c : Chained) : Type 0 where
+pub record ChainedRead (taken : Option (trace.Chained × List ℕ)) (old new : List Link) (after : List ℕ) (c : Chained) :
+    Type 0 where
   pub is : taken ≡ Some (chained_in (chains new) c, after)
   pub there : IsChain (chains new) c.chain
   pub more : Grown old new
 
-abbrev pub ReadsChained : Option (trace.Chained × List ℕ) → List Link → List Link → List ℕ → Result Chained LineError → Type 0
+abbrev pub ReadsChained : Option (trace.Chained × List ℕ) → List Link → List Link → List ℕ → Result Chained LineError →
+    Type 0
 ReadsChained taken old new after (Ok c) = ChainedRead taken old new after c
 ReadsChained taken old new after (Err Form) = taken ≡ None
 ReadsChained taken old new after (Err Memory) = Unit {0}
 
 -- The same of one that may be missing.
-pub record MessageRead (taken : Option (Option trace.Chained × List ℕ)) (old new : List Link) (after : List ℕ) (m : Option Chained) : Type 0 where
+pub record MessageRead (taken : Option (Option trace.Chained × List ℕ)) (old new : List Link) (after : List ℕ)
+    (m : Option Chained) : Type 0 where
   pub is : taken ≡ Some (option_map (chained_in (chains new)) m, after)
   pub there : HasChain (chains new) m
   pub more : Grown old new
 
-abbrev pub ReadsMessage : Option (Option trace.Chained × List ℕ) → List Link → List Link → List ℕ → Result (Option Chained) LineError → Type 0
+abbrev pub ReadsMessage : Option (Option trace.Chained × List ℕ) → List Link → List Link → List ℕ →
+    Result (Option Chained) LineError → Type 0
 ReadsMessage taken old new after (Ok m) = MessageRead taken old new after m
 ReadsMessage taken old new after (Err Form) = taken ≡ None
 ReadsMessage taken old new after (Err Memory) = Unit {0}
 
 -- What is sent, after the numbers in front.
-pub record SentRead (taken : Option (operation.Sent × List ℕ)) (front : List Atom) (after : List ℕ) (sent : Sent) : Type 0 where
+pub record SentRead (taken : Option (operation.Sent × List ℕ)) (front : List Atom) (after : List ℕ) (sent : Sent) : Type
+    0 where
   pub rest : operation.Sent
   pub is : taken ≡ Some (rest, after)
   pub numbers_are : map atom_tree sent.numbers ≡ map atom_tree front ++ rest.numbers
@@ -115,14 +122,16 @@ ReadsSent taken front (Err Form) after = taken ≡ None
 ReadsSent taken front (Err Memory) after = Unit {0}
 
 -- Numbers that a reader took stand after those in front: nodes were added.
-pub record NumbersRead (taken : Option (List TraceNumber × List ℕ)) (old new : List Node) (after : List ℕ) (front all : List ℕ) : Type 0 where
+pub record NumbersRead (taken : Option (List TraceNumber × List ℕ)) (old new : List Node) (after : List ℕ)
+    (front all : List ℕ) : Type 0 where
   pub rest : List TraceNumber
   pub is : taken ≡ Some (rest, after)
   pub all_are : map (number_in (terms new)) all ≡ map (number_in (terms old)) front ++ rest
   pub there : AllNumbers (terms new) all
   pub more : Grown old new
 
-abbrev pub ReadsNumbers : Option (List TraceNumber × List ℕ) → List Node → List Node → List ℕ → List ℕ → Result (List ℕ) LineError → Type 0
+abbrev pub ReadsNumbers : Option (List TraceNumber × List ℕ) → List Node → List Node → List ℕ → List ℕ →
+    Result (List ℕ) LineError → Type 0
 ReadsNumbers taken old new after front (Ok all) = NumbersRead taken old new after front all
 ReadsNumbers taken old new after front (Err Form) = taken ≡ None
 ReadsNumbers taken old new after front (Err Memory) = Unit {0}
@@ -133,13 +142,15 @@ set_of (targets.Element spot index) value = operations.Set spot.place spot.cell 
 set_of (targets.Square spot row column) value = operations.SetSquare spot.place spot.cell row column value
 
 -- An operation that a reader took, with the nodes and links that were added for it.
-pub record OperationRead (taken : Option (trace.Operation × List ℕ)) (old new : Store) (after : List ℕ) (o : Operation) : Type 0 where
+pub record OperationRead (taken : Option (trace.Operation × List ℕ)) (old new : Store) (after : List ℕ) (o : Operation)
+    : Type 0 where
   pub is : taken ≡ Some (operation_in (terms new.nodes) (chains new.links) o, after)
   pub part : IsPart (terms new.nodes) (chains new.links) o
   pub nodes : Grown old.nodes new.nodes
   pub links : Grown old.links new.links
 
-abbrev pub ReadsOperation : Option (trace.Operation × List ℕ) → Store → Store → List ℕ → Result Operation LineError → Type 0
+abbrev pub ReadsOperation : Option (trace.Operation × List ℕ) → Store → Store → List ℕ → Result Operation LineError →
+    Type 0
 ReadsOperation taken old new after (Ok o) = OperationRead taken old new after o
 ReadsOperation taken old new after (Err Form) = taken ≡ None
 ReadsOperation taken old new after (Err Memory) = Unit {0}

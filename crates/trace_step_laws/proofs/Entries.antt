@@ -1,5 +1,7 @@
--- What enters a member begins with the task of its entry; and so a step comes to what following the entry's trace comes to.
-use Rattle.std.proofs.Common.{◌≡◌, ℕ, zero, suc, Bool, true, false, ◌&&◌, List, [], ◌∷◌, ◌++◌, map, length, take, drop, Option, Some, None, MatchBool, refl, sym, ap, ◌∙◌, subst, arith}
+-- What enters a member begins with the task of its entry; and so a step comes to what following the entry's trace comes
+-- to.
+use Rattle.std.proofs.Common.{◌≡◌, ℕ, zero, suc, Bool, true, false, ◌&&◌, List, [], ◌∷◌, ◌++◌, map, length, take, drop}
+use Rattle.std.proofs.Common.{Option, Some, None, MatchBool, refl, sym, ap, ◌∙◌, subst, arith}
 use Rattle.std.specs.Prelude.{◌==◌, slice_get, get_or, option_map, bytes_eq}
 use Rattle.std.specs.List.{flat_map}
 use Rattle.std.specs.Option.{option_map_or, option_and_then}
@@ -41,7 +43,8 @@ use Rattle.trace_step_laws.specs.Steps.{entry_fields, given, input_of, EntriesBe
 use Rattle.trace_mean.specs.Worth.{Input, Kept, nothing_kept, atom_at, header_at}
 
 -- the numbers of a plan's packet
-fields_worth : (i : Input) (u : Kept) (planned : List (Option ℕ)) (vs : List ℕ) (n : ℕ) (pre : List ℕ) → length pre ≡ n →
+fields_worth : (i : Input) (u : Kept) (planned : List (Option ℕ)) (vs : List ℕ) (n : ℕ) (pre : List ℕ) →
+    length pre ≡ n →
     i.fields ≡ pre ++ variable planned vs → agree planned vs ≡ true → map (atom_at i u) (field_atoms n planned) ≡ vs
 fields_worth i u [] [] n pre long is agrees = refl
 fields_worth i u [] (v ∷ vs) n pre long is agrees = absurd (cc agrees)
@@ -51,7 +54,8 @@ fields_worth i u (Some c ∷ planned) (v ∷ vs) n pre long is agrees =
     let parts = and_parts (v == c) (agree planned vs) agrees in
     λ t. sym (eqb-true v c parts.0) t ∷ fields_worth i u planned vs n pre long is parts.1 t
 fields_worth i u (None ∷ planned) (v ∷ vs) n pre long is agrees =
-    λ t. nth pre v 0 i.fields n long (record { more = variable planned vs; is = is ∙ sym (append_assoc pre (v ∷ []) (variable planned vs)) }) t
+    λ t. nth pre v 0 i.fields n long
+    (record { more = variable planned vs; is = is ∙ sym (append_assoc pre (v ∷ []) (variable planned vs)) }) t
     ∷ fields_worth i u planned vs (suc n) (pre ++ v ∷ []) (length-append pre (v ∷ []) ∙ omega (arith, long))
     (is ∙ sym (append_assoc pre (v ∷ []) (variable planned vs))) agrees t
 
@@ -79,7 +83,8 @@ map_drop f (suc n) [] = refl
 map_drop f (suc n) (x ∷ xs) = map_drop f n xs
 
 -- a chained message's headers are those of its entry
-chain_worth : (i : Input) (u : Kept) (place : ℕ) (layers : List LayerTree) (headers : List Header) (atoms : List Atom) → IsChain layers place headers →
+chain_worth : (i : Input) (u : Kept) (place : ℕ) (layers : List LayerTree) (headers : List Header) (atoms : List Atom) →
+    IsChain layers place headers →
     map (atom_at i u) atoms ≡ flat_map (λ h. h.fields) headers →
     map (header_at i u) (entry_chain place layers (map (λ h. h.tag) headers) atoms) ≡ headers
 chain_worth i u place [] [] atoms chain same = refl
@@ -87,25 +92,30 @@ chain_worth i u place [] (h ∷ hs) atoms chain same = absurd (cc chain)
 chain_worth i u place (layer ∷ above) [] atoms chain same = absurd chain
 chain_worth i u place (layer ∷ above) (h ∷ hs) atoms chain same =
     there (declared layer h.tag) _ chain (λ d listed is. one d listed is
-    (λ inner. chain_worth i u (suc place) above hs (drop (fuse.fields_of layer h.tag) atoms) inner (behind d listed is.1))) where
-      many : (d : HeaderTree) → declared layer h.tag ≡ Some d → length h.fields ≡ d.fields → length h.fields ≡ fuse.fields_of layer h.tag
+    (λ inner. chain_worth i u (suc place) above hs (drop (fuse.fields_of layer h.tag) atoms) inner
+    (behind d listed is.1))) where
+      many : (d : HeaderTree) → declared layer h.tag ≡ Some d → length h.fields ≡ d.fields →
+          length h.fields ≡ fuse.fields_of layer h.tag
       many d listed long = long ∙ ap (λ o. option_map_or (λ (x : HeaderTree). x.fields) o 0) (sym listed)
 
       behind : (d : HeaderTree) → declared layer h.tag ≡ Some d → length h.fields ≡ d.fields →
           map (atom_at i u) (drop (fuse.fields_of layer h.tag) atoms) ≡ flat_map (λ h. h.fields) hs
-      behind d listed long = map_drop (atom_at i u) (fuse.fields_of layer h.tag) atoms ∙ ap (drop (fuse.fields_of layer h.tag)) same
+      behind d listed long = map_drop (atom_at i u) (fuse.fields_of layer h.tag) atoms ∙
+          ap (drop (fuse.fields_of layer h.tag)) same
           ∙ drop_first h.fields (flat_map (λ h. h.fields) hs) (fuse.fields_of layer h.tag) (many d listed long)
 
       rest_is : (b : Bool) → MatchBool b (hs ≡ []) (IsChain above (suc place) hs) →
           (IsChain above (suc place) hs → map (header_at i u) (entry_chain (suc place) above (map (λ h. h.tag) hs)
           (drop (fuse.fields_of layer h.tag) atoms)) ≡ hs) →
-          map (header_at i u) (entry_chain (suc place) above (map (λ h. h.tag) hs) (drop (fuse.fields_of layer h.tag) atoms)) ≡ hs
+          map (header_at i u) (entry_chain
+          (suc place) above (map (λ h. h.tag) hs) (drop (fuse.fields_of layer h.tag) atoms)) ≡ hs
       rest_is true none inner = subst (λ zs. map (header_at i u) (entry_chain (suc place) above (map (λ h. h.tag) zs)
           (drop (fuse.fields_of layer h.tag) atoms)) ≡ zs)
           (sym none) refl
       rest_is false chain inner = inner chain
 
-      one : (d : HeaderTree) → declared layer h.tag ≡ Some d → (h.layer ≡ place) × (length h.fields ≡ d.fields) × MatchBool d.ends (hs ≡ [])
+      one : (d : HeaderTree) → declared layer h.tag ≡ Some d → (h.layer ≡ place) × (length h.fields ≡ d.fields) ×
+          MatchBool d.ends (hs ≡ [])
           (IsChain above (suc place) hs) →
           (IsChain above (suc place) hs → map (header_at i u) (entry_chain (suc place) above (map (λ h. h.tag) hs)
           (drop (fuse.fields_of layer h.tag) atoms)) ≡ hs) →
@@ -113,21 +123,26 @@ chain_worth i u place (layer ∷ above) (h ∷ hs) atoms chain same =
       one d listed is inner = λ t. record {
         layer = sym is.0 t;
         tag = h.tag;
-        fields = (map_take (atom_at i u) (fuse.fields_of layer h.tag) atoms ∙ ap (take (fuse.fields_of layer h.tag)) same
+        fields = (map_take (atom_at i u) (fuse.fields_of layer h.tag) atoms ∙
+            ap (take (fuse.fields_of layer h.tag)) same
             ∙ take_first h.fields (flat_map (λ h. h.fields) hs) (fuse.fields_of layer h.tag) (many d listed is.1)) t;
       } ∷ rest_is d.ends is.2 inner t
 
 -- a packet's entry
-packet_begins : (stack : List LayerTree) (here : Here) (plan : Plan) (p : Packet) → fits plan p ≡ true → IsSpellable stack p →
-    entry_task stack (plan_entry plan) plan.fields (input_of here plan.fields (from_peer p)) ≡ first_task stack here.rank (from_peer p)
+packet_begins : (stack : List LayerTree) (here : Here) (plan : Plan) (p : Packet) → fits plan p ≡ true →
+    IsSpellable stack p →
+    entry_task stack (plan_entry plan) plan.fields (input_of here plan.fields (from_peer p)) ≡
+    first_task stack here.rank (from_peer p)
 packet_begins stack here plan p fit spelled =
     let i = given here p.sender (variable plan.fields (fields_of p.message)) p.message.body in
     let all = and_parts (sameb kind_row.the_type plan.kind (kind_of p.dest) && bytes_eq plan.tags (tags_of p.message))
     (agree plan.fields (fields_of p.message)) fit in
-    let both = and_parts (sameb kind_row.the_type plan.kind (kind_of p.dest)) (bytes_eq plan.tags (tags_of p.message)) all.0 in
+    let both = and_parts (sameb kind_row.the_type plan.kind (kind_of p.dest)) (bytes_eq plan.tags (tags_of p.message))
+    all.0 in
     let kinds : plan.kind ≡ kind_of p.dest = same_true kind_row.the_type tt plan.kind (kind_of p.dest) both.0 in
     let tags : plan.tags ≡ tags_of p.message = (bytes_eq-Decides plan.tags (tags_of p.message)).0 both.1 in
-    let headers : map (header_at i nothing_kept) (entry_chain 0 stack plan.tags (field_atoms 0 plan.fields)) ++ [] ≡ p.message.headers =
+    let headers : map (header_at i nothing_kept) (entry_chain 0 stack plan.tags (field_atoms 0 plan.fields)) ++ [] ≡
+    p.message.headers =
     append-nil (map (header_at i nothing_kept) (entry_chain 0 stack plan.tags (field_atoms 0 plan.fields)))
     ∙ ap (λ ts. map (header_at i nothing_kept) (entry_chain 0 stack ts (field_atoms 0 plan.fields))) tags
     ∙ chain_worth i nothing_kept 0 stack p.message.headers (field_atoms 0 plan.fields) spelled.chained.chain
@@ -144,7 +159,8 @@ some_once x y is = cc
 pub entries_begin : EntriesBegin
 entries_begin stack plans here (app_cast body) k is inside =
     let same : entry.app_cast ≡ k = cc in
-    subst (λ x. entry_task stack x [] (given here here.rank [] body) ≡ first_task stack here.rank (app_cast body)) same refl
+    subst (λ x. entry_task stack x [] (given here here.rank [] body) ≡ first_task stack here.rank (app_cast body)) same
+    refl
 entries_begin stack plans here (app_send to body) k is inside =
     let same : entry.app_send ≡ k = cc in
     subst (λ x. entry_task stack x [] (given here to [] body) ≡ first_task stack here.rank (app_send to body)) same refl
@@ -154,18 +170,22 @@ entries_begin stack plans here (from_peer p) k is inside = found (least_fit plan
   planned : (n : ℕ) (plan : Plan) → least_fit plans p ≡ Some n → slice_get plans n ≡ Some plan → fits plan p ≡ true
   planned n plan fit at =
       let first = position-Some (λ x. fits x p) plans n plan fit in
-      let same : get_or plans n plan ≡ plan = some_once (get_or plans n plan) plan (sym (slice_get-get_or plans n plan first.0) ∙ at) in
+      let same : get_or plans n plan ≡ plan =
+      some_once (get_or plans n plan) plan (sym (slice_get-get_or plans n plan first.0) ∙ at) in
       subst (λ x. fits x p ≡ true) same first.1
 
-  listed : (n : ℕ) → least_fit plans p ≡ Some n → (o : Option Plan) → slice_get plans n ≡ o → option_map plan_entry o ≡ Some k →
+  listed : (n : ℕ) → least_fit plans p ≡ Some n → (o : Option Plan) → slice_get plans n ≡ o →
+      option_map plan_entry o ≡ Some k →
       let fields = option_map_or (λ (plan : Plan). plan.fields) o [] in
       entry_task stack k fields (input_of here fields (from_peer p)) ≡ first_task stack here.rank (from_peer p)
   listed n fit None at is = absurd (cc is)
   listed n fit (Some plan) at is =
-      subst (λ x. entry_task stack x plan.fields (input_of here plan.fields (from_peer p)) ≡ first_task stack here.rank (from_peer p))
+      subst (λ x. entry_task stack x plan.fields (input_of here plan.fields (from_peer p)) ≡
+      first_task stack here.rank (from_peer p))
       (some_once (plan_entry plan) k is) (packet_begins stack here plan p (planned n plan fit at) inside)
 
-  found : (o : Option ℕ) → least_fit plans p ≡ o → option_and_then (λ n. option_map plan_entry (slice_get plans n)) o ≡ Some k →
+  found : (o : Option ℕ) → least_fit plans p ≡ o → option_and_then (λ n. option_map plan_entry (slice_get plans n)) o ≡
+      Some k →
       let fields = option_map_or (λ (plan : Plan). plan.fields) (option_and_then (λ n. slice_get plans n) o) [] in
       entry_task stack k fields (input_of here fields (from_peer p)) ≡ first_task stack here.rank (from_peer p)
   found None fit is = absurd (cc is)
@@ -177,7 +197,8 @@ steps_follow_traces case stack plans here id states what k operations step are e
     let i = input_of here fields what in
     let first : Task Event = first_task stack here.rank what in
     let begins : entry_task stack k fields i ≡ first = entries_begin stack plans here what k enters step.input in
-    let chained : IsChainedTask stack first = first_tasks_are_chained stack here.rank what (omega (arith, step.at.rank)) step.input in
+    let chained : IsChainedTask stack first = first_tasks_are_chained stack here.rank what (omega (arith, step.at.rank))
+    step.input in
     let right = traces_are_right case stack k fields operations i states made (record {
       typed = step.typed;
       of = are;

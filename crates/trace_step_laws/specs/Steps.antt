@@ -51,15 +51,18 @@ EntriesBegin = (stack : List LayerTree) (plans : List Plan) (here : Here) (what 
     let fields = entry_fields plans what in
     entry_task stack k fields (input_of here fields what) ≡ first_task stack here.rank what
 
--- So a step of a member comes to what following the trace of its entry comes to, in each case that is made; and as far as it is followed,
--- it is safe.
-pub record StepIsFollowed (case : Case) (stack : List LayerTree) (plans : List Plan) (here : Here) (id : ℕ) (states : List State)
+-- So a step of a member comes to what following the trace of its entry comes to, in each case that is made; and as far
+-- as it is followed, it is safe.
+pub record StepIsFollowed (case : Case) (stack : List LayerTree) (plans : List Plan) (here : Here) (id : ℕ)
+    (states : List State)
     (what : Entered) (operations : List Operation) : Type 0 where
-  pub answer : follow (input_of here (entry_fields plans what) what) operations states ≡ answer_for case (step_from stack here id states what).work
+  pub answer : follow (input_of here (entry_fields plans what) what) operations states ≡
+      answer_for case (step_from stack here id states what).work
   pub safe : SafeTrace stack (input_of here (entry_fields plans what) what) operations (on (before states))
 
 abbrev pub StepsFollowTraces : Type 0
-StepsFollowTraces = (case : Case) (stack : List LayerTree) (plans : List Plan) (here : Here) (id : ℕ) (states : List State) (what : Entered)
+StepsFollowTraces = (case : Case) (stack : List LayerTree) (plans : List Plan) (here : Here) (id : ℕ)
+    (states : List State) (what : Entered)
     (k : Known) (operations : List Operation) →
     IsStep stack here states what →
     AreOf (input_of here (entry_fields plans what) what) stack states →

@@ -1,4 +1,5 @@
-//! That the steps of a member come to what following the traces of their entries comes to: the contracts of functions that do nothing.
+//! That the steps of a member come to what following the traces of their entries comes to: the contracts of functions
+//! that do nothing.
 #![tactic(auto)]
 
 ghost use Rattle.trace_step_laws.specs.Steps.{EntriesBegin, StepsFollowTraces};

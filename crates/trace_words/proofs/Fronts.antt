@@ -1,5 +1,6 @@
 -- Texts that stand at the front of others.
-use Rattle.std.proofs.Common.{◌≡◌, ℕ, Bool, true, false, List, [], ◌∷◌, ◌++◌, length, take, drop, Option, Some, None, Result, Ok, Err, refl, ap, ap₂, sym, ◌∙◌}
+use Rattle.std.proofs.Common.{◌≡◌, ℕ, Bool, true, false, List, [], ◌∷◌, ◌++◌, length, take, drop, Option, Some, None}
+use Rattle.std.proofs.Common.{Result, Ok, Err, refl, ap, ap₂, sym, ◌∙◌}
 use Rattle.std.specs.Prelude.{bytes_eq, nat_eq, ◌&&◌, if◌then◌else◌, option_map, option_and_then}
 use Rattle.std.proofs.lemmas.Bool.{eqb-true, eq-eqb}
 use Rattle.pack_mean.specs.Reader.{◌>>=◌, the_text}
@@ -13,7 +14,8 @@ same_bools false true f g = g refl
 same_bools false false f g = refl
 
 nat_swap : (x y : ℕ) → nat_eq x y ≡ nat_eq y x
-nat_swap x y = same_bools (nat_eq x y) (nat_eq y x) (λ e. eq-eqb y x (sym (eqb-true x y e))) (λ e. eq-eqb x y (sym (eqb-true y x e)))
+nat_swap x y = same_bools (nat_eq x y) (nat_eq y x) (λ e. eq-eqb y x (sym (eqb-true x y e)))
+    (λ e. eq-eqb x y (sym (eqb-true y x e)))
 
 -- which of two texts stands first in a comparison
 swap : (xs ys : List ℕ) → bytes_eq xs ys ≡ bytes_eq ys xs
@@ -22,7 +24,8 @@ swap [] (y ∷ ys) = refl
 swap (x ∷ xs) [] = refl
 swap (x ∷ xs) (y ∷ ys) = ap₂ (λ a b. a && b) (nat_swap x y) (swap xs ys)
 
-pub front_equal : (wanted text : List ℕ) → bytes_eq wanted (take (length wanted) text) ≡ bytes_eq (take (length wanted) text) wanted
+pub front_equal : (wanted text : List ℕ) → bytes_eq wanted (take (length wanted) text) ≡
+    bytes_eq (take (length wanted) text) wanted
 front_equal wanted text = swap wanted (take (length wanted) text)
 
 -- what is behind a text that stands at the front
@@ -63,15 +66,19 @@ then_text b taken = option_and_then (λ (t : Unit {0} × List ℕ). the_text b t
 
 -- two texts, one behind the other
 pub text_both : (a b text : List ℕ) → the_text (a ++ b) text ≡ (the_text a >>= λ _. the_text b) text
-text_both a b text = rest_is (a ++ b) text ∙ (ap with_unit (rest_both a b text) ∙ go (rest_behind a text) (rest_is a text)) where
-  go : (o : Option (List ℕ)) → the_text a text ≡ with_unit o → with_unit (onward o b) ≡ (the_text a >>= λ _. the_text b) text
-  go None e = ap (then_text b) (sym e)
-  go (Some rest) e = sym (rest_is b rest) ∙ ap (then_text b) (sym e)
+text_both a b text = rest_is (a ++ b) text ∙
+    (ap with_unit (rest_both a b text) ∙ go (rest_behind a text) (rest_is a text)) where
+      go : (o : Option (List ℕ)) → the_text a text ≡ with_unit o →
+          with_unit (onward o b) ≡ (the_text a >>= λ _. the_text b) text
+      go None e = ap (then_text b) (sym e)
+      go (Some rest) e = sym (rest_is b rest) ∙ ap (then_text b) (sym e)
 
-pub both_texts : (a b text middle end : List ℕ) (r : Result (Unit {0}) LineError) → the_text a text ≡ Some (tt, middle) →
+pub both_texts : (a b text middle end : List ℕ) (r : Result (Unit {0}) LineError) →
+    the_text a text ≡ Some (tt, middle) →
     Takes (the_text b middle) r end → Takes (the_text (a ++ b) text) r end
 both_texts a b text middle end r first second = go r (text_both a b text ∙ ap (then_text b) first) second where
-  go : (r : Result (Unit {0}) LineError) → the_text (a ++ b) text ≡ the_text b middle → Takes (the_text b middle) r end →
+  go : (r : Result (Unit {0}) LineError) → the_text (a ++ b) text ≡ the_text b middle →
+      Takes (the_text b middle) r end →
       Takes (the_text (a ++ b) text) r end
   go (Ok done) e is = e ∙ is
   go (Err Form) e is = e ∙ is

@@ -1,5 +1,7 @@
 -- Places of names in lists.
-use Rattle.std.proofs.Common.{◌≡◌, ℕ, zero, suc, ◌+◌, ◌-◌, ◌<◌, ◌≤◌, Bool, true, false, not, if◌then◌else◌, nat_lt, List, [], ◌∷◌, codes, map, length, get_or, Option, Some, None, refl, sym, ap, ap₂, ◌∙◌, arith}
+use Rattle.std.proofs.Common.{◌≡◌, ℕ, zero, suc, ◌+◌, ◌-◌, ◌<◌, ◌≤◌, Bool, true, false, not, if◌then◌else◌, nat_lt}
+use Rattle.std.proofs.Common.{List, [], ◌∷◌, codes, map, length, get_or, Option, Some, None, refl, sym, ap, ap₂, ◌∙◌}
+use Rattle.std.proofs.Common.{arith}
 use Rattle.std.proofs.lemmas.List.{length-map, get_or-map}
 use Rattle.std.proofs.lemmas.Bool.{lt-ltb, le-ltb, ltb-true, ltb-false}
 use Rattle.std.specs.List.{position, position_or_len}
@@ -21,16 +23,19 @@ or_len_map tree test (x ∷ xs) = ap (λ k. if not (test (tree x)) then 1 + k el
 
 position_map : {X A : Type 0} (tree : X → A) (test : A → Bool) (xs : List X) →
     position test (map tree xs) ≡ position (λ x. test (tree x)) xs
-position_map tree test xs = ap₂ (λ k n. if nat_lt k n then Some k else None) (or_len_map tree test xs) (length-map xs tree)
+position_map tree test xs = ap₂ (λ k n. if nat_lt k n then Some k else None) (or_len_map tree test xs)
+    (length-map xs tree)
 
-pub cell_found : (word : List ℕ) (cells : List Cell) (place : Option ℕ) → place ≡ position (λ (c : Cell). bytes_eq word c.name) cells →
+pub cell_found : (word : List ℕ) (cells : List Cell) (place : Option ℕ) →
+    place ≡ position (λ (c : Cell). bytes_eq word c.name) cells →
     place ≡ place_of word (map (λ (c : CellTree). c.name) (map cell_tree cells))
 cell_found word cells place is =
     is ∙ sym (position_map (λ (c : CellTree). c.name) (bytes_eq word) (map cell_tree cells)
     ∙ position_map cell_tree (λ (c : CellTree). bytes_eq word c.name) cells)
 
 header_found : (word : List ℕ) (headers : List HeaderForm) →
-    position (λ (h : HeaderForm). bytes_eq word h.name) headers ≡ place_of word (map (λ h. h.name) (map header_tree headers))
+    position (λ (h : HeaderForm). bytes_eq word h.name) headers ≡
+    place_of word (map (λ h. h.name) (map header_tree headers))
 header_found word headers =
     sym (position_map (λ h. h.name) (bytes_eq word) (map header_tree headers)
     ∙ position_map header_tree (λ h. bytes_eq word h.name) headers)
@@ -38,7 +43,8 @@ header_found word headers =
 -- the place of the first, and of one behind another
 first : {X : Type 0} (p : X → Bool) (x : X) (xs : List X) → p x ≡ true → Some 0 ≡ position p (x ∷ xs)
 first p x xs passes = sym (
-    ap (λ b. let k = if not b then 1 + position_or_len p xs else 0 in if nat_lt k (suc (length xs)) then Some k else None) passes
+    ap (λ b. let k = if not b then 1 + position_or_len p xs else 0 in
+    if nat_lt k (suc (length xs)) then Some k else None) passes
     ∙ ap (λ b. if b then Some 0 else None) (lt-ltb 0 (suc (length xs)) (omega arith)))
 
 chosen : (k : ℕ) (b c : Bool) → b ≡ c → (if b then Some k else None) ≡ (if c then Some k else None)
@@ -62,9 +68,11 @@ next_if : (b : Bool) (k : ℕ) → (if b then Some (k + 1) else None) ≡ next (
 next_if true k = refl
 next_if false k = refl
 
-behind_first : {X : Type 0} (p : X → Bool) (x : X) (xs : List X) → p x ≡ false → position p (x ∷ xs) ≡ next (position p xs)
+behind_first : {X : Type 0} (p : X → Bool) (x : X) (xs : List X) → p x ≡ false →
+    position p (x ∷ xs) ≡ next (position p xs)
 behind_first p x xs fails =
-    ap (λ b. let k = if not b then 1 + position_or_len p xs else 0 in if nat_lt k (suc (length xs)) then Some k else None) fails
+    ap (λ b. let k = if not b then 1 + position_or_len p xs else 0 in
+    if nat_lt k (suc (length xs)) then Some k else None) fails
     ∙ later_place (position_or_len p xs) (length xs) (nat_lt (position_or_len p xs) (length xs)) refl
     ∙ next_if (nat_lt (position_or_len p xs) (length xs)) (position_or_len p xs)
 
@@ -92,7 +100,8 @@ later_get x xs (suc k) lt = let same : k ≡ suc k - 1 = omega arith in ap (slic
 pub fields_behind : (layer : LayerTree) (tag number count : ℕ) → 0 < tag → number ≡ tag - 1 →
     count ≡ option_map_or (λ h. h.fields) (slice_get layer.headers number) 0 → count ≡ fields_of layer tag
 fields_behind layer tag number count lt is found =
-    found ∙ ap (λ h. option_map_or (λ h. h.fields) h 0) (ap (slice_get layer.headers) is ∙ sym (later_get header_none layer.headers tag lt))
+    found ∙ ap (λ h. option_map_or (λ h. h.fields) h 0)
+    (ap (slice_get layer.headers) is ∙ sym (later_get header_none layer.headers tag lt))
 
 -- what is made of an element
 pub made_at : {X A : Type 0} (f : X → A) (xs : List X) (k : ℕ) (x : X) (d : A) → k < length xs → x ≡ get_or xs k x →

@@ -15,5 +15,7 @@ same_run p q same (x ∷ xs) = ap₂ (λ b n. if b then 1 + n else 0) (same x) (
 pub name_run : (text : List ℕ) → prefix_len is_name_byte text ≡ position_or_len (λ byte. not (is_name_byte byte)) text
 name_run text = same_run is_name_byte (λ byte. not (not (is_name_byte byte))) (λ x. sym (twice (is_name_byte x))) text
 
-pub word_run : (text : List ℕ) → prefix_len (λ byte. not (byte == 32)) text ≡ position_or_len (λ byte. not (not (byte == 32))) text
-word_run text = same_run (λ byte. not (byte == 32)) (λ byte. not (not (not (byte == 32)))) (λ x. sym (twice (not (x == 32)))) text
+pub word_run : (text : List ℕ) → prefix_len (λ byte. not (byte == 32)) text ≡
+    position_or_len (λ byte. not (not (byte == 32))) text
+word_run text = same_run (λ byte. not (byte == 32)) (λ byte. not (not (not (byte == 32))))
+    (λ x. sym (twice (not (x == 32)))) text

@@ -42,7 +42,13 @@ abbrev pub layers_in : Scope → List LayerTree
 layers_in s = stack_tree s.stack.now
 
 abbrev pub named_in : Scope → Named
-named_in s = record { fields = s.fields; binds = s.binds; notes = s.notes; rows = map (row_of (layers_in s)) s.rows.now }
+named_in s = record {
+  fields = s.fields;
+  binds = s.binds;
+  notes = s.notes;
+  rows =
+      map (row_of (layers_in s)) s.rows.now;
+}
 
 -- The number of a row that a name is.
 abbrev pub item_in : ItemsTree → List (List ℕ) → Option ℕ

@@ -64,7 +64,8 @@ fn row_atom(scope: &Scope<'_>, row: &[u8], word: &[u8]) -> Result<Option<Atom>, 
 
 /// The number of a name.
 pub fn atom_named(scope: &Scope<'_>, name: Name<'_>) -> Result<Option<Atom>, AllocError>
-    ensures { IfOk result (λ atom. option_map atom_tree atom ≡ named.atom_named (named_in scope.now) (words_in name.entry)) }
+    ensures { IfOk result
+        (λ atom. option_map atom_tree atom ≡ named.atom_named (named_in scope.now) (words_in name.entry)) }
 {
     match name {
         Name::One(word) => Ok(plain_atom(scope, word)),

@@ -1,6 +1,7 @@
 //! Cells and headers of layers, by name.
 //!
-//! Numbers of cells, of items and of headers are of eight bits in a trace: what has a larger one is answered as want of memory.
+//! Numbers of cells, of items and of headers are of eight bits in a trace: what has a larger one is answered as want of
+//! memory.
 
 ghost use Rattle.std.specs.Prelude.{◌≡◌, ◌<◌, ◌∷◌, [], IfOk, IfSome, bytes_eq, length, map, option_map, slice_get};
 ghost use Rattle.std.specs.List.{position};
@@ -123,7 +124,8 @@ pub(crate) fn item_place(items: Option<&Items>, word: &[u8]) -> Option<usize>
 
 /// The number of a row of a queue that a name is.
 pub fn item_named(stack: &Stack, spot: Spot, name: Name<'_>) -> Result<Option<u8>, AllocError>
-    ensures { IfOk result (λ found. found ≡ item_in (items_at (stack_tree stack.now) spot.place spot.cell) (words_in name.entry)) }
+    ensures { IfOk result
+        (λ found. found ≡ item_in (items_at (stack_tree stack.now) spot.place spot.cell) (words_in name.entry)) }
 {
     match name {
         Name::One(word) => kept(item_place(items_named(stack, spot), word)),
@@ -143,7 +145,8 @@ pub(crate) fn load_of(items: Option<&Items>) -> Option<Load>
 
 /// What the rows of a queue carry, if they do.
 pub fn load_at(stack: &Stack, spot: Spot) -> Option<Load>
-    ensures { option_map load_tree result ≡ option_map (λ m. m.1) (items_at (stack_tree stack.now) spot.place spot.cell).message }
+    ensures { option_map load_tree result ≡
+        option_map (λ m. m.1) (items_at (stack_tree stack.now) spot.place spot.cell).message }
 {
     load_of(items_named(stack, spot))
 }
@@ -175,7 +178,8 @@ fn cell_called(layer: Option<&TypedLayer>, word: &[u8]) -> Option<usize>
 
 /// A cell, by its place and its name.
 fn cell_by(stack: &Stack, place: &[u8], word: &[u8]) -> Result<Option<Spot>, AllocError>
-    ensures { IfOk result (λ found. option_map pair_of found ≡ named.cell_named (stack_tree stack.now) (place.now ∷ word.now ∷ [])) }
+    ensures { IfOk result
+        (λ found. option_map pair_of found ≡ named.cell_named (stack_tree stack.now) (place.now ∷ word.now ∷ [])) }
 {
     let Some(number) = below(usize::from(stack.places()), place) else {
         return Ok(None);
@@ -191,7 +195,8 @@ fn cell_by(stack: &Stack, place: &[u8], word: &[u8]) -> Result<Option<Spot>, All
 
 /// A cell, by a name.
 pub fn cell_named(stack: &Stack, name: Name<'_>) -> Result<Option<Spot>, AllocError>
-    ensures { IfOk result (λ found. option_map pair_of found ≡ named.cell_named (stack_tree stack.now) (words_in name.entry)) }
+    ensures { IfOk result
+        (λ found. option_map pair_of found ≡ named.cell_named (stack_tree stack.now) (words_in name.entry)) }
 {
     match name {
         Name::Two(place, word) => cell_by(stack, place, word),
@@ -212,7 +217,8 @@ fn header_place(word: &[u8], headers: &[HeaderForm]) -> Option<usize>
 /// The tag of a header, `none` or a declared one, by its name.
 #[tactic(auto, using(crate::proofs::Places::none_first, crate::proofs::Places::header_behind, crate::proofs::Places::no_header))]
 fn header_tag(word: &[u8], headers: &[HeaderForm]) -> Option<usize>
-    ensures { result ≡ named.place_of word.now (map (λ (h : HeaderTree). h.name) (header_none ∷ map header_tree headers.now)) }
+    ensures { result ≡ named.place_of word.now
+        (map (λ (h : HeaderTree). h.name) (header_none ∷ map header_tree headers.now)) }
 {
     if word == b"none".as_slice() {
         return Some(0);
@@ -225,7 +231,8 @@ fn header_tag(word: &[u8], headers: &[HeaderForm]) -> Option<usize>
 
 /// The tag of a header of a layer, by its name.
 fn header_called(layer: Option<&TypedLayer>, word: &[u8]) -> Option<usize>
-    ensures { result ≡ named.place_of word.now (map (λ (h : HeaderTree). h.name) (header_none ∷ (layer_shown layer.entry).headers)) }
+    ensures { result ≡ named.place_of word.now
+        (map (λ (h : HeaderTree). h.name) (header_none ∷ (layer_shown layer.entry).headers)) }
 {
     match layer {
         Some(layer) => header_tag(word, layer.headers.as_slice()),

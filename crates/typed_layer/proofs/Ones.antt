@@ -15,7 +15,8 @@ ones_enough zero e n first second =
 ones_enough (suc d) zero n first second =
     let none : n ≡ 0 = omega (arith, second) in ap (ones_in (suc d)) none ∙ ones_of_zero (suc d)
 ones_enough (suc d) (suc e) n first second =
-    ap (λ k. n % 2 + k) (ones_enough d e (n / 2) (omega (arith, first, pow-suc 2 d)) (omega (arith, second, pow-suc 2 e)))
+    ap (λ k. n % 2 + k) (ones_enough d e (n / 2) (omega (arith, first, pow-suc 2 d))
+    (omega (arith, second, pow-suc 2 e)))
 
 below_power : (n : ℕ) → n < 2 ^ n
 below_power zero = omega arith

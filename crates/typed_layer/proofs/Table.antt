@@ -1,5 +1,7 @@
 -- The table of handlers tells what a search of them would.
-use Rattle.std.proofs.Common.{arith, ◌≡◌, refl, sym, ◌∙◌, ap, subst, ℕ, zero, suc, ◌+◌, ◌-◌, ◌*◌, ◌<◌, ◌≤◌, ◌==◌, ◌&&◌, Bool, true, false, if◌then◌else◌, List, [], ◌∷◌, All, map, length, drop, replicate, slice_get, slice_set, Option, Some, None}
+use Rattle.std.proofs.Common.{arith, ◌≡◌, refl, sym, ◌∙◌, ap, subst, ℕ, zero, suc, ◌+◌, ◌-◌, ◌*◌, ◌<◌, ◌≤◌, ◌==◌, ◌&&◌}
+use Rattle.std.proofs.Common.{Bool, true, false, if◌then◌else◌, List, [], ◌∷◌, All, map, length, drop, replicate}
+use Rattle.std.proofs.Common.{slice_get, slice_set, Option, Some, None}
 use Rattle.std.specs.List.{find, range_with_len}
 use Rattle.std.specs.Option.{option_map}
 use Rattle.std.proofs.lemmas.List.Elements.{All-head, All-tail}
@@ -12,7 +14,8 @@ use Rattle.std.proofs.Math.Dec.{eqb}
 use denote.Enum.Declared.{tag_of}
 use Rattle.layer_ast.specs.declared.tokens.Dir.{Dir}
 use Rattle.layer_ast.specs.declared.tokens.Kind.{Kind}
-use Rattle.layer_ast.specs.declared.tokens.Kind.TheVariants.{Cast, Send, Timer, Suspect, Stable, Ack, Elect, Block, BlockOk, Flushed, View, Leave}
+use Rattle.layer_ast.specs.declared.tokens.Kind.TheVariants.{Cast, Send, Timer, Suspect, Stable, Ack, Elect, Block}
+use Rattle.layer_ast.specs.declared.tokens.Kind.TheVariants.{BlockOk, Flushed, View, Leave}
 use Rattle.layer_ast.specs.declared.tokens.Dir.TheVariants.{Up, Down}
 use Rattle.layer_ast.specs.contracts.tokens.Dir as dir_row
 use Rattle.layer_ast.specs.contracts.tokens.Kind as kind_row
@@ -108,7 +111,8 @@ entry_finds k (h ∷ rest) dir kind tag small tagged few =
         (option_map handler_tree (named_by (suc k) rest (entry_from (suc k) rest (code dir kind tag))) ≡
         find (is_for dir kind tag) (map handler_tree rest)) →
         (k ≤ (if x then k else entry_from (suc k) rest (code dir kind tag))) ×
-        (option_map handler_tree (named_by k (h ∷ rest) (if x then k else entry_from (suc k) rest (code dir kind tag))) ≡
+        (option_map handler_tree (named_by k (h ∷ rest) (if x then k else entry_from (suc k) rest (code dir kind tag)))
+        ≡
         (if y then Some (handler_tree h) else find (is_for dir kind tag) (map handler_tree rest)))
     go true true e more = (omega arith, ap (λ n. option_map handler_tree (slice_get (h ∷ rest) n)) (zero_less k))
     go false false e more =
@@ -125,7 +129,8 @@ pub table_finds : (handlers : List Handler) (dir : Dir) (kind : Kind) (tag : ℕ
     find (is_for dir kind tag) (map handler_tree handlers)
 table_finds handlers dir kind tag small tagged few =
     let found = entry_finds 0 handlers dir kind tag small tagged (omega (arith, few)) in
-    let same : entry_from 0 handlers (code dir kind tag) - 0 ≡ entry_from 0 handlers (code dir kind tag) = omega arith in
+    let same : entry_from 0 handlers (code dir kind tag) - 0 ≡ entry_from 0 handlers (code dir kind tag) =
+    omega arith in
     ap (λ n. option_map handler_tree (slice_get handlers n)) (sym same) ∙ found.1
 
 -- No handler is for a tag that no header can have.
@@ -133,9 +138,11 @@ pub none_beyond : (handlers : List Handler) (dir : Dir) (kind : Kind) (tag : ℕ
     None ≡ find (is_for dir kind tag) (map handler_tree handlers)
 none_beyond [] dir kind tag large tagged = refl
 none_beyond (h ∷ rest) dir kind tag large tagged =
-    go (is_for dir kind tag (handler_tree h)) (All-head IsTagged h rest tagged) refl (none_beyond rest dir kind tag large (All-tail IsTagged h rest tagged))
+    go (is_for dir kind tag (handler_tree h)) (All-head IsTagged h rest tagged) refl
+    (none_beyond rest dir kind tag large (All-tail IsTagged h rest tagged))
   where
-    go : (b : Bool) → h.tag < 8 → is_for dir kind tag (handler_tree h) ≡ b → None ≡ find (is_for dir kind tag) (map handler_tree rest) →
+    go : (b : Bool) → h.tag < 8 → is_for dir kind tag (handler_tree h) ≡ b →
+        None ≡ find (is_for dir kind tag) (map handler_tree rest) →
         None ≡ (if b then Some (handler_tree h) else find (is_for dir kind tag) (map handler_tree rest))
     go false small e more = more
     go true small e more =
@@ -160,10 +167,12 @@ set_entry f (suc n) a zero v = ap2 (λ x xs. x ∷ xs) (here (a + 0) a (omega ar
         go true e = let same = eqb-true x j e in absurd (omega (arith, same, less))
         go false e = refl
 
-    far : (m b : ℕ) → a + 0 < b → map f (range_with_len b m) ≡ map (λ j. if (a + 0) == j then v else f j) (range_with_len b m)
+    far : (m b : ℕ) → a + 0 < b → map f (range_with_len b m) ≡
+        map (λ j. if (a + 0) == j then v else f j) (range_with_len b m)
     far zero b less = refl
     far (suc m) b less = ap2 (λ x xs. x ∷ xs) (miss (a + 0) b less) (far m (b + 1) (omega (arith, less)))
-set_entry f (suc n) a (suc i) v = ap2 (λ x xs. x ∷ xs) (miss (a + suc i) a (omega arith)) (set_entry f n (a + 1) i v ∙ moved)
+set_entry f (suc n) a (suc i) v = ap2 (λ x xs. x ∷ xs) (miss (a + suc i) a (omega arith))
+    (set_entry f n (a + 1) i v ∙ moved)
   where
     miss : (x j : ℕ) → j < x → f j ≡ (if x == j then v else f j)
     miss x j less = go (x == j) refl
@@ -182,7 +191,8 @@ pub table_grows : (k : ℕ) (h : Handler) (rest : List Handler) →
 unfolding table_from
 table_grows k h rest =
     set_entry (entry_from (suc k) rest) 192 0 (handler_code h) k
-    ∙ ap (λ x. map (λ j. if x == j then k else entry_from (suc k) rest j) (range_with_len 0 192)) (plain_sum (handler_code h))
+    ∙ ap (λ x. map (λ j. if x == j then k else entry_from (suc k) rest j) (range_with_len 0 192))
+    (plain_sum (handler_code h))
 
 -- The table has all codes.
 pub table_length : (k : ℕ) (handlers : List Handler) → length (table_from k handlers) ≡ 192
@@ -190,7 +200,8 @@ unfolding table_from
 table_length k handlers = length-map-range_with_len (entry_from k handlers) 0 192
 
 -- The entry at a code.
-pub table_entry : (handlers : List Handler) (c d : ℕ) → c < 192 → get_or (table_from 0 handlers) c d ≡ entry_from 0 handlers c
+pub table_entry : (handlers : List Handler) (c d : ℕ) → c < 192 → get_or (table_from 0 handlers) c d ≡
+    entry_from 0 handlers c
 unfolding table_from
 table_entry handlers c d small = get_or-map-range_with_len (entry_from 0 handlers) 0 192 c c d small (omega arith)
 
@@ -204,14 +215,16 @@ missing_at (x ∷ rest) (suc n) more = missing_at rest n (omega (arith, more))
 pub table_starts : (handlers : List Handler) (table : List ℕ) → table ≡ replicate 192 255 →
     table ≡ table_from (length handlers) (drop (length handlers) handlers)
 unfolding table_from
-table_starts handlers table is = is ∙ ap (λ rest. map (entry_from (length handlers) rest) (range_with_len 0 192)) (sym (drop_all handlers))
+table_starts handlers table is = is ∙ ap (λ rest. map (entry_from (length handlers) rest) (range_with_len 0 192))
+    (sym (drop_all handlers))
   where
     drop_all : (hs : List Handler) → drop (length hs) hs ≡ []
     drop_all [] = refl
     drop_all (h ∷ rest) = drop_all rest
 
 -- The handler in front of those that the table has is entered.
-pub table_step : (handlers : List Handler) (left : ℕ) (h : Handler) (old new : List ℕ) → 0 < left → left ≤ length handlers →
+pub table_step : (handlers : List Handler) (left : ℕ) (h : Handler) (old new : List ℕ) → 0 < left →
+    left ≤ length handlers →
     h ≡ get_or handlers (left - 1) h → old ≡ table_from left (drop left handlers) →
     new ≡ slice_set old (handler_code h) (left - 1) →
     (left - 1 ≤ length handlers) × (new ≡ table_from (left - 1) (drop (left - 1) handlers))
@@ -225,12 +238,14 @@ table_step handlers (suc k) h old new some within is was now =
           ∙ ap (table_from k) (sym (drop_step handlers k h less (is ∙ ap (λ n. get_or handlers n h) one)))),
     )
   where
-    drop_step : (hs : List Handler) (n : ℕ) (x : Handler) → n < length hs → x ≡ get_or hs n x → drop n hs ≡ x ∷ drop (suc n) hs
+    drop_step : (hs : List Handler) (n : ℕ) (x : Handler) → n < length hs → x ≡ get_or hs n x →
+        drop n hs ≡ x ∷ drop (suc n) hs
     drop_step [] n x less e = absurd (omega (arith, less))
     drop_step (y ∷ rest) zero x less e = ap (λ z. z ∷ rest) (sym e)
     drop_step (y ∷ rest) (suc n) x less e = drop_step rest n x (omega (arith, less)) e
 
--- The handler that the table's entry names, where it names one, is the one that a search finds; where it names none, a search finds none.
+-- The handler that the table's entry names, where it names one, is the one that a search finds; where it names none, a
+-- search finds none.
 pub finds_named : (handlers : List Handler) (dir : Dir) (kind : Kind) (tag entry : ℕ) (h : Handler) → tag < 8 →
     All IsTagged handlers → length handlers ≤ 64 → entry ≡ get_or (table_from 0 handlers) (code dir kind tag) entry →
     entry < length handlers → h ≡ get_or handlers entry h →

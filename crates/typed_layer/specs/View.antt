@@ -3,7 +3,9 @@ use Rattle.std.specs.Prelude.{List, [], ◌∷◌, map, option_map}
 use Rattle.std.specs.List.{range_with_len}
 use Rattle.msg_core.specs.declared.message.Header.{Header}
 use Rattle.layer_mean.specs.Tree as tree
-use Rattle.layer_mean.specs.Tree.{ExpressionTree, MessageTree, ContentTree, EmissionTree, RowTree, TakenTree, StatementTree, bind, assign, assign_square, push, take, branch, each, emit, StatementTrees, none, more, HandlerTree, ItemsTree, CellTree, HeaderTree, LayerTree}
+use Rattle.layer_mean.specs.Tree.{ExpressionTree, MessageTree, ContentTree, EmissionTree, RowTree, TakenTree}
+use Rattle.layer_mean.specs.Tree.{StatementTree, bind, assign, assign_square, push, take, branch, each, emit}
+use Rattle.layer_mean.specs.Tree.{StatementTrees, none, more, HandlerTree, ItemsTree, CellTree, HeaderTree, LayerTree}
 use Rattle.layer_mean.specs.Visit.{none_header}
 use Rattle.typed_layer.specs.declared.tree.Blank.{Blank}
 use Rattle.typed_layer.specs.declared.tree.Carried.{Carried}
@@ -13,7 +15,8 @@ use Rattle.typed_layer.specs.declared.tree.Content.{Content}
 use Rattle.typed_layer.specs.declared.tree.Emission.{Emission}
 use Rattle.typed_layer.specs.declared.tree.Expected as rust_expected
 use Rattle.typed_layer.specs.declared.tree.Expected.TheVariants.{Always, Common, Rare}
-use Rattle.typed_layer.specs.declared.tree.Expression.{Expression, Number, Me, Count, Ltime, Local, Scalar, Element', Square', Rows', Item', Size', Binary', Apply', Pick'}
+use Rattle.typed_layer.specs.declared.tree.Expression.{Expression, Number, Me, Count, Ltime, Local, Scalar, Element'}
+use Rattle.typed_layer.specs.declared.tree.Expression.{Square', Rows', Item', Size', Binary', Apply', Pick'}
 use Rattle.typed_layer.specs.declared.tree.Form as rust_form
 use Rattle.typed_layer.specs.declared.tree.Form.TheVariants.{Numbers, Queue, Queues}
 use Rattle.typed_layer.specs.declared.tree.Handler.{Handler}
@@ -23,7 +26,8 @@ use Rattle.typed_layer.specs.declared.tree.Items.{Items}
 use Rattle.typed_layer.specs.declared.tree.MessageExpression as rust_message
 use Rattle.typed_layer.specs.declared.tree.Row.{Row}
 use Rattle.typed_layer.specs.declared.tree.Statement.{Statement, Statement-F}
-use Rattle.typed_layer.specs.declared.tree.Statement.TheOpen.{Block-F, Bind, Set, SetElement, SetSquare, Push, Take, Branch, Each, Emit}
+use Rattle.typed_layer.specs.declared.tree.Statement.TheOpen.{Block-F, Bind, Set, SetElement, SetSquare, Push, Take}
+use Rattle.typed_layer.specs.declared.tree.Statement.TheOpen.{Branch, Each, Emit}
 use Rattle.typed_layer.specs.declared.tree.Statement.TheFolds.{fold-Statement}
 use Rattle.typed_layer.specs.declared.tree.Block.{Block}
 use Rattle.typed_layer.specs.declared.tree.Taken.{Taken}
@@ -52,7 +56,8 @@ abbrev mutual
   expression_tree (Rows' c _ index) = tree.rows c (expression_tree index)
   expression_tree (Item' c _ index _ row k) = tree.item c (expression_tree index) (expression_tree row) k
   expression_tree (Size' _ message) = tree.size (message_tree message)
-  expression_tree (Binary' operator _ left _ right) = tree.binary operator (expression_tree left) (expression_tree right)
+  expression_tree (Binary' operator _ left _ right) =
+      tree.binary operator (expression_tree left) (expression_tree right)
   expression_tree (Apply' function _ operand) = tree.apply function (expression_tree operand)
   expression_tree (Pick' _ condition _ first _ second) =
       tree.pick (expression_tree condition) (expression_tree first) (expression_tree second)
@@ -100,8 +105,10 @@ statement_of (Set cell value) = assign cell (tree.number 0) (expression_tree val
 statement_of (SetElement cell index value) = assign cell (expression_tree index) (expression_tree value)
 statement_of (SetSquare cell row column value) =
     assign_square cell (expression_tree row) (expression_tree column) (expression_tree value)
-statement_of (Push cell index capacity row otherwise) = push cell (expression_tree index) capacity (row_tree row) otherwise
-statement_of (Take cell index taken block otherwise) = take cell (expression_tree index) (taken_tree taken) block otherwise
+statement_of (Push cell index capacity row otherwise) = push cell (expression_tree index) capacity (row_tree row)
+    otherwise
+statement_of (Take cell index taken block otherwise) = take cell (expression_tree index) (taken_tree taken) block
+    otherwise
 statement_of (Branch likely condition block otherwise) = branch likely (expression_tree condition) block otherwise
 statement_of (Each slot below most block) = each slot (expression_tree below) most block
 statement_of (Emit emission) = emit (emission_tree emission)

@@ -50,7 +50,8 @@ impl Model for Handlers {
     ghost view = { λ h. h.items.items };
 
     ghost invariant = { λ h.
-        (length h.items.items ≤ MOST_HANDLERS) × All IsTagged h.items.items × (h.table.items ≡ table_from 0 h.items.items) };
+        (length h.items.items ≤ MOST_HANDLERS) × All IsTagged h.items.items ×
+        (h.table.items ≡ table_from 0 h.items.items) };
 }
 
 impl Handlers {
@@ -73,7 +74,8 @@ impl Handlers {
 
     /// The first handler for a direction, a kind and a popped tag, if there is one; no search is made.
     pub fn find(&self, direction: Dir, kind: Kind, tag: u8) -> Option<&Handler>
-        ensures { option_map (λ h. handler_tree h.now) result ≡ find (is_for direction kind tag) (map handler_tree self.now) }
+        ensures { option_map (λ h. handler_tree h.now) result ≡
+            find (is_for direction kind tag) (map handler_tree self.now) }
     {
         let items = self.items.as_slice();
         if tag >= TAGS {

@@ -1,6 +1,6 @@
-//! Layers as members run them: at their place of a stack, with numbers in place of names, the values of params in place of
-//! these, and the handler for an event found by an index. Contracts see a layer as the plain tree that its meaning is defined
-//! on.
+//! Layers as members run them: at their place of a stack, with numbers in place of names, the values of params in place
+//! of these, and the handler for an event found by an index. Contracts see a layer as the plain tree that its meaning
+//! is defined on.
 #![tactic(auto)]
 
 mod handlers;

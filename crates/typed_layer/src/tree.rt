@@ -76,8 +76,9 @@ pub struct HeaderForm {
     ghost few: { fields ≤ most_fields },
 }
 
-/// What a layer does on an event of one direction, kind and popped header. Its scope has the event's numbers, the header's
-/// fields and the event's message, and behind these so many more numbers and messages, which its block declares.
+/// What a layer does on an event of one direction, kind and popped header. Its scope has the event's numbers, the
+/// header's fields and the event's message, and behind these so many more numbers and messages, which its block
+/// declares.
 #[derive(Drop)]
 pub struct Handler {
     pub direction: Dir,
@@ -133,7 +134,8 @@ pub enum Statement {
         column: Expression,
         value: Expression,
     },
-    /// Puts a row at the back of a queue of a capacity, or runs a block where it is full. A queue that is alone has the index 0.
+    /// Puts a row at the back of a queue of a capacity, or runs a block where it is full. A queue that is alone has the
+    /// index 0.
     Push {
         cell: u8,
         index: Expression,

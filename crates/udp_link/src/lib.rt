@@ -1,7 +1,7 @@
 //! Links between members over UDP, one socket a member.
 //!
-//! The sockets are the system's, so no contract says what arrives: the counts of failed calls and who listens are proved,
-//! and the bytes are shown by tests over the loopback.
+//! The sockets are the system's, so no contract says what arrives: the counts of failed calls and who listens are
+//! proved, and the bytes are shown by tests over the loopback.
 #![tactic(auto)]
 
 mod links;

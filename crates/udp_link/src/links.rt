@@ -1,5 +1,6 @@
 // Links over the system's sockets.
-ghost use Rattle.std.specs.Prelude.{◌≡◌, ◌≢◌, ◌<◌, ◌≤◌, ℕ, None, Some, Err, IsSome, IsSomeAnd, IfOk, IfSome, OnOk, OnErr, length, replicate, slice_get, take, vec_capacity};
+ghost use Rattle.std.specs.Prelude.{◌≡◌, ◌≢◌, ◌<◌, ◌≤◌, ℕ, None, Some, Err, IsSome, IsSomeAnd, IfOk, IfSome, OnOk};
+ghost use Rattle.std.specs.Prelude.{OnErr, length, replicate, slice_get, take, vec_capacity};
 ghost use Rattle.outside.specs.declared.links.LinkError.TheVariants.{Memory};
 ghost use Rattle.outside.specs.declared.links.TheConstants.{LONGEST_DATAGRAM, MOST_PEERS};
 ghost use Rattle.outside.specs.Links.{Listens, listen_of, Sends, Receives, WritesFront, faults_after_call};
@@ -107,11 +108,14 @@ impl<R: Net + Drop> Links for UdpLinks<R> {
         ensures counted { self.new.faults ≡ faults_after_call self.old.faults result }
         ensures sends { self.new.send_faults ≡ self.old.send_faults }
         ensures listening { OnOk result (listening_in self.new.members.items member ≡ Some (length peers.now)) }
-        ensures others { (m : ℕ) → m ≢ member → listening_in self.new.members.items m ≡ listening_in self.old.members.items m }
-        ensures as_before { OnErr result (listening_in self.new.members.items member ≡ listening_in self.old.members.items member) }
+        ensures others { (m : ℕ) → m ≢ member → listening_in self.new.members.items m ≡ listening_in
+            self.old.members.items m }
+        ensures as_before { OnErr result
+            (listening_in self.new.members.items member ≡ listening_in self.old.members.items member) }
         ensures peers { OnOk result (peers_in self.new.members.items member ≡ Some peers.now) }
         ensures place { OnOk result (place_in self.new.members.items member ≡ slice_get peers.now member) }
-        ensures other_peers { (m : ℕ) → m ≢ member → peers_in self.new.members.items m ≡ peers_in self.old.members.items m }
+        ensures other_peers { (m : ℕ) → m ≢ member → peers_in self.new.members.items m ≡ peers_in
+            self.old.members.items m }
         ensures peers_as_before { OnErr result (self.new.members ≡ self.old.members) }
         ensures told { Listens (listen_of peers.now member) None None result }
         ensures memory { result ≢ Err Memory }
@@ -154,7 +158,8 @@ impl<R: Net + Drop> Links for UdpLinks<R> {
         ensures sends { self.new.send_faults ≡ self.old.send_faults }
         ensures listening { (m : ℕ) → listening_in self.new.members.items m ≡ listening_in self.old.members.items m }
         ensures front { WritesFront into.old into.new result }
-        ensures handed_on { IfOk result (λ got. IfSome got (λ count. take count into.new ≡ take count self.new.room.items)) }
+        ensures handed_on { IfOk result
+            (λ got. IfSome got (λ count. take count into.new ≡ take count self.new.room.items)) }
         ensures members { self.new.members ≡ self.old.members }
         ensures told { Receives member into.new None None result }
         ensures memory { result ≢ Err Memory }

@@ -9,8 +9,8 @@ use std::io::ErrorKind;
 use std::net::{Ipv4Addr, Net, SocketAddr, SocketAddrV4, UdpSocket};
 use std::time::Duration;
 
-/// How long a receive waits for a datagram, and a send for room, in milliseconds: long enough that a node that hears nothing leaves the
-/// processor to others.
+/// How long a receive waits for a datagram, and a send for room, in milliseconds: long enough that a node that hears
+/// nothing leaves the processor to others.
 const PATIENCE: u64 = 1;
 
 const NOBODY: Peer = Peer {

@@ -1,5 +1,6 @@
 -- The ids of a view, from a place of its mask on.
-use Rattle.std.proofs.Common.{◌≡◌, ℕ, suc, ◌+◌, ◌-◌, ◌<◌, ◌^◌, Bool, true, false, refl, ap, ◌∙◌, arith, ◌≤◌, List, [], ◌∷◌, Option, Some, None, ◌≢◌, inl, inr}
+use Rattle.std.proofs.Common.{◌≡◌, ℕ, suc, ◌+◌, ◌-◌, ◌<◌, ◌^◌, Bool, true, false, refl, ap, ◌∙◌, arith, ◌≤◌, List, []}
+use Rattle.std.proofs.Common.{◌∷◌, Option, Some, None, ◌≢◌, inl, inr}
 use Rattle.std.proofs.lemmas.Bool.Decides.{eqb_tells}
 use Rattle.std.specs.Prelude.{◌==◌, cond, if◌then◌else◌}
 use Rattle.std.specs.Int.{bit_at}
@@ -26,7 +27,8 @@ ids_next view at set small is =
 
 pub ids_end : (view : View) (at : ℕ) → 32 ≤ at → ids_from view at ≡ []
 unfolding ids_from
-ids_end view at past = let none : 32 - at ≡ 0 = omega arith in ap (λ n. filter (λ id. bit_at view.mask id == 1) (range_with_len at n)) none
+ids_end view at past = let none : 32 - at ≡ 0 = omega arith in
+    ap (λ n. filter (λ id. bit_at view.mask id == 1) (range_with_len at n)) none
 
 pub ids_begin : (view : View) → members.ids view ≡ ids_from view 0
 unfolding ids_from
@@ -45,7 +47,8 @@ pub rank_ends : (view : View) (id count at : ℕ) → 32 ≤ at → rank_from vi
 unfolding rank_from
 rank_ends view id count at past = ap (position_from (λ other. other == id) count) (ids_end view at past)
 
-rank_with : (view : View) (id count at : ℕ) (same : Bool) → at < 32 → (bit_at view.mask at == 1) ≡ true → (at == id) ≡ same →
+rank_with : (view : View) (id count at : ℕ) (same : Bool) → at < 32 → (bit_at view.mask at == 1) ≡ true →
+    (at == id) ≡ same →
     rank_from view id count at ≡ cond same (Some count) (rank_from view id (count + 1) (at + 1))
 unfolding rank_from
 rank_with view id count at same small set is =
@@ -94,16 +97,20 @@ mask_with view ranks rank at small set =
     ap (λ ids. sum_by (bit_of ranks) (enumerate_from rank ids)) (ids_next view at true small set)
     ∙ sum_by-cons (bit_of ranks) (rank, at) (enumerate_from (rank + 1) (ids_from view (at + 1)))
 
-pub mask_set : (view : View) (ranks rank at : ℕ) → at < 32 → (bit_at view.mask at == 1) ≡ true → (bit_at ranks rank == 1) ≡ true →
+pub mask_set : (view : View) (ranks rank at : ℕ) → at < 32 → (bit_at view.mask at == 1) ≡ true →
+    (bit_at ranks rank == 1) ≡ true →
     mask_from view ranks rank at ≡ 2 ^ at + mask_from view ranks (rank + 1) (at + 1)
 mask_set view ranks rank at small set chosen =
-    mask_with view ranks rank at small set ∙ ap (λ b. (if b then 2 ^ at else 0) + mask_from view ranks (rank + 1) (at + 1)) chosen
+    mask_with view ranks rank at small set ∙
+    ap (λ b. (if b then 2 ^ at else 0) + mask_from view ranks (rank + 1) (at + 1)) chosen
 
-pub mask_unset : (view : View) (ranks rank at : ℕ) → at < 32 → (bit_at view.mask at == 1) ≡ true → (bit_at ranks rank == 1) ≡ false →
+pub mask_unset : (view : View) (ranks rank at : ℕ) → at < 32 → (bit_at view.mask at == 1) ≡ true →
+    (bit_at ranks rank == 1) ≡ false →
     mask_from view ranks rank at ≡ mask_from view ranks (rank + 1) (at + 1)
 mask_unset view ranks rank at small set left =
     let rest = mask_from view ranks (rank + 1) (at + 1) in
-    let this : mask_from view ranks rank at ≡ 0 + rest = mask_with view ranks rank at small set ∙ ap (λ b. (if b then 2 ^ at else 0) + rest) left in
+    let this : mask_from view ranks rank at ≡ 0 + rest = mask_with view ranks rank at small set ∙
+    ap (λ b. (if b then 2 ^ at else 0) + rest) left in
     omega (arith, this)
 
 pub mask_without : (view : View) (ranks rank at : ℕ) → at < 32 → (bit_at view.mask at == 1) ≡ false →

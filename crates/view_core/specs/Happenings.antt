@@ -21,9 +21,11 @@ pub record IsQuiet (outs : List (Output × Option ℕ)) (before after : ℕ) : T
   pub outs_are : outs ≡ []
   pub visits_are : after ≡ before
 
--- A step that was taken in a mode is told: its outputs in order, each with the plan under which it is sent short in this mode, if it is, whether
--- it was common, where the member is then if it installed something, and the visits that it counts for in this mode, on top of those before.
-pub record IsTaken (mode : Mode) (stack : List LayerTree) (plans : List Plan) (s : Step) (outs : List (Output × Option ℕ)) (before after : ℕ)
+-- A step that was taken in a mode is told: its outputs in order, each with the plan under which it is sent short in
+-- this mode, if it is, whether it was common, where the member is then if it installed something, and the visits that
+-- it counts for in this mode, on top of those before.
+pub record IsTaken (mode : Mode) (stack : List LayerTree) (plans : List Plan) (s : Step)
+    (outs : List (Output × Option ℕ)) (before after : ℕ)
     (common : Bool) (change : Option Change) : Type 0 where
   pub outs_are : outs ≡ as_sent mode stack plans s
   pub common_is : common ≡ is_common stack plans s
@@ -31,13 +33,16 @@ pub record IsTaken (mode : Mode) (stack : List LayerTree) (plans : List Plan) (s
   pub visits_are : after ≡ before + counted mode stack plans s
 
 -- A refusal is told by its cause.
-pub record IsRefused (r : member.Refusal) (outs : List (Output × Option ℕ)) (before after : ℕ) (told : Refusal) : Type 0 where
-  pub cause_is : r ≡ refusal_meant told
-  pub quiet : IsQuiet outs before after
+pub record IsRefused (r : member.Refusal) (outs : List (Output × Option ℕ)) (before after : ℕ) (told : Refusal) : Type 0
+  where
+    pub cause_is : r ≡ refusal_meant told
+    pub quiet : IsQuiet outs before after
 
--- What an event came to in a mode is told so: by an answer, by outputs, and by the number of visits before it and behind it.
+-- What an event came to in a mode is told so: by an answer, by outputs, and by the number of visits before it and
+-- behind it.
 abbrev pub DidIs : Mode → List LayerTree → List Plan → world.Did → List (Output × Option ℕ) → ℕ → ℕ → Did → Type 0
-DidIs mode stack plans (world.taken s) outs before after (Stepped (Taken common change)) = IsTaken mode stack plans s outs before after common change
+DidIs mode stack plans (world.taken s) outs before after (Stepped (Taken common change)) =
+    IsTaken mode stack plans s outs before after common change
 DidIs mode stack plans (world.refused r) outs before after (Stepped (Refused told)) = IsRefused r outs before after told
 DidIs mode stack plans world.absent outs before after Absent = IsQuiet outs before after
 DidIs mode stack plans world.shown outs before after Shown = IsQuiet outs before after

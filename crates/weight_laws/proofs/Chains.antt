@@ -1,5 +1,6 @@
 -- Tasks with chained messages are known.
-use Rattle.std.proofs.Common.{◌≡◌, ℕ, zero, suc, Bool, true, false, List, [], ◌∷◌, drop, is_some, Option, Some, None, IsSomeAnd, slice_index_or, refl, ap, arith}
+use Rattle.std.proofs.Common.{◌≡◌, ℕ, zero, suc, Bool, true, false, List, [], ◌∷◌, drop, is_some, Option, Some, None}
+use Rattle.std.proofs.Common.{IsSomeAnd, slice_index_or, refl, ap, arith}
 use Rattle.std.specs.Prelude.{if◌then◌else◌, ◌==◌}
 use Rattle.msg_core.specs.Chain.{Content}
 use Rattle.msg_core.specs.declared.message.Header.{Header}
@@ -32,12 +33,14 @@ had false stack place None h = refl
 had true stack place None h = absurd h
 had false stack place (Some m) h = absurd h
 
-layer_there : (stack : List LayerTree) (dir : Dir) (at : ℕ) → slice_index_or stack (first_place dir at) no_layer ≡ header_layer stack dir at
+layer_there : (stack : List LayerTree) (dir : Dir) (at : ℕ) → slice_index_or stack (first_place dir at) no_layer ≡
+    header_layer stack dir at
 layer_there stack Up at = refl
 layer_there stack Down at = ap (λ k. slice_index_or stack k no_layer) (omega arith)
 
 pub chained_tasks_are_known : ChainedTasksAreKnown
 chained_tasks_are_known stack t at chain = record {
   at = at;
-  tag = rw (← layer_there stack t.dir t.at) (had (carries t.event.kind) stack (first_place t.dir t.at) t.event.message chain);
+  tag = rw (← layer_there stack t.dir t.at)
+      (had (carries t.event.kind) stack (first_place t.dir t.at) t.event.message chain);
 }

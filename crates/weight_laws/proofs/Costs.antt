@@ -1,5 +1,7 @@
 -- In a stack without cycles a node costs its own and what its arrows cost.
-use Rattle.std.proofs.Common.{◌≡◌, ℕ, zero, suc, ◌+◌, ◌*◌, ◌<◌, Bool, true, false, ◌&&◌, ◌==◌, List, [], ◌∷◌, ◌++◌, map, length, flat_map, Some, None, refl, sym, ap, ◌∙◌, ◌⊎◌, inl, inr, arith, rules, eqb-true, eq-eqb}
+use Rattle.std.proofs.Common.{◌≡◌, ℕ, zero, suc, ◌+◌, ◌*◌, ◌<◌, Bool, true, false, ◌&&◌, ◌==◌, List, [], ◌∷◌, ◌++◌, map}
+use Rattle.std.proofs.Common.{length, flat_map, Some, None, refl, sym, ap, ◌∙◌, ◌⊎◌, inl, inr, arith, rules, eqb-true}
+use Rattle.std.proofs.Common.{eq-eqb}
 use Rattle.std.specs.Prelude.{if◌then◌else◌}
 use Rattle.std.specs.List.{find, list_any}
 use Rattle.std.proofs.lemmas.Bool.{and_parts, and_from}
@@ -8,7 +10,8 @@ use denote.Enum.Bare.{sameb, same_true}
 use Rattle.layer_ast.specs.contracts.tokens.Dir as dir_row
 use Rattle.layer_ast.specs.contracts.tokens.Kind as kind_row
 use Rattle.layer_mean.specs.Tree.{LayerTree}
-use Rattle.stack_mean.specs.Graph.{Node, same_node, nodes, Arrow, arrows, following, unknown_of, reached, is_on_cycle, first_on_cycle}
+use Rattle.stack_mean.specs.Graph.{Node, same_node, nodes, Arrow, arrows, following, unknown_of, reached, is_on_cycle}
+use Rattle.stack_mean.specs.Graph.{first_on_cycle}
 use Rattle.stack_mean.specs.Acceptance.{largest, cost_in, cost}
 use Rattle.weight_laws.specs.Nodes.{IsNode}
 use Rattle.weight_laws.specs.Orderly.{IsOrderly}
@@ -23,14 +26,17 @@ node_is a b at tag dir kind = λ i. record { at = at i; dir = dir i; kind = kind
 
 pub sound : (a b : Node) → same_node a b ≡ true → a ≡ b
 sound a b h =
-    let first = and_parts ((a.at == b.at) && (a.tag == b.tag) && sameb dir_row.the_type a.dir b.dir) (sameb kind_row.the_type a.kind b.kind) h in
+    let first = and_parts ((a.at == b.at) && (a.tag == b.tag) && sameb dir_row.the_type a.dir b.dir)
+    (sameb kind_row.the_type a.kind b.kind) h in
     let second = and_parts ((a.at == b.at) && (a.tag == b.tag)) (sameb dir_row.the_type a.dir b.dir) first.0 in
     let third = and_parts (a.at == b.at) (a.tag == b.tag) second.0 in
     node_is a b (eqb-true a.at b.at third.0) (eqb-true a.tag b.tag third.1)
-    (same_true dir_row.the_type (search rules) a.dir b.dir second.1) (same_true kind_row.the_type (search rules) a.kind b.kind first.1)
+    (same_true dir_row.the_type (search rules) a.dir b.dir second.1)
+    (same_true kind_row.the_type (search rules) a.kind b.kind first.1)
 
 pub itself : (a : Node) → same_node a a ≡ true
-itself a = and_from _ _ (and_from _ _ (and_from _ _ (eq-eqb a.at a.at refl) (eq-eqb a.tag a.tag refl)) (eq-eqb _ _ refl)) (eq-eqb _ _ refl)
+itself a = and_from _ _
+    (and_from _ _ (and_from _ _ (eq-eqb a.at a.at refl) (eq-eqb a.tag a.tag refl)) (eq-eqb _ _ refl)) (eq-eqb _ _ refl)
 
 -- what is reached in a stack is what is reached in its graph
 unknown_is : (known xs : List Node) → unknown_of known xs ≡ unknown_by same_node known xs
@@ -51,7 +57,8 @@ reached_is stack (suc steps) known (x ∷ xs) =
 none_found : {A : Type 0} (p : A → Bool) (xs : List A) (x : A) → find p xs ≡ None → In x xs → p x ≡ false
 none_found p [] x h m = absurd m
 none_found p (y ∷ ys) x h m = go (p y) refl h m (none_found p ys x) where
-  go : (b : Bool) → p y ≡ b → (if b then Some y else find p ys) ≡ None → (x ≡ y) ⊎ In x ys → (find p ys ≡ None → In x ys → p x ≡ false) →
+  go : (b : Bool) → p y ≡ b → (if b then Some y else find p ys) ≡ None → (x ≡ y) ⊎ In x ys →
+      (find p ys ≡ None → In x ys → p x ≡ false) →
       p x ≡ false
   go true is h m later = absurd (cc h)
   go false is h (inl e) later = ap p e ∙ is
@@ -62,7 +69,8 @@ same_map : (f g : Node → ℕ) (ts : List Node) → ((t : Node) → In t ts →
 same_map f g [] h = refl
 same_map f g (t ∷ ts) h = λ i. h t (inl refl) i ∷ same_map f g ts (λ x m. h x (inr m)) i
 
-same_behind : (f g : Node → ℕ) (arrs : List Arrow) → ((t : Node) → In t (flat_map (λ arrow. arrow.targets) arrs) → f t ≡ g t) →
+same_behind : (f g : Node → ℕ) (arrs : List Arrow) →
+    ((t : Node) → In t (flat_map (λ arrow. arrow.targets) arrs) → f t ≡ g t) →
     behind_arrows f arrs ≡ behind_arrows g arrs
 same_behind f g [] h = refl
 same_behind f g (a ∷ arrs) h =
@@ -79,14 +87,16 @@ cycle_is stack n = ap (list_any (same_node n))
     ∙ reached_is stack (length (nodes stack)) [] (unknown_by same_node [] (following stack n)))
 
 module _ (stack : List LayerTree) (orderly : IsOrderly stack) (off : first_on_cycle stack ≡ None) where
-  pub cycle_free : (n : Node) → IsNode stack n → list_any (same_node n) (behind same_node (following stack) (nodes stack) n) ≡ false
+  pub cycle_free : (n : Node) → IsNode stack n →
+      list_any (same_node n) (behind same_node (following stack) (nodes stack) n) ≡ false
   cycle_free n is = sym (cycle_is stack n) ∙ none_found (is_on_cycle stack) (nodes stack) n off (listed stack n is)
 
   -- the number of steps changes nothing once it is above the rank
   steady : (own : Node → ℕ) (k : ℕ) (n : Node) → IsNode stack n → rank same_node (following stack) (nodes stack) n < k →
       cost_in k stack own n ≡ cost_in (suc k) stack own n
   steady own zero n is less = absurd (omega arith)
-  steady own (suc k) n is less = ap (λ s. own n + s) (same_behind (cost_in k stack own) (cost_in (suc k) stack own) (arrows stack n)
+  steady own (suc k) n is less =
+      ap (λ s. own n + s) (same_behind (cost_in k stack own) (cost_in (suc k) stack own) (arrows stack n)
       (λ t m.
       let next = next_node stack orderly n t is m in
       let falls = rank_falls same_node sound itself (following stack) (nodes stack) (IsNode stack) (listed stack)
@@ -96,7 +106,8 @@ module _ (stack : List LayerTree) (orderly : IsOrderly stack) (off : first_on_cy
   pub follows : (own : Node → ℕ) (n : Node) → IsNode stack n →
       cost stack own n ≡ own n + behind_arrows (cost stack own) (arrows stack n)
   follows own n is = steady own (length (nodes stack)) n is
-      (rank_below same_node sound itself (following stack) (nodes stack) (IsNode stack) (listed stack) (next_node stack orderly) n is (cycle_free n is))
+      (rank_below same_node sound itself (following stack) (nodes stack) (IsNode stack) (listed stack)
+      (next_node stack orderly) n is (cycle_free n is))
 
 pub costs_follow_arrows : CostsFollowArrows
 costs_follow_arrows stack own n orderly off is = follows stack orderly off own n is

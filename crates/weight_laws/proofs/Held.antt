@@ -1,5 +1,6 @@
 -- Sums of numbers that are held below a bound.
-use Rattle.std.proofs.Common.{◌≡◌, ℕ, zero, suc, ◌+◌, ◌*◌, ◌≤◌, min, max, List, [], ◌∷◌, map, sym, ap, ◌∙◌, ◌⊎◌, inl, inr, mul-le-mul_left, mul-le-mul_right, arith}
+use Rattle.std.proofs.Common.{◌≡◌, ℕ, zero, suc, ◌+◌, ◌*◌, ◌≤◌, min, max, List, [], ◌∷◌, map, sym, ap, ◌∙◌, ◌⊎◌, inl}
+use Rattle.std.proofs.Common.{inr, mul-le-mul_left, mul-le-mul_right, arith}
 use Rattle.stack_mean.specs.Acceptance.{largest}
 use Rattle.weight_laws.proofs.Visits.{largest_from}
 
@@ -20,7 +21,8 @@ products (suc c) t zero = inl (ap (λ x. min t (suc c) * x) small ∙ omega arit
   small = omega arith
 products (suc c) (suc t) (suc l) = go (either (suc t) (suc c)) (either (suc l) (suc c)) where
   go : (suc t ≤ suc c) ⊎ (suc c ≤ suc t) → (suc l ≤ suc c) ⊎ (suc c ≤ suc l) →
-      (min (suc t) (suc c) * min (suc l) (suc c) ≡ suc t * suc l) ⊎ ((suc c ≤ min (suc t) (suc c) * min (suc l) (suc c)) × (suc c ≤ suc t * suc l))
+      (min (suc t) (suc c) * min (suc l) (suc c) ≡ suc t * suc l) ⊎
+      ((suc c ≤ min (suc t) (suc c) * min (suc l) (suc c)) × (suc c ≤ suc t * suc l))
   go (inl ht) (inl hl) =
       let one : min (suc t) (suc c) ≡ suc t = omega arith in
       let other : min (suc l) (suc c) ≡ suc l = omega arith in
@@ -37,7 +39,8 @@ products (suc c) (suc t) (suc l) = go (either (suc t) (suc c)) (either (suc l) (
 -- one more product in a sum that is held
 pub one_more : (c x t l : ℕ) → min (min x c + min t c * min l c) c ≡ min (x + t * l) c
 one_more c x t l = go (products c t l) where
-  go : (min t c * min l c ≡ t * l) ⊎ ((c ≤ min t c * min l c) × (c ≤ t * l)) → min (min x c + min t c * min l c) c ≡ min (x + t * l) c
+  go : (min t c * min l c ≡ t * l) ⊎ ((c ≤ min t c * min l c) × (c ≤ t * l)) → min (min x c + min t c * min l c) c ≡ min
+      (x + t * l) c
   go (inl same) = ap (λ p. min (min x c + p) c) same ∙ still x (t * l) where
     still : (x p : ℕ) → min (min x c + p) c ≡ min (x + p) c
     still x p = omega arith
@@ -49,7 +52,8 @@ pub largest_cons : (n : ℕ) (ns : List ℕ) → largest (n ∷ ns) ≡ max n (l
 largest_cons n ns = largest_from (max 0 n) ns ∙ omega arith
 
 -- the largest of held numbers is the largest, held
-pub largest_held : {A : Type 0} (c : ℕ) (f : A → ℕ) (xs : List A) → largest (map (λ x. min (f x) c) xs) ≡ min (largest (map f xs)) c
+pub largest_held : {A : Type 0} (c : ℕ) (f : A → ℕ) (xs : List A) → largest (map (λ x. min (f x) c) xs) ≡ min
+    (largest (map f xs)) c
 largest_held c f [] = omega arith
 largest_held c f (x ∷ xs) =
     largest_cons (min (f x) c) (map (λ y. min (f y) c) xs)

@@ -5,22 +5,26 @@ use Rattle.layer_mean.specs.Queue.{Task, Player, Line, next_of, run_for}
 use Rattle.weight_laws.specs.Runs.{spent}
 
 module _ {W E : Type 0} (places : ℕ) (play : Player W E) where
-  pub run_done : (n : ℕ) (w : W) → run_for places play n (record { world = w; tasks = [] }) ≡ record { world = w; tasks = [] }
+  pub run_done : (n : ℕ) (w : W) → run_for places play n (record { world = w; tasks = [] }) ≡
+      record { world = w; tasks = [] }
   run_done zero w = refl
   run_done (suc n) w = refl
 
   -- the first turn of a run can be taken alone
   pub first_turn : (n : ℕ) (tasks : List (Task E)) (w : W) →
-      run_for places play (suc n) (record { world = w; tasks = tasks }) ≡ run_for places play n (next_of places play tasks w)
+      run_for places play (suc n) (record { world = w; tasks = tasks }) ≡
+      run_for places play n (next_of places play tasks w)
   first_turn n [] w = sym (run_done n w)
   first_turn n (t ∷ rest) w = refl
 
   module _ (Good : List (Task E) → Type 0) (weigh : Task E → ℕ) (price : W → Task E → ℕ)
-      (falls : (t : Task E) (rest : List (Task E)) (w : W) → Good (t ∷ rest) → Good (next_of places play (t ∷ rest) w).tasks →
+      (falls : (t : Task E) (rest : List (Task E)) (w : W) → Good (t ∷ rest) →
+      Good (next_of places play (t ∷ rest) w).tasks →
       price w t + sum_by weigh (next_of places play (t ∷ rest) w).tasks ≤ sum_by weigh (t ∷ rest)) where
     pub run_spends : (n : ℕ) (tasks : List (Task E)) (w : W) →
         ((k : ℕ) → Good (run_for places play k (record { world = w; tasks = tasks })).tasks) →
-        spent places play price n w tasks + sum_by weigh (run_for places play n (record { world = w; tasks = tasks })).tasks ≤ sum_by weigh tasks
+        spent places play price n w tasks + sum_by weigh
+        (run_for places play n (record { world = w; tasks = tasks })).tasks ≤ sum_by weigh tasks
     run_spends zero tasks w good = omega arith
     run_spends (suc n) [] w good = omega arith
     run_spends (suc n) (t ∷ rest) w good =
@@ -46,9 +50,11 @@ module _ {W E : Type 0} (places : ℕ) (play : Player W E) where
   -- a run that has come to its end stays as it is
   pub run_stays : (n m : ℕ) (tasks : List (Task E)) (w : W) → n ≤ m →
       (run_for places play n (record { world = w; tasks = tasks })).tasks ≡ [] →
-      run_for places play m (record { world = w; tasks = tasks }) ≡ run_for places play n (record { world = w; tasks = tasks })
+      run_for places play m (record { world = w; tasks = tasks }) ≡
+      run_for places play n (record { world = w; tasks = tasks })
   run_stays zero m tasks w le done =
-      subst (λ ts. run_for places play m (record { world = w; tasks = ts }) ≡ record { world = w; tasks = ts }) (sym done) (run_done m w)
+      subst (λ ts. run_for places play m (record { world = w; tasks = ts }) ≡ record { world = w; tasks = ts })
+      (sym done) (run_done m w)
   run_stays (suc n) zero tasks w le done = absurd (omega arith)
   run_stays (suc n) (suc m) [] w le done = refl
   run_stays (suc n) (suc m) (t ∷ rest) w le done =

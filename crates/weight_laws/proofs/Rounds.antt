@@ -1,5 +1,7 @@
 -- Costs in rounds over a table are those of the definition, held.
-use Rattle.std.proofs.Common.{◌≡◌, ℕ, zero, suc, ◌+◌, ◌*◌, ◌<◌, ◌≤◌, min, Bool, true, false, nat_lt, List, [], ◌∷◌, map, fold, flat_map, length, slice_index, refl, sym, ap, ◌∙◌, ◌⊎◌, inl, inr, ⊎_elim, arith, ltb-true, ltb-false, lt-ltb, le-ltb}
+use Rattle.std.proofs.Common.{◌≡◌, ℕ, zero, suc, ◌+◌, ◌*◌, ◌<◌, ◌≤◌, min, Bool, true, false, nat_lt, List, [], ◌∷◌, map}
+use Rattle.std.proofs.Common.{fold, flat_map, length, slice_index, refl, sym, ap, ◌∙◌, ◌⊎◌, inl, inr, ⊎_elim, arith}
+use Rattle.std.proofs.Common.{ltb-true, ltb-false, lt-ltb, le-ltb}
 use Rattle.std.proofs.lemmas.List.{get_or-map}
 use Rattle.std.proofs.lemmas.List.Sums.{sum_by-cons}
 use Rattle.layer_ast.specs.declared.tokens.Dir.{Dir}
@@ -13,7 +15,8 @@ use Rattle.weight_laws.specs.Nodes.{IsNode}
 use Rattle.weight_laws.specs.Orderly.{IsOrderly}
 use Rattle.weight_laws.specs.Costs.{behind_arrows}
 use Rattle.weight_laws.specs.Tables.{node_number, Vertex, no_vertex, edge_of, vertex_of, IsTable}
-use Rattle.weight_laws.specs.Rounds.{with_edge, vertex_cost, round, rounds, one_task, joins_of_vertex, RoundsAreCosts, largest_entry, LargestInRounds, HeldIsJudged, RoundsSettle}
+use Rattle.weight_laws.specs.Rounds.{with_edge, vertex_cost, round, rounds, one_task, joins_of_vertex, RoundsAreCosts}
+use Rattle.weight_laws.specs.Rounds.{largest_entry, LargestInRounds, HeldIsJudged, RoundsSettle}
 use Rattle.weight_laws.proofs.Members.{In, in_either, in_left, in_right, from_map}
 use Rattle.weight_laws.proofs.Nodes.{in_had, next_node}
 use Rattle.weight_laws.proofs.Runs.{messages_below, from_below, through_casts, through_sends}
@@ -27,14 +30,16 @@ same_costs costs f [] h = refl
 same_costs costs f (t ∷ ts) h = λ i. h t (inl refl) i ∷ same_costs costs f ts (λ x m. h x (inr m)) i
 
 pub edges_cost : (costs : List ℕ) (f : Node → ℕ) (x : ℕ) (arrs : List Arrow) →
-    ((t : Node) → In t (flat_map (λ arrow. arrow.targets) arrs) → slice_index costs (node_number t) ≡ held_at_most (f t)) →
+    ((t : Node) → In t (flat_map (λ arrow. arrow.targets) arrs) → slice_index costs (node_number t) ≡
+    held_at_most (f t)) →
     fold (with_edge costs) (held_at_most x) (map edge_of arrs) ≡ held_at_most (x + behind_arrows f arrs)
 edges_cost costs f x [] h = ap held_at_most (omega arith)
 edges_cost costs f x (a ∷ arrs) h =
     ap (λ sum. fold (with_edge costs) sum (map edge_of arrs)) here
     ∙ edges_cost costs f (x + a.times * largest (map f a.targets)) arrs (λ t m. h t (in_right t a.targets _ m))
     ∙ ap held_at_most (omega (arith, sum_by-cons (λ arrow. arrow.times * largest (map f arrow.targets)) a arrs)) where
-      here : held_at_most (held_at_most x + held_at_most a.times * largest (map (slice_index costs) (map node_number a.targets)))
+      here : held_at_most (held_at_most x + held_at_most a.times * largest
+          (map (slice_index costs) (map node_number a.targets)))
           ≡ held_at_most (x + a.times * largest (map f a.targets))
       here =
           ap (λ ns. held_at_most (held_at_most x + held_at_most a.times * largest ns))
@@ -53,10 +58,12 @@ rounds_are_costs stack vertices own own_cost (suc k) n orderly table owns is =
     (λ t m. rounds_are_costs stack vertices own own_cost k t orderly table owns (next_node stack orderly n t is m))
 
 -- the entries of a stack are nodes of it
-pub one_kind : (stack : List LayerTree) (at : ℕ) (dir : Dir) (kind : Kind) (n : Node) → at ≤ length stack + 1 → In n (nodes_of stack at dir kind) →
+pub one_kind : (stack : List LayerTree) (at : ℕ) (dir : Dir) (kind : Kind) (n : Node) → at ≤ length stack + 1 →
+    In n (nodes_of stack at dir kind) →
     IsNode stack n
 one_kind stack at dir kind n low m =
-    from_map (λ tag. record { at = at; dir = dir; kind = kind; tag = tag }) n (tags_for kind (header_layer stack dir at))
+    from_map (λ tag. record { at = at; dir = dir; kind = kind; tag = tag }) n
+    (tags_for kind (header_layer stack dir at))
     (λ tag k same. rw same record { at = low; tag = in_had kind (header_layer stack dir at) tag k }) m
 
 pub entry_is_node : (stack : List LayerTree) (n : Node) → In n (entries stack) → IsNode stack n
@@ -87,9 +94,11 @@ pub same_entries : (costs : List ℕ) (f : Node → ℕ) (ns : List Node) →
 same_entries costs f [] h = refl
 same_entries costs f (n ∷ ns) h = λ i. h n (inl refl) i ∷ same_entries costs f ns (λ x m. h x (inr m)) i
 
-largest_is : (stack : List LayerTree) (vertices : List Vertex) (own : Vertex → ℕ) (own_cost : Node → ℕ) (k : ℕ) → IsOrderly stack →
+largest_is : (stack : List LayerTree) (vertices : List Vertex) (own : Vertex → ℕ) (own_cost : Node → ℕ) (k : ℕ) →
+    IsOrderly stack →
     IsTable stack vertices → ((m : Node) → own (vertex_of stack m) ≡ held_at_most (own_cost m)) →
-    largest_entry stack (rounds own vertices k) ≡ held_at_most (largest (map (cost_in k stack own_cost) (entries stack)))
+    largest_entry stack (rounds own vertices k) ≡
+    held_at_most (largest (map (cost_in k stack own_cost) (entries stack)))
 largest_is stack vertices own own_cost k orderly table owns =
     ap largest (same_entries (rounds own vertices k) (cost_in k stack own_cost) (entries stack)
     (λ n m. rounds_are_costs stack vertices own own_cost k n orderly table owns (entry_is_node stack n m)))

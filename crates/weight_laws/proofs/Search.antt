@@ -1,14 +1,18 @@
 -- A search over a table sees what the definition reaches.
-use Rattle.std.proofs.Common.{◌≡◌, ℕ, zero, suc, ◌<◌, ◌≤◌, Bool, true, false, ◌||◌, List, [], ◌∷◌, ◌++◌, map, fold, flat_map, length, replicate, slice_index_or, slice_set, refl, sym, ap, ◌∙◌, subst, ◌⊎◌, inl, inr, ⊎_elim, append_assoc, append-nil, arith}
+use Rattle.std.proofs.Common.{◌≡◌, ℕ, zero, suc, ◌<◌, ◌≤◌, Bool, true, false, ◌||◌, List, [], ◌∷◌, ◌++◌, map, fold}
+use Rattle.std.proofs.Common.{flat_map, length, replicate, slice_index_or, slice_set, refl, sym, ap, ◌∙◌, subst, ◌⊎◌}
+use Rattle.std.proofs.Common.{inl, inr, ⊎_elim, append_assoc, append-nil, arith}
 use Rattle.std.specs.Prelude.{if◌then◌else◌}
 use Rattle.std.specs.List.{list_any}
-use Rattle.std.proofs.lemmas.List.{map-append, length-replicate, get_or-replicate, length-set, get_or-set_same, get_or-set_other}
+use Rattle.std.proofs.lemmas.List.{map-append, length-replicate, get_or-replicate, length-set, get_or-set_same}
+use Rattle.std.proofs.lemmas.List.{get_or-set_other}
 use Rattle.std.proofs.lemmas.List.Sums.{fold-append}
 use Rattle.std.proofs.lemmas.List.Folds.{list_any-append}
 use Rattle.stack_mean.specs.Graph.{same_node, Arrow, arrows, following, nodes}
 use Rattle.weight_laws.specs.Nodes.{IsNode}
 use Rattle.weight_laws.specs.Tables.{node_number, Vertex, edge_of}
-use Rattle.weight_laws.specs.Search.{Search, is_seen, see, see_targets, see_vertex, see_behind, search_round, searched, search_from, SearchTellsCycles, SearchSettles}
+use Rattle.weight_laws.specs.Search.{Search, is_seen, see, see_targets, see_vertex, see_behind, search_round, searched}
+use Rattle.weight_laws.specs.Search.{search_from, SearchTellsCycles, SearchSettles}
 use Rattle.weight_laws.proofs.Members.{In, from_flat_map}
 use Rattle.weight_laws.proofs.Reach.{unknown_by, reached_by, unknown_sub}
 use Rattle.weight_laws.proofs.Nodes.{next_node}
@@ -16,13 +20,15 @@ use Rattle.weight_laws.proofs.Tables.{numbers_differ}
 use Rattle.weight_laws.proofs.Costs.{sound, itself, cycle_is}
 
 -- rounds can be counted from either end, and a search that saw nothing last is at its end
-first_round : (vertices : List Vertex) (k : ℕ) (s : Search) → searched vertices k (search_round vertices s) ≡ searched vertices (suc k) s
+first_round : (vertices : List Vertex) (k : ℕ) (s : Search) → searched vertices k (search_round vertices s) ≡
+    searched vertices (suc k) s
 first_round vertices zero s = refl
 first_round vertices (suc k) s = ap (search_round vertices) (first_round vertices k s)
 
 idle : (vertices : List Vertex) (s : Search) → s.last ≡ [] → search_round vertices s ≡ s
 idle vertices s none =
-    ap (see_behind vertices (record { seen = s.seen; last = [] })) none ∙ (λ i. record { seen = s.seen; last = sym none i })
+    ap (see_behind vertices (record { seen = s.seen; last = [] })) none ∙
+    (λ i. record { seen = s.seen; last = sym none i })
 
 stays : (vertices : List Vertex) (k : ℕ) (s : Search) → s.last ≡ [] → searched vertices k s ≡ s
 stays vertices zero s none = refl
@@ -34,7 +40,8 @@ at_or_before k m h = grind arith
 pub search_settles : SearchSettles
 search_settles vertices k zero s le none = let same : 0 ≡ k = omega arith in ap (λ n. searched vertices n s) same
 search_settles vertices k (suc m) s le none =
-    ⊎_elim (λ before. ap (search_round vertices) (search_settles vertices k m s before none) ∙ idle vertices (searched vertices k s) none)
+    ⊎_elim (λ before. ap (search_round vertices) (search_settles vertices k m s before none) ∙
+    idle vertices (searched vertices k s) none)
     (λ now. ap (λ n. searched vertices n s) (sym now)) (at_or_before k m le)
 
 swapped : (a b c : Bool) → (a || (b || c)) ≡ (b || (a || c))
@@ -48,7 +55,8 @@ turned true false = refl
 turned false true = refl
 turned false false = refl
 
-module _ {A : Type 0} (same : A → A → Bool) (sound : (a b : A) → same a b ≡ true → a ≡ b) (itself : (a : A) → same a a ≡ true)
+module _ {A : Type 0} (same : A → A → Bool) (sound : (a b : A) → same a b ≡ true → a ≡ b)
+    (itself : (a : A) → same a a ≡ true)
     (follow : A → List A) (Is : A → Type 0) (next : (x y : A) → Is x → In y (follow x) → Is y)
     (number : A → ℕ) (vertices : List Vertex) (covers : (x : A) → Is x → number x < length vertices)
     (differ : (x y : A) → Is x → Is y → number x ≡ number y → x ≡ y)
@@ -97,7 +105,8 @@ module _ {A : Type 0} (same : A → A → Bool) (sound : (a b : A) → same a b 
       Met (fold see s (map number xs)) known acc (unknown_by same known xs)
   meet [] known acc s are t last = record { tells = t; last = last ∙ ap (map number) (sym (append-nil acc)) }
   meet (x ∷ xs) known acc s are t last =
-      subst (λ b. Met (fold see (if b then s else marks s x) (map number xs)) known acc (unknown_by same known (x ∷ xs)))
+      subst (λ b. Met (fold see (if b then s else marks s x) (map number xs)) known acc
+      (unknown_by same known (x ∷ xs)))
       (sym (t.flags x (are x (inl refl))))
       (go (list_any (same x) known)
       (meet xs known acc s (λ y m. are y (inr m)) t last)
@@ -129,11 +138,13 @@ module _ {A : Type 0} (same : A → A → Bool) (sound : (a b : A) → same a b 
   }
 
   -- a round
-  round_meets : (known new : List A) (s : Search) → ((x : A) → In x new → Is x) → Tells s (known ++ new) → s.last ≡ map number new →
+  round_meets : (known new : List A) (s : Search) → ((x : A) → In x new → Is x) → Tells s (known ++ new) →
+      s.last ≡ map number new →
       Met (search_round vertices s) (known ++ new) [] (unknown_by same (known ++ new) (flat_map follow new))
   round_meets known new s are t last =
       subst (λ q. Met q (known ++ new) [] (unknown_by same (known ++ new) (flat_map follow new)))
-      (sym (ap (see_behind vertices (record { seen = s.seen; last = [] })) last ∙ see_nodes (record { seen = s.seen; last = [] }) new are))
+      (sym (ap (see_behind vertices (record { seen = s.seen; last = [] })) last ∙
+      see_nodes (record { seen = s.seen; last = [] }) new are))
       (meet (flat_map follow new) (known ++ new) [] (record { seen = s.seen; last = [] })
       (λ x m. from_flat_map follow x new (λ w k n. next w x (are w k) n) m)
       (record { room = t.room; flags = t.flags }) refl)
@@ -149,7 +160,8 @@ module _ {A : Type 0} (same : A → A → Bool) (sound : (a b : A) → same a b 
       let met = round_meets known (x ∷ xs) s are t last in
       subst (λ q. Tells q (reached_by same follow steps all (unknown_by same all found))) (first_round vertices steps s)
       (reach_tells steps all (unknown_by same all found) (search_round vertices s)
-      (λ y m. from_flat_map follow y (x ∷ xs) (λ w k n. next w y (are w k) n) (unknown_sub same sound itself follow y all found m))
+      (λ y m. from_flat_map follow y (x ∷ xs) (λ w k n. next w y (are w k) n)
+      (unknown_sub same sound itself follow y all found m))
       (turned_tells (search_round vertices s) (unknown_by same all found) all met.tells) met.last)
 
   unseen_tells : Tells (record { seen = replicate (length vertices) false; last = [] }) []
@@ -167,7 +179,8 @@ module _ {A : Type 0} (same : A → A → Bool) (sound : (a b : A) → same a b 
       let first = subst (λ q. Met q [] [] (unknown_by same [] (follow n))) (sym (sees start n is)) met in
       (reach_tells steps [] (unknown_by same [] (follow n)) (search_from vertices (number n))
       (λ x m. next n x is (unknown_sub same sound itself follow x [] (follow n) m))
-      (subst (Tells (search_from vertices (number n))) (append-nil (unknown_by same [] (follow n))) first.tells) first.last).flags n is
+      (subst (Tells (search_from vertices (number n))) (append-nil (unknown_by same [] (follow n))) first.tells)
+      first.last).flags n is
 
 -- one list of targets in place of a list of edges
 see_edges : (s : Search) (arrs : List Arrow) →
@@ -180,7 +193,8 @@ see_edges s (a ∷ arrs) =
 
 pub search_tells_cycles : SearchTellsCycles
 search_tells_cycles stack vertices n orderly few table is =
-    search_tells same_node sound itself (following stack) (IsNode stack) (next_node stack orderly) node_number vertices table.covers
+    search_tells same_node sound itself (following stack) (IsNode stack) (next_node stack orderly) node_number vertices
+    table.covers
     (λ x y is_x is_y equal. numbers_differ stack x y few is_x is_y equal)
     (λ s x is_x. ap (λ (v : Vertex). fold see_targets s v.edges) (table.tells x is_x) ∙ see_edges s (arrows stack x))
     (length (nodes stack)) n is

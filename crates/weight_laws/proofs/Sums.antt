@@ -17,15 +17,21 @@ use Rattle.weight_laws.proofs.Visits.{popped_is, sends_follow_arrows}
 
 pub weighs_what_it_sends : WeighsWhatItSends
 weighs_what_it_sends stack s t off visit =
-    omega (arith, follows stack visit.orderly off (λ node. 1) (task_node t) visit.known, sends_follow_arrows stack s t (weight stack) visit)
+    omega (
+      arith,
+      follows stack visit.orderly off (λ node. 1) (task_node t) visit.known,
+      sends_follow_arrows stack s t (weight stack) visit,
+    )
 
 pub joins_own : (stack : List LayerTree) (s : State) (t : Task Event) → is_place (length stack) t.at ≡ true →
     visit_joins (t.at - 1) (layer_at stack t.at) s t.dir t.event ≤ own_joins stack (task_node t)
 joins_own stack s t place =
     rw place
-    (subst (λ tag. visit_joins (t.at - 1) (layer_at stack t.at) s t.dir t.event ≤ option_map_or handler_joins (handler_for (layer_at stack t.at) t.dir t.event.kind tag) 0)
+    (subst (λ tag. visit_joins (t.at - 1) (layer_at stack t.at) s t.dir t.event ≤ option_map_or handler_joins
+    (handler_for (layer_at stack t.at) t.dir t.event.kind tag) 0)
     (popped_is t.at t.dir t.event)
-    (handler_makes (t.at - 1) (handler_for (layer_at stack t.at) t.dir t.event.kind (met t.dir t.event.message).tag) s t.event (met t.dir t.event.message)))
+    (handler_makes (t.at - 1) (handler_for (layer_at stack t.at) t.dir t.event.kind (met t.dir t.event.message).tag) s
+    t.event (met t.dir t.event.message)))
 
 pub counts_what_it_joins : CountsWhatItJoins
 counts_what_it_joins stack s t off visit =

@@ -1,5 +1,6 @@
 -- Nodes have numbers of their own.
-use Rattle.std.proofs.Common.{◌≡◌, ℕ, zero, suc, ◌+◌, ◌*◌, ◌<◌, ◌≤◌, Bool, true, false, List, [], ◌∷◌, length, is_some, slice_index_or, rules, arith}
+use Rattle.std.proofs.Common.{◌≡◌, ℕ, zero, suc, ◌+◌, ◌*◌, ◌<◌, ◌≤◌, Bool, true, false, List, [], ◌∷◌, length, is_some}
+use Rattle.std.proofs.Common.{slice_index_or, rules, arith}
 use Rattle.std.specs.Prelude.{if◌then◌else◌, ◌==◌}
 use denote.Enum.Bare.{tag_one}
 use denote.Enum.Declared.{tag_of}
@@ -41,7 +42,8 @@ few_at [] k h = omega arith
 few_at (layer ∷ above) zero h = h.0
 few_at (layer ∷ above) (suc k) h = few_at above k h.1
 
-few_in : (stack : List LayerTree) (dir : Dir) (at : ℕ) → HasFewHeaders stack → length (header_layer stack dir at).headers ≤ 7
+few_in : (stack : List LayerTree) (dir : Dir) (at : ℕ) → HasFewHeaders stack →
+    length (header_layer stack dir at).headers ≤ 7
 few_in stack Up at h = few_at stack _ h
 few_in stack Down at h = few_at stack _ h
 
@@ -69,6 +71,7 @@ pub numbers_differ : NumbersDiffer
 numbers_differ stack m n few is_m is_n e =
     let parts = apart m.at (tag_of dir_row.the_type m.dir) (tag_of kind_row.the_type m.kind) m.tag
     n.at (tag_of dir_row.the_type n.dir) (tag_of kind_row.the_type n.kind) n.tag
-    (dir_below m.dir) (dir_below n.dir) (kind_below m.kind) (kind_below n.kind) (small_tag stack m few is_m) (small_tag stack n few is_n) (omega (arith, e)) in
+    (dir_below m.dir) (dir_below n.dir) (kind_below m.kind) (kind_below n.kind) (small_tag stack m few is_m)
+    (small_tag stack n few is_n) (omega (arith, e)) in
     node_is m n parts.0 parts.3 (tag_one dir_row.the_type (search rules) m.dir n.dir parts.1)
     (tag_one kind_row.the_type (search rules) m.kind n.kind parts.2)

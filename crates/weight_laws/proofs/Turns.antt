@@ -11,12 +11,14 @@ use Rattle.weight_laws.proofs.Queue.{run_done, first_turn}
 known : (stack : List LayerTree) (n k : ℕ) (w : Work) (tasks : List (Task Event)) → KnownFor stack n w tasks →
     AllByRecursion (IsKnown stack) (run_for (length stack) (layers stack) k (record { world = w; tasks = tasks })).tasks
 known stack zero k w [] h =
-    subst (λ (r : Line Work Event). AllByRecursion (IsKnown stack) r.tasks) (sym (run_done (length stack) (layers stack) k w)) tt
+    subst (λ (r : Line Work Event). AllByRecursion (IsKnown stack) r.tasks)
+    (sym (run_done (length stack) (layers stack) k w)) tt
 known stack zero k w (t ∷ rest) h = absurd h
 known stack (suc n) zero w tasks h = h.0
 known stack (suc n) (suc k) w tasks h =
     let r : Line Work Event = next_of (length stack) (layers stack) tasks w in
-    subst (λ (q : Line Work Event). AllByRecursion (IsKnown stack) q.tasks) (sym (first_turn (length stack) (layers stack) k tasks w))
+    subst (λ (q : Line Work Event). AllByRecursion (IsKnown stack) q.tasks)
+    (sym (first_turn (length stack) (layers stack) k tasks w))
     (known stack n k r.world r.tasks h.1)
 
 pub known_to_the_end : KnownToTheEnd

@@ -10,8 +10,8 @@ use Rattle.layer_mean.specs.Queue.{Task}
 use Rattle.packet_mean.specs.Chained.{IsChain}
 use Rattle.weight_laws.specs.Nodes.{IsKnown}
 
--- The place, counted from 0, of the first header of a message that arrives somewhere: going up the place's own, going down that of
--- the place above.
+-- The place, counted from 0, of the first header of a message that arrives somewhere: going up the place's own, going
+-- down that of the place above.
 abbrev pub first_place : Dir → ℕ → ℕ
 first_place Up at = at - 1
 first_place Down at = at

@@ -3,21 +3,24 @@ use Rattle.std.specs.Prelude.{ℕ, zero, suc, ◌+◌, if◌then◌else◌, min,
 use Rattle.std.specs.Option.{option_map_or}
 use Rattle.layer_ast.specs.declared.tokens.Dir.{Dir}
 use Rattle.layer_mean.specs.declared.run.Event.{Event}
-use Rattle.layer_mean.specs.Tree.{StatementTree, bind, assign, assign_square, push, take, branch, each, emit, StatementTrees, none, more, HandlerTree, LayerTree}
+use Rattle.layer_mean.specs.Tree.{StatementTree, bind, assign, assign_square, push, take, branch, each, emit}
+use Rattle.layer_mean.specs.Tree.{StatementTrees, none, more, HandlerTree, LayerTree}
 use Rattle.layer_mean.specs.State.{State, row_at, has_room, without_front}
 use Rattle.layer_mean.specs.Value.{Scope, is_true, val}
 use Rattle.layer_mean.specs.Effect.{Act, turns, with_slot, with_taken, in_order, acts, does}
 use Rattle.layer_mean.specs.Visit.{Met, met, handler_for, entered}
 use Rattle.stack_mean.specs.Emissions.{joins_in, joins_in_emission, joins_in_row, joins_expected}
 
--- How many joins are made in 0, 1 and so on below a number of turns of an act, each of which makes so many at its own state and scope.
+-- How many joins are made in 0, 1 and so on below a number of turns of an act, each of which makes so many at its own
+-- state and scope.
 abbrev pub made_in_turns : ℕ → ℕ → Act → (State → Scope → ℕ) → State → Scope → ℕ
 made_in_turns zero slot act made s l = 0
 made_in_turns (suc k) slot act made s l = let o = turns k slot act s l in
     made_in_turns k slot act made s l + made o.state (with_slot slot k o.scope)
 
 abbrev mutual
-  -- How many joins a statement makes, along the way that it takes: those that are written in the expressions on this way.
+  -- How many joins a statement makes, along the way that it takes: those that are written in the expressions on this
+  -- way.
   pub made : ℕ → StatementTree → State → Scope → ℕ
   made place (bind k e) s l = joins_in e
   made place (assign c i e) s l = joins_in i + joins_in e
@@ -30,7 +33,8 @@ abbrev mutual
   made place (branch likely e block otherwise) s l =
       joins_in e + (if is_true (val e s l) then made_in place block s l else made_in place otherwise s l)
   made place (each k below most block) s l =
-      joins_in below + made_in_turns (min (val below s l) most) k (in_order (acts place block)) (made_in place block) s l
+      joins_in below + made_in_turns (min (val below s l) most) k (in_order (acts place block)) (made_in place block) s
+      l
   made place (emit e) s l = joins_in_emission e
 
   -- How many the statements of a block make, each where those before it have led.

@@ -12,8 +12,8 @@ use Rattle.layer_mean.specs.Tree.{LayerTree}
 use Rattle.layer_mean.specs.Queue.{Task}
 use Rattle.stack_mean.specs.Graph.{Node, header_layer}
 
--- Whether an event of a kind can have a tag in front of a layer: one that the layer declares where the kind carries a message, and
--- else 0.
+-- Whether an event of a kind can have a tag in front of a layer: one that the layer declares where the kind carries a
+-- message, and else 0.
 abbrev pub can_have : Kind → LayerTree → ℕ → Bool
 can_have kind layer tag = if carries kind then is_some (declared layer tag) else tag == 0
 
@@ -37,6 +37,7 @@ node_of at dir event = record { at = at; dir = dir; kind = event.kind; tag = mes
 abbrev pub task_node : Task Event → Node
 task_node t = node_of t.at t.dir t.event
 
--- A task is known where its event is at one of the nodes of the stack. (So is each whose message is chained for its place.)
+-- A task is known where its event is at one of the nodes of the stack. (So is each whose message is chained for its
+-- place.)
 abbrev pub IsKnown : List LayerTree → Task Event → Type 0
 IsKnown stack t = IsNode stack (task_node t)

@@ -6,7 +6,8 @@ use Rattle.layer_ast.specs.declared.tokens.Dir.TheVariants.{Up, Down}
 use Rattle.layer_ast.specs.declared.tokens.Kind.{Kind}
 use Rattle.layer_mean.specs.Event.{carries}
 use Rattle.layer_mean.specs.Headers.{declared}
-use Rattle.layer_mean.specs.Tree.{Carried, ContentTree, StatementTree, push, take, branch, each, emit, StatementTrees, none, more, HandlerTree, LayerTree}
+use Rattle.layer_mean.specs.Tree.{Carried, ContentTree, StatementTree, push, take, branch, each, emit, StatementTrees}
+use Rattle.layer_mean.specs.Tree.{none, more, HandlerTree, LayerTree}
 use Rattle.stack_mean.specs.Graph.{goes_down}
 
 -- What is sent with a message is of a kind that carries one; what is sent down has a header that its layer declares.
@@ -25,7 +26,8 @@ abbrev mutual
   pub IsOrderlyStatement : LayerTree → Bool → StatementTree → Type 0
   IsOrderlyStatement layer from_above (push c i capacity row otherwise) = IsOrderlyBlock layer from_above otherwise
   IsOrderlyStatement layer from_above (take c i taken block otherwise) =
-      KeepsMessage from_above taken.message × IsOrderlyBlock layer from_above block × IsOrderlyBlock layer from_above otherwise
+      KeepsMessage from_above taken.message × IsOrderlyBlock layer from_above block ×
+      IsOrderlyBlock layer from_above otherwise
   IsOrderlyStatement layer from_above (branch likely e block otherwise) =
       IsOrderlyBlock layer from_above block × IsOrderlyBlock layer from_above otherwise
   IsOrderlyStatement layer from_above (each k below most block) = IsOrderlyBlock layer from_above block

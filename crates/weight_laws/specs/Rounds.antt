@@ -32,8 +32,10 @@ joins_of_vertex vertex = vertex.joins
 
 -- The costs behind so many rounds are those that the definition has in as many steps, held within 32 bits.
 abbrev pub RoundsAreCosts : Type 0
-RoundsAreCosts = (stack : List LayerTree) (vertices : List Vertex) (own : Vertex → ℕ) (own_cost : Node → ℕ) (k : ℕ) (n : Node) →
-    IsOrderly stack → IsTable stack vertices → ((m : Node) → own (vertex_of stack m) ≡ held_at_most (own_cost m)) → IsNode stack n →
+RoundsAreCosts = (stack : List LayerTree) (vertices : List Vertex) (own : Vertex → ℕ) (own_cost : Node → ℕ) (k : ℕ)
+    (n : Node) →
+    IsOrderly stack → IsTable stack vertices → ((m : Node) → own (vertex_of stack m) ≡ held_at_most (own_cost m)) →
+    IsNode stack n →
     slice_index (rounds own vertices k) (node_number n) ≡ held_at_most (cost_in k stack own_cost n)
 
 -- The largest cost of the entries.

@@ -8,7 +8,8 @@ use Rattle.layer_ast.specs.declared.tokens.Kind.TheVariants.{Cast, Send, Timer, 
 use Rattle.layer_mean.specs.declared.run.Event.{Event}
 use Rattle.layer_mean.specs.Tree.{LayerTree}
 use Rattle.layer_mean.specs.State.{State}
-use Rattle.layer_mean.specs.Queue.{Task, Player, Line, Work, is_place, layer_at, state_at, next_of, run_for, layers, run, unstarted, starting}
+use Rattle.layer_mean.specs.Queue.{Task, Player, Line, Work, is_place, layer_at, state_at, next_of, run_for, layers}
+use Rattle.layer_mean.specs.Queue.{run, unstarted, starting}
 use Rattle.stack_mean.specs.Graph.{first_on_cycle}
 use Rattle.stack_mean.specs.Acceptance.{weight_limit, joins_limit, accepted}
 use Rattle.weight_laws.specs.Nodes.{IsKnown}
@@ -50,28 +51,35 @@ pub record IsTurn (stack : List LayerTree) (w : Work) (t : Task Event) (rest : L
 -- A turn makes the pending weight less.
 abbrev pub TurnsLighten : Type 0
 TurnsLighten = (stack : List LayerTree) (w : Work) (t : Task Event) (rest : List (Task Event)) → IsTurn stack w t rest →
-    1 + pending_weight stack (next_of (length stack) (layers stack) (t ∷ rest) w).tasks ≤ pending_weight stack (t ∷ rest)
+    1 + pending_weight stack (next_of (length stack) (layers stack) (t ∷ rest) w).tasks ≤ pending_weight stack
+    (t ∷ rest)
 
 -- The joins that a turn makes are taken from the pending ones.
 abbrev pub TurnsJoinLess : Type 0
-TurnsJoinLess = (stack : List LayerTree) (w : Work) (t : Task Event) (rest : List (Task Event)) → IsTurn stack w t rest →
-    turn_joins stack w t + pending_joins stack (next_of (length stack) (layers stack) (t ∷ rest) w).tasks ≤ pending_joins stack (t ∷ rest)
+TurnsJoinLess = (stack : List LayerTree) (w : Work) (t : Task Event) (rest : List (Task Event)) →
+    IsTurn stack w t rest →
+    turn_joins stack w t + pending_joins stack (next_of (length stack) (layers stack) (t ∷ rest) w).tasks ≤
+    pending_joins stack (t ∷ rest)
 
 -- How many turns a line has taken: a visit or an output for each.
 abbrev pub turns_of : Work → ℕ
 turns_of w = w.visits + length w.outs
 
--- One turn of a loop that has this much weight left and so many free slots: there is room for what the visit sends, for the tasks that
--- are then pending and for an output; the joins that it makes find a slot each; and what is left is enough for the rest.
-pub record TurnFits (stack : List LayerTree) (w : Work) (t : Task Event) (rest : List (Task Event)) (left free : ℕ) : Type 0 where
+-- One turn of a loop that has this much weight left and so many free slots: there is room for what the visit sends, for
+-- the tasks that are then pending and for an output; the joins that it makes find a slot each; and what is left is
+-- enough for the rest.
+pub record TurnFits (stack : List LayerTree) (w : Work) (t : Task Event) (rest : List (Task Event)) (left free : ℕ) :
+    Type 0 where
   pub sent : is_place (length stack) t.at ≡ true → 1 + length (sent_tasks stack (state_at w t.at) t) ≤ left
   pub tasks : 1 + length (next_of (length stack) (layers stack) (t ∷ rest) w).tasks ≤ left
   pub turn : turns_of (next_of (length stack) (layers stack) (t ∷ rest) w).world ≡ turns_of w + 1
   pub weight : 1 + pending_weight stack (next_of (length stack) (layers stack) (t ∷ rest) w).tasks ≤ left
-  pub slots : turn_joins stack w t + pending_joins stack (next_of (length stack) (layers stack) (t ∷ rest) w).tasks ≤ free
+  pub slots : turn_joins stack w t + pending_joins stack (next_of (length stack) (layers stack) (t ∷ rest) w).tasks ≤
+      free
 
 abbrev pub TurnsFit : Type 0
-TurnsFit = (stack : List LayerTree) (w : Work) (t : Task Event) (rest : List (Task Event)) (left free : ℕ) → IsTurn stack w t rest →
+TurnsFit = (stack : List LayerTree) (w : Work) (t : Task Event) (rest : List (Task Event)) (left free : ℕ) →
+    IsTurn stack w t rest →
     pending_weight stack (t ∷ rest) ≤ left → pending_joins stack (t ∷ rest) ≤ free → TurnFits stack w t rest left free
 
 -- All tasks of a line are known, whatever number of turns it takes. (So they are where they are chained.)
@@ -93,7 +101,8 @@ TurnsAndWeight = (stack : List LayerTree) (n : ℕ) (r : Line Work Event) → Is
 -- And the joins that are made, with those that are then pending, are no more than those that were.
 abbrev pub JoinsAndPending : Type 0
 JoinsAndPending = (stack : List LayerTree) (n : ℕ) (r : Line Work Event) → IsLine stack r →
-    run_joins stack n r + pending_joins stack (run_for (length stack) (layers stack) n r).tasks ≤ pending_joins stack r.tasks
+    run_joins stack n r + pending_joins stack (run_for (length stack) (layers stack) n r).tasks ≤ pending_joins stack
+    r.tasks
 
 -- In as many turns as its weight a line comes to its end: no task is left, and more turns change nothing.
 abbrev pub LinesEnd : Type 0
@@ -118,8 +127,8 @@ pub record IsRun (stack : List LayerTree) (states : List State) (first : Task Ev
   pub enters : Enters stack first.at first.dir first.event.kind
   pub known : StaysKnown stack (starting (unstarted states) first)
 
--- What is so of such a run: it is within the limits; no task is left; any number of turns from its entry's weight on comes to it; its
--- turns are at most this weight, and so its visits and outputs; its joins are at most its entry's.
+-- What is so of such a run: it is within the limits; no task is left; any number of turns from its entry's weight on
+-- comes to it; its turns are at most this weight, and so its visits and outputs; its joins are at most its entry's.
 pub record Ends (stack : List LayerTree) (states : List State) (first : Task Event) : Type 0 where
   pub weight : task_weight stack first ≤ weight_limit
   pub joins : task_joins stack first ≤ joins_limit
@@ -129,4 +138,5 @@ pub record Ends (stack : List LayerTree) (states : List State) (first : Task Eve
   pub made : (n : ℕ) → run_joins stack n (starting (unstarted states) first) ≤ task_joins stack first
 
 abbrev pub RunsEnd : Type 0
-RunsEnd = (stack : List LayerTree) (states : List State) (first : Task Event) → IsRun stack states first → Ends stack states first
+RunsEnd = (stack : List LayerTree) (states : List State) (first : Task Event) → IsRun stack states first →
+    Ends stack states first

@@ -10,7 +10,8 @@ use Rattle.layer_mean.specs.Visit.{fresh}
 use Rattle.layer_mean.specs.Queue.{Task, run}
 use Rattle.stack_mean.specs.Graph.{arrows, nodes}
 use Rattle.stack_mean.specs.Acceptance.{weight, weight_limit}
-use Rattle.stack_mean.specs.SampleLayers.{counter, joiner, fan, mnak, total, local_copy, bottom, echo, memory, mirror, late}
+use Rattle.stack_mean.specs.SampleLayers.{counter, joiner, fan, mnak, total, local_copy, bottom, echo, memory, mirror}
+use Rattle.stack_mean.specs.SampleLayers.{late}
 use Rattle.stack_mean.specs.Samples.{ordered}
 use Rattle.weight_laws.specs.Nodes.{task_node}
 use Rattle.weight_laws.specs.Orderly.{IsOrderly}
@@ -25,7 +26,8 @@ use Rattle.weight_laws.specs.Search.{is_seen, searched, search_from}
 
 -- The layers of the samples send what their graphs tell.
 abbrev pub SamplesAreOrderly : Type 0
-SamplesAreOrderly = IsOrderly (counter ∷ joiner 32 ∷ fan ∷ mnak ∷ total ∷ local_copy ∷ bottom ∷ echo ∷ memory ∷ mirror ∷ late ∷ [])
+SamplesAreOrderly = IsOrderly (counter ∷ joiner 32 ∷ fan ∷ mnak ∷ total ∷ local_copy ∷ bottom ∷ echo ∷ memory ∷ mirror ∷
+    late ∷ [])
 
 -- The states of layers that have seen nothing, at the first of two members, and a cast of the letter x from above.
 abbrev pub fresh_states : List LayerTree → List State
@@ -45,8 +47,8 @@ CounterRun =
     (task_weight (counter ∷ []) (cast_at 1) ≡ 2) ×
     (turns_of (run weight_limit (counter ∷ []) (fresh_states (counter ∷ [])) (cast_at 1)).world ≡ 2)
 
--- A cast over a layer that orders, a copy for its sender and the lowest layer: six turns. It weighs nine, since a member that isn't
--- the first sends it on for three.
+-- A cast over a layer that orders, a copy for its sender and the lowest layer: six turns. It weighs nine, since a
+-- member that isn't the first sends it on for three.
 abbrev pub OrderedRun : Type 0
 OrderedRun =
     IsRun ordered (fresh_states ordered) (cast_at 3) ×
@@ -54,8 +56,8 @@ OrderedRun =
     (behind_arrows (weight ordered) (arrows ordered (task_node (cast_at 3))) ≡ 8) ×
     (turns_of (run weight_limit ordered (fresh_states ordered) (cast_at 3)).world ≡ 6)
 
--- A visit that joins a byte with itself: three times the bound of a loop of two turns, each with two joins. Its loop might have had 32
--- turns.
+-- A visit that joins a byte with itself: three times the bound of a loop of two turns, each with two joins. Its loop
+-- might have had 32 turns.
 abbrev pub JoinerVisit : Type 0
 JoinerVisit =
     let stack = joiner 32 ∷ [] in
@@ -75,7 +77,8 @@ ChainedPacket = HasChain ordered (first_place Up 1) true (Some (record {
   body = codes "x";
 }))
 
--- A table of two layers that send each cast back to each other: a cast that comes down to the lower one is seen again, and a send isn't.
+-- A table of two layers that send each cast back to each other: a cast that comes down to the lower one is seen again,
+-- and a send isn't.
 abbrev pub seen_again : Kind → Bool
 seen_again kind =
     let stack = echo ∷ echo ∷ [] in

@@ -1,5 +1,6 @@
 -- A search over a table, in rounds: what is reached from a node.
-use Rattle.std.specs.Prelude.{◌≡◌, ℕ, zero, suc, ◌≤◌, Bool, true, false, if◌then◌else◌, List, [], ◌∷◌, ◌++◌, length, replicate, slice_index_or, slice_set, fold}
+use Rattle.std.specs.Prelude.{◌≡◌, ℕ, zero, suc, ◌≤◌, Bool, true, false, if◌then◌else◌, List, [], ◌∷◌, ◌++◌, length}
+use Rattle.std.specs.Prelude.{replicate, slice_index_or, slice_set, fold}
 use Rattle.layer_mean.specs.Tree.{LayerTree}
 use Rattle.stack_mean.specs.Graph.{Node, nodes, is_on_cycle}
 use Rattle.weight_laws.specs.Nodes.{IsNode}
@@ -46,7 +47,8 @@ search_from vertices x = see_vertex vertices (record { seen = replicate (length 
 abbrev pub SearchTellsCycles : Type 0
 SearchTellsCycles = (stack : List LayerTree) (vertices : List Vertex) (n : Node) →
     IsOrderly stack → HasFewHeaders stack → IsTable stack vertices → IsNode stack n →
-    is_seen (searched vertices (length (nodes stack)) (search_from vertices (node_number n))) (node_number n) ≡ is_on_cycle stack n
+    is_seen (searched vertices (length (nodes stack)) (search_from vertices (node_number n))) (node_number n) ≡
+    is_on_cycle stack n
 
 -- Once nothing was seen last, no further round sees anything.
 abbrev pub SearchSettles : Type 0

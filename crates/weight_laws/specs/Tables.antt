@@ -1,5 +1,6 @@
 -- The nodes of a stack as numbers, and a table of what follows from each: the form in which a stack can be judged.
-use Rattle.std.specs.Prelude.{◌≡◌, ℕ, ◌+◌, ◌*◌, ◌<◌, ◌≤◌, List, [], map, length, replicate, slice_index_or, slice_set, fold}
+use Rattle.std.specs.Prelude.{◌≡◌, ℕ, ◌+◌, ◌*◌, ◌<◌, ◌≤◌, List, [], map, length, replicate, slice_index_or, slice_set}
+use Rattle.std.specs.Prelude.{fold}
 use Rattle.std.specs.List.{AllByRecursion}
 use denote.Enum.Declared.{tag_of}
 use Rattle.layer_ast.specs.contracts.tokens.Dir as dir_row
@@ -24,7 +25,8 @@ numbers_for places = (places + 2) * 192
 
 -- Nodes of such a stack have numbers below these, and different ones.
 abbrev pub NumbersFit : Type 0
-NumbersFit = (stack : List LayerTree) (n : Node) → HasFewHeaders stack → IsNode stack n → node_number n < numbers_for (length stack)
+NumbersFit = (stack : List LayerTree) (n : Node) → HasFewHeaders stack → IsNode stack n →
+    node_number n < numbers_for (length stack)
 
 abbrev pub NumbersDiffer : Type 0
 NumbersDiffer = (stack : List LayerTree) (m n : Node) → HasFewHeaders stack → IsNode stack m → IsNode stack n →

@@ -16,4 +16,5 @@ KnownFor stack (suc n) w tasks = let r = next_of (length stack) (layers stack) t
 
 -- Then they are known throughout.
 abbrev pub KnownToTheEnd : Type 0
-KnownToTheEnd = (stack : List LayerTree) (n : ℕ) (r : Line Work Event) → KnownFor stack n r.world r.tasks → StaysKnown stack r
+KnownToTheEnd = (stack : List LayerTree) (n : ℕ) (r : Line Work Event) → KnownFor stack n r.world r.tasks →
+    StaysKnown stack r

@@ -38,10 +38,13 @@ SendsFollowArrows = (stack : List LayerTree) (s : State) (t : Task Event) (f : N
 
 -- So the weight of a node is at least 1 and the weights of what its visit sends.
 abbrev pub WeighsWhatItSends : Type 0
-WeighsWhatItSends = (stack : List LayerTree) (s : State) (t : Task Event) → first_on_cycle stack ≡ None → IsVisit stack s t →
+WeighsWhatItSends = (stack : List LayerTree) (s : State) (t : Task Event) → first_on_cycle stack ≡ None →
+    IsVisit stack s t →
     1 + sum_by (task_weight stack) (sent_tasks stack s t) ≤ task_weight stack t
 
 -- And its join count is at least the joins that its visit makes and the join counts of what it sends.
 abbrev pub CountsWhatItJoins : Type 0
-CountsWhatItJoins = (stack : List LayerTree) (s : State) (t : Task Event) → first_on_cycle stack ≡ None → IsVisit stack s t →
-    visit_joins (t.at - 1) (layer_at stack t.at) s t.dir t.event + sum_by (task_joins stack) (sent_tasks stack s t) ≤ task_joins stack t
+CountsWhatItJoins = (stack : List LayerTree) (s : State) (t : Task Event) → first_on_cycle stack ≡ None →
+    IsVisit stack s t →
+    visit_joins (t.at - 1) (layer_at stack t.at) s t.dir t.event + sum_by (task_joins stack) (sent_tasks stack s t) ≤
+    task_joins stack t

@@ -6,7 +6,8 @@ pub mod samples;
 ghost use Rattle.weight_laws.specs.Chains.{ChainedTasksAreKnown};
 ghost use Rattle.weight_laws.specs.Costs.{CostsFollowArrows};
 ghost use Rattle.weight_laws.specs.Rounds.{HeldIsJudged, LargestInRounds, RoundsAreCosts, RoundsSettle};
-ghost use Rattle.weight_laws.specs.Runs.{JoinsAndPending, LinesEnd, RunsEnd, TurnsAndWeight, TurnsFit, TurnsJoinLess, TurnsLighten};
+ghost use Rattle.weight_laws.specs.Runs.{JoinsAndPending, LinesEnd, RunsEnd, TurnsAndWeight, TurnsFit, TurnsJoinLess};
+ghost use Rattle.weight_laws.specs.Runs.{TurnsLighten};
 ghost use Rattle.weight_laws.specs.Search.{SearchSettles, SearchTellsCycles};
 ghost use Rattle.weight_laws.specs.Tables.{NumbersDiffer, NumbersFit, TablesTell};
 ghost use Rattle.weight_laws.specs.Turns.{KnownToTheEnd};
@@ -42,8 +43,8 @@ pub fn turns_join_less()
     ensures { TurnsJoinLess }
 {}
 
-/// A loop that has as much weight left and as many free slots as its tasks need has room for one turn, and enough is left for the
-/// rest.
+/// A loop that has as much weight left and as many free slots as its tasks need has room for one turn, and enough is
+/// left for the rest.
 pub fn turns_fit()
     ensures { TurnsFit }
 {}
@@ -63,7 +64,8 @@ pub fn lines_end()
     ensures { LinesEnd }
 {}
 
-/// A run of an accepted stack from an entry ends within the entry's weight and join count, and these are within the limits.
+/// A run of an accepted stack from an entry ends within the entry's weight and join count, and these are within the
+/// limits.
 pub fn runs_end()
     ensures { RunsEnd }
 {}

@@ -1,7 +1,8 @@
 //! The laws at small stacks, by evaluation: the functions here are empty.
 #![tactic(auto, unfolding(layer_ast::specs::Spelling::kinds, layer_mean::specs::Queue::run, layer_mean::specs::Visit::step))]
 
-ghost use Rattle.weight_laws.specs.Samples.{ChainedPacket, CounterRounds, CounterRun, EchoesAreSeen, JoinerVisit, OrderedRun, SamplesAreOrderly, SamplesHaveFewHeaders};
+ghost use Rattle.weight_laws.specs.Samples.{ChainedPacket, CounterRounds, CounterRun, EchoesAreSeen, JoinerVisit};
+ghost use Rattle.weight_laws.specs.Samples.{OrderedRun, SamplesAreOrderly, SamplesHaveFewHeaders};
 
 /// The layers of the samples are orderly.
 pub fn samples_are_orderly()

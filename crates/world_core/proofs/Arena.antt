@@ -1,5 +1,6 @@
 -- Parts that lie one behind the other.
-use Rattle.std.proofs.Common.{◌≡◌, ℕ, zero, suc, ◌-◌, ◌<◌, ◌≤◌, List, [], ◌∷◌, ◌++◌, length, get_or, take, drop, Some, None, slice_get, refl, ap, sym, subst, ◌∙◌, arith, length-append}
+use Rattle.std.proofs.Common.{◌≡◌, ℕ, zero, suc, ◌-◌, ◌<◌, ◌≤◌, List, [], ◌∷◌, ◌++◌, length, get_or, take, drop, Some}
+use Rattle.std.proofs.Common.{None, slice_get, refl, ap, sym, subst, ◌∙◌, arith, length-append}
 use Rattle.std.specs.List.{slice_range}
 use Rattle.std.proofs.Math.Seq.{drop-append_seam}
 use Rattle.std.proofs.lemmas.Option.{slice_get_past}
@@ -17,13 +18,15 @@ pub within : (total from : ℕ) (ends : List ℕ) → EndAt total from ends → 
 within total from [] is = omega arith
 within total from (end ∷ ends) is = let more = within total end ends is.1 in let le = is.0 in omega arith
 
-pub starts_before : (total from : ℕ) (ends : List ℕ) (k : ℕ) → EndAt total from ends → k < length ends → start_of from ends k ≤ get_or ends k 0
+pub starts_before : (total from : ℕ) (ends : List ℕ) (k : ℕ) → EndAt total from ends → k < length ends →
+    start_of from ends k ≤ get_or ends k 0
 starts_before total from [] k is lt = absurd (omega arith)
 starts_before total from (end ∷ ends) zero is lt = is.0
 starts_before total from (end ∷ ends) (suc zero) is lt = starts_before total end ends zero is.1 (omega arith)
 starts_before total from (end ∷ ends) (suc (suc k)) is lt = starts_before total end ends (suc k) is.1 (omega arith)
 
-pub ends_within : (total from : ℕ) (ends : List ℕ) (k : ℕ) → EndAt total from ends → k < length ends → get_or ends k 0 ≤ total
+pub ends_within : (total from : ℕ) (ends : List ℕ) (k : ℕ) → EndAt total from ends → k < length ends →
+    get_or ends k 0 ≤ total
 ends_within total from [] k is lt = absurd (omega arith)
 ends_within total from (end ∷ ends) zero is lt = within total end ends is.1
 ends_within total from (end ∷ ends) (suc k) is lt = ends_within total end ends k is.1 (omega arith)
@@ -53,7 +56,8 @@ range_behind bytes more =
 pub put_behind : (bytes more : List ℕ) (from : ℕ) (ends : List ℕ) → EndAt (length bytes) from ends →
     parts_from (bytes ++ more) from (ends ++ length (bytes ++ more) ∷ []) ≡ parts_from bytes from ends ++ more ∷ []
 put_behind bytes more from [] is =
-    ap (λ n. slice_range (bytes ++ more) n (length (bytes ++ more)) ∷ []) is ∙ ap (λ xs. xs ∷ []) (range_behind bytes more)
+    ap (λ n. slice_range (bytes ++ more) n (length (bytes ++ more)) ∷ []) is ∙
+    ap (λ xs. xs ∷ []) (range_behind bytes more)
 put_behind bytes more from (end ∷ ends) is =
     ap (λ xs. xs ∷ parts_from (bytes ++ more) end (ends ++ length (bytes ++ more) ∷ []))
     (range_stays bytes more from end is.0 (within (length bytes) end ends is.1)) ∙
@@ -65,22 +69,27 @@ ends_behind bytes more from [] is = (omega (arith, length-append bytes more), re
 ends_behind bytes more from (end ∷ ends) is = (is.0, ends_behind bytes more end ends is.1)
 
 -- what is written behind all bytes, with its end behind all ends
-pub put_is : (bytes more new : List ℕ) (ends kept : List ℕ) (end : ℕ) (parts : List (List ℕ)) → parts_from bytes 0 ends ≡ parts →
+pub put_is : (bytes more new : List ℕ) (ends kept : List ℕ) (end : ℕ) (parts : List (List ℕ)) →
+    parts_from bytes 0 ends ≡ parts →
     new ≡ bytes ++ more → kept ≡ ends ++ end ∷ [] → end ≡ length new → EndAt (length bytes) 0 ends →
     parts_from new 0 kept ≡ parts ++ more ∷ []
 put_is bytes more new ends kept end parts shown written put last is =
     ap (λ xs. parts_from new 0 xs) (put ∙ ap (λ n. ends ++ n ∷ []) last) ∙
-    ap (λ xs. parts_from xs 0 (ends ++ length xs ∷ [])) written ∙ put_behind bytes more 0 ends is ∙ ap (λ xs. xs ++ more ∷ []) shown
+    ap (λ xs. parts_from xs 0 (ends ++ length xs ∷ [])) written ∙ put_behind bytes more 0 ends is ∙
+    ap (λ xs. xs ++ more ∷ []) shown
 
 pub ends_are : (bytes more new : List ℕ) (ends kept : List ℕ) (end : ℕ) →
-    new ≡ bytes ++ more → kept ≡ ends ++ end ∷ [] → end ≡ length new → EndAt (length bytes) 0 ends → EndAt (length new) 0 kept
+    new ≡ bytes ++ more → kept ≡ ends ++ end ∷ [] → end ≡ length new → EndAt (length bytes) 0 ends →
+    EndAt (length new) 0 kept
 ends_are bytes more new ends kept end written put last is =
     subst (EndAt (length new) 0) (sym (put ∙ ap (λ n. ends ++ n ∷ []) last))
     (subst (λ xs. EndAt (length xs) 0 (ends ++ length xs ∷ [])) (sym written) (ends_behind bytes more 0 ends is))
 
 -- the part of a number
-pub numbered_is : (bytes ends : List ℕ) (parts : List (List ℕ)) (number : ℕ) (found : List ℕ) → parts_from bytes 0 ends ≡ parts →
-    (number ≡ 0 → ⊥) → slice_get (parts_from bytes 0 ends) (number - 1) ≡ Some found → Some found ≡ spelled_number parts number
+pub numbered_is : (bytes ends : List ℕ) (parts : List (List ℕ)) (number : ℕ) (found : List ℕ) →
+    parts_from bytes 0 ends ≡ parts →
+    (number ≡ 0 → ⊥) → slice_get (parts_from bytes 0 ends) (number - 1) ≡ Some found →
+    Some found ≡ spelled_number parts number
 numbered_is bytes ends parts zero found shown some at = absurd (some refl)
 numbered_is bytes ends parts (suc k) found shown some at =
     let before : suc k - 1 ≡ k = omega arith in

@@ -1,5 +1,6 @@
 -- Who is in the first view.
-use Rattle.std.proofs.Common.{◌≡◌, ℕ, ◌<◌, ◌≤◌, ◌==◌, length, bytes_eq, Bool, true, refl, ap, sym, ◌∙◌, arith, is_some, get_or, zero-add}
+use Rattle.std.proofs.Common.{◌≡◌, ℕ, ◌<◌, ◌≤◌, ◌==◌, length, bytes_eq, Bool, true, refl, ap, sym, ◌∙◌, arith, is_some}
+use Rattle.std.proofs.Common.{get_or, zero-add}
 use Rattle.std.proofs.lemmas.List.FromFn.{get_or-range_with_len, length-range_with_len}
 use Rattle.std.proofs.lemmas.List.Sums.{AllPass-from_list_all}
 use Rattle.std.proofs.lemmas.Slice.Eq.{bytes_eq-Decides}
@@ -31,7 +32,8 @@ all_have_ranks : list_all have_ranks (range_with_len 0 33) ≡ true
 all_have_ranks = refl
 
 pub ids_of_first : (n : ℕ) → n ≤ 32 → ids (first_view n) ≡ range_with_len 0 n
-ids_of_first n le = (bytes_eq-Decides (ids (first_view n)) (range_with_len 0 n)).0 (each_below has_ids 33 n all_have_ids (omega arith))
+ids_of_first n le = (bytes_eq-Decides (ids (first_view n)) (range_with_len 0 n)).0
+    (each_below has_ids 33 n all_have_ids (omega arith))
 
 pub count_of_first : (n : ℕ) → n ≤ 32 → member_count (first_view n) ≡ n
 count_of_first n le = ap length (ids_of_first n le) ∙ length-range_with_len 0 n

@@ -9,8 +9,10 @@ use Rattle.world_core.specs.Asking.{Asks}
 use Rattle.world_core.specs.declared.asked.Asked.{Asked}
 
 -- what is asked of a packet that is given is what is asked of the event
-pub give_asks : (stack : List LayerTree) (plans : List Plan) (w : World) (e : ScriptEvent) (number id : ℕ) (a : Asked) → e ≡ script.Give number id →
-    Asks stack plans w (given stack plans w id (packet_number w number)) a → Asks stack plans w (happens stack plans w e) a
+pub give_asks : (stack : List LayerTree) (plans : List Plan) (w : World) (e : ScriptEvent) (number id : ℕ) (a : Asked) →
+    e ≡ script.Give number id →
+    Asks stack plans w (given stack plans w id (packet_number w number)) a →
+    Asks stack plans w (happens stack plans w e) a
 unfolding happens
 give_asks stack plans w e number id a is h =
     subst (λ (x : ScriptEvent). Asks stack plans w (happens stack plans w x) a) (sym is) h

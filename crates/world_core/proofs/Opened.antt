@@ -1,5 +1,6 @@
 -- Members that are opened one by one.
-use Rattle.std.proofs.Common.{◌≡◌, ℕ, ◌+◌, ◌*◌, ◌<◌, ◌≤◌, List, [], ◌∷◌, ◌++◌, map, length, Err, refl, zero, suc, ap, sym, subst, ◌∙◌, arith, add-one}
+use Rattle.std.proofs.Common.{◌≡◌, ℕ, ◌+◌, ◌*◌, ◌<◌, ◌≤◌, List, [], ◌∷◌, ◌++◌, map, length, Err, refl, zero, suc, ap}
+use Rattle.std.proofs.Common.{sym, subst, ◌∙◌, arith, add-one}
 use Rattle.std.proofs.Math.Nat.{suc-mul}
 use Rattle.std.proofs.lemmas.List.{map-append}
 use Rattle.std.proofs.lemmas.List.FromFn.{map-range_with_len_more}
@@ -20,10 +21,12 @@ use Rattle.world_core.specs.Opening.{AreOpen, IsNotOpen}
 use Rattle.world_core.specs.Seats.{member_of, seat_of, seat}
 
 -- one more, where each is told by its number
-told_next : {X Y : Type 0} (f : X → Y) (g : ℕ → Y) (xs ys : List X) (x : X) (n : ℕ) → map f xs ≡ map g (range_with_len 0 n) →
+told_next : {X Y : Type 0} (f : X → Y) (g : ℕ → Y) (xs ys : List X) (x : X) (n : ℕ) →
+    map f xs ≡ map g (range_with_len 0 n) →
     f x ≡ g n → ys ≡ xs ++ x ∷ [] → map f ys ≡ map g (range_with_len 0 (n + 1))
 told_next f g xs ys x n before is more =
-    ap (map f) more ∙ map-append f xs (x ∷ []) ∙ ap (λ zs. zs ++ f x ∷ []) before ∙ ap (λ y. map g (range_with_len 0 n) ++ y ∷ []) is ∙
+    ap (map f) more ∙ map-append f xs (x ∷ []) ∙ ap (λ zs. zs ++ f x ∷ []) before ∙
+    ap (λ y. map g (range_with_len 0 n) ++ y ∷ []) is ∙
     sym (map-range_with_len_more g 0 n n (omega arith))
 
 -- so many times so much
@@ -41,7 +44,8 @@ times_few k l few less = mul-le k l 32 24 few less
 -- the members below an id are open
 pub record AreBelow (o : Opening) (n id : ℕ) (before now : Making) (members : List Placed) : Type 0 where
   pub opened_are : map member_of members ≡ map (opened (stack_in o) (first_view n)) (range_with_len 0 id)
-  pub seated : map seat_of members ≡ map (seat (mode_in o) (stack_in o) (plans_in o) o.group o.stamp) (range_with_len 0 id)
+  pub seated : map seat_of members ≡ map (seat (mode_in o) (stack_in o) (plans_in o) o.group o.stamp)
+      (range_with_len 0 id)
   pub few : 0 < id → rows_of (stack_in o) n ≤ most_rows
   pub same : now.stack ≡ before.stack
   pub made : now.made ≡ before.made + id * length (stack_in o)
@@ -54,16 +58,27 @@ module _ (o : Opening) (n id : ℕ) (view : View) (before now new : Making) (mem
   rows_are first most = ap (λ v. rows_in o v) first ∙ ap (rows_of (stack_in o)) (count_of_first n most)
 
   -- the next is opened
-  pub open_next : (m : Placed) (more : List Placed) → AreBelow o n id before now members → view ≡ first_view n → n ≤ 32 →
+  pub open_next : (m : Placed) (more : List Placed) → AreBelow o n id before now members → view ≡ first_view n →
+      n ≤ 32 →
       IsOpen o view id now new m → more ≡ members ++ m ∷ [] → AreBelow o n (id + 1) before new more
   open_next m more below first most is put = record {
     opened_are = told_next member_of (opened (stack_in o) (first_view n)) members more m id below.opened_are
         (is.member ∙ ap (λ v. opened (stack_in o) v id) first) put;
-    seated = told_next seat_of (seat (mode_in o) (stack_in o) (plans_in o) o.group o.stamp) members more m id below.seated
-        (λ i. record { mode = is.mode_is i; stack = is.stack_is i; plans = is.plans_are i; group = is.group_is i; stamp = is.stamp_is i; id = is.id_is i }) put;
+    seated = told_next seat_of (seat (mode_in o) (stack_in o) (plans_in o) o.group o.stamp) members more m id
+        below.seated
+        (λ i. record {
+          mode = is.mode_is i;
+          stack = is.stack_is i;
+          plans = is.plans_are i;
+          group =
+              is.group_is i;
+          stamp = is.stamp_is i;
+          id = is.id_is i;
+        }) put;
     few = λ _. subst (λ r. r ≤ most_rows) (rows_are first most) is.few;
     same = is.same ∙ below.same;
-    made = let next = times_next id (length (stack_in o)) in let one = is.made in let all = below.made in omega (arith, next, one, all);
+    made = let next = times_next id (length (stack_in o)) in let one = is.made in let all = below.made in
+        omega (arith, next, one, all);
   }
 
   -- there is no member where the first has too many rows
@@ -79,15 +94,18 @@ module _ (o : Opening) (n id : ℕ) (view : View) (before now new : Making) (mem
   open_fails TooLarge below lt first most is =
       let large : most_rows < rows_of (stack_in o) n = subst (λ r. most_rows < r) (rows_are first most) is.0 in
       let none : id ≡ 0 = first_one below large in
-      let made : now.made ≡ before.made = below.made ∙ ap (λ k. before.made + k * length (stack_in o)) none ∙ omega arith in
+      let made : now.made ≡ before.made = below.made ∙ ap (λ k. before.made + k * length (stack_in o)) none ∙
+      omega arith in
       (large, is.1 ∙ same_making now before below.same made)
   open_fails Memory below lt first most is = record {
     same = is.same ∙ below.same;
-    made = let within = times_within id n (length (stack_in o)) lt in let one = is.made in let all = below.made in omega (arith, within, one, all);
+    made = let within = times_within id n (length (stack_in o)) lt in let one = is.made in let all = below.made in
+        omega (arith, within, one, all);
   }
 
 -- all of them
-pub all_open : (o : Opening) (n id : ℕ) (before now : Making) (members : List Placed) → AreBelow o n id before now members → id ≡ n → 1 ≤ n →
+pub all_open : (o : Opening) (n id : ℕ) (before now : Making) (members : List Placed) →
+    AreBelow o n id before now members → id ≡ n → 1 ≤ n →
     AreOpen o n before now members
 all_open o n id before now members below last least =
     let all = subst (λ k. AreBelow o n k before now members) last below in

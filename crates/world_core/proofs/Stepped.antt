@@ -1,5 +1,7 @@
 -- A step of a member, and what happens by it in a world where the group stands.
-use Rattle.std.proofs.Common.{◌≡◌, Bool, ℕ, zero, suc, ◌<◌, List, [], ◌∷◌, ◌++◌, map, length, get_or, set, Option, Some, None, option_map, Result, Ok, Err, slice_get, slice_index_or, slice_set, refl, ap, sym, subst, ◌∙◌, zero-add}
+use Rattle.std.proofs.Common.{◌≡◌, Bool, ℕ, zero, suc, ◌<◌, List, [], ◌∷◌, ◌++◌, map, length, get_or, set, Option, Some}
+use Rattle.std.proofs.Common.{None, option_map, Result, Ok, Err, slice_get, slice_index_or, slice_set, refl, ap, sym}
+use Rattle.std.proofs.Common.{subst, ◌∙◌, zero-add}
 use Rattle.std.proofs.Math.Seq.{map-set_same}
 use Rattle.std.proofs.lemmas.List.{append-nil, get_or-map, map-append, map-set, set-get_or, length-map, length-set}
 use Rattle.std.proofs.lemmas.List.FromFn.{get_or-map-range_with_len, length-map-range_with_len}
@@ -16,8 +18,10 @@ use Rattle.stack_mean.specs.Plan.{Plan}
 use Rattle.packet_mean.specs.Spelling.{full_bytes}
 use Rattle.packet_mean.specs.declared.here.Here.{Here}
 use Rattle.run_mean.specs.Common.{with_plans, plan_behind, short_from}
-use Rattle.run_mean.specs.Member.{Member, inside, out, Input, datagram, is_out, Entered, entered, Output, packet_in, Refusal, Step, step_from}
-use Rattle.run_mean.specs.World.{World, Happening, only, refused, taken, absent, shown, here_of, member_at, packet_number, world_behind}
+use Rattle.run_mean.specs.Member.{Member, inside, out, Input, datagram, is_out, Entered, entered, Output, packet_in}
+use Rattle.run_mean.specs.Member.{Refusal, Step, step_from}
+use Rattle.run_mean.specs.World.{World, Happening, only, refused, taken, absent, shown, here_of, member_at}
+use Rattle.run_mean.specs.World.{packet_number, world_behind}
 use Rattle.run_mean.specs.World.{stepped, stepped_of, stepped_inside, given}
 use Rattle.view_core.specs.Happenings.{DidIs, IsTaken}
 use Rattle.view_core.specs.declared.step.Change.{Change}
@@ -30,30 +34,38 @@ use Rattle.world_core.specs.Seats.{Seat, member_of, seat_of, seat, seats, AreSea
 use Rattle.group_feed.specs.Standing.{Peopled, Stands, Stays, spelled_number, spelled_of}
 
 -- outputs without their plans
-without_plans : (plans : List Plan) (next : Option ℕ) (outputs : List Output) → map (λ o. o.0) (with_plans plans next outputs) ≡ outputs
+without_plans : (plans : List Plan) (next : Option ℕ) (outputs : List Output) →
+    map (λ o. o.0) (with_plans plans next outputs) ≡ outputs
 without_plans plans next [] = refl
 without_plans plans next (o ∷ outputs) = ap (λ os. o ∷ os) (without_plans plans (plan_behind next o) outputs)
 
 -- members in their seats
-pub count_seats : (mode : Mode) (stack : List LayerTree) (plans : List Plan) (group stamp n : ℕ) (members : List Placed) →
+pub count_seats : (mode : Mode) (stack : List LayerTree) (plans : List Plan) (group stamp n : ℕ)
+    (members : List Placed) →
     map seat_of members ≡ seats mode stack plans group stamp n → length members ≡ n
 count_seats mode stack plans group stamp n members seated =
-    sym (length-map members seat_of) ∙ ap length seated ∙ length-map-range_with_len (seat mode stack plans group stamp) 0 n
+    sym (length-map members seat_of) ∙ ap length seated ∙ length-map-range_with_len (seat mode stack plans group stamp)
+    0 n
 
-pub are_seated : (mode : Mode) (stack : List LayerTree) (plans : List Plan) (group stamp n : ℕ) (members : List Placed) →
+pub are_seated : (mode : Mode) (stack : List LayerTree) (plans : List Plan) (group stamp n : ℕ)
+    (members : List Placed) →
     map seat_of members ≡ seats mode stack plans group stamp n → AreSeated mode stack plans group stamp members
 are_seated mode stack plans group stamp n members seated =
     seated ∙ ap (seats mode stack plans group stamp) (sym (count_seats mode stack plans group stamp n members seated))
 
-module _ (mode : Mode) (stack : List LayerTree) (plans : List Plan) (group stamp : ℕ) (members : List Placed) (id : ℕ) (p : Placed) where
+module _ (mode : Mode) (stack : List LayerTree) (plans : List Plan) (group stamp : ℕ) (members : List Placed) (id : ℕ)
+    (p : Placed) where
   pub seat_at : AreSeated mode stack plans group stamp members → id < length members → p ≡ get_or members id p →
       seat_of p ≡ seat mode stack plans group stamp id
   seat_at seated lt at =
-      ap seat_of at ∙ sym (get_or-map seat_of members id p (seat_of p) lt) ∙ ap (λ ss. get_or ss id (seat_of p)) seated ∙
-      get_or-map-range_with_len (seat mode stack plans group stamp) 0 (length members) id id (seat_of p) lt (zero-add id)
+      ap seat_of at ∙ sym (get_or-map seat_of members id p (seat_of p) lt) ∙
+      ap (λ ss. get_or ss id (seat_of p)) seated ∙
+      get_or-map-range_with_len (seat mode stack plans group stamp) 0 (length members) id id (seat_of p) lt
+      (zero-add id)
 
 -- one of them steps
-pub same_seat : (p : Placed) (input : Input) (p' : Placed) (outs : List (Output × Option ℕ)) (before after : ℕ) (st : Stepped) →
+pub same_seat : (p : Placed) (input : Input) (p' : Placed) (outs : List (Output × Option ℕ)) (before after : ℕ)
+    (st : Stepped) →
     Steps p input p' outs before after st → seat_of p' ≡ seat_of p
 same_seat p input p' outs before after (Taken common change) is =
     λ i. record {
@@ -66,23 +78,28 @@ same_seat p input p' outs before after (Taken common change) is =
     }
 same_seat p input p' outs before after (Refused reason) is = ap seat_of is.same
 
-pub seated_after : (mode : Mode) (stack : List LayerTree) (plans : List Plan) (group stamp : ℕ) (members : List Placed) (place : ℕ) (p p' : Placed) →
+pub seated_after : (mode : Mode) (stack : List LayerTree) (plans : List Plan) (group stamp : ℕ) (members : List Placed)
+    (place : ℕ) (p p' : Placed) →
     AreSeated mode stack plans group stamp members → p ≡ get_or members place p → seat_of p' ≡ seat_of p →
     AreSeated mode stack plans group stamp (set members place p')
 seated_after mode stack plans group stamp members place p p' seated at same =
     are_seated mode stack plans group stamp (length members) (set members place p')
     (map-set_same seat_of members place p' p (same ∙ ap seat_of at) ∙ seated)
 
-pub seated_behind : (mode : Mode) (stack : List LayerTree) (plans : List Plan) (group stamp : ℕ) (members : List Placed) (place : ℕ) (p : Placed)
+pub seated_behind : (mode : Mode) (stack : List LayerTree) (plans : List Plan) (group stamp : ℕ) (members : List Placed)
+    (place : ℕ) (p : Placed)
     (input : Input) (p' : Placed) (outs : List (Output × Option ℕ)) (before after : ℕ) (st : Stepped) →
-    AreSeated mode stack plans group stamp members → p ≡ get_or members place p → Steps p input p' outs before after st →
+    AreSeated mode stack plans group stamp members → p ≡ get_or members place p →
+    Steps p input p' outs before after st →
     AreSeated mode stack plans group stamp (set members place p')
 seated_behind mode stack plans group stamp members place p input p' outs before after st seated at is =
-    seated_after mode stack plans group stamp members place p p' seated at (same_seat p input p' outs before after st is)
+    seated_after mode stack plans group stamp members place p p' seated at
+    (same_seat p input p' outs before after st is)
 
 -- what a member in a seat makes of an input
 abbrev here_at : Seat → View → Here
-here_at s view = record { group = s.group; stamp = s.stamp; view = view; rank = option_map_or (λ r. r) (rank view s.id) 0 }
+here_at s view = record
+    { group = s.group; stamp = s.stamp; view = view; rank = option_map_or (λ r. r) (rank view s.id) 0 }
 
 abbrev step_in_seat : Seat → View → List State → Result Entered Refusal → Result Step Refusal
 step_in_seat s view states (Ok what) = Ok (step_from s.stack (here_at s view) s.id states what)
@@ -105,25 +122,31 @@ happened w id m (Err reason) = only w (refused reason)
 happened w id out (Ok s) = only w absent
 happened w id (inside view states) (Ok s) = record { world = world_behind w view id s; did = taken s }
 
-world_step : (mode : Mode) (stack : List LayerTree) (plans : List Plan) (w : World) (id : ℕ) (input : Input) (m : Member) →
-    stepped_of stack plans w id input m ≡ happened w id m (step_seated (seat mode stack plans w.group w.stamp id) m input)
+world_step : (mode : Mode) (stack : List LayerTree) (plans : List Plan) (w : World) (id : ℕ) (input : Input)
+    (m : Member) →
+    stepped_of stack plans w id input m ≡
+    happened w id m (step_seated (seat mode stack plans w.group w.stamp id) m input)
 world_step mode stack plans w id input out = refl
 world_step mode stack plans w id input (inside view states) = go (entered stack plans (here_of w view id) input) where
   go : (e : Result Entered Refusal) →
-      stepped_inside stack w id view states e ≡ happened w id (inside view states) (step_in_seat (seat mode stack plans w.group w.stamp id) view states e)
+      stepped_inside stack w id view states e ≡
+      happened w id (inside view states) (step_in_seat (seat mode stack plans w.group w.stamp id) view states e)
   go (Ok what) = refl
   go (Err reason) = refl
 
 -- a member in its seat steps as the one of the world does
-pub placed_step : (mode : Mode) (stack : List LayerTree) (plans : List Plan) (w : World) (id : ℕ) (input : Input) (p : Placed) →
+pub placed_step : (mode : Mode) (stack : List LayerTree) (plans : List Plan) (w : World) (id : ℕ) (input : Input)
+    (p : Placed) →
     seat_of p ≡ seat mode stack plans w.group w.stamp id → member_at w id ≡ p.member →
     stepped stack plans w id input ≡ happened w id p.member (step_of p input)
 placed_step mode stack plans w id input p sits at =
     ap (stepped_of stack plans w id input) at ∙ world_step mode stack plans w id input p.member ∙
-    ap (λ s. happened w id p.member (step_seated s p.member input)) (sym sits) ∙ ap (happened w id p.member) (sym (same_step p p.member input))
+    ap (λ s. happened w id p.member (step_seated s p.member input)) (sym sits) ∙
+    ap (happened w id p.member) (sym (same_step p p.member input))
 
 -- what is told of it, and the world behind it
-record IsBehind (mode : Mode) (stack : List LayerTree) (plans : List Plan) (w : World) (id : ℕ) (h : Happening) (m : Member) (outs : List (Output × Option ℕ))
+record IsBehind (mode : Mode) (stack : List LayerTree) (plans : List Plan) (w : World) (id : ℕ) (h : Happening)
+    (m : Member) (outs : List (Output × Option ℕ))
     (before after : ℕ) (st : Stepped) : Type 0 where
   is_told : DidIs mode stack plans h.did outs before after (told.Stepped st)
   group : h.world.group ≡ w.group
@@ -131,8 +154,10 @@ record IsBehind (mode : Mode) (stack : List LayerTree) (plans : List Plan) (w : 
   members : h.world.members ≡ slice_set w.members id m
   packets : h.world.packets ≡ w.packets ++ filter_map packet_in (map (λ o. o.0) outs)
 
-module _ (w : World) (id : ℕ) (p : Placed) (input : Input) (p' : Placed) (outs : List (Output × Option ℕ)) (before after : ℕ) where
-  taken_behind : (common : Bool) (change : Option Change) (m : Member) (s : Step) → step_at p m input ≡ Ok s → p'.member ≡ member_after m s →
+module _ (w : World) (id : ℕ) (p : Placed) (input : Input) (p' : Placed) (outs : List (Output × Option ℕ))
+    (before after : ℕ) where
+  taken_behind : (common : Bool) (change : Option Change) (m : Member) (s : Step) → step_at p m input ≡ Ok s →
+      p'.member ≡ member_after m s →
       IsTaken p.mode p.stack p.plans s outs before after common change →
       IsBehind p.mode p.stack p.plans w id (happened w id m (Ok s)) p'.member outs before after (Taken common change)
   taken_behind common change out s is behind told = absurd (cc is)
@@ -142,17 +167,20 @@ module _ (w : World) (id : ℕ) (p : Placed) (input : Input) (p' : Placed) (outs
     stamp = refl;
     members = ap (slice_set w.members id) (sym behind);
     packets = ap (λ os. w.packets ++ filter_map packet_in os)
-        (sym (ap (map (λ o. o.0)) told.outs_are ∙ without_plans p.plans (short_from p.mode p.stack p.plans s) s.outputs));
+        (sym (ap (map (λ o. o.0)) told.outs_are ∙ without_plans p.plans (short_from p.mode p.stack p.plans s)
+        s.outputs));
   }
 
   step_behind : (st : Stepped) → Steps p input p' outs before after st → member_at w id ≡ p.member →
       IsBehind p.mode p.stack p.plans w id (happened w id p.member (step_of p input)) p'.member outs before after st
   step_behind (Taken common change) is at =
-      subst (λ r. IsBehind p.mode p.stack p.plans w id (happened w id p.member r) p'.member outs before after (Taken common change)) (sym is.is)
+      subst (λ r. IsBehind p.mode p.stack p.plans w id (happened w id p.member r) p'.member outs before after
+      (Taken common change)) (sym is.is)
       (taken_behind common change p.member is.step is.is is.member
       (record { outs_are = is.outputs; common_is = is.common_is; change_is = is.change_is; visits_are = is.visits }))
   step_behind (Refused reason) is at =
-      subst (λ r. IsBehind p.mode p.stack p.plans w id (happened w id p.member r) p'.member outs before after (Refused reason)) (sym is.why)
+      subst (λ r. IsBehind p.mode p.stack p.plans w id (happened w id p.member r) p'.member outs before after
+      (Refused reason)) (sym is.why)
       (record {
         is_told = record { cause_is = refl; quiet = record { outs_are = is.none; visits_are = is.visits } };
         group = refl;
@@ -164,22 +192,37 @@ module _ (w : World) (id : ℕ) (p : Placed) (input : Input) (p' : Placed) (outs
 -- a group as it is kept
 abbrev pub kept : Mode → List LayerTree → List Plan → (group stamp : ℕ) → List Placed → List (List ℕ) → Peopled
 kept mode stack plans group stamp members spelled =
-    record { mode = mode; stack = stack; plans = plans; group = group; stamp = stamp; members = map member_of members; spelled = spelled }
+    record {
+      mode = mode;
+      stack = stack;
+      plans = plans;
+      group = group;
+      stamp = stamp;
+      members =
+          map member_of members;
+      spelled = spelled;
+    }
 
 -- one of its members steps, and what it sends is kept
-kept_fed : (mode : Mode) (stack : List LayerTree) (plans : List Plan) (group stamp : ℕ) (members : List Placed) (spelled more : List (List ℕ))
-    (id place : ℕ) (p : Placed) (input : Input) (p' : Placed) (outs : List (Output × Option ℕ)) (before after : ℕ) (st : Stepped) →
+kept_fed : (mode : Mode) (stack : List LayerTree) (plans : List Plan) (group stamp : ℕ) (members : List Placed)
+    (spelled more : List (List ℕ))
+    (id place : ℕ) (p : Placed) (input : Input) (p' : Placed) (outs : List (Output × Option ℕ)) (before after : ℕ)
+    (st : Stepped) →
     AreSeated mode stack plans group stamp members → place ≡ id → id < length members → p ≡ get_or members place p →
     Steps p input p' outs before after st → more ≡ spelled ++ spelled_of outs → (w : World) →
-    Stands (kept mode stack plans group stamp members spelled) w → IsFed (kept mode stack plans group stamp members spelled) (stepped stack plans w id input)
+    Stands (kept mode stack plans group stamp members spelled) w →
+    IsFed (kept mode stack plans group stamp members spelled) (stepped stack plans w id input)
     (kept mode stack plans group stamp (set members place p') more) outs before after (told.Stepped st)
-kept_fed mode stack plans group stamp members spelled more id place p input p' outs before after st seated is_place lt found is sent w stands =
+kept_fed mode stack plans group stamp members spelled more id place p input p' outs before after st seated is_place lt
+    found is sent w stands =
     let at_id : p ≡ get_or members id p = found ∙ ap (λ k. get_or members k p) is_place in
-    let sits : seat_of p ≡ seat mode stack plans group stamp id = seat_at mode stack plans group stamp members id p seated lt at_id in
+    let sits : seat_of p ≡ seat mode stack plans group stamp id =
+    seat_at mode stack plans group stamp members id p seated lt at_id in
     let sits_there : seat_of p ≡ seat mode stack plans w.group w.stamp id =
     sits ∙ sym (λ i. seat mode stack plans (stands.group i) (stands.stamp i) id) in
     let at : member_at w id ≡ p.member =
-    ap (λ ms. slice_index_or ms id out) stands.members ∙ get_or-map member_of members id p out lt ∙ sym (ap member_of at_id) in
+    ap (λ ms. slice_index_or ms id out) stands.members ∙ get_or-map member_of members id p out lt ∙
+    sym (ap member_of at_id) in
     let h = happened w id p.member (step_of p input) in
     let behind : IsBehind mode stack plans w id h p'.member outs before after st =
     subst (λ (s : Seat). IsBehind s.mode s.stack s.plans w id h p'.member outs before after st) sits
@@ -191,9 +234,11 @@ kept_fed mode stack plans group stamp members spelled more id place p input p' o
       world = record {
         group = behind.group ∙ stands.group;
         stamp = behind.stamp ∙ stands.stamp;
-        members = behind.members ∙ ap (λ ms. slice_set ms id p'.member) stands.members ∙ sym (map-set member_of members id p') ∙
+        members = behind.members ∙ ap (λ ms. slice_set ms id p'.member) stands.members ∙
+            sym (map-set member_of members id p') ∙
             ap (λ k. map member_of (set members k p')) (sym is_place);
-        spelled = ap (map full_bytes) behind.packets ∙ map-append full_bytes w.packets (filter_map packet_in (map (λ o. o.0) outs)) ∙
+        spelled = ap (map full_bytes) behind.packets ∙
+            map-append full_bytes w.packets (filter_map packet_in (map (λ o. o.0) outs)) ∙
             ap (λ xs. xs ++ spelled_of outs) stands.spelled ∙ sym sent;
       };
       told = behind.is_told;
@@ -207,12 +252,14 @@ found_number : (w : World) (spelled : List (List ℕ)) (number : ℕ) → map fu
 found_number w spelled zero is = refl
 found_number w spelled (suc k) is = sym (slice_get-map full_bytes w.packets k) ∙ ap (λ xs. slice_get xs k) is
 
-pub given_is : (stack : List LayerTree) (plans : List Plan) (w : World) (id number : ℕ) (spelled : List (List ℕ)) (bytes : List ℕ) →
+pub given_is : (stack : List LayerTree) (plans : List Plan) (w : World) (id number : ℕ) (spelled : List (List ℕ))
+    (bytes : List ℕ) →
     map full_bytes w.packets ≡ spelled → Some bytes ≡ spelled_number spelled number →
     given stack plans w id (packet_number w number) ≡ stepped stack plans w id (datagram bytes)
 given_is stack plans w id number spelled bytes is found =
     go (packet_number w number) (found_number w spelled number is ∙ sym found) where
-      go : (o : Option Packet) → option_map full_bytes o ≡ Some bytes → given stack plans w id o ≡ stepped stack plans w id (datagram bytes)
+      go : (o : Option Packet) → option_map full_bytes o ≡ Some bytes →
+          given stack plans w id o ≡ stepped stack plans w id (datagram bytes)
       go None same = absurd (cc same)
       go (Some packet) same =
           let bytes_are : full_bytes packet ≡ bytes = cc same in
@@ -228,29 +275,35 @@ absent_is stack plans w id number spelled is none =
       go (Some packet) same = absurd (cc same)
 
 -- where no input is given, nothing happens
-pub absent_fed : (c : Peopled) (w : World) (h : Happening) (outs : List (Output × Option ℕ)) (visits : ℕ) → outs ≡ [] → Stands c w →
+pub absent_fed : (c : Peopled) (w : World) (h : Happening) (outs : List (Output × Option ℕ)) (visits : ℕ) → outs ≡ [] →
+    Stands c w →
     h ≡ only w absent → IsFed c h c outs visits visits told.Absent
 absent_fed c w h outs visits none stands is = subst (λ x. IsFed c x c outs visits visits told.Absent) (sym is)
     (record { world = stands; told = record { outs_are = none; visits_are = refl } })
 
-pub shown_fed : (c : Peopled) (w : World) (h : Happening) (outs : List (Output × Option ℕ)) (visits : ℕ) → outs ≡ [] → Stands c w →
+pub shown_fed : (c : Peopled) (w : World) (h : Happening) (outs : List (Output × Option ℕ)) (visits : ℕ) → outs ≡ [] →
+    Stands c w →
     h ≡ only w shown → IsFed c h c outs visits visits told.Shown
 shown_fed c w h outs visits none stands is = subst (λ x. IsFed c x c outs visits visits told.Shown) (sym is)
     (record { world = stands; told = record { outs_are = none; visits_are = refl } })
 
 -- a group that is told by its parts
-module _ (c : Peopled) (mode : Mode) (stack : List LayerTree) (plans : List Plan) (group stamp : ℕ) (members : List Placed) (spelled : List (List ℕ))
+module _ (c : Peopled) (mode : Mode) (stack : List LayerTree) (plans : List Plan) (group stamp : ℕ)
+    (members : List Placed) (spelled : List (List ℕ))
     (is_shown : kept mode stack plans group stamp members spelled ≡ c) where
-  pub stays_behind : (more : List (List ℕ)) (place : ℕ) (p' : Placed) → Stays c (kept mode stack plans group stamp (set members place p') more)
+  pub stays_behind : (more : List (List ℕ)) (place : ℕ) (p' : Placed) →
+      Stays c (kept mode stack plans group stamp (set members place p') more)
   stays_behind more place p' = record {
     mode = ap (λ x. x.mode) is_shown;
     stack = ap (λ x. x.stack) is_shown;
     plans = ap (λ x. x.plans) is_shown;
-    count = length-map (set members place p') member_of ∙ length-set members place p' ∙ sym (length-map members member_of) ∙
+    count = length-map (set members place p') member_of ∙ length-set members place p' ∙
+        sym (length-map members member_of) ∙
         ap (λ x. length x.members) is_shown;
   }
 
-  module _ (id place : ℕ) (p : Placed) (seated : AreSeated mode stack plans group stamp members) (is_place : place ≡ id) (lt : id < length c.members)
+  module _ (id place : ℕ) (p : Placed) (seated : AreSeated mode stack plans group stamp members) (is_place : place ≡ id)
+      (lt : id < length c.members)
       (found : p ≡ get_or members place p) where
     pub within : id < length members
     within = subst (λ n. id < n) (sym (ap (λ x. length x.members) is_shown) ∙ length-map members member_of) lt
@@ -258,24 +311,32 @@ module _ (c : Peopled) (mode : Mode) (stack : List LayerTree) (plans : List Plan
     pub mode_at : p.mode ≡ c.mode
     mode_at =
         let at_id = found ∙ ap (λ k. get_or members k p) is_place in
-        ap (λ (s : Seat). s.mode) (seat_at mode stack plans group stamp members id p seated within at_id) ∙ ap (λ x. x.mode) is_shown
+        ap (λ (s : Seat). s.mode) (seat_at mode stack plans group stamp members id p seated within at_id) ∙
+        ap (λ x. x.mode) is_shown
 
     pub stack_at : p.stack ≡ c.stack
     stack_at =
         let at_id = found ∙ ap (λ k. get_or members k p) is_place in
-        ap (λ (s : Seat). s.stack) (seat_at mode stack plans group stamp members id p seated within at_id) ∙ ap (λ x. x.stack) is_shown
+        ap (λ (s : Seat). s.stack) (seat_at mode stack plans group stamp members id p seated within at_id) ∙
+        ap (λ x. x.stack) is_shown
 
-    module _ (more : List (List ℕ)) (p' : Placed) (outs : List (Output × Option ℕ)) (before after : ℕ) (st : Stepped) where
-      abbrev new : Peopled
-      new = kept mode stack plans group stamp (set members place p') more
+    module _ (more : List (List ℕ)) (p' : Placed) (outs : List (Output × Option ℕ)) (before after : ℕ) (st : Stepped)
+      where
+        abbrev new : Peopled
+        new = kept mode stack plans group stamp (set members place p') more
 
-      -- it is fed as whatever happens by that step
-      pub step_fed : (input : Input) → Steps p input p' outs before after st → more ≡ spelled ++ spelled_of outs → (w : World) → Stands c w →
-          (h : Happening) → (map full_bytes w.packets ≡ spelled → h ≡ stepped c.stack c.plans w id input) →
-          IsFed c h new outs before after (told.Stepped st)
-      step_fed input is sent w stands h asks =
-          let stands_there = subst (λ x. Stands x w) (sym is_shown) stands in
-          subst (λ (x : Happening). IsFed c x new outs before after (told.Stepped st)) (sym (asks stands_there.spelled))
-          (subst (λ (x : Peopled). IsFed x (stepped x.stack x.plans w id input) new outs before after (told.Stepped st)) is_shown
-          (kept_fed mode stack plans group stamp members spelled more id place p input p' outs before after st seated is_place within found is sent
-          w stands_there))
+        -- it is fed as whatever happens by that step
+        pub step_fed : (input : Input) → Steps p input p' outs before after st → more ≡ spelled ++ spelled_of outs →
+            (w : World) → Stands c w →
+            (h : Happening) → (map full_bytes w.packets ≡ spelled → h ≡ stepped c.stack c.plans w id input) →
+            IsFed c h new outs before after (told.Stepped st)
+        step_fed input is sent w stands h asks =
+            let stands_there = subst (λ x. Stands x w) (sym is_shown) stands in
+            subst (λ (x : Happening). IsFed c x new outs before after (told.Stepped st))
+            (sym (asks stands_there.spelled))
+            (subst (λ (x : Peopled). IsFed x (stepped x.stack x.plans w id input) new outs before after
+            (told.Stepped st))
+            is_shown
+            (kept_fed mode stack plans group stamp members spelled more id place p input p' outs before after st seated
+            is_place within found is sent
+            w stands_there))

@@ -1,5 +1,6 @@
 -- How many visits a run has.
-use Rattle.std.proofs.Common.{◌≡◌, ℕ, zero, suc, ◌+◌, ◌≤◌, List, [], ◌∷◌, Bool, true, false, length, Ok, Err, Result, Option, refl, arith, zero-add, subst}
+use Rattle.std.proofs.Common.{◌≡◌, ℕ, zero, suc, ◌+◌, ◌≤◌, List, [], ◌∷◌, Bool, true, false, length, Ok, Err, Result}
+use Rattle.std.proofs.Common.{Option, refl, arith, zero-add, subst}
 use Rattle.std.specs.Prelude.{cond}
 use Rattle.run_mean.specs.Mode.{Mode, layered, bypass}
 use Rattle.layer_mean.specs.Queue.{Task, Work, advance, is_place, layers, run, run_for, unstarted}
@@ -18,7 +19,8 @@ use Rattle.bypass_member.specs.Placed.{Placed, Steps, here_in, step_at, step_in}
 turn_visits : (stack : List LayerTree) (t : Task Event) (rest : List (Task Event)) (w : Work) →
     (advance (length stack) (layers stack) t rest w).world.visits ≤ w.visits + 1
 turn_visits stack t rest w = go (is_place (length stack) t.at) refl where
-  go : (b : Bool) → is_place (length stack) t.at ≡ b → (advance (length stack) (layers stack) t rest w).world.visits ≤ w.visits + 1
+  go : (b : Bool) → is_place (length stack) t.at ≡ b →
+      (advance (length stack) (layers stack) t rest w).world.visits ≤ w.visits + 1
   go true is = rw is (omega arith)
   go false is = rw is (omega arith)
 
@@ -33,14 +35,16 @@ turns_visit (suc n) stack w (t ∷ rest) =
     let one = turn_visits stack t rest w in
     omega (arith, more, one)
 
-pub run_visits : (most : ℕ) (stack : List LayerTree) (states : List State) (first : Task Event) → (run most stack states first).world.visits ≤ most
+pub run_visits : (most : ℕ) (stack : List LayerTree) (states : List State) (first : Task Event) →
+    (run most stack states first).world.visits ≤ most
 unfolding run
 run_visits most stack states first =
     let few = turns_visit most stack (unstarted states) (first ∷ []) in
     rw zero-add at few
 
 -- a step counts for no more visits than it has
-counted_few : (mode : Mode) (stack : List LayerTree) (plans : List Plan) (s : Step) → counted mode stack plans s ≤ s.work.visits
+counted_few : (mode : Mode) (stack : List LayerTree) (plans : List Plan) (s : Step) →
+    counted mode stack plans s ≤ s.work.visits
 counted_few layered stack plans s = omega arith
 counted_few bypass stack plans s = go (is_common stack plans s) where
   go : (common : Bool) → cond common 0 s.work.visits ≤ s.work.visits
@@ -57,7 +61,8 @@ taken_visits p (inside view states) input s is = go (entered p.stack p.plans (he
       let same : step_from p.stack (here_in p view) p.id states what ≡ s = cc is in
       subst (λ x. x.work.visits ≤ 65536) same (run_visits 65536 _ _ _)
 
-pub step_visits : (p : Placed) (input : Input) (p' : Placed) (outs : List (Output × Option ℕ)) (before after : ℕ) (st : Stepped) →
+pub step_visits : (p : Placed) (input : Input) (p' : Placed) (outs : List (Output × Option ℕ)) (before after : ℕ)
+    (st : Stepped) →
     Steps p input p' outs before after st → after ≤ before + 65536
 step_visits p input p' outs before after (Taken common change) is =
     let few = taken_visits p p.member input is.step is.is in

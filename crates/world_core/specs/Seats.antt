@@ -12,7 +12,8 @@ abbrev pub mode_when : (bypasses : Bool) → Mode
 mode_when true = bypass
 mode_when false = layered
 
--- What no step of a member changes: the mode in which it runs, its stack with the plans of it, its group and stamp, and its id.
+-- What no step of a member changes: the mode in which it runs, its stack with the plans of it, its group and stamp, and
+-- its id.
 pub record Seat : Type 0 where
   pub mode : Mode
   pub stack : List LayerTree
@@ -25,7 +26,8 @@ abbrev pub seat_of : Placed → Seat
 seat_of p = record { mode = p.mode; stack = p.stack; plans = p.plans; group = p.group; stamp = p.stamp; id = p.id }
 
 abbrev pub seat : Mode → List LayerTree → List Plan → ℕ → ℕ → ℕ → Seat
-seat mode stack plans group stamp id = record { mode = mode; stack = stack; plans = plans; group = group; stamp = stamp; id = id }
+seat mode stack plans group stamp id =
+    record { mode = mode; stack = stack; plans = plans; group = group; stamp = stamp; id = id }
 
 -- The seats of so many members of a group.
 abbrev pub seats : Mode → List LayerTree → List Plan → ℕ → ℕ → ℕ → List Seat
@@ -33,7 +35,8 @@ seats mode stack plans group stamp n = map (seat mode stack plans group stamp) (
 
 -- Members of one group, all in one mode, each of whom has the number of its place as its id.
 abbrev pub AreSeated : Mode → List LayerTree → List Plan → ℕ → ℕ → List Placed → Type 0
-AreSeated mode stack plans group stamp members = map seat_of members ≡ seats mode stack plans group stamp (length members)
+AreSeated mode stack plans group stamp members = map seat_of members ≡
+    seats mode stack plans group stamp (length members)
 
 -- Where a member is.
 abbrev pub member_of : Placed → Member

@@ -12,7 +12,8 @@ use crate::packets::Packets;
 use script_mean::ScriptEvent;
 use view_core::Input;
 
-/// What an event gives: a member an input; or no packet, where there isn't the one that is given; or nothing, where a member is only shown.
+/// What an event gives: a member an input; or no packet, where there isn't the one that is given; or nothing, where a
+/// member is only shown.
 #[derive(Drop)]
 pub(crate) enum Asked<'a> {
     Step(u8, Input<'a>),
@@ -24,7 +25,8 @@ pub(crate) enum Asked<'a> {
 #[inline(always)]
 fn given<'a>(packets: &'a Packets, number: u32, id: u8) -> Asked<'a>
     ensures member { IsFor id result }
-    ensures asks { (stack : List LayerTree) (plans : List Plan) (w : mean.World) → map full_bytes w.packets ≡ packets.now →
+    ensures asks { (stack : List LayerTree) (plans : List Plan) (w : mean.World) →
+        map full_bytes w.packets ≡ packets.now →
         Asks stack plans w (mean.given stack plans w id (mean.packet_number w number)) result }
 {
     match packets.numbered(number) {
@@ -38,7 +40,8 @@ fn given<'a>(packets: &'a Packets, number: u32, id: u8) -> Asked<'a>
 #[tactic(auto, unfolding(run_mean::specs::World::happens))]
 pub(crate) fn input_of<'a>(event: &'a ScriptEvent, packets: &'a Packets) -> Asked<'a>
     ensures member { IsFor (member_of event.now) result }
-    ensures asks { (stack : List LayerTree) (plans : List Plan) (w : mean.World) → map full_bytes w.packets ≡ packets.now →
+    ensures asks { (stack : List LayerTree) (plans : List Plan) (w : mean.World) →
+        map full_bytes w.packets ≡ packets.now →
         Asks stack plans w (mean.happens stack plans w event.now) result }
 {
     match event {

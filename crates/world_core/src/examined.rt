@@ -13,8 +13,8 @@ use step_misses::Probed;
 use step_outputs::Outputs;
 use view_core::Did;
 
-/// The members of a group, and the checks of their stack: those of the bypasses that are made of it. It is fed as its members are, and can't be let go:
-/// it is closed.
+/// The members of a group, and the checks of their stack: those of the bypasses that are made of it. It is fed as its
+/// members are, and can't be let go: it is closed.
 pub struct Examined {
     world: World,
     checks: StackChecks,

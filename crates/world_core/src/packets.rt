@@ -1,6 +1,7 @@
 //! The packets of a group.
 
-ghost use Rattle.std.specs.Prelude.{◌≡◌, ◌+◌, ◌^◌, ◌<◌, ◌≤◌, [], ◌∷◌, ◌++◌, Some, OnOk, length, slice_get, vec_len, vec_capacity};
+ghost use Rattle.std.specs.Prelude.{◌≡◌, ◌+◌, ◌^◌, ◌<◌, ◌≤◌, [], ◌∷◌, ◌++◌, Some, OnOk, length, slice_get, vec_len};
+ghost use Rattle.std.specs.Prelude.{vec_capacity};
 ghost use Rattle.std.specs.Option.{option_map};
 ghost use Rattle.packet_full.specs.Sent.{sent_packet};
 ghost use Rattle.packet_mean.specs.Spelling.{full_bytes};
@@ -18,7 +19,8 @@ use step_outputs::{OutputView, Outputs, PacketView};
 /// For how many bytes more room is made at least.
 const LEAST_ROOM: usize = 1_048_576;
 
-/// Every packet ever sent, as its full spelling, in the order of output: the bytes of all, one behind the other, and where each ends.
+/// Every packet ever sent, as its full spelling, in the order of output: the bytes of all, one behind the other, and
+/// where each ends.
 #[derive(Drop)]
 pub struct Packets {
     bytes: Vec<u8>,

@@ -73,7 +73,8 @@ impl Model for World {
       spelled = w.packets;
     } };
 
-    ghost invariant = { λ w. AreSeated (mode_when w.bypasses) (stack_tree (rc_value w.stack)) (plans_tree (rc_value w.plans)) w.group w.stamp w.members.items };
+    ghost invariant = { λ w. AreSeated (mode_when w.bypasses) (stack_tree (rc_value w.stack))
+        (plans_tree (rc_value w.plans)) w.group w.stamp w.members.items };
 }
 
 /// The same stack and plans once more.
@@ -85,8 +86,8 @@ fn share(stack: &Rc<Stack>, plans: &Rc<Plans>) -> Result<(Rc<Stack>, Rc<Plans>),
 }
 
 impl World {
-    /// The members 0 to n - 1 of a group in the first view, who have been given nothing. They run by the bypasses of which the opening has the code,
-    /// if it has it, and else layer by layer.
+    /// The members 0 to n - 1 of a group in the first view, who have been given nothing. They run by the bypasses of
+    /// which the opening has the code, if it has it, and else layer by layer.
     pub fn begin(
         alloc: Global,
         maker: &mut Maker,
@@ -127,7 +128,8 @@ impl World {
         requires out { out.old.places ≡ largest_weight self.old.stack }
         requires visits { visits.old ≤ 2 ^ 63 }
         ensures fed { (w : mean.World) → Stands self.old w →
-            Fed self.old (mean.happens self.old.stack self.old.plans w event.now) self.new out.new.outputs visits.old visits.new result }
+            Fed self.old (mean.happens self.old.stack self.old.plans w event.now) self.new out.new.outputs visits.old
+            visits.new result }
         ensures stays { Stays self.old self.new }
         ensures places { out.new.places ≡ out.old.places }
         ensures few { visits.new ≤ visits.old + 65536 }

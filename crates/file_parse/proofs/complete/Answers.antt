@@ -11,5 +11,6 @@ returns-in-Some c = (
 
 pub brought-requires-clause-spelled : goal.brought-requires-clause-spelled
 brought-requires-clause-spelled c =
-    file_spelled c.args.text.now c.args.tokens.now.tokens.items c.args.tokens.now.bad_at c.requires.cut _ c.in_default.is
+    file_spelled c.args.text.now c.args.tokens.now.tokens.items c.args.tokens.now.bad_at c.requires.cut _
+    c.in_default.is
     c.requires.read

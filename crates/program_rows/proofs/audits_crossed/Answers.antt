@@ -6,4 +6,7 @@ use Rattle.program_rows.proofs.audits_crossed.Goals as goal
 
 pub returns : goal.returns
 unfolding digits
-returns c = (record { finding = Breach 1 2; found = refl; written = refl }, record { finding = Holds; found = refl; written = refl })
+returns c = (
+  record { finding = Breach 1 2; found = refl; written = refl },
+  record { finding = Holds; found = refl; written = refl },
+)

@@ -36,7 +36,9 @@ use Rattle.library_rows.specs.WholeStack as whole
 use Rattle.program_rows.proofs.checks_library.Goals as goal
 
 pub returns : goal.returns
-unfolding file_of bottom mnak pt2pt pt2ptw mflow frag collect stable local total suspect elect sync intra top library stack_of layer_of handler_of output_in report_lines happens received drawn_shape has_second_case run step digits ones ones_in count_trailing_zeros hex_on_literals
+unfolding file_of bottom mnak pt2pt pt2ptw mflow frag collect stable local total suspect elect sync intra top library
+    stack_of layer_of handler_of output_in report_lines happens received drawn_shape has_second_case run step digits
+    ones ones_in count_trailing_zeros hex_on_literals
 returns c = record {
   stack = stack_of whole.file;
   means = record {
@@ -44,7 +46,40 @@ returns c = record {
     file = whole.file;
     is_file = record {
       spelled = record { good = refl; fits = fits_laid _ _ refl; within = tt; placed = λ none. cc };
-      library = (bottom_text.spelled, (mnak_text.spelled, (pt2pt_text.spelled, (pt2ptw_text.spelled, (mflow_text.spelled, (frag_text.spelled, (collect_text.spelled, (stable_text.spelled, (local_text.spelled, (total_text.spelled, (suspect_text.spelled, (elect_text.spelled, (sync_text.spelled, (intra_text.spelled, (top_text.spelled, tt)))))))))))))));
+      library = (
+        bottom_text.spelled,
+        (
+          mnak_text.spelled,
+          (
+            pt2pt_text.spelled,
+            (
+              pt2ptw_text.spelled,
+              (
+                mflow_text.spelled,
+                (
+                  frag_text.spelled,
+                  (
+                    collect_text.spelled,
+                    (
+                      stable_text.spelled,
+                      (
+                        local_text.spelled,
+                        (
+                          total_text.spelled,
+                          (
+                            suspect_text.spelled,
+                            (elect_text.spelled, (sync_text.spelled, (intra_text.spelled, (top_text.spelled, tt)))),
+                          ),
+                        ),
+                      ),
+                    ),
+                  ),
+                ),
+              ),
+            ),
+          ),
+        ),
+      );
     };
     accepted = refl;
   };

@@ -20,7 +20,8 @@ use Rattle.file_mean.specs.CounterFile as counter
 use Rattle.program_rows.proofs.explains_counter.Goals as goal
 
 pub returns : goal.returns
-unfolding file_of library stack_of layer_of handler_of explained_lines miss_line miss_of happens received drawn_shape has_second_case run step digits ones ones_in count_trailing_zeros hex_on_literals
+unfolding file_of library stack_of layer_of handler_of explained_lines miss_line miss_of happens received drawn_shape
+    has_second_case run step digits ones ones_in count_trailing_zeros hex_on_literals
 returns c = record {
   stack = stack_of counter.file;
   means = record {
@@ -32,7 +33,13 @@ returns c = record {
     };
     accepted = refl;
   };
-  script = record { group = 1; stamp = 7; members = 3; events = script.Cast 0 (codes "hi") ∷ script.Give 1 1 ∷ script.Give 1 1 ∷ script.Show 1 ∷ [] };
+  script = record {
+    group = 1;
+    stamp = 7;
+    members = 3;
+    events = script.Cast 0 (codes "hi") ∷ script.Give 1 1 ∷
+        script.Give 1 1 ∷ script.Show 1 ∷ [];
+  };
   spelled = refl;
   room = omega arith;
   written = refl;

@@ -20,7 +20,8 @@ use Rattle.program_rows.specs.LateFile as late
 use Rattle.program_rows.proofs.explains_late.Goals as goal
 
 pub returns : goal.returns
-unfolding file_of library stack_of layer_of handler_of explained_lines miss_line miss_of happens received drawn_shape has_second_case run step digits ones ones_in count_trailing_zeros hex_on_literals
+unfolding file_of library stack_of layer_of handler_of explained_lines miss_line miss_of happens received drawn_shape
+    has_second_case run step digits ones ones_in count_trailing_zeros hex_on_literals
 returns c = record {
   stack = stack_of late.file;
   means = record {

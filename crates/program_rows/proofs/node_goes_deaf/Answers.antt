@@ -28,7 +28,9 @@ three_below = All-cons below 0 (1 ∷ 2 ∷ []) (omega arith)
     (All-cons below 1 (2 ∷ []) (omega arith) (All-cons below 2 [] (omega arith) (All-nil below)))
 
 pub returns-clause-ends : goal.returns-clause-ends
-unfolding file_of library stack_of layer_of handler_of output_in report_lines happens received drawn_shape has_second_case run step digits ones ones_in count_trailing_zeros hex_on_literals
+unfolding file_of library stack_of layer_of handler_of output_in
+    report_lines happens received drawn_shape has_second_case run step digits ones ones_in
+    count_trailing_zeros hex_on_literals
 returns-clause-ends c = record {
   node = record {
     stack = stack_of counter.file;
@@ -64,7 +66,9 @@ returns-clause-ends c = record {
 }
 
 pub returns-clause-patient : goal.returns-clause-patient
-unfolding file_of library stack_of layer_of handler_of output_in report_lines happens received drawn_shape has_second_case run step digits ones ones_in count_trailing_zeros hex_on_literals
+unfolding file_of library stack_of layer_of handler_of output_in
+    report_lines happens received drawn_shape has_second_case run step digits ones ones_in
+    count_trailing_zeros hex_on_literals
 returns-clause-patient c = record {
   node = record {
     stack = stack_of counter.file;

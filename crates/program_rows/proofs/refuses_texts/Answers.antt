@@ -9,4 +9,5 @@ unfolding piece symbols symbol_at
 returns-clause-bad_byte c = (omega arith, record { bad = refl; before = nothing_begins })
 
 pub returns-clause-empty : goal.returns-clause-empty
-returns-clause-empty c = (omega arith, inr record { good = refl; before = nothing_begins; none = nothing_spells; place = refl })
+returns-clause-empty c =
+    (omega arith, inr record { good = refl; before = nothing_begins; none = nothing_spells; place = refl })

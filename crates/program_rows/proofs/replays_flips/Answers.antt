@@ -19,7 +19,9 @@ use Rattle.program_rows.specs.FlipFile as flip
 use Rattle.program_rows.proofs.replays_flips.Goals as goal
 
 pub returns : goal.returns
-unfolding file_of library stack_of layer_of handler_of output_in report_lines happens received drawn_shape has_second_case run step digits ones ones_in count_trailing_zeros hex_on_literals
+unfolding file_of library stack_of layer_of handler_of output_in
+    report_lines happens received drawn_shape has_second_case run step digits ones ones_in
+    count_trailing_zeros hex_on_literals
 returns c = record {
   stack = stack_of flip.file;
   means = record {
@@ -31,7 +33,13 @@ returns c = record {
     };
     accepted = refl;
   };
-  script = record { group = 1; stamp = 1; members = 2; events = script.Cast 0 [] ∷ script.Cast 0 [] ∷ script.Cast 0 [] ∷ [] };
+  script = record {
+    group = 1;
+    stamp = 1;
+    members = 2;
+    events = script.Cast 0 [] ∷ script.Cast 0 [] ∷ script.Cast 0 [] ∷
+        [];
+  };
   spelled = refl;
   room = omega arith;
   written = refl;

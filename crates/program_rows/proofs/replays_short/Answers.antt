@@ -19,7 +19,9 @@ use Rattle.file_mean.specs.CounterFile as counter
 use Rattle.program_rows.proofs.replays_short.Goals as goal
 
 pub returns : goal.returns
-unfolding file_of library stack_of layer_of handler_of output_in report_lines happens received drawn_shape has_second_case run step digits ones ones_in count_trailing_zeros hex_on_literals
+unfolding file_of library stack_of layer_of handler_of output_in
+    report_lines happens received drawn_shape has_second_case run step digits ones ones_in
+    count_trailing_zeros hex_on_literals
 returns c = record {
   stack = stack_of counter.file;
   means = record {

@@ -1,4 +1,5 @@
-//! A node that bears failed receives, or doesn't, over a network in memory: its lines are told by hand from the definitions.
+//! A node that bears failed receives, or doesn't, over a network in memory: its lines are told by hand from the
+//! definitions.
 
 use super::served::{PLAN, SERVED};
 use crate::runs::{COUNTER, Left, left_over, pair, words};

@@ -1,4 +1,5 @@
-//! A node of all three members of the counter layer through two hundred turns, in the fourth and the sixth of which one casts.
+//! A node of all three members of the counter layer through two hundred turns, in the fourth and the sixth of which one
+//! casts.
 
 use super::served::{files, left_by};
 use crate::runs::Left;

@@ -12,17 +12,21 @@ use Rattle.run_mean.specs.Report.{report_lines, output_in}
 use Rattle.run_rows.proofs.flips.Goals as goal
 
 pub returns-clause-reports : goal.returns-clause-reports
-unfolding output_in report_lines happens received drawn_shape has_second_case run step digits ones ones_in hex_on_literals
+unfolding output_in report_lines happens received drawn_shape has_second_case run step digits ones ones_in
+    hex_on_literals
 returns-clause-reports c = (refl, refl)
 
 pub returns-clause-plans : goal.returns-clause-plans
-unfolding output_in report_lines happens received drawn_shape has_second_case run step digits ones ones_in hex_on_literals
+unfolding output_in report_lines happens received drawn_shape has_second_case run step digits ones ones_in
+    hex_on_literals
 returns-clause-plans c = refl
 
 pub returns-clause-bytes : goal.returns-clause-bytes
-unfolding output_in report_lines happens received drawn_shape has_second_case run step digits ones ones_in hex_on_literals
+unfolding output_in report_lines happens received drawn_shape has_second_case run step digits ones ones_in
+    hex_on_literals
 returns-clause-bytes c = refl
 
 pub returns-clause-cases : goal.returns-clause-cases
-unfolding output_in report_lines happens received drawn_shape has_second_case run step digits ones ones_in hex_on_literals
+unfolding output_in report_lines happens received drawn_shape has_second_case run step digits ones ones_in
+    hex_on_literals
 returns-clause-cases c = refl

@@ -17,5 +17,7 @@ use Rattle.run_mean.specs.Report.{report_lines, output_in}
 use Rattle.run_rows.proofs.joins_pieces.Goals as goal
 
 pub returns : goal.returns
-unfolding file_of bottom mnak frag stack_of layer_of handler_of output_in report_lines happens received drawn_shape has_second_case run step digits ones ones_in count_trailing_zeros hex_on_literals
+unfolding file_of bottom mnak frag stack_of layer_of handler_of output_in
+    report_lines happens received drawn_shape has_second_case run step digits ones ones_in
+    count_trailing_zeros hex_on_literals
 returns c = refl

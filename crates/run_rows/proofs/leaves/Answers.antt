@@ -12,5 +12,6 @@ use Rattle.run_mean.specs.Report.{report_lines, output_in}
 use Rattle.run_rows.proofs.leaves.Goals as goal
 
 pub returns : goal.returns
-unfolding output_in report_lines happens received drawn_shape has_second_case run step digits ones ones_in hex_on_literals
+unfolding output_in report_lines happens received drawn_shape has_second_case run step digits ones ones_in
+    hex_on_literals
 returns c = refl

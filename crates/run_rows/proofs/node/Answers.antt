@@ -12,13 +12,16 @@ use Rattle.run_mean.specs.Report.{report_lines, output_in}
 use Rattle.run_rows.proofs.node.Goals as goal
 
 pub returns-clause-journal : goal.returns-clause-journal
-unfolding output_in report_lines happens received drawn_shape has_second_case run step digits ones ones_in hex_on_literals
+unfolding output_in report_lines happens received drawn_shape has_second_case run step digits ones ones_in
+    hex_on_literals
 returns-clause-journal c = (refl, refl, refl, refl)
 
 pub returns-clause-writes : goal.returns-clause-writes
-unfolding output_in report_lines happens received drawn_shape has_second_case run step digits ones ones_in hex_on_literals
+unfolding output_in report_lines happens received drawn_shape has_second_case run step digits ones ones_in
+    hex_on_literals
 returns-clause-writes c = refl
 
 pub returns-clause-hands : goal.returns-clause-hands
-unfolding output_in report_lines happens received drawn_shape has_second_case run step digits ones ones_in hex_on_literals
+unfolding output_in report_lines happens received drawn_shape has_second_case run step digits ones ones_in
+    hex_on_literals
 returns-clause-hands c = refl

@@ -16,9 +16,11 @@ returns-in_err-fill_plans c =
     let cast = cases_tree c.fill_cases.new.own in
     let send = cases_tree c.fill_cases-2.new.own in
     let plans = plans_cases c.fill_plans.new.own in
-    rw (p.1, p.2) (more_cut 0 (cases_tree c.args.own.now.cast) cast (cases_tree c.args.own.now.send ∷ plans_cases c.args.own.now.plans) (send ∷ plans)
+    rw (p.1, p.2) (more_cut 0 (cases_tree c.args.own.now.cast) cast
+    (cases_tree c.args.own.now.send ∷ plans_cases c.args.own.now.plans) (send ∷ plans)
     (cast ∷ send ∷ plans) old mid new new c.in_err-fill_plans.field-0.0 c.in_ok-fill_cases.ensures
-    (more_cut 1 (cases_tree c.args.own.now.send) send (plans_cases c.args.own.now.plans) plans (send ∷ plans) mid next new new
+    (more_cut 1 (cases_tree c.args.own.now.send) send (plans_cases c.args.own.now.plans) plans (send ∷ plans) mid next
+    new new
     c.in_err-fill_plans.field-0.0 c.in_ok-fill_cases-2.ensures c.in_err-fill_plans.ensures))
 
 pub returns : goal.returns
@@ -29,7 +31,9 @@ returns c =
     let new = map trace_tree c.fill_plans.new.traces.items in
     let send = cases_tree c.fill_cases-2.new.own in
     let plans = plans_cases c.fill_plans.new.own in
-    more_filled 0 (cases_tree c.args.own.now.cast) (cases_tree c.args.own.now.send ∷ plans_cases c.args.own.now.plans) old mid new
+    more_filled 0 (cases_tree c.args.own.now.cast) (cases_tree c.args.own.now.send ∷ plans_cases c.args.own.now.plans)
+    old mid new
     (cases_tree c.fill_cases.new.own) (send ∷ plans) c.in_ok-fill_cases.ensures
-    (more_filled 1 (cases_tree c.args.own.now.send) (plans_cases c.args.own.now.plans) mid next new send plans c.in_ok-fill_cases-2.ensures
+    (more_filled 1 (cases_tree c.args.own.now.send) (plans_cases c.args.own.now.plans) mid next new send plans
+    c.in_ok-fill_cases-2.ensures
     c.in_ok-fill_plans.ensures)

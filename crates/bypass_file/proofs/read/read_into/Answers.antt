@@ -9,11 +9,13 @@ use Rattle.bypass_file.proofs.Judging.{judged, unreadable}
 use Rattle.bypass_file.proofs.read.read_into.Goals as goal
 
 pub all_due-requires-clause-each : goal.all_due-requires-clause-each
-all_due-requires-clause-each c = as_many (stack_tree c.args.stack.now) c.args.own.now c.requires.own c.args.plans.now c.requires.plans
+all_due-requires-clause-each c = as_many (stack_tree c.args.stack.now) c.args.own.now c.requires.own c.args.plans.now
+    c.requires.plans
 
 pub fill_all-requires-clause-few : goal.fill_all-requires-clause-few
 fill_all-requires-clause-few c =
-    subst (λ n. n ≤ MOST_PLANS) (sym (as_many (stack_tree c.args.stack.now) c.args.own.now c.requires.own c.args.plans.now c.requires.plans))
+    subst (λ n. n ≤ MOST_PLANS)
+    (sym (as_many (stack_tree c.args.stack.now) c.args.own.now c.requires.own c.args.plans.now c.requires.plans))
     c.requires.few
 
 pub fill_all-requires-clause-simple : goal.fill_all-requires-clause-simple
@@ -27,7 +29,8 @@ returns-in-Ok c =
     ∙ sym c.in_ok-due.ensures ∙ ap (map due_tree) (sym c.as_slice.ensures.value) in
     let read : traces_in stack c.args.text.now ≡ Ok (map trace_tree c.from_vec.result.items) =
     c.in-Ok.ensures (due_of stack) due ∙ ap (λ ts. Ok (map trace_tree ts)) (sym c.from_vec.ensures.items) in
-    judged stack c.args.own.now c.requires.own c.args.text.now c.requires.short (map trace_tree c.from_vec.result.items) read
+    judged stack c.args.own.now c.requires.own c.args.text.now c.requires.short (map trace_tree c.from_vec.result.items)
+    read
     (map trace_tree c.fill_all.new.traces.items) c.fill_all.new.own c.fill_all.result c.fill_all.ensures
 
 pub returns : goal.returns
@@ -36,4 +39,5 @@ returns c =
     let due : map bare (due_of stack) ≡ map due_tree c.as_slice.result.now =
     ap (map bare) (sym (due_known stack c.args.own.now c.requires.own c.args.plans.now c.requires.plans))
     ∙ sym c.in_ok-due.ensures ∙ ap (map due_tree) (sym c.as_slice.ensures.value) in
-    rw c.unread.ensures (unreadable stack c.args.text.now c.args.own.now c.requires.short c.in-Err.error (c.in-Err.ensures (due_of stack) due))
+    rw c.unread.ensures (unreadable stack c.args.text.now c.args.own.now c.requires.short c.in-Err.error
+    (c.in-Err.ensures (due_of stack) due))

@@ -11,5 +11,6 @@ returns-in-Ok g c = print_comes c.args.what c.args.file.now
     (stack_tree c.in-Ok.stack) c.in-Ok.ensures.read (shown c.write-ending.result) c.write-ending.ensures
 
 pub returns-in-Err : goal.returns-in-Err
-returns-in-Err g c = print_stops c.args.what c.args.file.now (around g.S.Shelf g.O.Sink c.args.shelf.now c.fetch_stack.new.shelf c.args.out.now c.args.out.now)
+returns-in-Err g c = print_stops c.args.what c.args.file.now
+    (around g.S.Shelf g.O.Sink c.args.shelf.now c.fetch_stack.new.shelf c.args.out.now c.args.out.now)
     (shown c.in-Err.ending) c.in-Err.ensures.read refl

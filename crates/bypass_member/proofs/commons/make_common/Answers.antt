@@ -15,18 +15,21 @@ given_of-given-requires-clause-fields c =
 pub try_cases-requires-clause-first : goal.try_cases-requires-clause-first
 try_cases-requires-clause-first c =
     let is : codes_in c.args.ground.now ≡ Some c.in-Some.codes.now = search rules in
-    handles c.args.ground.now c.args.works.now (entry_meant c.args.ground.now.here.now c.args.entry.now) c.requires.ground c.requires.is_in
+    handles c.args.ground.now c.args.works.now (entry_meant c.args.ground.now.here.now c.args.entry.now)
+    c.requires.ground c.requires.is_in
     c.steps_are_handled.ensures c.is_accepted.ensures c.requires.entered c.in-Some.codes.now is cases.First
 
 pub try_cases-requires-clause-second : goal.try_cases-requires-clause-second
 try_cases-requires-clause-second c =
     let is : codes_in c.args.ground.now ≡ Some c.in-Some.codes.now = search rules in
-    handles c.args.ground.now c.args.works.now (entry_meant c.args.ground.now.here.now c.args.entry.now) c.requires.ground c.requires.is_in
+    handles c.args.ground.now c.args.works.now (entry_meant c.args.ground.now.here.now c.args.entry.now)
+    c.requires.ground c.requires.is_in
     c.steps_are_handled.ensures c.is_accepted.ensures c.requires.entered c.in-Some.codes.now is cases.Second
 
 pub returns-clause-spare : goal.returns-clause-spare
 returns-clause-spare c =
     let is : codes_in c.args.ground.now ≡ Some c.in-Some.codes.now = search rules in record {
-      values = subst (λ (codes : Option CodesTree). Serves codes c.try_cases.new.values) (sym is) c.try_cases.ensures.serves;
+      values = subst (λ (codes : Option CodesTree). Serves codes c.try_cases.new.values) (sym is)
+          c.try_cases.ensures.serves;
       fields = c.requires.spare.fields;
     }

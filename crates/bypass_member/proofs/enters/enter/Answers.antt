@@ -5,13 +5,15 @@ use Rattle.event_graph.specs.Answer.{stack_tree}
 use Rattle.packet_full.specs.Scanned.{packet_scanned}
 use Rattle.stack_queue.specs.Pending.{task_seen}
 use Rattle.stack_queue.specs.Put.{task_with}
-use Rattle.bypass_member.proofs.Entering.{entering, of_peer, from_top, only_first, brings_carried, brings_bare, packet_task}
+use Rattle.bypass_member.proofs.Entering.{entering, of_peer, from_top, only_first, brings_carried, brings_bare}
+use Rattle.bypass_member.proofs.Entering.{packet_task}
 use Rattle.bypass_member.proofs.enters.enter.Goals as goal
 
 pub returns-in-Cast-clause-brings : goal.returns-in-Cast-clause-brings
 returns-in-Cast-clause-brings c =
     brings_carried _ _ _ _ _ _ _ c.requires.none _ c.enter_above.ensures
-    (ap (from_top (stack_tree c.args.stack.now) (plain c.in-Cast.body.now)) (c.of_peer-envelope.ensures ∙ ap (of_peer kind.Cast) c.from.ensures)
+    (ap (from_top (stack_tree c.args.stack.now) (plain c.in-Cast.body.now))
+    (c.of_peer-envelope.ensures ∙ ap (of_peer kind.Cast) c.from.ensures)
     ∙ sym (ap (entering (stack_tree c.args.stack.now) c.args.here.now) c.in-Cast.is))
 
 pub returns-in-Send-clause-brings : goal.returns-in-Send-clause-brings
@@ -35,7 +37,8 @@ returns-in-Tick-clause-brings c =
 pub returns-in-Packet-clause-brings : goal.returns-in-Packet-clause-brings
 returns-in-Packet-clause-brings c =
     brings_carried _ _ _ _ _ _ _ c.requires.none _ c.enter_packet.ensures
-    (packet_task (stack_tree c.args.stack.now) c.args.here.now.rank (packet_scanned c.args.here.now c.in-Packet.bytes.now c.in-Packet.scan.now)
+    (packet_task (stack_tree c.args.stack.now) c.args.here.now.rank
+    (packet_scanned c.args.here.now c.in-Packet.bytes.now c.in-Packet.scan.now)
     ∙ sym (ap (entering (stack_tree c.args.stack.now) c.args.here.now) c.in-Packet.is))
 
 pub returns-in-Cast-clause-only : goal.returns-in-Cast-clause-only

@@ -12,18 +12,24 @@ close_layers-requires-clause-order c = c.loop-place.invariant.fresh_are.order c.
 
 pub loop-place-preserved : goal.loop-place-preserved
 loop-place-preserved c =
-    let within : c.loop-place.place < length (making c.args.maker.now).stack = omega (arith, c.loop-place-test.true, c.requires.places) in
-    let begun = subst (λ (trees : List LayerTree). IsBegun trees c.loop-place.place c.args.me c.args.count c.args.ltime c.in-Ok.layer)
+    let within : c.loop-place.place < length (making c.args.maker.now).stack =
+    omega (arith, c.loop-place-test.true, c.requires.places) in
+    let begun = subst (λ (trees : List LayerTree). IsBegun trees c.loop-place.place c.args.me c.args.count c.args.ltime
+    c.in-Ok.layer)
     c.loop-place.invariant.making_is.same c.in-Ok.ensures.begun in record {
-      fresh_are = rw add-one (subst (λ (layers : List FileLayer). AreFresh c.args.me c.args.count c.args.ltime (take (suc c.loop-place.place)
+      fresh_are = rw add-one
+          (subst (λ (layers : List FileLayer).
+          AreFresh c.args.me c.args.count c.args.ltime (take (suc c.loop-place.place)
           (making c.args.maker.now).stack) layers)
           (sym c.push_reserved.ensures.items)
-          (fresh_at c.args.me c.args.count c.args.ltime (making c.args.maker.now).stack c.loop-place.place c.loop-place.layers.items c.in-Ok.layer
+          (fresh_at c.args.me c.args.count c.args.ltime (making c.args.maker.now).stack c.loop-place.place
+          c.loop-place.layers.items c.in-Ok.layer
           within
           c.loop-place.invariant.fresh_are begun));
       making_is = record {
         same = ap (λ (m : Making). m.stack) c.in-Ok.ensures.maker ∙ c.loop-place.invariant.making_is.same;
-        made = let one = ap (λ (m : Making). m.made) c.in-Ok.ensures.maker in let before = c.loop-place.invariant.making_is.made in omega arith;
+        made = let one = ap (λ (m : Making). m.made) c.in-Ok.ensures.maker in let before =
+            c.loop-place.invariant.making_is.made in omega arith;
       };
       count = search rules;
       room = search rules;

@@ -26,12 +26,14 @@ run-requires-clause-tasks c =
 pub run-requires-clause-out : goal.run-requires-clause-out
 run-requires-clause-out c =
     let fits = c.entries_fit.ensures (stack_tree c.args.stack.now) _ c.requires.can.chained c.requires.can.enters in
-    let none : length c.args.works.now.outs.items ≡ 0 = ap (λ (b : Buffer (Dir × PoolEvent)). length b.items) c.requires.can.outs in
+    let none : length c.args.works.now.outs.items ≡ 0 = ap (λ (b : Buffer (Dir × PoolEvent)). length b.items)
+    c.requires.can.outs in
     let room = ap (λ (b : Buffer (Dir × PoolEvent)). b.capacity) c.requires.can.outs in
     omega (arith, fits.weight, none, room)
 
 pub returns : goal.returns
-returns c = has_run (stack_tree c.args.stack.now) c.args.works.now (first_task c.args.works.now.tasks.items) c.as_mut_slice-layers.result.now c.args.visits.now
+returns c = has_run (stack_tree c.args.stack.now) c.args.works.now (first_task c.args.works.now.tasks.items)
+    c.as_mut_slice-layers.result.now c.args.visits.now
     record {
       layers = with_items c.args.works.now.layers c.run.new.stages;
       pool = c.run.new.pool;

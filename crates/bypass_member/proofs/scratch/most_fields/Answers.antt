@@ -8,5 +8,6 @@ loop-plan-preserved c =
     let len : c.len.result ≡ length c.plan-item.result.fields.items = search rules in
     let larger : c.loop-plan.most ≤ c.max-most.result = omega (arith, most) in
     let fits : length c.plan-item.result.fields.items ≤ c.max-most.result = omega (arith, most, len) in
-    fields_step c.slice-plan-items.result.now c.loop-plan.plan-index c.plan-item.result c.loop-plan.most c.max-most.result c.loop-plan-test.true
+    fields_step c.slice-plan-items.result.now c.loop-plan.plan-index c.plan-item.result c.loop-plan.most
+    c.max-most.result c.loop-plan-test.true
     c.plan-item.is c.loop-plan.invariant larger fits

@@ -6,7 +6,8 @@ use Rattle.bypass_member.proofs.steps.send_short.Goals as goal
 
 pub returns-in_default : goal.returns-in_default
 returns-in_default c = λ entered outs at full.
-    let none = c.in_default.ensures.first (stack_of c.args.ground.now) c.requires.ground.starts (plans_in c.args.ground.now) entered at in
+    let none = c.in_default.ensures.first (stack_of c.args.ground.now) c.requires.ground.starts
+    (plans_in c.args.ground.now) entered at in
     λ i. record {
       here = c.args.out.now.here;
       outputs = (full ∙ sym (never_short (plans_in c.args.ground.now) outs)

@@ -10,7 +10,12 @@ use Rattle.bypass_member.proofs.views.install.Goals as goal
 pub reset_all-requires-clause-member : goal.reset_all-requires-clause-member
 reset_all-requires-clause-member c =
     let at : rank c.in-Some.next c.args.id ≡ Some c.in-Some-rank.me = sym c.rank.ensures ∙ c.in-Some-rank.is in
-    omega (arith, rank_below c.in-Some.next c.args.id c.in-Some-rank.me at, c.from.ensures, c.member_count-count.ensures.count)
+    omega (
+      arith,
+      rank_below c.in-Some.next c.args.id c.in-Some-rank.me at,
+      c.from.ensures,
+      c.member_count-count.ensures.count,
+    )
 
 pub reset_all-requires-clause-room : goal.reset_all-requires-clause-room
 reset_all-requires-clause-room c =
@@ -21,6 +26,9 @@ reset_all-requires-clause-room c =
 pub returns : goal.returns
 returns c =
     let behind : next_view c.args.view c.args.ranks ≡ Some c.in-Some.next = sym c.next_view.ensures ∙ c.in-Some.is in
-    let at : rank c.in-Some.next c.args.id ≡ Some c.from.result = sym c.rank.ensures ∙ c.in-Some-rank.is ∙ ap Some (sym c.from.ensures) in
-    comes_into (stack_tree c.args._stack.now) c.args._most c.args.view c.in-Some.next c.args.id c.args.ranks c.from.result c.member_count-count.result
-    c.args.works.now _ behind at c.member_count-count.ensures.count c.requires.ready c.requires.members c.reset_all.ensures refl refl
+    let at : rank c.in-Some.next c.args.id ≡ Some c.from.result = sym c.rank.ensures ∙ c.in-Some-rank.is ∙
+    ap Some (sym c.from.ensures) in
+    comes_into (stack_tree c.args._stack.now) c.args._most c.args.view c.in-Some.next c.args.id c.args.ranks
+    c.from.result c.member_count-count.result
+    c.args.works.now _ behind at c.member_count-count.ensures.count c.requires.ready c.requires.members
+    c.reset_all.ensures refl refl

@@ -7,18 +7,24 @@ use Rattle.bypass_member.proofs.views.reset_all.Goals as goal
 
 pub reset-requires-clause-covers : goal.reset-requires-clause-covers
 reset-requires-clause-covers c =
-    let within : c.loop-index.index < length c.args.layers.now.items = omega (arith, c.loop-index-test.true, c.loop-index.invariant.size) in
-    let next = next_is _ _ _ c.loop-index.index _ _ _ _ c.index_mut-layer.result.now c.loop-index.invariant within c.index_mut-layer.ensures.value in
-    covers_front _ (refs_of c.index_mut-layer.result.now) (flat_map refs_of (drop (suc c.loop-index.index) c.args.layers.now.items)) next.covers
+    let within : c.loop-index.index < length c.args.layers.now.items =
+    omega (arith, c.loop-index-test.true, c.loop-index.invariant.size) in
+    let next = next_is _ _ _ c.loop-index.index _ _ _ _ c.index_mut-layer.result.now c.loop-index.invariant within
+    c.index_mut-layer.ensures.value in
+    covers_front _ (refs_of c.index_mut-layer.result.now)
+    (flat_map refs_of (drop (suc c.loop-index.index) c.args.layers.now.items)) next.covers
 
 pub loop-index-preserved : goal.loop-index-preserved
 loop-index-preserved c =
-    let within : c.loop-index.index < length c.args.layers.now.items = omega (arith, c.loop-index-test.true, c.loop-index.invariant.size) in
+    let within : c.loop-index.index < length c.args.layers.now.items =
+    omega (arith, c.loop-index-test.true, c.loop-index.invariant.size) in
     rw add-one
-    (reset_one _ _ _ c.loop-index.index _ _ _ _ c.index_mut-layer.result.now c.loop-index.invariant within c.index_mut-layer.ensures.value _ _
+    (reset_one _ _ _ c.loop-index.index _ _ _ _ c.index_mut-layer.result.now c.loop-index.invariant within
+    c.index_mut-layer.ensures.value _ _
     c.reset.ensures.returned c.reset.ensures.begun)
 
 pub returns : goal.returns
 returns c =
-    let past : length c.args.layers.now.items ≤ c.loop-index.index = omega (arith, c.loop-index-test.false, c.len-index-end.ensures) in
+    let past : length c.args.layers.now.items ≤ c.loop-index.index =
+    omega (arith, c.loop-index-test.false, c.len-index-end.ensures) in
     resetting.reset_all _ _ _ _ _ _ _ c.loop-index.index past c.loop-index.invariant

@@ -11,4 +11,5 @@ loop-index-preserved g c =
     let ring = c.index-rings-index.result in
     let none : deque_len ring ≡ 0 = search rules in
     none_more (shown_rows c.args.shown c.args.rings.now) c.loop-index.index c.loop-index.invariant
-    (shown_at _ _ _ ring c.loop-index-test.true c.requires c.index-rings-index.is ∙ nil_from_length _ (sym ring.ok.0 ∙ none))
+    (shown_at _ _ _ ring c.loop-index-test.true c.requires c.index-rings-index.is ∙
+    nil_from_length _ (sym ring.ok.0 ∙ none))

@@ -3,7 +3,8 @@ use Rattle.std.proofs.lemmas.List.{length-set, get_or_default}
 use Rattle.std.specs.List.{sum_by}
 use Rattle.cell_store.specs.Frames.{numbers_for}
 use Rattle.cell_store.specs.Slots.{slot_again}
-use Rattle.cell_store.proofs.Begun.{before, same_count, room_here, room_in_forms, restarted_one, left_behind, all_first, queues_fit}
+use Rattle.cell_store.proofs.Begun.{before, same_count, room_here, room_in_forms, restarted_one, left_behind, all_first}
+use Rattle.cell_store.proofs.Begun.{queues_fit}
 use Rattle.cell_store.proofs.slot.restart_all.Goals as goal
 
 pub unreachable-requires : goal.unreachable-requires
@@ -12,18 +13,27 @@ unreachable-requires g c =
     let within : c.loop-index.index < length c.args.cells.now =
     omega (arith, c.loop-index-test.true, count, c.args.slots.now.ok) in
     let room = room_here c.args.count _ _ _ c.args.cells.now _ c.requires.few.0
-    (room_in_forms _ _ _ _ c.requires.forms c.requires.room) within (get_or_default c.args.cells.now c.loop-index.index c.index-cells-index.result _ within) in
+    (room_in_forms _ _ _ _ c.requires.forms c.requires.room) within
+    (get_or_default c.args.cells.now c.loop-index.index c.index-cells-index.result _ within) in
     let first = c.loop-index.invariant.first in
-    omega (arith, room, first.size ∙ ap (sum_by (numbers_for c.args.count)) first.frames, c.loop-index.invariant.capacity, c.in-Err.ensures.full)
+    omega (
+      arith,
+      room,
+      first.size ∙ ap (sum_by (numbers_for c.args.count)) first.frames,
+      c.loop-index.invariant.capacity,
+      c.in-Err.ensures.full,
+    )
 
 pub restart-requires-clause-room : goal.restart-requires-clause-room
 restart-requires-clause-room g c =
     let count = same_count _ _ c.requires.forms in
     let within : c.loop-index.index < length c.loop-index.slots.items =
     omega (arith, c.loop-index-test.true, c.loop-index.invariant.size, c.args.slots.now.ok) in
-    let within' : c.loop-index.index < length c.args.cells.now = omega (arith, within, count, c.loop-index.invariant.size) in
+    let within' : c.loop-index.index < length c.args.cells.now =
+    omega (arith, within, count, c.loop-index.invariant.size) in
     let read = get_or_default c.args.cells.now c.loop-index.index c.index-cells-index.result _ within' in
-    let known = before _ _ _ _ _ c.loop-index.slots.items c.args.slots.now.items c.index_mut-slot.result.now c.requires.laid c.requires.forms c.requires.empty
+    let known = before _ _ _ _ _ c.loop-index.slots.items c.args.slots.now.items c.index_mut-slot.result.now
+    c.requires.laid c.requires.forms c.requires.empty
     c.loop-index.invariant.left c.loop-index.invariant.size within c.index_mut-slot.ensures.value
     within' read in
     queues_fit _ _ c.index_mut-slot.result.now c.requires.few.0 known.fits
@@ -33,9 +43,11 @@ restart-requires-clause-empty g c =
     let count = same_count _ _ c.requires.forms in
     let within : c.loop-index.index < length c.loop-index.slots.items =
     omega (arith, c.loop-index-test.true, c.loop-index.invariant.size, c.args.slots.now.ok) in
-    let within' : c.loop-index.index < length c.args.cells.now = omega (arith, within, count, c.loop-index.invariant.size) in
+    let within' : c.loop-index.index < length c.args.cells.now =
+    omega (arith, within, count, c.loop-index.invariant.size) in
     let read = get_or_default c.args.cells.now c.loop-index.index c.index-cells-index.result _ within' in
-    let known = before _ _ _ _ _ c.loop-index.slots.items c.args.slots.now.items c.index_mut-slot.result.now c.requires.laid c.requires.forms c.requires.empty
+    let known = before _ _ _ _ _ c.loop-index.slots.items c.args.slots.now.items c.index_mut-slot.result.now
+    c.requires.laid c.requires.forms c.requires.empty
     c.loop-index.invariant.left c.loop-index.invariant.size within c.index_mut-slot.ensures.value
     within' read in
     known.empty
@@ -45,17 +57,22 @@ loop-index-preserved g c =
     let count = same_count _ _ c.requires.forms in
     let within : c.loop-index.index < length c.loop-index.slots.items =
     omega (arith, c.loop-index-test.true, c.loop-index.invariant.size, c.args.slots.now.ok) in
-    let within' : c.loop-index.index < length c.args.cells.now = omega (arith, within, count, c.loop-index.invariant.size) in
+    let within' : c.loop-index.index < length c.args.cells.now =
+    omega (arith, within, count, c.loop-index.invariant.size) in
     let read = get_or_default c.args.cells.now c.loop-index.index c.index-cells-index.result _ within' in
-    let known = before _ _ _ _ _ c.loop-index.slots.items c.args.slots.now.items c.index_mut-slot.result.now c.requires.laid c.requires.forms c.requires.empty
+    let known = before _ _ _ _ _ c.loop-index.slots.items c.args.slots.now.items c.index_mut-slot.result.now
+    c.requires.laid c.requires.forms c.requires.empty
     c.loop-index.invariant.left c.loop-index.invariant.size within c.index_mut-slot.ensures.value
     within' read in
     record {
-      first = restarted_one _ _ _ _ _ c.requires.few.0 c.args.cells.now _ _ _ c.loop-index.slots.items c.index_mut-slot.result.now _
+      first = restarted_one _ _ _ _ _ c.requires.few.0 c.args.cells.now _ _ _ c.loop-index.slots.items
+          c.index_mut-slot.result.now _
           c.loop-index.invariant.first within' read
           c.in-Ok.ensures.numbers within known.form known.fits
-          (c.restart.ensures ∙ ap (λ at. slot_again c.args.count at c.index_mut-slot.result.now) (c.len-at.ensures ∙ c.loop-index.block.ok.0));
-      left = left_behind c.loop-index.index c.loop-index.slots.items c.args.slots.now.items c.restart.new.self c.loop-index.invariant.left;
+          (c.restart.ensures ∙ ap (λ at. slot_again c.args.count at c.index_mut-slot.result.now)
+          (c.len-at.ensures ∙ c.loop-index.block.ok.0));
+      left = left_behind c.loop-index.index c.loop-index.slots.items c.args.slots.now.items c.restart.new.self
+          c.loop-index.invariant.left;
       size = length-set _ _ _ ∙ c.loop-index.invariant.size;
       capacity = omega (arith, c.loop-index.invariant.capacity, c.in-Ok.ensures.capacity);
     }

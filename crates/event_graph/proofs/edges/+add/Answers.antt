@@ -8,8 +8,11 @@ use Rattle.event_graph.proofs.edges.+add.Goals as goal
 
 pub add_repeated-returns : goal.add_repeated-returns
 add_repeated-returns t c =
-    subst (λ (xs : List table.Edge). OnOk c.add_block.result (map edge_tree c.add_block.new.edges.items ≡ map edge_tree c.args.edges.now.items ++ xs))
-    (block_held (typed_tree c.args.stack.now) (node_tree c.args.node) c.saturating_mul.result (c.args.times * c.args.most) (block_tree c.args.block.now)
+    subst (λ (xs : List table.Edge).
+    OnOk c.add_block.result (map edge_tree c.add_block.new.edges.items ≡ map edge_tree c.args.edges.now.items ++
+    xs))
+    (block_held (typed_tree c.args.stack.now) (node_tree c.args.node) c.saturating_mul.result
+    (c.args.times * c.args.most) (block_tree c.args.block.now)
     (omega (arith, c.saturating_mul.ensures, ap (λ n. c.args.times * n) c.from.ensures)))
     c.add_block.ensures
 

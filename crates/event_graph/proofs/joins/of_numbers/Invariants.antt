@@ -6,4 +6,5 @@ use Rattle.typed_layer.specs.View.{expression_tree}
 use Rattle.event_graph.proofs.joins.of_numbers.Given as goal
 
 abbrev pub invariant-loop-expression : goal.invariant-loop-expression
-invariant-loop-expression l = l.sum ≡ held_at_most (sum_by joins_in (map expression_tree (take l.expression-index l.expressions)))
+invariant-loop-expression l = l.sum ≡
+    held_at_most (sum_by joins_in (map expression_tree (take l.expression-index l.expressions)))

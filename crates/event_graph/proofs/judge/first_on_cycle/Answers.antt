@@ -14,5 +14,6 @@ returns c =
     let count = sym (length-map c.args.nodes.now node_tree) ∙ ap length c.requires.nodes in
     let few = few_headers c.args.stack.now.layers.items c.args.stack.now.few_headers in
     subst (λ (o : Option graph.Node). IfOk c.first_met.result (λ found. option_map node_tree found ≡ o))
-    ((λ i. find (meets_itself (c.requires.table i) (count i)) (c.requires.nodes i)) ∙ cycles_tell stack c.requires.orderly few)
+    ((λ i. find (meets_itself (c.requires.table i) (count i)) (c.requires.nodes i)) ∙
+    cycles_tell stack c.requires.orderly few)
     c.first_met.ensures

@@ -11,5 +11,7 @@ pub returns : goal.returns
 returns c yes_it_is =
     let few = few_headers c.args.stack.now.layers.items c.args.stack.now.few_headers in
     free_told (typed_tree c.args.stack.now) c.requires.orderly few c.args.weights.now
-    ((λ i. list_all (is_steady_at one_task (sym c.requires.table i) c.args.weights.now) (sym c.requires.nodes i)) ∙ c.requires.steady)
-    ((λ i. list_all (falls_at (sym c.requires.table i) c.args.weights.now) (sym c.requires.nodes i)) ∙ c.all_fall.ensures yes_it_is)
+    ((λ i. list_all (is_steady_at one_task (sym c.requires.table i) c.args.weights.now) (sym c.requires.nodes i)) ∙
+    c.requires.steady)
+    ((λ i. list_all (falls_at (sym c.requires.table i) c.args.weights.now) (sym c.requires.nodes i)) ∙
+    c.all_fall.ensures yes_it_is)

@@ -14,4 +14,5 @@ returns c =
     c.largest_cost.ensures
     ∙ ap (λ n. largest (map (slice_index c.args.costs.now) (range_with_len n c.tags_to-tags.result.count))) number
     ∙ largest_numbered c.args.costs.now c.args.at c.args.dir c.args.kind c.tags_to-tags.result.count
-    (graph.tags_for c.args.kind (graph.header_layer (typed_tree c.args.stack.now) c.args.dir c.args.at)) c.tags_to-tags.ensures.tags
+    (graph.tags_for c.args.kind (graph.header_layer (typed_tree c.args.stack.now) c.args.dir c.args.at))
+    c.tags_to-tags.ensures.tags

@@ -11,5 +11,7 @@ pub returns : goal.returns
 returns c =
     let few = few_headers c.args.stack.now.layers.items c.args.stack.now.few_headers in
     c.largest_of_entries.ensures
-    ∙ settled_told (typed_tree c.args.stack.now) c.requires.orderly few c.args.costs.now c.args._measure (sym c.requires.free)
-    ((λ i. list_all (is_steady_at (own_of c.args._measure) (sym c.requires.table i) c.args.costs.now) (sym c.requires.nodes i)) ∙ c.requires.steady)
+    ∙ settled_told (typed_tree c.args.stack.now) c.requires.orderly few c.args.costs.now c.args._measure
+    (sym c.requires.free)
+    ((λ i. list_all (is_steady_at (own_of c.args._measure) (sym c.requires.table i) c.args.costs.now)
+    (sym c.requires.nodes i)) ∙ c.requires.steady)

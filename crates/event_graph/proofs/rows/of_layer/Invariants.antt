@@ -6,4 +6,5 @@ use Rattle.event_graph.specs.Rows.{rows_of_cell}
 use Rattle.event_graph.proofs.rows.of_layer.Given as goal
 
 abbrev pub invariant-loop-cell : goal.invariant-loop-cell
-invariant-loop-cell l = l.sum ≡ held_at_most (sum_by (rows_of_cell l.n) (map cell_tree (take l.cell-index l.cell-items)))
+invariant-loop-cell l = l.sum ≡
+    held_at_most (sum_by (rows_of_cell l.n) (map cell_tree (take l.cell-index l.cell-items)))

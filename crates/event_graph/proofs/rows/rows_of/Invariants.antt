@@ -6,4 +6,5 @@ use Rattle.event_graph.specs.Rows.{rows_of_layer}
 use Rattle.event_graph.proofs.rows.rows_of.Given as goal
 
 abbrev pub invariant-loop-layer : goal.invariant-loop-layer
-invariant-loop-layer l = l.sum ≡ held_at_most (sum_by (rows_of_layer l.n) (map rc_tree (take l.layer-index l.layer-items)))
+invariant-loop-layer l = l.sum ≡
+    held_at_most (sum_by (rows_of_layer l.n) (map rc_tree (take l.layer-index l.layer-items)))

@@ -7,10 +7,12 @@ use Rattle.event_graph.proofs.search.first_met.Goals as goal
 
 pub returns-then-branch : goal.returns-then-branch
 returns-then-branch c =
-    sym (found_at node_tree (meets_itself (map vertex_tree c.args.vertices.now) c.args.most) c.args.nodes.now c.loop-node.node-index _
+    sym (found_at node_tree (meets_itself (map vertex_tree c.args.vertices.now) c.args.most) c.args.nodes.now
+    c.loop-node.node-index _
     c.loop-node-test.true c.loop-node.invariant (sym c.in_ok-is_met.ensures ∙ c.if-branch.true))
 
 pub loop-node-preserved : goal.loop-node-preserved
 loop-node-preserved c =
-    none_yet node_tree (meets_itself (map vertex_tree c.args.vertices.now) c.args.most) c.args.nodes.now c.loop-node.node-index _
+    none_yet node_tree (meets_itself (map vertex_tree c.args.vertices.now) c.args.most) c.args.nodes.now
+    c.loop-node.node-index _
     c.loop-node-test.true c.loop-node.invariant (sym c.in_ok-is_met.ensures ∙ c.if-branch.false)

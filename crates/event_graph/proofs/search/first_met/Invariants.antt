@@ -6,4 +6,5 @@ use Rattle.event_graph.specs.Searches.{meets_itself}
 use Rattle.event_graph.proofs.search.first_met.Given as goal
 
 abbrev pub invariant-loop-node : goal.invariant-loop-node
-invariant-loop-node l = find (meets_itself (map vertex_tree l.vertices) l.most) (map node_tree (take l.node-index l.nodes)) ≡ None
+invariant-loop-node l = find (meets_itself (map vertex_tree l.vertices) l.most)
+    (map node_tree (take l.node-index l.nodes)) ≡ None

@@ -6,4 +6,5 @@ use Rattle.event_graph.specs.Steady.{falls_at}
 use Rattle.event_graph.proofs.steady.all_fall.Given as goal
 
 abbrev pub invariant-loop-node : goal.invariant-loop-node
-invariant-loop-node l = list_all (falls_at (map vertex_tree l.vertices) l.costs) (map node_tree (take l.node-index l.nodes)) ≡ true
+invariant-loop-node l = list_all (falls_at (map vertex_tree l.vertices) l.costs)
+    (map node_tree (take l.node-index l.nodes)) ≡ true

@@ -8,4 +8,5 @@ use Rattle.event_graph.proofs.steady.are_steady.Given as goal
 
 abbrev pub invariant-loop-node : goal.invariant-loop-node
 invariant-loop-node l =
-    list_all (is_steady_at (own_of l.measure) (map vertex_tree l.vertices) l.costs) (map node_tree (take l.node-index l.nodes)) ≡ true
+    list_all (is_steady_at (own_of l.measure) (map vertex_tree l.vertices) l.costs)
+    (map node_tree (take l.node-index l.nodes)) ≡ true

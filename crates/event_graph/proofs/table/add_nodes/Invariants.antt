@@ -6,4 +6,5 @@ use Rattle.event_graph.proofs.table.add_nodes.Given as goal
 
 abbrev pub invariant-loop-tag : goal.invariant-loop-tag
 invariant-loop-tag l =
-    map node_tree l.nodes.items ≡ map node_tree l.fn.nodes.items ++ map (node_at l.at l.dir l.kind) (range_with_len 0 l.tag)
+    map node_tree l.nodes.items ≡ map node_tree l.fn.nodes.items ++
+    map (node_at l.at l.dir l.kind) (range_with_len 0 l.tag)

@@ -13,7 +13,8 @@ returns-in_ok-add_block-in-Some-find c =
     entered (typed_tree c.args.stack.now) (node_tree c.args.node) (layer_tree c.in-Some.layer.now)
     (handler_tree c.in-Some-find.handler.now) c.of_handler.result (map edge_tree c.add_block.new.edges.items)
     c.in-Some.ensures.0 c.in-Some.ensures.1
-    (ap (λ t. find (is_for c.args.node.dir c.args.node.kind t) (layer_tree c.in-Some.layer.now).handlers) (sym c.popped_tag.ensures)
+    (ap (λ t. find (is_for c.args.node.dir c.args.node.kind t) (layer_tree c.in-Some.layer.now).handlers)
+    (sym c.popped_tag.ensures)
     ∙ sym c.in-Some-find.ensures)
     c.of_handler.ensures
     (c.in_ok-add_block-in-Some-find.ensures

@@ -8,4 +8,5 @@ use Rattle.event_graph.proofs.table.table.Given as goal
 abbrev pub invariant-loop-node : goal.invariant-loop-node
 invariant-loop-node l =
     map vertex_tree l.vertices.items ≡
-    fold (with_node (typed_tree l.stack)) (empty_table (length (typed_tree l.stack))) (map node_tree (take l.node-index l.nodes))
+    fold (with_node (typed_tree l.stack)) (empty_table (length (typed_tree l.stack)))
+    (map node_tree (take l.node-index l.nodes))

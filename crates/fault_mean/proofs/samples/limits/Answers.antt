@@ -10,32 +10,72 @@ some (x ∷ xs) h none = absurd (cc none)
 
 pub returns-clause-five_fields : goal.returns-clause-five_fields
 unfolding file_of
-returns-clause-five_fields c = record { spelled = record { good = refl; fits = fits_laid _ _ refl; within = tt; placed = λ none. cc }; judged = refl }
+returns-clause-five_fields c =
+    record {
+      spelled = record { good = refl; fits = fits_laid _ _ refl; within = tt; placed = λ none. cc };
+      judged =
+          refl;
+    }
 
 pub returns-clause-fifth_twice : goal.returns-clause-fifth_twice
 unfolding file_of
-returns-clause-fifth_twice c = record { spelled = record { good = refl; fits = fits_laid _ _ refl; within = tt; placed = λ none. cc }; judged = refl }
+returns-clause-fifth_twice c =
+    record {
+      spelled = record { good = refl; fits = fits_laid _ _ refl; within = tt; placed = λ none. cc };
+      judged =
+          refl;
+    }
 
 pub returns-clause-message_inside : goal.returns-clause-message_inside
 unfolding file_of
-returns-clause-message_inside c = record { spelled = record { good = refl; fits = fits_laid _ _ refl; within = tt; placed = λ none. cc }; judged = refl }
+returns-clause-message_inside c =
+    record {
+      spelled = record { good = refl; fits = fits_laid _ _ refl; within = tt; placed = λ none. cc };
+      judged =
+          refl;
+    }
 
 pub returns-clause-capacity_outside : goal.returns-clause-capacity_outside
 unfolding file_of
-returns-clause-capacity_outside c = record { spelled = record { good = refl; fits = fits_laid _ _ refl; within = tt; placed = λ none. cc }; judged = refl }
+returns-clause-capacity_outside c =
+    record {
+      spelled = record { good = refl; fits = fits_laid _ _ refl; within = tt; placed = λ none. cc };
+      judged =
+          refl;
+    }
 
 pub returns-clause-given_outside : goal.returns-clause-given_outside
 unfolding file_of
-returns-clause-given_outside c = record { spelled = record { good = refl; fits = fits_laid _ _ refl; within = tt; placed = λ none. cc }; judged = refl }
+returns-clause-given_outside c =
+    record {
+      spelled = record { good = refl; fits = fits_laid _ _ refl; within = tt; placed = λ none. cc };
+      judged =
+          refl;
+    }
 
 pub returns-clause-maximum_outside : goal.returns-clause-maximum_outside
 unfolding file_of
-returns-clause-maximum_outside c = record { spelled = record { good = refl; fits = fits_laid _ _ refl; within = tt; placed = λ none. cc }; judged = refl }
+returns-clause-maximum_outside c =
+    record {
+      spelled = record { good = refl; fits = fits_laid _ _ refl; within = tt; placed = λ none. cc };
+      judged =
+          refl;
+    }
 
 pub returns-clause-not_placed : goal.returns-clause-not_placed
 unfolding file_of
-returns-clause-not_placed c = record { spelled = record { good = refl; fits = fits_laid _ _ refl; within = tt; placed = λ none. cc }; judged = refl }
+returns-clause-not_placed c =
+    record {
+      spelled = record { good = refl; fits = fits_laid _ _ refl; within = tt; placed = λ none. cc };
+      judged =
+          refl;
+    }
 
 pub returns-clause-places_beyond : goal.returns-clause-places_beyond
 unfolding file_of
-returns-clause-places_beyond c = record { spelled = record { good = refl; fits = fits_laid _ _ refl; within = tt; placed = some _ refl }; judged = refl }
+returns-clause-places_beyond c =
+    record {
+      spelled = record { good = refl; fits = fits_laid _ _ refl; within = tt; placed = some _ refl };
+      judged =
+          refl;
+    }

@@ -3,5 +3,6 @@ use Rattle.file_expressions.proofs.Trees.{label_behind}
 use Rattle.file_expressions.proofs.items.label_in.Goals as goal
 
 pub returns-else-is_same : goal.returns-else-is_same
-returns-else-is_same c = label_behind c.args.label.now c.args.items.now.first c.args.items.now.rest.items c.label_among.result
+returns-else-is_same c = label_behind c.args.label.now c.args.items.now.first c.args.items.now.rest.items
+    c.label_among.result
     (sym c.is_same.ensures ∙ c.if-is_same.false) (search rules)

@@ -7,12 +7,14 @@ loop-first-init c = at_first _
 
 pub loop-first-preserved-then-is_blank : goal.loop-first-preserved-then-is_blank
 loop-first-preserved-then-is_blank c =
-    past_blank _ _ _ _ _ _ c.in-Some.ensures.cases.0 c.loop-first.invariant (sym c.is_feed.ensures ∙ c.if-is_feed.false) _ (search rules)
+    past_blank _ _ _ _ _ _ c.in-Some.ensures.cases.0 c.loop-first.invariant (sym c.is_feed.ensures ∙ c.if-is_feed.false)
+    _ (search rules)
     (sym c.is_blank.ensures ∙ c.if-is_blank.true)
 
 pub loop-first-preserved : goal.loop-first-preserved
 loop-first-preserved c =
-    past_byte _ _ _ _ _ _ c.in-Some.ensures.cases.0 c.loop-first.invariant (sym c.is_feed.ensures ∙ c.if-is_feed.false) _ (search rules)
+    past_byte _ _ _ _ _ _ c.in-Some.ensures.cases.0 c.loop-first.invariant (sym c.is_feed.ensures ∙ c.if-is_feed.false)
+    _ (search rules)
     (sym c.is_blank.ensures ∙ c.if-is_blank.false)
 
 pub returns-then-is_feed-clause-count : goal.returns-then-is_feed-clause-count

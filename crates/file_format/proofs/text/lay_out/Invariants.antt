@@ -7,7 +7,8 @@ use Rattle.file_format.proofs.text.lay_out.Given as goal
 
 abbrev pub invariant-loop-first : goal.invariant-loop-first
 invariant-loop-first g l =
-    SoFar (formatted_lines l.initial.text) (tells_of g.O.Sink l.initial.out) (tells_of g.O.Sink l.out) (begun_of l.line) l.feeds l.rest
+    SoFar (formatted_lines l.initial.text) (tells_of g.O.Sink l.initial.out) (tells_of g.O.Sink l.out) (begun_of l.line)
+    l.feeds l.rest
 
 abbrev pub decreases-loop-first : goal.decreases-loop-first
 decreases-loop-first g l = length l.rest

@@ -23,8 +23,10 @@ returns-in-Ok g c =
       output = report.finds.output;
     })
     (shown c.write.result) report.sound
-    (subst (λ end. Writes (string_bytes c.in-Ok.output.line ∷ []) end a.output a.output_after (shown c.write.result)) (sym report.finds.ends) c.write.ensures)
+    (subst (λ end. Writes (string_bytes c.in-Ok.output.line ∷ []) end a.output a.output_after (shown c.write.result))
+    (sym report.finds.ends) c.write.ensures)
 
 pub returns-in-Err : goal.returns-in-Err
-returns-in-Err g c = audit_stops c.args.file.now c.args.law (around g.S.Shelf g.O.Sink c.args.shelf.now c.fetch_report.new.shelf c.args.out.now c.args.out.now)
+returns-in-Err g c = audit_stops c.args.file.now c.args.law
+    (around g.S.Shelf g.O.Sink c.args.shelf.now c.fetch_report.new.shelf c.args.out.now c.args.out.now)
     (shown c.in-Err.ending) c.in-Err.ensures refl

@@ -10,7 +10,8 @@ use Rattle.file_jobs.proofs.Texts.{accepted_as}
 use Rattle.file_jobs.proofs.check.check_stack.Goals as goal
 
 pub returns-in-Ok : goal.returns-in-Ok
-returns-in-Ok g c = written (check c.args.file.now) (around g.S.Shelf g.O.Sink c.args.shelf.now c.fetch_stack.new.shelf c.args.out.now c.accept.new.out)
+returns-in-Ok g c = written (check c.args.file.now)
+    (around g.S.Shelf g.O.Sink c.args.shelf.now c.fetch_stack.new.shelf c.args.out.now c.accept.new.out)
     (record {
       file = c.in-Ok.ensures.read.file;
       second = [];
@@ -28,5 +29,6 @@ returns-in-Ok g c = written (check c.args.file.now) (around g.S.Shelf g.O.Sink c
     (shown c.accept.result) c.in-Ok.ensures.read.sound c.accept.ensures
 
 pub returns-in-Err : goal.returns-in-Err
-returns-in-Err g c = stops (check c.args.file.now) (around g.S.Shelf g.O.Sink c.args.shelf.now c.fetch_stack.new.shelf c.args.out.now c.args.out.now)
+returns-in-Err g c = stops (check c.args.file.now)
+    (around g.S.Shelf g.O.Sink c.args.shelf.now c.fetch_stack.new.shelf c.args.out.now c.args.out.now)
     (shown c.in-Err.ending) tt c.in-Err.ensures.read refl

@@ -6,4 +6,6 @@ use Rattle.file_jobs.proofs.lines.finding_line.Goals as goal
 
 pub returns-in-Breach : goal.returns-in-Breach
 returns-in-Breach c = rw c.in-Breach.is (IfOk-weaker c.format.result _ _ (λ line is. is
-    ∙ ap (λ t. codes "breach " ++ t) (four_joined (decimal c.in-Breach.first) (codes " ") (decimal c.in-Breach.second) (codes "\n"))) c.format.ensures.ok)
+    ∙ ap (λ t. codes "breach " ++ t)
+    (four_joined (decimal c.in-Breach.first) (codes " ") (decimal c.in-Breach.second) (codes "\n")))
+    c.format.ensures.ok)

@@ -16,22 +16,38 @@ push_kept-requires-clause-keeps g c =
 pub returns-in-Some-clause-ready : goal.returns-in-Some-clause-ready
 returns-in-Some-clause-ready g c =
     let capacity = ap (λ (l : Layout). l.hand) c.requires.layout in
-    let step = scope_lifted g.K.Start.begun c.args.pool.now c.push_kept.new.pool (stock_of c.args.desk.now) c.requires.pool c.requires.fits
+    let step = scope_lifted g.K.Start.begun c.args.pool.now c.push_kept.new.pool (stock_of c.args.desk.now)
+    c.requires.pool c.requires.fits
     c.args.slot c.in-Some.message.now c.in-Some.message.now c.push_kept.new.self.items (plain [])
-    (ap (slice_get c.args.desk.now.tray.messages.items) (sym c.from.ensures) ∙ sym c.message.ensures ∙ ap option_copied c.in-Some.is) refl
+    (ap (slice_get c.args.desk.now.tray.messages.items) (sym c.from.ensures) ∙ sym c.message.ensures ∙
+    ap option_copied c.in-Some.is) refl
     (items_are _ _ _ c.push_kept.ensures.pushed) (omega arith) c.push_kept.ensures.kept in
-    record { pool = step.0; layout = search rules; fits = step.1; numbers = search rules; messages = search rules; forms = search rules; sent = search rules }
+    record {
+      pool = step.0;
+      layout = search rules;
+      fits = step.1;
+      numbers = search rules;
+      messages =
+          search rules;
+      forms = search rules;
+      sent = search rules;
+    }
 
 pub returns-in-Some-clause-shown : goal.returns-in-Some-clause-shown
 returns-in-Some-clause-shown g c =
     let capacity = ap (λ (l : Layout). l.hand) c.requires.layout in
-    (scope_lifted g.K.Start.begun c.args.pool.now c.push_kept.new.pool (stock_of c.args.desk.now) c.requires.pool c.requires.fits
+    (scope_lifted g.K.Start.begun c.args.pool.now c.push_kept.new.pool (stock_of c.args.desk.now) c.requires.pool
+    c.requires.fits
     c.args.slot c.in-Some.message.now c.in-Some.message.now c.push_kept.new.self.items (plain [])
-    (ap (slice_get c.args.desk.now.tray.messages.items) (sym c.from.ensures) ∙ sym c.message.ensures ∙ ap option_copied c.in-Some.is) refl
+    (ap (slice_get c.args.desk.now.tray.messages.items) (sym c.from.ensures) ∙ sym c.message.ensures ∙
+    ap option_copied c.in-Some.is) refl
     (items_are _ _ _ c.push_kept.ensures.pushed) (omega arith) c.push_kept.ensures.kept).2
 
 pub returns-in-None-clause-shown : goal.returns-in-None-clause-shown
 returns-in-None-clause-shown g c =
-    nothing_lifted g.K.Start.begun c.args.pool.now c.args.pool.now (stock_of c.args.desk.now) c.requires.pool c.requires.fits
-    c.args.slot (bodiless []) c.push_bare.new.self.items (ap (slice_get c.args.desk.now.tray.messages.items) (sym c.from.ensures) ∙ sym c.message.ensures ∙ ap option_copied c.in-None.is) refl
+    nothing_lifted g.K.Start.begun c.args.pool.now c.args.pool.now (stock_of c.args.desk.now) c.requires.pool
+    c.requires.fits
+    c.args.slot (bodiless []) c.push_bare.new.self.items
+    (ap (slice_get c.args.desk.now.tray.messages.items) (sym c.from.ensures) ∙ sym c.message.ensures ∙
+    ap option_copied c.in-None.is) refl
     (items_are _ _ _ c.push_bare.ensures)

@@ -7,4 +7,5 @@ loop-row-init c = (none_gone c.args.pool.now c.args.cells.now c.requires, refl)
 
 pub returns-clause-returned : goal.returns-clause-returned
 returns-clause-returned c =
-    all_gone c.args.pool.now c.loop-row.pool c.args.cells.now c.loop-row.cells c.loop-row.invariant.0 (c.in_default.ensures.rows ∙ c.in_default.ensures.none)
+    all_gone c.args.pool.now c.loop-row.pool c.args.cells.now c.loop-row.cells c.loop-row.invariant.0
+    (c.in_default.ensures.rows ∙ c.in_default.ensures.none)

@@ -4,7 +4,8 @@ use Rattle.file_layer.specs.Back.{GoneTo}
 use Rattle.file_layer.proofs.makes.give_rows_back.Given as goal
 
 abbrev pub invariant-loop-row : goal.invariant-loop-row
-invariant-loop-row l = GoneTo l.fn.pool l.pool (rows_in l.fn.cells) (rows_in l.cells) × (emptied l.cells ≡ emptied l.fn.cells)
+invariant-loop-row l = GoneTo l.fn.pool l.pool (rows_in l.fn.cells) (rows_in l.cells) ×
+    (emptied l.cells ≡ emptied l.fn.cells)
 
 abbrev pub decreases-loop-row : goal.decreases-loop-row
 decreases-loop-row l = length (rows_in l.cells)

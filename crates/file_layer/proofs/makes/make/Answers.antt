@@ -22,7 +22,8 @@ returns-in-Ok-clause-fresh c =
     let messages = ap (λ (t : OnTray). t.messages.capacity) c.in_ok-lists.ensures.0 in
     let numbers_is : vec_capacity c.in_ok-numbers.numbers ≡ layout.numbers + 6 = omega arith in
     let messages_is : c.in_ok-lists.lists.tray.messages.capacity ≡ layout.messages + 1 = omega arith in
-    let hand_is : c.in_ok-lists.lists.hand.capacity ≡ min layout.hand 4294967295 = ap (λ (b : Buffer PoolMessage). b.capacity) c.in_ok-lists.ensures.1 ∙ three in
+    let hand_is : c.in_ok-lists.lists.hand.capacity ≡ min layout.hand 4294967295 =
+    ap (λ (b : Buffer PoolMessage). b.capacity) c.in_ok-lists.ensures.1 ∙ three in
     let desk : FileDesk = record {
       cells = c.in-Ok.cells;
       numbers = c.in_ok-numbers.numbers;
@@ -40,6 +41,8 @@ returns-in-Ok-clause-fresh c =
       sent = ap (λ (t : OnTray). t.sent) c.in_ok-lists.ensures.0;
       numbers_room = omega arith;
       messages_room = omega arith;
-      layout = layout_at_first (layer_tree c.args.layer.now) c.args.me c.args.count c.args.ltime desk c.in_ok-reserve.ensures.few (search rules) numbers_is messages_is hand_is (search rules);
+      layout = layout_at_first (layer_tree c.args.layer.now) c.args.me c.args.count c.args.ltime desk
+          c.in_ok-reserve.ensures.few (search rules) numbers_is messages_is hand_is (search rules);
     } in
-    empty_at_rest c.args.me c.args.count c.args.ltime (layer_tree c.args.layer.now) desk c.requires.members c.in_ok-reserve.ensures.few c.requires.made empty
+    empty_at_rest c.args.me c.args.count c.args.ltime (layer_tree c.args.layer.now) desk c.requires.members
+    c.in_ok-reserve.ensures.few c.requires.made empty

@@ -9,12 +9,14 @@ use Rattle.file_layer.proofs.makes.restart.Goals as goal
 
 pub reset-requires-clause-layer : goal.reset-requires-clause-layer
 reset-requires-clause-layer c =
-    emptied_for (layer_tree c.args.layer.now) c.args.desk.now.cells c.give_rows_back.new.cells c.give_rows_back.ensures.kept c.requires.rest.forms
+    emptied_for (layer_tree c.args.layer.now) c.args.desk.now.cells c.give_rows_back.new.cells
+    c.give_rows_back.ensures.kept c.requires.rest.forms
 
 pub returns-clause-fresh : goal.returns-clause-fresh
 returns-clause-fresh c =
     let most = ap (λ (k : Kept PoolRow). k.most) c.give_rows_back.ensures.kept in
     let few = c.reset.ensures.within in let within = c.requires.few in
-    begins_again (layer_tree c.args.layer.now) c.args.pool.now c.args.me c.args.count c.args.ltime c.args.desk.now _ c.requires.rest (omega arith)
+    begins_again (layer_tree c.args.layer.now) c.args.pool.now c.args.me c.args.count c.args.ltime c.args.desk.now _
+    c.requires.rest (omega arith)
     (ap (λ k. record c.args.desk.now { cells = k })
     (c.reset.ensures.fresh ∙ ap (kept_fresh (layer_tree c.args.layer.now) c.args.me c.args.count c.args.ltime) most))

@@ -7,4 +7,5 @@ use Rattle.file_layer.proofs.makes.rows_at_most.Given as goal
 
 abbrev pub invariant-loop-cell : goal.invariant-loop-cell
 invariant-loop-cell l =
-    (l.rows ≡ rows_most (map (λ (c : CellTree). rows_kept c.form) (map cell_tree (take l.cell-index l.cells)))) × (l.rows ≤ 32768)
+    (l.rows ≡ rows_most (map (λ (c : CellTree). rows_kept c.form) (map cell_tree (take l.cell-index l.cells)))) ×
+    (l.rows ≤ 32768)

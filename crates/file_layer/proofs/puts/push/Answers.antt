@@ -6,13 +6,27 @@ use Rattle.file_layer.proofs.puts.push.Goals as goal
 
 pub returns-clause-ready : goal.returns-clause-ready
 returns-clause-ready g c =
-    let step = alone_fits g.K.Start.begun c.args.pool.now (stock_of c.args.desk.now) c.requires.ready.pool c.requires.ready.fits c.args.cell c.args.index
-    (room_for_row (row_seen c.args.pool.now) c.args.desk.now.cells c.args.cell c.args.index c.args.capacity c.requires.room (omega arith))
+    let step = alone_fits g.K.Start.begun c.args.pool.now (stock_of c.args.desk.now) c.requires.ready.pool
+    c.requires.ready.fits c.args.cell c.args.index
+    (room_for_row (row_seen c.args.pool.now) c.args.desk.now.cells c.args.cell c.args.index c.args.capacity
+    c.requires.room (omega arith))
     c.args.numbers c.push.new.self c.push.ensures in
-    record { pool = step.0; layout = layout_kept (layout_of c.args.desk.now) g.K.Start.begun.layout _ c.requires.ready.layout step.1.rows; fits = step.1; numbers = search rules; messages = search rules; forms = forms_rows _ _ c.args.cell c.args.index _ c.push.ensures ∙ c.requires.ready.forms; sent = search rules }
+    record {
+      pool = step.0;
+      layout = layout_kept (layout_of c.args.desk.now) g.K.Start.begun.layout _
+          c.requires.ready.layout step.1.rows;
+      fits = step.1;
+      numbers = search rules;
+      messages = search rules;
+      forms =
+          forms_rows _ _ c.args.cell c.args.index _ c.push.ensures ∙ c.requires.ready.forms;
+      sent = search rules;
+    }
 
 pub returns-clause-shown : goal.returns-clause-shown
 returns-clause-shown g c =
-    (alone_fits g.K.Start.begun c.args.pool.now (stock_of c.args.desk.now) c.requires.ready.pool c.requires.ready.fits c.args.cell c.args.index
-    (room_for_row (row_seen c.args.pool.now) c.args.desk.now.cells c.args.cell c.args.index c.args.capacity c.requires.room (omega arith))
+    (alone_fits g.K.Start.begun c.args.pool.now (stock_of c.args.desk.now) c.requires.ready.pool c.requires.ready.fits
+    c.args.cell c.args.index
+    (room_for_row (row_seen c.args.pool.now) c.args.desk.now.cells c.args.cell c.args.index c.args.capacity
+    c.requires.room (omega arith))
     c.args.numbers c.push.new.self c.push.ensures).2

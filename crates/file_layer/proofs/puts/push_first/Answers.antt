@@ -6,13 +6,17 @@ use Rattle.file_layer.proofs.puts.push_first.Goals as goal
 
 pub returns-clause-ready : goal.returns-clause-ready
 returns-clause-ready g c =
-    let step = top_fits g.K.Start.begun c.args.pool.now (stock_of c.args.desk.now) c.requires.ready.pool c.requires.ready.fits c.args.cell c.args.index
-    (room_for_row (row_seen c.args.pool.now) c.args.desk.now.cells c.args.cell c.args.index c.args.capacity c.requires.room (omega arith))
+    let step = top_fits g.K.Start.begun c.args.pool.now (stock_of c.args.desk.now) c.requires.ready.pool
+    c.requires.ready.fits c.args.cell c.args.index
+    (room_for_row (row_seen c.args.pool.now) c.args.desk.now.cells c.args.cell c.args.index c.args.capacity
+    c.requires.room (omega arith))
     c.args.numbers c.push.new.self c.take_last.new.hand.items c.in-Some.message c.in-Some.ensures.some c.push.ensures in
     record {
       pool = step.0;
-      layout = layout_kept (record (layout_of c.args.desk.now) { hand = c.take_last.new.hand.capacity }) g.K.Start.begun.layout _
-          (ap (λ n. record (layout_of c.args.desk.now) { hand = n }) c.take_last.ensures.capacity ∙ c.requires.ready.layout) step.1.rows;
+      layout = layout_kept (record (layout_of c.args.desk.now) { hand = c.take_last.new.hand.capacity })
+          g.K.Start.begun.layout _
+          (ap (λ n. record (layout_of c.args.desk.now) { hand = n }) c.take_last.ensures.capacity ∙
+          c.requires.ready.layout) step.1.rows;
       fits = step.1;
       numbers = search rules;
       messages = search rules;
@@ -22,6 +26,8 @@ returns-clause-ready g c =
 
 pub returns-clause-shown : goal.returns-clause-shown
 returns-clause-shown g c =
-    (top_fits g.K.Start.begun c.args.pool.now (stock_of c.args.desk.now) c.requires.ready.pool c.requires.ready.fits c.args.cell c.args.index
-    (room_for_row (row_seen c.args.pool.now) c.args.desk.now.cells c.args.cell c.args.index c.args.capacity c.requires.room (omega arith))
+    (top_fits g.K.Start.begun c.args.pool.now (stock_of c.args.desk.now) c.requires.ready.pool c.requires.ready.fits
+    c.args.cell c.args.index
+    (room_for_row (row_seen c.args.pool.now) c.args.desk.now.cells c.args.cell c.args.index c.args.capacity
+    c.requires.room (omega arith))
     c.args.numbers c.push.new.self c.take_last.new.hand.items c.in-Some.message c.in-Some.ensures.some c.push.ensures).2

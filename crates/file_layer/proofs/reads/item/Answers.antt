@@ -4,7 +4,8 @@ use Rattle.file_layer.proofs.reads.item.Goals as goal
 
 pub returns-in-Some : goal.returns-in-Some
 returns-in-Some g c =
-    c.at.ensures ∙ ap (slice_index c.in-Some.row.now.numbers) c.from.ensures ∙ item_found c.args.pool.now c.args.desk.now.cells c.args.cell c.args.index c.args.row c.args.number c.in-Some.row.now
+    c.at.ensures ∙ ap (slice_index c.in-Some.row.now.numbers) c.from.ensures ∙
+    item_found c.args.pool.now c.args.desk.now.cells c.args.cell c.args.index c.args.row c.args.number c.in-Some.row.now
     (sym c.row.ensures ∙ ap option_copied c.in-Some.is)
 
 pub returns-in-None : goal.returns-in-None

@@ -7,5 +7,7 @@ use Rattle.file_layer.proofs.reads.local_size.Goals as goal
 
 pub returns-in-None : goal.returns-in-None
 returns-in-None g c =
-    sym (ap (λ (m : Content). length m.body) (seen_none (seen c.args.pool.now) c.args.desk.now.tray.messages.items c.args.slot (plain [])
-    (ap (slice_get c.args.desk.now.tray.messages.items) (sym c.from.ensures) ∙ sym c.message.ensures ∙ ap option_copied c.in-None.is)))
+    sym (ap (λ (m : Content). length m.body)
+    (seen_none (seen c.args.pool.now) c.args.desk.now.tray.messages.items c.args.slot (plain [])
+    (ap (slice_get c.args.desk.now.tray.messages.items) (sym c.from.ensures) ∙ sym c.message.ensures ∙
+    ap option_copied c.in-None.is)))

@@ -11,16 +11,23 @@ use Rattle.file_layer.proofs.sends.pass_on.Goals as goal
 pub returns-clause-ready : goal.returns-clause-ready
 returns-clause-ready g c =
     let places = ap (λ (l : Layout). l.places) c.requires.layout in
-    let step = on_fits g.K.Start.begun c.args.pool.now (stock_of c.args.desk.now) c.requires.pool c.requires.fits c.args.direction c.args.envelope c.args.header
+    let step = on_fits g.K.Start.begun c.args.pool.now (stock_of c.args.desk.now) c.requires.pool c.requires.fits
+    c.args.direction c.args.envelope c.args.header
     (omega arith) (option_map (sent_behind c.args.direction c.args.header) c.args.desk.now.tray.arrived) refl in
     tray_ready g.K.Start.begun c.args.pool.now c.args.pool.now c.args.desk.now
-    (record (also_sent c.args.direction c.args.envelope (option_map (sent_behind c.args.direction c.args.header) c.args.desk.now.tray.arrived) c.args.desk.now.tray) { arrived = None }) c.send_arrived.new.self c.requires
+    (record (also_sent c.args.direction c.args.envelope
+    (option_map (sent_behind c.args.direction c.args.header) c.args.desk.now.tray.arrived) c.args.desk.now.tray)
+    { arrived = None }) c.send_arrived.new.self c.requires
     (c.send_arrived.ensures ∙
     ap (λ (t : OnTray). record (also_sent c.args.direction c.args.envelope t.arrived t) { arrived = None })
     c.put_behind.ensures)
     step.0 step.1 refl
-    (sent_grows g.K.Start.begun.refs g.K.Start.begun.list c.args.desk.now.first c.args.desk.now.places c.args.desk.now.tray.sent
-    (c.args.direction, pool_event c.args.envelope (option_map (sent_behind c.args.direction c.args.header) c.args.desk.now.tray.arrived)) c.requires.sent)
+    (sent_grows g.K.Start.begun.refs g.K.Start.begun.list c.args.desk.now.first c.args.desk.now.places
+    c.args.desk.now.tray.sent (
+      c.args.direction,
+      pool_event c.args.envelope
+          (option_map (sent_behind c.args.direction c.args.header) c.args.desk.now.tray.arrived),
+    ) c.requires.sent)
 
 pub returns-clause-shown : goal.returns-clause-shown
 returns-clause-shown g c =
@@ -29,5 +36,6 @@ returns-clause-shown g c =
     (c.send_arrived.ensures ∙
     ap (λ (t : OnTray). record (also_sent c.args.direction c.args.envelope t.arrived t) { arrived = None })
     c.put_behind.ensures) ∙
-    (on_fits g.K.Start.begun c.args.pool.now (stock_of c.args.desk.now) c.requires.pool c.requires.fits c.args.direction c.args.envelope c.args.header
+    (on_fits g.K.Start.begun c.args.pool.now (stock_of c.args.desk.now) c.requires.pool c.requires.fits c.args.direction
+    c.args.envelope c.args.header
     (omega arith) (option_map (sent_behind c.args.direction c.args.header) c.args.desk.now.tray.arrived) refl).2

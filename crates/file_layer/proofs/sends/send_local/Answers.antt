@@ -16,38 +16,55 @@ use Rattle.file_layer.proofs.sends.send_local.Goals as goal
 pub send_message-requires-clause-room : goal.send_message-requires-clause-room
 send_message-requires-clause-room g c =
     can_pass c.args.direction (message_at c.from-place.result c.args.desk.now.tray)
-    (scope_there g.K.Start.begun c.args.pool.now c.args.pool.now (stock_of c.args.desk.now) c.requires.pool c.requires.fits c.from-place.result
+    (scope_there g.K.Start.begun c.args.pool.now c.args.pool.now (stock_of c.args.desk.now) c.requires.pool
+    c.requires.fits c.from-place.result
     (message_at c.from-place.result c.args.desk.now.tray)
-    (read_there c.args.desk.now.tray.messages.items c.from-place.result (bodiless []) _ _ c.message.ensures c.in-Some.is)).2
+    (read_there c.args.desk.now.tray.messages.items c.from-place.result (bodiless []) _ _ c.message.ensures
+    c.in-Some.is)).2
 
 pub send_message-requires-clause-there : goal.send_message-requires-clause-there
 send_message-requires-clause-there g c =
-    (scope_there g.K.Start.begun c.args.pool.now c.args.pool.now (stock_of c.args.desk.now) c.requires.pool c.requires.fits c.from-place.result
+    (scope_there g.K.Start.begun c.args.pool.now c.args.pool.now (stock_of c.args.desk.now) c.requires.pool
+    c.requires.fits c.from-place.result
     (message_at c.from-place.result c.args.desk.now.tray)
-    (read_there c.args.desk.now.tray.messages.items c.from-place.result (bodiless []) _ _ c.message.ensures c.in-Some.is)).0
+    (read_there c.args.desk.now.tray.messages.items c.from-place.result (bodiless []) _ _ c.message.ensures
+    c.in-Some.is)).0
 
 pub send_message-requires-clause-keeps : goal.send_message-requires-clause-keeps
 send_message-requires-clause-keeps g c =
-    can_keep g.K.Start.begun c.args.pool.now c.args.desk.now c.requires (refs (message_at c.from-place.result c.args.desk.now.tray))
+    can_keep g.K.Start.begun c.args.pool.now c.args.desk.now c.requires
+    (refs (message_at c.from-place.result c.args.desk.now.tray))
 
 pub returns-in-Some-clause-ready : goal.returns-in-Some-clause-ready
 returns-in-Some-clause-ready g c =
     let places = ap (λ (l : Layout). l.places) c.requires.layout in
-    let step = local_fits g.K.Start.begun c.args.pool.now (stock_of c.args.desk.now) c.requires.pool c.requires.fits c.args.direction c.args.envelope c.args.header
+    let step = local_fits g.K.Start.begun c.args.pool.now (stock_of c.args.desk.now) c.requires.pool c.requires.fits
+    c.args.direction c.args.envelope c.args.header
     (omega arith) c.send_message.new.pool c.args.slot (message_at c.from-place.result c.args.desk.now.tray)
     (ap (slice_get c.args.desk.now.tray.messages.items) (sym c.from-place.ensures) ∙
-    read_there c.args.desk.now.tray.messages.items c.from-place.result (bodiless []) _ _ c.message.ensures c.in-Some.is) c.send_message.ensures.kept in
+    read_there c.args.desk.now.tray.messages.items c.from-place.result (bodiless []) _ _ c.message.ensures c.in-Some.is)
+    c.send_message.ensures.kept in
     tray_ready g.K.Start.begun c.args.pool.now c.send_message.new.pool c.args.desk.now
-    (also_sent c.args.direction c.args.envelope (Some (sent_behind c.args.direction c.args.header (message_at c.from-place.result c.args.desk.now.tray))) c.args.desk.now.tray) c.send_message.new.self
+    (also_sent c.args.direction c.args.envelope
+    (Some (sent_behind c.args.direction c.args.header (message_at c.from-place.result c.args.desk.now.tray)))
+    c.args.desk.now.tray) c.send_message.new.self
     c.requires c.send_message.ensures.sent step.0 step.1 refl
-    (sent_grows g.K.Start.begun.refs g.K.Start.begun.list c.args.desk.now.first c.args.desk.now.places c.args.desk.now.tray.sent
-    (c.args.direction, pool_event c.args.envelope (Some (sent_behind c.args.direction c.args.header (message_at c.from-place.result c.args.desk.now.tray)))) c.requires.sent)
+    (sent_grows g.K.Start.begun.refs g.K.Start.begun.list c.args.desk.now.first c.args.desk.now.places
+    c.args.desk.now.tray.sent (
+      c.args.direction,
+      pool_event c.args.envelope
+          (Some (sent_behind c.args.direction c.args.header (message_at c.from-place.result c.args.desk.now.tray))),
+    )
+    c.requires.sent)
 
 pub returns-in-Some-clause-shown : goal.returns-in-Some-clause-shown
 returns-in-Some-clause-shown g c =
     let places = ap (λ (l : Layout). l.places) c.requires.layout in
-    ap (λ t. laid c.send_message.new.pool (stock_of (record c.args.desk.now { tray = t }))) c.send_message.ensures.sent ∙
-    (local_fits g.K.Start.begun c.args.pool.now (stock_of c.args.desk.now) c.requires.pool c.requires.fits c.args.direction c.args.envelope c.args.header
+    ap (λ t. laid c.send_message.new.pool (stock_of (record c.args.desk.now { tray = t }))) c.send_message.ensures.sent
+    ∙
+    (local_fits g.K.Start.begun c.args.pool.now (stock_of c.args.desk.now) c.requires.pool c.requires.fits
+    c.args.direction c.args.envelope c.args.header
     (omega arith) c.send_message.new.pool c.args.slot (message_at c.from-place.result c.args.desk.now.tray)
     (ap (slice_get c.args.desk.now.tray.messages.items) (sym c.from-place.ensures) ∙
-    read_there c.args.desk.now.tray.messages.items c.from-place.result (bodiless []) _ _ c.message.ensures c.in-Some.is) c.send_message.ensures.kept).2
+    read_there c.args.desk.now.tray.messages.items c.from-place.result (bodiless []) _ _ c.message.ensures c.in-Some.is)
+    c.send_message.ensures.kept).2

@@ -10,6 +10,8 @@ use Rattle.file_layer.proofs.visits.visit.Goals as goal
 pub take_event-predicted-requires-clause-ready : goal.take_event-predicted-requires-clause-ready
 take_event-predicted-requires-clause-ready c =
     subst (λ e. IsReady (begun_at c.args.pool.now e) c.args.pool.now e) (sym c.begin-direction.ensures.desk)
-    (begins_ready (layer_tree c.args.layer.now) c.args.pool.now c.args.desk.now c.requires.rest (first_sent c.args.events.now.items).1
+    (begins_ready (layer_tree c.args.layer.now) c.args.pool.now c.args.desk.now c.requires.rest
+    (first_sent c.args.events.now.items).1
     (buffer (behind_first c.args.events.now.items) (c.args.events.now.capacity - 1)) (first_way c.args.events.now.items)
-    c.begin-direction.ensures.within c.begin-direction.ensures.few c.requires.event c.requires.out c.requires.covered c.requires.counts)
+    c.begin-direction.ensures.within c.begin-direction.ensures.few c.requires.event c.requires.out c.requires.covered
+    c.requires.counts)

@@ -7,11 +7,14 @@ use Rattle.file_numbers.proofs.Lists.{holds_at, kept_more}
 use Rattle.file_layers.proofs.cell.cells.Goals as goal
 
 pub cell-requires : goal.cell-requires
-cell-requires c = holds_at (HoldsDeclaration (placed_of c.args.place.now)) written.declaration_tree c.args.declarations.now
-    c.loop-declaration.declaration-index c.declaration-item.result c.loop-declaration-test.true c.declaration-item.is c.requires
+cell-requires c = holds_at (HoldsDeclaration (placed_of c.args.place.now)) written.declaration_tree
+    c.args.declarations.now
+    c.loop-declaration.declaration-index c.declaration-item.result c.loop-declaration-test.true c.declaration-item.is
+    c.requires
 
 pub loop-declaration-preserved : goal.loop-declaration-preserved
 loop-declaration-preserved c =
     kept_more written.declaration_tree (spec.cell_in (placed_of c.args.place.now)) cell_tree c.args.declarations.now
     c.loop-declaration.declaration-index c.declaration-item.result c.loop-declaration.all.items _ _
-    c.loop-declaration-test.true c.declaration-item.is c.in_ok-cell.ensures c.loop-declaration.invariant c.in_ok-push_some.ensures
+    c.loop-declaration-test.true c.declaration-item.is c.in_ok-cell.ensures c.loop-declaration.invariant
+    c.in_ok-push_some.ensures

@@ -7,4 +7,6 @@ use Rattle.file_layers.proofs.cell.cells.Given as goal
 
 abbrev pub invariant-loop-declaration : goal.invariant-loop-declaration
 invariant-loop-declaration l =
-    map cell_tree l.all.items ≡ filter_map (spec.cell_in (placed_of l.place)) (map written.declaration_tree (take l.declaration-index l.declarations))
+    map cell_tree l.all.items ≡
+    filter_map (spec.cell_in (placed_of l.place))
+    (map written.declaration_tree (take l.declaration-index l.declarations))

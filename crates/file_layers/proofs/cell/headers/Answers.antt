@@ -10,10 +10,12 @@ use Rattle.file_layers.proofs.cell.headers.Goals as goal
 pub header-requires : goal.header-requires
 header-requires c = few_labels (placed_of c.args._place.now) (written.declaration_tree c.declaration-item.result)
     (holds_at (HoldsDeclaration (placed_of c.args._place.now)) written.declaration_tree c.args.declarations.now
-    c.loop-declaration.declaration-index c.declaration-item.result c.loop-declaration-test.true c.declaration-item.is c.requires)
+    c.loop-declaration.declaration-index c.declaration-item.result c.loop-declaration-test.true c.declaration-item.is
+    c.requires)
 
 pub loop-declaration-preserved : goal.loop-declaration-preserved
 loop-declaration-preserved c =
     kept_more written.declaration_tree spec.header_in header_tree c.args.declarations.now
     c.loop-declaration.declaration-index c.declaration-item.result c.loop-declaration.all.items _ c.header.result
-    c.loop-declaration-test.true c.declaration-item.is c.header.ensures c.loop-declaration.invariant c.in_ok-push_some.ensures
+    c.loop-declaration-test.true c.declaration-item.is c.header.ensures c.loop-declaration.invariant
+    c.in_ok-push_some.ensures

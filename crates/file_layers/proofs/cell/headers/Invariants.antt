@@ -6,4 +6,5 @@ use Rattle.file_layers.proofs.cell.headers.Given as goal
 
 abbrev pub invariant-loop-declaration : goal.invariant-loop-declaration
 invariant-loop-declaration l =
-    map header_tree l.all.items ≡ filter_map spec.header_in (map written.declaration_tree (take l.declaration-index l.declarations))
+    map header_tree l.all.items ≡ filter_map spec.header_in
+    (map written.declaration_tree (take l.declaration-index l.declarations))

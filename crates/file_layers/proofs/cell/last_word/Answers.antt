@@ -8,4 +8,5 @@ pub returns-in-Some : goal.returns-in-Some
 returns-in-Some c =
     ap (option_map (λ (i : ItemTree). i.name.word))
     (last_there written.item_tree c.args.row.now.first c.args.row.now.rest.items c.in-Some.item.now (search rules))
-    ∙ last_map (λ (i : ItemTree). i.name.word) None (written.item_tree c.args.row.now.first ∷ map written.item_tree c.args.row.now.rest.items)
+    ∙ last_map (λ (i : ItemTree). i.name.word) None
+    (written.item_tree c.args.row.now.first ∷ map written.item_tree c.args.row.now.rest.items)

@@ -14,8 +14,11 @@ returns c =
     let items = items_in (written.items_tree c.args.row.now) in
     let carried = c.carried_in-carried.result in
     let has = c.is_some.ensures ∙ (some_map carried_tree carried ∙ ap is_some c.carried_in-carried.ensures) in
-    let numbers = words_are c.in_ok-all.all.items _ items c.in_ok-numbers.numbers.items c.numbers_of-count.result c.len.result
-    c.is_some.result _ c.in_ok-all.ensures (search rules) c.numbers_of-count.ensures has (search rules) c.in_ok-numbers.ensures in
+    let numbers = words_are c.in_ok-all.all.items _ items c.in_ok-numbers.numbers.items c.numbers_of-count.result
+    c.len.result
+    c.is_some.result _ c.in_ok-all.ensures (search rules) c.numbers_of-count.ensures has (search rules)
+    c.in_ok-numbers.ensures in
     let message = c.item_message.ensures
-    ∙ ap (λ (o : Option Carried). option_zip (message_among (is_some o) (map (λ (i : ItemTree). i.name.word) items)) o) c.carried_in-carried.ensures in
+    ∙ ap (λ (o : Option Carried). option_zip (message_among (is_some o) (map (λ (i : ItemTree). i.name.word) items)) o)
+    c.carried_in-carried.ensures in
     λ i. record { numbers = numbers i; message = message i }

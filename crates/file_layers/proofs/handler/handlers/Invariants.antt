@@ -8,5 +8,6 @@ use Rattle.file_layers.proofs.handler.handlers.Given as goal
 
 abbrev pub invariant-loop-h : goal.invariant-loop-h
 invariant-loop-h l =
-    (map handler_tree l.made.items ≡ map (spec.handler_of (placed_of l.place)) (map written.handler_tree (take l.h-index l.all)))
+    (map handler_tree l.made.items ≡
+    map (spec.handler_of (placed_of l.place)) (map written.handler_tree (take l.h-index l.all)))
     × All IsTagged l.made.items

@@ -36,4 +36,10 @@ returns c =
     ∙ (c.in_ok-handlers.ensures.is
     ∙ (ap (λ (l : List rust.Handler). map (handler_of place) (map written.handler_tree l)) c.deref-3.ensures.value
     ∙ ap (λ (l : LayerTree). map (handler_of place) l.handlers) (sym same))) in
-    λ i. record { name = sym (ap (λ (l : LayerTree). l.name.word) same) i; cells = cells i; headers = headers i; handlers = handlers i }
+    λ i. record {
+      name = sym (ap (λ (l : LayerTree). l.name.word) same) i;
+      cells = cells i;
+      headers =
+          headers i;
+      handlers = handlers i;
+    }

@@ -4,4 +4,5 @@ use Rattle.file_numbers.specs.Placed.{words_of}
 use Rattle.file_layers.proofs.layer.own_words.Given as goal
 
 abbrev pub invariant-loop-declaration : goal.invariant-loop-declaration
-invariant-loop-declaration l = l.words ≡ words_of (map written.declaration_tree (take l.declaration-index l.declarations))
+invariant-loop-declaration l = l.words ≡
+    words_of (map written.declaration_tree (take l.declaration-index l.declarations))

@@ -8,19 +8,24 @@ use Rattle.file_layers.proofs.row.take_row.Goals as goal
 -- src/row.rt:195:17
 pub taken_row-requires-clause-numbers : goal.taken_row-requires-clause-numbers
 taken_row-requires-clause-numbers c =
-    row_fits c.args.names.now.numbers.taken c.taken.result c.numbers_of-count.result c.len.result c.has_message-has_message.result _
-    c.in_ok-new.new.items _ c.requires.numbers c.taken.ensures.is c.taken.ensures.few c.has_message-has_message.ensures c.in_ok-new.ensures (search rules)
+    row_fits c.args.names.now.numbers.taken c.taken.result c.numbers_of-count.result c.len.result
+    c.has_message-has_message.result _
+    c.in_ok-new.new.items _ c.requires.numbers c.taken.ensures.is c.taken.ensures.few c.has_message-has_message.ensures
+    c.in_ok-new.ensures (search rules)
     c.numbers_of-count.ensures
 
 -- src/row.rt:196:5
 pub bring_row-requires-clause-numbers : goal.bring_row-requires-clause-numbers
 bring_row-requires-clause-numbers c =
-    numbers_row_fits c.args.names.now.numbers.taken c.taken.result c.has_message-has_message.result _ c.deref.result.now _
-    c.requires.numbers c.taken.ensures.is c.taken.ensures.few c.has_message-has_message.ensures (c.deref.ensures.value ∙ c.in_ok-new.ensures)
+    numbers_row_fits c.args.names.now.numbers.taken c.taken.result c.has_message-has_message.result _ c.deref.result.now
+    _
+    c.requires.numbers c.taken.ensures.is c.taken.ensures.few c.has_message-has_message.ensures
+    (c.deref.ensures.value ∙ c.in_ok-new.ensures)
 
 -- src/row.rt:196:5
 pub bring_row-requires-clause-message : goal.bring_row-requires-clause-message
 bring_row-requires-clause-message c =
     message_row_fits c.args.names.now.messages.taken c.taken-2.result
     (values.queue_carries (names_of c.args.names.now) (written.queue_tree c.args.queue.now))
-    c.has_message-has_message.result c.deref.result.now c.requires.message c.taken-2.ensures.is c.taken-2.ensures.few c.has_message-has_message.ensures
+    c.has_message-has_message.result c.deref.result.now c.requires.message c.taken-2.ensures.is c.taken-2.ensures.few
+    c.has_message-has_message.ensures

@@ -6,14 +6,16 @@ use Rattle.file_layers.proofs.stack.layer_at.Goals as goal
 -- src/stack.rt:27:1
 pub returns-in-Some : goal.returns-in-Some
 returns-in-Some c =
-    let search_in : List Layer → Option Layer = λ l. find (λ (x : Layer). bytes_eq x.name.word c.args.place.now.name.word) l in
+    let search_in : List Layer →
+    Option Layer = λ l. find (λ (x : Layer). bytes_eq x.name.word c.args.place.now.name.word) l in
     layer_found c.args.file.now c.args.place.now c.named.result c.in-Some.layer c.in-Some.is
     (c.named.ensures ∙ ap search_in c.deref.ensures.value)
 
 -- src/stack.rt:27:1
 pub returns-in-None : goal.returns-in-None
 returns-in-None c =
-    let search_in : List Layer → Option Layer = λ l. find (λ (x : Layer). bytes_eq x.name.word c.args.place.now.name.word) l in
+    let search_in : List Layer →
+    Option Layer = λ l. find (λ (x : Layer). bytes_eq x.name.word c.args.place.now.name.word) l in
     layer_called c.args.file.now c.args.place.now c.named.result c.named-in-None.result c.in-None.is
     (c.named.ensures ∙ ap search_in c.deref.ensures.value)
     (c.named-in-None.ensures ∙ ap search_in c.deref-in-None.ensures.value)

@@ -10,5 +10,6 @@ invariant-loop-place l = record {
   count : length l.layers.items ≡ l.place-index;
   layers :
       map rc_tree l.layers.items ≡
-      map (λ x. spec.placed_layer (file_tree l.file) x.0 x.1) (enumerate_from 0 (map place_tree (take l.place-index l.file.places.items)));
+      map (λ x. spec.placed_layer (file_tree l.file) x.0 x.1)
+      (enumerate_from 0 (map place_tree (take l.place-index l.file.places.items)));
 }

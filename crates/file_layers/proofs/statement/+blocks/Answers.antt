@@ -21,7 +21,9 @@ block-returns-clause-names t c =
 
 pub statements-loop-s-preserved : goal.statements-loop-s-preserved
 statements-loop-s-preserved t c =
-    statements_next c.args.all.now c.loop-s.s-index c.s-item.result (names_of c.args.names.now) (names_of c.loop-s.names)
+    statements_next c.args.all.now c.loop-s.s-index c.s-item.result (names_of c.args.names.now)
+    (names_of c.loop-s.names)
     (names_of c.statement.new.names) c.loop-s.made.items _ c.in_ok-statement.field-0 c.loop-s-test.true c.s-item.is
-    c.loop-s.invariant.0 c.loop-s.invariant.1 c.loop-s.invariant.2 c.in_ok-statement.ensures.is c.in_ok-statement.ensures.names
+    c.loop-s.invariant.0 c.loop-s.invariant.1 c.loop-s.invariant.2 c.in_ok-statement.ensures.is
+    c.in_ok-statement.ensures.names
     c.in_ok-push.ensures.items

@@ -9,5 +9,6 @@ use Rattle.file_layers.proofs.statement.+blocks.Given as goal
 abbrev pub invariant-statements-loop-s : goal.invariant-statements-loop-s
 invariant-statements-loop-s l =
     HoldsBlock (spec.statements_of (names_of l.names) (written.statement_trees (drop l.s-index l.all)))
-    × (trees (map statement_tree l.made.items) ≡ spec.statements_of (names_of l.initial.names) (written.statement_trees (take l.s-index l.all)))
+    × (trees (map statement_tree l.made.items) ≡
+    spec.statements_of (names_of l.initial.names) (written.statement_trees (take l.s-index l.all)))
     × (names_of l.names ≡ spec.behind_all (written.statement_trees (take l.s-index l.all)) (names_of l.initial.names))

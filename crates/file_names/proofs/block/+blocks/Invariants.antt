@@ -7,5 +7,6 @@ use Rattle.file_names.proofs.block.+blocks.Given as goal
 
 abbrev pub invariant-statements-loop-s : goal.invariant-statements-loop-s
 invariant-statements-loop-s l =
-    Finds l.initial.found (block_faults (scope_of l.initial.scope) (trees (map statement_tree (take l.s-index l.all)))) l.found
+    Finds l.initial.found (block_faults (scope_of l.initial.scope) (trees (map statement_tree (take l.s-index l.all))))
+    l.found
     × (scope_of l.scope ≡ scope_behind_all (scope_of l.initial.scope) (map statement_tree (take l.s-index l.all)))

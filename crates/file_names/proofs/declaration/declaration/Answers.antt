@@ -2,7 +2,8 @@ use Rattle.std.proofs.Common.{◌++◌, [], flat_map}
 use Rattle.layer_ast.specs.View.{declaration_tree}
 use Rattle.fault_mean.specs.Forms.{items_of, labels_of}
 use Rattle.fault_mean.specs.Limits.{capacity_in}
-use Rattle.fault_mean.specs.NameFaults.{declaration_uses, row_faults, size_faults, too_many_of, twice_among, uses_faults}
+use Rattle.fault_mean.specs.NameFaults.{declaration_uses, row_faults, size_faults, too_many_of, twice_among}
+use Rattle.fault_mean.specs.NameFaults.{uses_faults}
 use Rattle.file_scope.specs.Scope.{scope_of}
 use Rattle.file_names.specs.Found.{name_shown}
 use Rattle.file_scope.proofs.Finds.{finds_both, finds_join}

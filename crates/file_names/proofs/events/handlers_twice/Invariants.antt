@@ -10,5 +10,6 @@ use Rattle.file_names.proofs.events.handlers_twice.Given as goal
 abbrev pub invariant-loop-handler : goal.invariant-loop-handler
 invariant-loop-handler l =
     Finds l.initial.found
-    (map (λ (h : HandlerTree). twice h.at) (repeated same_events [] (map handler_tree (take l.handler-index l.handlers)))) l.found
+    (map (λ (h : HandlerTree). twice h.at)
+    (repeated same_events [] (map handler_tree (take l.handler-index l.handlers)))) l.found
     × IsSeen l.seen (map handler_tree (take l.handler-index l.handlers))

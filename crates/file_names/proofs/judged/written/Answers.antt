@@ -10,14 +10,17 @@ use Rattle.file_names.proofs.judged.written.Goals as goal
 
 pub layer-requires : goal.layer-requires
 layer-requires c =
-    made_at own_words c.args.layers.now c.args.tables.now c.loop-k.k c.index-layers-k.result c.index-tables-k.result c.requires
+    made_at own_words c.args.layers.now c.args.tables.now c.loop-k.k c.index-layers-k.result c.index-tables-k.result
+    c.requires
     (search rules) (search rules) (search rules)
 
 pub loop-k-preserved : goal.loop-k-preserved
 loop-k-preserved c =
     let one = c.in_ok-sizes.ensures in (
-      part_more name_shown layer_tree layer_name_faults c.args.found.now c.loop-k.found c.layer.new.found c.args.layers.now c.loop-k.k
+      part_more name_shown layer_tree layer_name_faults c.args.found.now c.loop-k.found c.layer.new.found
+          c.args.layers.now c.loop-k.k
           c.index-layers-k.result (search rules) (search rules) c.loop-k.invariant.0 one.finds,
-      thing_more sizes_of c.args.layers.now c.loop-k.all.items c.push.new.self.items c.loop-k.k c.index-layers-k.result c.in_ok-sizes.sizes
+      thing_more sizes_of c.args.layers.now c.loop-k.all.items c.push.new.self.items c.loop-k.k c.index-layers-k.result
+          c.in_ok-sizes.sizes
           (search rules) (search rules) c.loop-k.invariant.1 one.sizes c.in_ok-push.ensures.items,
     )

@@ -5,6 +5,7 @@ use Rattle.file_names.proofs.layer.all_names.Goals as goal
 
 pub loop-declaration-preserved : goal.loop-declaration-preserved
 loop-declaration-preserved c =
-    made_more declaration_tree declared_name c.args.declarations.now c.loop-declaration.declaration-index c.declaration-item.result
+    made_more declaration_tree declared_name c.args.declarations.now c.loop-declaration.declaration-index
+    c.declaration-item.result
     c.loop-declaration.all.items _ _ c.loop-declaration-test.true c.declaration-item.is c.declared_name.ensures
     c.loop-declaration.invariant c.in_ok-push.ensures.items

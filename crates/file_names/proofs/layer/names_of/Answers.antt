@@ -12,10 +12,12 @@ loop-declaration-preserved c = elim c.if-is_of.branch [
       rw w.all-is (w.in_ok-push.ensures.items
       ∙ (ap (λ n. c.loop-declaration.all.items ++ n ∷ []) w.declared_name.ensures
       ∙ kept_more declaration_tree (test_of c.args.form) declared_name c.args.declarations.now
-      c.loop-declaration.declaration-index c.declaration-item.result c.loop-declaration.all.items c.loop-declaration-test.true
+      c.loop-declaration.declaration-index c.declaration-item.result c.loop-declaration.all.items
+      c.loop-declaration-test.true
       c.declaration-item.is (sym c.is_of.ensures ∙ w.if-is_of.true) c.loop-declaration.invariant))
   | else-is_of w ↦
       rw w.all-is (passed_over declaration_tree (test_of c.args.form) declared_name c.args.declarations.now
-      c.loop-declaration.declaration-index c.declaration-item.result c.loop-declaration.all.items c.loop-declaration-test.true
+      c.loop-declaration.declaration-index c.declaration-item.result c.loop-declaration.all.items
+      c.loop-declaration-test.true
       c.declaration-item.is (sym c.is_of.ensures ∙ w.if-is_of.false) c.loop-declaration.invariant)
 ]

@@ -6,4 +6,5 @@ use Rattle.file_names.proofs.layer.names_of.Given as goal
 
 abbrev pub invariant-loop-declaration : goal.invariant-loop-declaration
 invariant-loop-declaration l =
-    l.all.items ≡ map declared_name (filter (test_of l.form) (map declaration_tree (take l.declaration-index l.declarations)))
+    l.all.items ≡ map declared_name
+    (filter (test_of l.form) (map declaration_tree (take l.declaration-index l.declarations)))

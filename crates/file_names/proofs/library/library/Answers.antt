@@ -6,10 +6,12 @@ use Rattle.file_names.proofs.library.library.Goals as goal
 
 pub judge-requires : goal.judge-requires
 judge-requires c =
-    made_at own_words c.args.layers.now c.args.tables.now c.loop-k.k c.index-layers-k.result c.index-tables-k.result c.requires
+    made_at own_words c.args.layers.now c.args.tables.now c.loop-k.k c.index-layers-k.result c.index-tables-k.result
+    c.requires
     (search rules) (search rules) (search rules)
 
 pub loop-k-preserved : goal.loop-k-preserved
 loop-k-preserved c =
-    thing_more called_of c.args.layers.now c.loop-k.all.items c.push.new.self.items c.loop-k.k c.index-layers-k.result c.in_ok-one.one
+    thing_more called_of c.args.layers.now c.loop-k.all.items c.push.new.self.items c.loop-k.k c.index-layers-k.result
+    c.in_ok-one.one
     (search rules) (search rules) c.loop-k.invariant c.in_ok-one.ensures c.in_ok-push.ensures.items

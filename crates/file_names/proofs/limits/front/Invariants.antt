@@ -5,4 +5,5 @@ use Rattle.file_names.specs.Rows.{followed_faults}
 use Rattle.file_names.proofs.limits.front.Given as goal
 
 abbrev pub invariant-loop-item : goal.invariant-loop-item
-invariant-loop-item l = Finds l.initial.found (flat_map followed_faults (map item_tree (take l.item-index l.items))) l.found
+invariant-loop-item l = Finds l.initial.found (flat_map followed_faults (map item_tree (take l.item-index l.items)))
+    l.found

@@ -6,4 +6,5 @@ use Rattle.file_names.proofs.limits.numbers.Given as goal
 
 abbrev pub invariant-loop-item : goal.invariant-loop-item
 invariant-loop-item l =
-    l.all.items ≡ map (λ (i : ItemTree). i.name) (filter (λ i. allows a_number i.sort) (map item_tree (take l.item-index l.items)))
+    l.all.items ≡ map (λ (i : ItemTree). i.name)
+    (filter (λ i. allows a_number i.sort) (map item_tree (take l.item-index l.items)))

@@ -9,7 +9,8 @@ pub returns-in_ok-holds : goal.returns-in_ok-holds
 returns-in_ok-holds c =
     let layer = layer_tree c.args.scope.now.layer.now in
     one_for_all name_shown c.args.found.now c.note_unless.new.found (too_many c.args.place.now.name.at)
-    (λ (l : LimitedSize). is_within_at layer (place_tree c.args.place.now) l.size l.most) (sizes_in layer) c.in_ok-holds.holds
+    (λ (l : LimitedSize). is_within_at layer (place_tree c.args.place.now) l.size l.most) (sizes_in layer)
+    c.in_ok-holds.holds
     c.in_ok-holds.ensures c.note_unless.ensures
 
 pub returns-else-not-is_past : goal.returns-else-not-is_past

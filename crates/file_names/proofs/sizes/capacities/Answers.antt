@@ -6,6 +6,7 @@ use Rattle.file_names.proofs.sizes.capacities.Goals as goal
 
 pub loop-declaration-preserved : goal.loop-declaration-preserved
 loop-declaration-preserved c =
-    words_more declaration_tree capacity_words [] c.loop-declaration.words c.note_capacity.new.words c.args.declarations.now
+    words_more declaration_tree capacity_words [] c.loop-declaration.words c.note_capacity.new.words
+    c.args.declarations.now
     c.loop-declaration.declaration-index c.declaration-item.result c.loop-declaration-test.true c.declaration-item.is
     c.loop-declaration.invariant c.in_ok-note_capacity.ensures

@@ -6,5 +6,6 @@ use Rattle.file_names.proofs.tables.given_names.Goals as goal
 
 pub loop-one-preserved : goal.loop-one-preserved
 loop-one-preserved c =
-    made_more given_tree (λ (x : GivenTree). x.name) c.args.given.now c.loop-one.one-index c.one-item.result c.loop-one.names.items _ _
+    made_more given_tree (λ (x : GivenTree). x.name) c.args.given.now c.loop-one.one-index c.one-item.result
+    c.loop-one.names.items _ _
     c.loop-one-test.true c.one-item.is refl c.loop-one.invariant c.in_ok-push.ensures.items

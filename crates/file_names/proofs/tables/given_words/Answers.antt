@@ -6,5 +6,6 @@ use Rattle.file_names.proofs.tables.given_words.Goals as goal
 
 pub loop-one-preserved : goal.loop-one-preserved
 loop-one-preserved c =
-    made_more given_tree (λ (g : GivenTree). g.name.word) c.args.given.now c.loop-one.one-index c.one-item.result c.loop-one.words _ _
+    made_more given_tree (λ (g : GivenTree). g.name.word) c.args.given.now c.loop-one.one-index c.one-item.result
+    c.loop-one.words _ _
     c.loop-one-test.true c.one-item.is refl c.loop-one.invariant c.in_ok-push.ensures.pushed

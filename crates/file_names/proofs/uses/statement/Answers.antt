@@ -17,7 +17,8 @@ returns-in-Set c =
     subst (λ (t : StatementTree). Finds c.args.found.now (flat_map f (statement_uses t)) c.expression-in-Set.new.found)
     (sym (ap statement_tree i.is ∙ set_tree i.at i.cell i.index i.value))
     (finds_both name_shown c.args.found.now c.name.new.found c.expression-in-Set.new.found (f (of_name i.cell))
-    (flat_map f (option_map_or uses (option_map expression_tree i.index) [] ++ uses (expression_tree i.value))) c.name.ensures
+    (flat_map f (option_map_or uses (option_map expression_tree i.index) [] ++ uses (expression_tree i.value)))
+    c.name.ensures
     (finds_row name_shown f c.name.new.found c.optional.new.found c.expression-in-Set.new.found
     (option_map_or uses (option_map expression_tree i.index) []) (uses (expression_tree i.value))
     c.optional.ensures c.expression-in-Set.ensures))
@@ -32,7 +33,8 @@ returns-in-SetSquare c =
     (finds_both name_shown c.args.found.now c.name-in-SetSquare.new.found end (f (of_name i.cell))
     (flat_map f (uses (expression_tree i.row) ++ uses (expression_tree i.column) ++ uses (expression_tree i.value)))
     c.name-in-SetSquare.ensures
-    (finds_three name_shown f c.name-in-SetSquare.new.found c.expression-in-SetSquare.new.found c.expression-in-SetSquare-2.new.found end
+    (finds_three name_shown f c.name-in-SetSquare.new.found c.expression-in-SetSquare.new.found
+    c.expression-in-SetSquare-2.new.found end
     (uses (expression_tree i.row)) (uses (expression_tree i.column)) (uses (expression_tree i.value))
     c.expression-in-SetSquare.ensures c.expression-in-SetSquare-2.ensures c.expression-in-SetSquare-3.ensures))
 
@@ -43,7 +45,8 @@ returns-in-Push c =
     subst (λ (t : StatementTree). Finds c.args.found.now (flat_map f (statement_uses t)) c.arguments.new.found)
     (sym (ap statement_tree i.is ∙ push_tree i.at i.held i.items i.otherwise))
     (finds_row name_shown f c.args.found.now c.queue.new.found c.arguments.new.found
-    (queue_uses (queue_tree i.held)) (arguments_uses (Some (arguments_tree i.items))) c.queue.ensures c.arguments.ensures)
+    (queue_uses (queue_tree i.held)) (arguments_uses (Some (arguments_tree i.items))) c.queue.ensures
+    c.arguments.ensures)
 
 pub returns-in-Each : goal.returns-in-Each
 returns-in-Each c =

@@ -9,5 +9,6 @@ use Rattle.file_names.proofs.value.all_within.Given as goal
 
 abbrev pub invariant-loop-word : goal.invariant-loop-word
 invariant-loop-word l =
-    list_all (λ w. option_map_or (is_within l.most) (param_value (scope_of l.scope).layer (map given_tree l.given) w) true)
+    list_all (λ w. option_map_or (is_within l.most) (param_value (scope_of l.scope).layer (map given_tree l.given) w)
+    true)
     (take l.word-index l.words) ≡ true

@@ -11,13 +11,15 @@ use Rattle.file_names.proofs.value.are_within.Goals as goal
 
 -- whether these words are within a limit, with what a place gives
 abbrev holds : LayerTree → ℕ → List Given → List (List ℕ) → Bool
-holds layer most given = list_all (λ w. option_map_or (is_within most) (param_value layer (map given_tree given) w) true)
+holds layer most given =
+    list_all (λ w. option_map_or (is_within most) (param_value layer (map given_tree given) w) true)
 
 pub returns-then-not-all_within : goal.returns-then-not-all_within
 returns-then-not-all_within c =
     let layer = layer_tree c.args.scope.now.layer.now in
     words_fail layer (place_tree c.args.place.now) c.args.sizes.now c.requires.sizes
-    (sym (ap₂ (holds layer 64) c.as_slice-given.ensures.value c.list.ensures) ∙ (sym c.all_within.ensures ∙ c.if-not-all_within.true))
+    (sym (ap₂ (holds layer 64) c.as_slice-given.ensures.value c.list.ensures) ∙
+    (sym c.all_within.ensures ∙ c.if-not-all_within.true))
 
 pub returns : goal.returns
 returns c =
@@ -25,4 +27,5 @@ returns c =
     c.all_within-2.ensures
     ∙ (ap₂ (holds layer 32) c.as_slice-given.ensures.value c.list-2.ensures
     ∙ words_hold layer (place_tree c.args.place.now) c.args.sizes.now c.requires.sizes
-    (sym (ap₂ (holds layer 64) c.as_slice-given.ensures.value c.list.ensures) ∙ (sym c.all_within.ensures ∙ c.if-not-all_within.false)))
+    (sym (ap₂ (holds layer 64) c.as_slice-given.ensures.value c.list.ensures) ∙
+    (sym c.all_within.ensures ∙ c.if-not-all_within.false)))

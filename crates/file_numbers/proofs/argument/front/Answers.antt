@@ -10,6 +10,9 @@ use Rattle.file_numbers.proofs.argument.front.Goals as goal
 
 pub returns : goal.returns
 returns c =
-    subst (λ (l : List ArgumentTree). IfOk c.each_number.result (λ (all : Vec Expression Global). map expression_tree all.items ≡ map (spec.argument_number (names_of c.args.names.now)) l))
-    (front_more written.argument_tree c.args.arguments.now.first c.args.arguments.now.rest.items _ (search rules) (search rules))
+    subst (λ (l : List ArgumentTree).
+    IfOk c.each_number.result (λ (all : Vec Expression Global). map expression_tree all.items ≡
+    map (spec.argument_number (names_of c.args.names.now)) l))
+    (front_more written.argument_tree c.args.arguments.now.first c.args.arguments.now.rest.items _ (search rules)
+    (search rules))
     c.each_number.ensures

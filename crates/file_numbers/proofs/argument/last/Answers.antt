@@ -6,4 +6,5 @@ use Rattle.file_numbers.proofs.argument.last.Goals as goal
 -- src/argument.rt:38:1
 pub returns-in-Some : goal.returns-in-Some
 returns-in-Some c =
-    last_there written.argument_tree c.args.arguments.now.first c.args.arguments.now.rest.items c.in-Some.argument.now (search rules)
+    last_there written.argument_tree c.args.arguments.now.first c.args.arguments.now.rest.items c.in-Some.argument.now
+    (search rules)

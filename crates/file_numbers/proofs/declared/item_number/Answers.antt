@@ -10,4 +10,5 @@ returns-in-None c =
 -- src/declared.rt:114:1
 pub returns-in-Some : goal.returns-in-Some
 returns-in-Some c =
-    item_there c.args.items.now.first c.args.items.now.rest.items c.args.label.now c.in-Some.k (search rules) (search rules)
+    item_there c.args.items.now.first c.args.items.now.rest.items c.args.label.now c.in-Some.k (search rules)
+    (search rules)

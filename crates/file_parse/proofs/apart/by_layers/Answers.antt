@@ -18,5 +18,6 @@ loop-tokens-preserved c =
 
 pub returns : goal.returns
 returns c =
-    last_part _ _ _ _ _ _ c.loop-tokens.invariant (rw (c.in-Some-4.is, c.deref-2.ensures.value) at c.in_ok-places.ensures)
+    last_part _ _ _ _ _ _ c.loop-tokens.invariant
+    (rw (c.in-Some-4.is, c.deref-2.ensures.value) at c.in_ok-places.ensures)
     (search rules)

@@ -12,7 +12,8 @@ pub returns-in-Err-items-clause-read : goal.returns-in-Err-items-clause-read
 returns-in-Err-items-clause-read c =
     fault_passes print_items items_tree
     (one sign.Of ∷ one sign.LeftParen ∷ a_name ∷ one sign.Colon ∷ a_sort ∷ more_items ∷ one sign.RightParen
-    ∷ one sign.Semicolon ∷ []) c.args.room c.in-Ok-capacity.read.1.now print.declaration declaration_tree (a_declaration ∷ [])
+    ∷ one sign.Semicolon ∷ []) c.args.room c.in-Ok-capacity.read.1.now print.declaration declaration_tree
+    (a_declaration ∷ [])
     c.args.room (c.args.first ∷ c.args.second ∷ c.args.tokens.now) c.in-Err-items.fault c.in-Err-items.ensures
     (λ n refused.
     record {
@@ -20,7 +21,8 @@ returns-in-Err-items-clause-read c =
           let behind =
           one sign.Of ∷ one sign.LeftParen ∷ a_name ∷ one sign.Colon ∷ a_sort ∷ more_items ∷ one sign.RightParen
           ∷ one sign.Semicolon ∷ stack in
-          starts a_declaration c.args.first (token.Sign sign.State) (c.args.second ∷ c.args.tokens.now) c.args.room stack
+          starts a_declaration c.args.first (token.Sign sign.State) (c.args.second ∷ c.args.tokens.now) c.args.room
+          stack
           c.requires.state
           ∙ (starts a_cell c.args.second (token.Sign sign.Queue) c.args.tokens.now c.args.room stack c.requires.word
           ∙ (c.in-Ok.ensures.goes_on c.args.room (one sign.LeftBracket ∷ a_capacity ∷ one sign.RightBracket ∷ behind)

@@ -17,5 +17,6 @@ spelled-requires c = is_library_text c.args.word.now c.in-Some.text.now (search 
 
 pub returns : goal.returns
 returns c =
-    brought _ _ c.in-Some.text.now _ _ _ _ c.in_ok-layer.layer (search rules) (search rules) (search rules) (search rules)
+    brought _ _ c.in-Some.text.now _ _ _ _ c.in_ok-layer.layer (search rules) (search rules) (search rules)
+    (search rules)
     (search rules) (search rules)

@@ -4,4 +4,5 @@ use Rattle.file_parse.proofs.readers.close.Goals as goal
 
 pub returns-then-is_sign : goal.returns-then-is_sign
 returns-then-is_sign c =
-    closing_reads c.args.want c.args.tokens.now c.in-Some.rest.now c.in-Some.first.now c.in-Some.ensures.cases.0 (sym c.if-is_sign.ensures) c.requires
+    closing_reads c.args.want c.args.tokens.now c.in-Some.rest.now c.in-Some.first.now c.in-Some.ensures.cases.0
+    (sym c.if-is_sign.ensures) c.requires

@@ -17,7 +17,8 @@ statements-loop-alloc-preserved t c =
 
 pub take-returns-in-Err-else_block-clause-read : goal.take-returns-in-Err-else_block-clause-read
 take-returns-in-Err-else_block-clause-read t c =
-    fault_passes block_behind_else block_tree (one sign.Else ∷ a_block) c.args.room c.in-Ok-block.read.1.now print.statement
+    fault_passes block_behind_else block_tree (one sign.Else ∷ a_block) c.args.room c.in-Ok-block.read.1.now
+    print.statement
     statement_tree (a_statement ∷ []) c.args.room (c.args.first ∷ c.args.tokens.now) c.in-Err-else_block.fault
     c.in-Err-else_block.ensures
     (λ n refused.
@@ -25,7 +26,8 @@ take-returns-in-Err-else_block-clause-read t c =
       stops = λ stack.
           let behind = one sign.Else ∷ a_block ++ stack in
           starts a_statement c.args.first (token.Sign sign.Take) c.args.tokens.now c.args.room stack c.requires
-          ∙ (c.in-Ok.ensures.goes_on (one sign.LeftParen ∷ a_name ∷ more_names ∷ one sign.RightParen ∷ a_block ++ behind)
+          ∙ (c.in-Ok.ensures.goes_on (one sign.LeftParen ∷ a_name ∷ more_names ∷ one sign.RightParen ∷ a_block ++
+          behind)
           ∙ (c.in-Ok-names_in_parentheses.ensures.goes_on (a_block ++ behind)
           ∙ (c.in-Ok-block.ensures.goes_on behind ∙ refused.stops stack)));
     })

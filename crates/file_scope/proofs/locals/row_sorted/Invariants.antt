@@ -8,4 +8,5 @@ use Rattle.file_scope.proofs.locals.row_sorted.Given as goal
 
 abbrev pub invariant-loop-name : goal.invariant-loop-name
 invariant-loop-name l =
-    locals_of l.all.items ≡ names.locals_as (map (λ (i : ItemTree). i.sort) (items_of (declaration_tree l.d))) (take l.name-index l.names)
+    locals_of l.all.items ≡ names.locals_as (map (λ (i : ItemTree). i.sort) (items_of (declaration_tree l.d)))
+    (take l.name-index l.names)

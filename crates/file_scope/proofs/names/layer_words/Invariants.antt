@@ -4,4 +4,5 @@ use Rattle.layer_ast.specs.View.{layer_tree}
 use Rattle.file_scope.proofs.names.layer_words.Given as goal
 
 abbrev pub invariant-loop-layer : goal.invariant-loop-layer
-invariant-loop-layer l = l.words ≡ map (λ (layer : LayerTree). layer.name.word) (map layer_tree (take l.layer-index l.layers))
+invariant-loop-layer l = l.words ≡
+    map (λ (layer : LayerTree). layer.name.word) (map layer_tree (take l.layer-index l.layers))

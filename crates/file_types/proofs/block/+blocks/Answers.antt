@@ -15,10 +15,12 @@ use Rattle.file_types.proofs.block.+blocks.Goals as goal
 
 pub block-returns : goal.block-returns
 block-returns t c = (
-  subst (λ (l : List Statement). Finds c.args.found.now (block_faults (scope_of c.args.scope.now) (statement_trees l)) c.statements.new.found)
+  subst (λ (l : List Statement). Finds c.args.found.now (block_faults (scope_of c.args.scope.now) (statement_trees l))
+      c.statements.new.found)
       c.deref.ensures.value c.in_ok-statements.ensures.0,
   block_left (scope_of c.args.scope.now) (scope_of c.statements.new.scope) (scope_of c.leave.new.self)
-      (map statement_tree c.deref.result.now) c.len-outer.result c.len-outer.ensures c.in_ok-statements.ensures.1 c.leave.ensures,
+      (map statement_tree c.deref.result.now) c.len-outer.result c.len-outer.ensures c.in_ok-statements.ensures.1
+      c.leave.ensures,
 )
 
 pub inside-returns-in_ok-block-in-Choose-2 : goal.inside-returns-in_ok-block-in-Choose-2
@@ -45,30 +47,36 @@ inside-returns-in_ok-block-in-Take t c =
     (sym (ap statement_tree i.is ∙ take_tree i.at i.queue i.names i.first i.otherwise))
     (take_inner s (scope_of c.with_locals.new.scope) (scope_of c.block-in-Take.new.scope) i.at (queue_tree i.queue)
     (names_tree i.names) (block_tree i.first) (block_tree i.otherwise) (locals_of c.deref.result.now)
-    c.args.found.now c.with_locals.new.found c.block-in-Take.new.found (ap locals_of c.deref.ensures.value ∙ c.in_ok-locals-in-Take.ensures) one.0 one.1 two.0 two.1)
+    c.args.found.now c.with_locals.new.found c.block-in-Take.new.found
+    (ap locals_of c.deref.ensures.value ∙ c.in_ok-locals-in-Take.ensures) one.0 one.1 two.0 two.1)
 
 pub inside-returns-in_ok-push-in-Let : goal.inside-returns-in_ok-push-in-Let
 inside-returns-in_ok-push-in-Let t c =
     let s = scope_of c.args.scope.now in
-    subst (λ (x : StatementTree). Finds c.args.found.now (inner_faults s x) c.args.found.now × (scope_of c.push.new.self ≡ spec.scope_behind s x))
+    subst (λ (x : StatementTree). Finds c.args.found.now (inner_faults s x) c.args.found.now ×
+    (scope_of c.push.new.self ≡ spec.scope_behind s x))
     (sym (ap statement_tree c.in-Let.is ∙ bind_tree _ _ _)) (finds_none type_shown c.args.found.now, search rules)
 
 pub inside-returns-in-Set : goal.inside-returns-in-Set
 inside-returns-in-Set t c =
     let s = scope_of c.args.scope.now in
-    subst (λ (x : StatementTree). Finds c.args.found.now (inner_faults s x) c.args.found.now × (s ≡ spec.scope_behind s x))
+    subst (λ (x : StatementTree). Finds c.args.found.now (inner_faults s x) c.args.found.now ×
+    (s ≡ spec.scope_behind s x))
     (sym (ap statement_tree c.in-Set.is ∙ set_tree _ _ _ _)) (finds_none type_shown c.args.found.now, refl)
 
 pub inside-returns-in-SetSquare : goal.inside-returns-in-SetSquare
 inside-returns-in-SetSquare t c =
     let s = scope_of c.args.scope.now in
-    subst (λ (x : StatementTree). Finds c.args.found.now (inner_faults s x) c.args.found.now × (s ≡ spec.scope_behind s x))
-    (sym (ap statement_tree c.in-SetSquare.is ∙ set_square_tree _ _ _ _ _)) (finds_none type_shown c.args.found.now, refl)
+    subst (λ (x : StatementTree). Finds c.args.found.now (inner_faults s x) c.args.found.now ×
+    (s ≡ spec.scope_behind s x))
+    (sym (ap statement_tree c.in-SetSquare.is ∙ set_square_tree _ _ _ _ _))
+    (finds_none type_shown c.args.found.now, refl)
 
 pub inside-returns-in-Emit : goal.inside-returns-in-Emit
 inside-returns-in-Emit t c =
     let s = scope_of c.args.scope.now in
-    subst (λ (x : StatementTree). Finds c.args.found.now (inner_faults s x) c.args.found.now × (s ≡ spec.scope_behind s x))
+    subst (λ (x : StatementTree). Finds c.args.found.now (inner_faults s x) c.args.found.now ×
+    (s ≡ spec.scope_behind s x))
     (sym (ap statement_tree c.in-Emit.is ∙ emit_tree _ _ _ _ _)) (finds_none type_shown c.args.found.now, refl)
 
 pub one-returns : goal.one-returns
@@ -87,13 +95,15 @@ statements-loop-s-init t c = (finds_none type_shown c.args.found.now, refl)
 pub statements-loop-s-preserved : goal.statements-loop-s-preserved
 statements-loop-s-preserved t c =
     let one = c.in_ok-one.ensures in
-    block_more (scope_of c.args.scope.now) (scope_of c.loop-s.scope) (scope_of c.one.new.scope) c.args.found.now c.loop-s.found
+    block_more (scope_of c.args.scope.now) (scope_of c.loop-s.scope) (scope_of c.one.new.scope) c.args.found.now
+    c.loop-s.found
     c.one.new.found c.args.all.now c.loop-s.s-index c.s-item.result c.loop-s-test.true c.s-item.is
     c.loop-s.invariant.0 c.loop-s.invariant.1 one.0 one.1
 
 pub with_locals-returns : goal.with_locals-returns
 with_locals-returns t c =
     let inner = c.in_ok-block.ensures in
-    with_inner (scope_of c.args.scope.now) (scope_of c.extend.new.self) (scope_of c.block.new.scope) (scope_of c.leave.new.self)
+    with_inner (scope_of c.args.scope.now) (scope_of c.extend.new.self) (scope_of c.block.new.scope)
+    (scope_of c.leave.new.self)
     (locals_of c.args.locals.now) c.len-outer.result (block_tree c.args.b.now)
     c.args.found.now c.block.new.found c.len-outer.ensures c.in_ok-extend.ensures inner.0 inner.1 c.leave.ensures

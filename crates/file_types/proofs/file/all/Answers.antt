@@ -14,10 +14,12 @@ pub returns : goal.returns
 returns c =
     let file = c.args.file.now in
     file_parts (file_tree file) c.args.found.now c.written.new.found c.calls.new.found
-    (subst (λ (l : List Layer). Finds c.args.found.now (flat_map layer_type_faults (map layer_tree l)) c.written.new.found)
+    (subst (λ (l : List Layer). Finds c.args.found.now (flat_map layer_type_faults (map layer_tree l))
+    c.written.new.found)
     c.deref.ensures.value c.in_ok-written.ensures)
     (subst (λ (x : File). Finds c.written.new.found
-    (flat_map (faults_of_judged type_fault_at layer_type_faults) (filter_map (called_at (file_tree x)) (map place_tree file.places.items)))
+    (flat_map (faults_of_judged type_fault_at layer_type_faults)
+    (filter_map (called_at (file_tree x)) (map place_tree file.places.items)))
     c.calls.new.found) c.in_ok-library.ensures
     (subst (λ (l : List Place). Finds c.written.new.found
     (flat_map (faults_of_judged type_fault_at layer_type_faults)

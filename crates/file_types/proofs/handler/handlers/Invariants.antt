@@ -6,4 +6,5 @@ use Rattle.file_types.proofs.handler.handlers.Given as goal
 
 abbrev pub invariant-loop-h : goal.invariant-loop-h
 invariant-loop-h l = Finds l.initial.found
-    (flat_map (handler_type_faults (layer_tree l.layer)) (map handler_tree (take l.h-index l.layer.handlers.items))) l.found
+    (flat_map (handler_type_faults (layer_tree l.layer)) (map handler_tree (take l.h-index l.layer.handlers.items)))
+    l.found

@@ -4,5 +4,6 @@ use Rattle.file_types.specs.Files.{rank_of}
 use Rattle.file_types.proofs.library.ranks.Goals as goal
 
 pub loop-k-preserved : goal.loop-k-preserved
-loop-k-preserved c = thing_more rank_of c.args.layers.now c.loop-k.all.items c.push.new.self.items c.loop-k.k c.index-layers-k.result
+loop-k-preserved c = thing_more rank_of c.args.layers.now c.loop-k.all.items c.push.new.self.items c.loop-k.k
+    c.index-layers-k.result
     c.in_ok-one.one (search rules) (search rules) c.loop-k.invariant c.in_ok-one.ensures c.in_ok-push.ensures.items

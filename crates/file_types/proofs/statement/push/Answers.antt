@@ -17,6 +17,7 @@ returns c =
     finds_both type_shown c.args.found.now c.row.new.found c.row_arguments.new.found _
     (arguments_faults scope (row_sorts scope.layer q) (arguments_in (Some (arguments_tree items))))
     (subst (λ (n : ℕ). Finds c.args.found.now (row_type_faults scope c.args.at q n) c.row.new.found)
-    (ap suc (let e : c.len.result ≡ length items.rest.items = search rules in e) ∙ trees_count argument_tree (argument_tree items.first) items.rest.items)
+    (ap suc (let e : c.len.result ≡ length items.rest.items = search rules in e) ∙
+    trees_count argument_tree (argument_tree items.first) items.rest.items)
     c.row.ensures)
     c.row_arguments.ensures

@@ -6,6 +6,8 @@ use Rattle.file_types.proofs.Assignments.{of_three}
 use Rattle.file_types.proofs.statement.set_square.Goals as goal
 
 pub returns : goal.returns
-returns c = of_three (number_faults (scope_of c.args.scope.now)) c.args.found.now c.note_unless.new.found c.expression.new.found
-    c.expression-2.new.found c.expression-3.new.found _ (expression_tree c.args.row.now) (expression_tree c.args.column.now)
+returns c = of_three (number_faults (scope_of c.args.scope.now)) c.args.found.now c.note_unless.new.found
+    c.expression.new.found
+    c.expression-2.new.found c.expression-3.new.found _ (expression_tree c.args.row.now)
+    (expression_tree c.args.column.now)
     (expression_tree c.args.value.now) (search rules) c.expression.ensures c.expression-2.ensures c.expression-3.ensures

@@ -6,4 +6,5 @@ use Rattle.format_run.proofs.ending.token_line.Goals as goal
 
 pub returns : goal.returns
 returns c = IfOk-weaker c.format.result _ _ (λ line is. is
-    ∙ five_joined (codes "file: token ") (decimal c.args.at.line) (codes ":") (decimal c.args.at.col) (codes "\n")) c.format.ensures.ok
+    ∙ five_joined (codes "file: token ") (decimal c.args.at.line) (codes ":") (decimal c.args.at.col) (codes "\n"))
+    c.format.ensures.ok

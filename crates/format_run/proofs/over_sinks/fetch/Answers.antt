@@ -9,4 +9,8 @@ returns-in-Ok-Whole g c =
 
 pub returns-in-Ok-TooLong : goal.returns-in-Ok-TooLong
 returns-in-Ok-TooLong g c =
-    record { large = rw (c.in-Ok-TooLong.field-0-is, c.from.ensures) at c.in-Ok-TooLong.ensures.answered; sound = search rules }
+    record {
+      large = rw (c.in-Ok-TooLong.field-0-is, c.from.ensures) at c.in-Ok-TooLong.ensures.answered;
+      sound =
+          search rules;
+    }

@@ -9,4 +9,5 @@ of-requires g c = means_sound c.args.file.now (stack_tree c.args.stack) c.requir
 
 pub returns-in-Ok : goal.returns-in-Ok
 returns-in-Ok g c =
-    looked (request_shown c.args.request) c.args.file.now (stack_tree c.args.stack) c.all_runs-made.result c.requires c.all_runs-made.ensures
+    looked (request_shown c.args.request) c.args.file.now (stack_tree c.args.stack) c.all_runs-made.result c.requires
+    c.all_runs-made.ensures

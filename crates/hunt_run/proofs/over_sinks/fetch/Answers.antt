@@ -4,7 +4,8 @@ use Rattle.hunt_run.proofs.Ran.{fetched, unread}
 use Rattle.hunt_run.proofs.over_sinks.fetch.Goals as goal
 
 pub returns-in-Ok : goal.returns-in-Ok
-returns-in-Ok g c = fetched (request_shown c.args.request) _ _ _ c.in-Ok.file.items _ c.in-Ok.ensures (rw c.deref.ensures.value at c.look.ensures)
+returns-in-Ok g c = fetched (request_shown c.args.request) _ _ _ c.in-Ok.file.items _ c.in-Ok.ensures
+    (rw c.deref.ensures.value at c.look.ensures)
 
 pub returns-in-Err : goal.returns-in-Err
 returns-in-Err g c = unread (request_shown c.args.request) _ _ _ (shown c.in-Err.ending) c.in-Err.ensures

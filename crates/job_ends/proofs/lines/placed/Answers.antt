@@ -7,4 +7,5 @@ use Rattle.job_ends.proofs.lines.placed.Goals as goal
 pub returns : goal.returns
 returns c = IfOk-weaker c.format.result _ _ (λ line is. is
     ∙ ap (λ t. codes "file: " ++ t)
-    (six_joined c.args.cause.now (codes " ") (decimal c.args.at.line) (codes ":") (decimal c.args.at.col) (codes "\n"))) c.format.ensures.ok
+    (six_joined c.args.cause.now (codes " ") (decimal c.args.at.line) (codes ":") (decimal c.args.at.col) (codes "\n")))
+    c.format.ensures.ok

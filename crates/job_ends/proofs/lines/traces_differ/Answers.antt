@@ -14,4 +14,5 @@ returns-in-1 c = rw (c.in-1.is, ← c.case_number-case.ensures) (IfOk-weaker c.f
 
 pub returns-in_default : goal.returns-in_default
 returns-in_default c = rw (← c.case_number-case.ensures) (IfOk-weaker c.format-in_default.result _ _ (λ text is. is
-    ∙ plan_line c.args.entry (decimal c.case_number-case.result) (decimal c.args.act) (search rules)) c.format-in_default.ensures.ok)
+    ∙ plan_line c.args.entry (decimal c.case_number-case.result) (decimal c.args.act) (search rules))
+    c.format-in_default.ensures.ok)

@@ -3,4 +3,5 @@ use Rattle.job_ends.proofs.saying.say_file.Goals as goal
 
 pub returns-in-Ok : goal.returns-in-Ok
 returns-in-Ok g c =
-    says_file c.args.error _ (rw (c.as_bytes.ensures.value, c.in-Ok.ensures, c.file_status.ensures) at c.say_line.ensures.said)
+    says_file c.args.error _
+    (rw (c.as_bytes.ensures.value, c.in-Ok.ensures, c.file_status.ensures) at c.say_line.ensures.said)

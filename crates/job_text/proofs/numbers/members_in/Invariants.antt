@@ -7,7 +7,8 @@ use Rattle.job_text.proofs.numbers.members_in.Given as goal
 
 abbrev pub invariant-loop-rest : goal.invariant-loop-rest
 invariant-loop-rest l =
-    with_front l.members.items (spec.members_in (parts_behind 44 l.rest)) ≡ spec.members_in (slice_split (λ byte. byte == 44) l.fn.text)
+    with_front l.members.items (spec.members_in (parts_behind 44 l.rest)) ≡ spec.members_in
+    (slice_split (λ byte. byte == 44) l.fn.text)
 
 abbrev pub decreases-loop-rest : goal.decreases-loop-rest
 decreases-loop-rest l = length (parts_behind 44 l.rest)

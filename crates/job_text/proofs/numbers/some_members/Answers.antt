@@ -7,4 +7,5 @@ pub returns-then-is_ascending-clause-are : goal.returns-then-is_ascending-clause
 returns-then-is_ascending-clause-are c = search rules
 
 pub returns-then-is_ascending-clause-few : goal.returns-then-is_ascending-clause-few
-returns-then-is_ascending-clause-few c = few_members (text c.args.given) (Some c.in-Some-2.members.items) (returns-then-is_ascending-clause-are c)
+returns-then-is_ascending-clause-few c = few_members (text c.args.given) (Some c.in-Some-2.members.items)
+    (returns-then-is_ascending-clause-are c)

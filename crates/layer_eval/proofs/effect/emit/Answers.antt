@@ -8,5 +8,7 @@ pub returns-clause-shown : goal.returns-clause-shown
 returns-clause-shown g c =
     subst (λ event. OnOk c.send.result (g.D.Desk.shown c.send.new.pool c.send.new.desk ≡
     sends c.args.emission.now.direction event (g.D.Desk.shown c.args.pool.now c.args.desk.now)))
-    (c.envelope-envelope.ensures (message_sent c.args.place (emission_tree c.args.emission.now) (g.D.Desk.shown c.args.pool.now c.args.desk.now)))
+    (c.envelope-envelope.ensures
+    (message_sent c.args.place (emission_tree c.args.emission.now)
+    (g.D.Desk.shown c.args.pool.now c.args.desk.now)))
     c.send.ensures.shown

@@ -5,4 +5,5 @@ use Rattle.layer_eval.proofs.value.fill.Given as goal
 
 abbrev pub invariant-loop-expression : goal.invariant-loop-expression
 invariant-loop-expression g l =
-    l.fields ≡ numbers_of (map expression_tree (take l.expression-index l.expression-items)) (g.D.Desk.shown l.pool l.desk)
+    l.fields ≡ numbers_of (map expression_tree (take l.expression-index l.expression-items))
+    (g.D.Desk.shown l.pool l.desk)

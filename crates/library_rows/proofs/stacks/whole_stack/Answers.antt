@@ -23,5 +23,38 @@ pub returns : goal.returns
 unfolding file_of library
 returns c = record {
   spelled = record { good = refl; fits = fits_laid _ _ refl; within = tt; placed = λ none. cc };
-  library = (bottom.spelled, (mnak.spelled, (pt2pt.spelled, (pt2ptw.spelled, (mflow.spelled, (frag.spelled, (collect.spelled, (stable.spelled, (local.spelled, (total.spelled, (suspect.spelled, (elect.spelled, (sync.spelled, (intra.spelled, (top.spelled, tt)))))))))))))));
+  library = (
+    bottom.spelled,
+    (
+      mnak.spelled,
+      (
+        pt2pt.spelled,
+        (
+          pt2ptw.spelled,
+          (
+            mflow.spelled,
+            (
+              frag.spelled,
+              (
+                collect.spelled,
+                (
+                  stable.spelled,
+                  (
+                    local.spelled,
+                    (
+                      total.spelled,
+                      (
+                        suspect.spelled,
+                        (elect.spelled, (sync.spelled, (intra.spelled, (top.spelled, tt)))),
+                      ),
+                    ),
+                  ),
+                ),
+              ),
+            ),
+          ),
+        ),
+      ),
+    ),
+  );
 }

@@ -10,6 +10,7 @@ pub returns-in-Check : goal.returns-in-Check
 returns-in-Check c =
     let texts = c.args.texts in
     subst (λ (words : List ℕ). OnOk c.push_found.result (c.push_found.new.line ≡ c.args.line.now ++ words))
-    (told_text c.args.case (file_tree texts.file.now) (stack_tree texts.stack.now) (plans_tree texts.plans.now) texts.entries.now c.args.entry c.args.lack
+    (told_text c.args.case (file_tree texts.file.now) (stack_tree texts.stack.now) (plans_tree texts.plans.now)
+    texts.entries.now c.args.entry c.args.lack
     c.in-Check.number c.kept_spot.result c.requires.entries c.in-Check.is c.requires.told c.kept_spot.ensures)
     c.push_found.ensures

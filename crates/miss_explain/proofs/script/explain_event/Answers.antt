@@ -13,17 +13,22 @@ use Rattle.miss_explain.proofs.script.explain_event.Goals as goal
 pub write_probed-requires-clause-told : goal.write_probed-requires-clause-told
 write_probed-requires-clause-told g c =
     let texts = c.args.texts in
-    may_be_told (file_tree texts.file.now) (stack_tree texts.stack.now) (plans_tree texts.plans.now) (g.P.Feed.group c.args.probe.now)
-    (g.P.Feed.group c.probe.new.self) c.requires.ready.stack_is c.requires.ready.plans_are c.requires.world.world c.args.event.now c.in-Ok.probed
+    may_be_told (file_tree texts.file.now) (stack_tree texts.stack.now) (plans_tree texts.plans.now)
+    (g.P.Feed.group c.args.probe.now)
+    (g.P.Feed.group c.probe.new.self) c.requires.ready.stack_is c.requires.ready.plans_are c.requires.world.world
+    c.args.event.now c.in-Ok.probed
     (c.in-Ok.ensures.probed c.requires.world.world c.requires.world.stands)
 
 pub returns-in_err-write_probed-in-Ok-clause-told : goal.returns-in_err-write_probed-in-Ok-clause-told
 returns-in_err-write_probed-in-Ok-clause-told g c = λ w stands.
     let texts = c.args.texts in
     let p = err_from_is_err_and c.from_residual.result c.from_residual.ensures.1 in
-    rw (p.1, p.2) (wrote_as (tells_of g.O.Sink c.args.out.now) (tells_of g.O.Sink c.write_probed.new.out) _ _ (Err c.in_err-write_probed-in-Ok.field-0.0)
-    (lines_are (file_tree texts.file.now) (stack_tree texts.stack.now) (plans_tree texts.plans.now) (g.P.Feed.group c.args.probe.now)
-    (g.P.Feed.group c.probe.new.self) c.requires.ready.stack_is c.requires.ready.plans_are w c.args.event.now c.in-Ok.probed
+    rw (p.1, p.2) (wrote_as (tells_of g.O.Sink c.args.out.now) (tells_of g.O.Sink c.write_probed.new.out) _ _
+    (Err c.in_err-write_probed-in-Ok.field-0.0)
+    (lines_are (file_tree texts.file.now) (stack_tree texts.stack.now) (plans_tree texts.plans.now)
+    (g.P.Feed.group c.args.probe.now)
+    (g.P.Feed.group c.probe.new.self) c.requires.ready.stack_is c.requires.ready.plans_are w c.args.event.now
+    c.in-Ok.probed
     (c.in-Ok.ensures.probed w stands) c.args.number c.member_of.result c.member_of.ensures)
     c.in_err-write_probed-in-Ok.ensures)
 
@@ -33,11 +38,13 @@ returns-in-Ok-feed_uncommon-clause-told g c = λ w stands.
     let old = g.P.Feed.group c.args.probe.now in
     let probed = c.in-Ok.ensures.probed w stands in record {
       world = stands_behind (file_tree texts.file.now) (stack_tree texts.stack.now) (plans_tree texts.plans.now) old
-          (g.P.Feed.group c.probe.new.self) c.requires.ready.stack_is c.requires.ready.plans_are w c.args.event.now c.in-Ok.probed probed
+          (g.P.Feed.group c.probe.new.self) c.requires.ready.stack_is c.requires.ready.plans_are w c.args.event.now
+          c.in-Ok.probed probed
           (g.P.Feed.group c.feed_uncommon.new.probe) stands c.in-Ok-feed_uncommon.ensures.follows;
       gained = subst (Gains (tells_of g.O.Sink c.args.out.now) (tells_of g.O.Sink c.write_probed.new.out))
           (lines_are (file_tree texts.file.now) (stack_tree texts.stack.now) (plans_tree texts.plans.now) old
-          (g.P.Feed.group c.probe.new.self) c.requires.ready.stack_is c.requires.ready.plans_are w c.args.event.now c.in-Ok.probed
+          (g.P.Feed.group c.probe.new.self) c.requires.ready.stack_is c.requires.ready.plans_are w c.args.event.now
+          c.in-Ok.probed
           probed c.args.number c.member_of.result c.member_of.ensures)
           c.in_ok-write_probed-in-Ok.ensures;
     }
@@ -46,7 +53,9 @@ pub returns-in-Err-feed_uncommon-clause-told : goal.returns-in-Err-feed_uncommon
 returns-in-Err-feed_uncommon-clause-told g c = λ w stands.
     let texts = c.args.texts in
     begins_all _ _ _ (subst (Gains (tells_of g.O.Sink c.args.out.now) (tells_of g.O.Sink c.write_probed.new.out))
-    (lines_are (file_tree texts.file.now) (stack_tree texts.stack.now) (plans_tree texts.plans.now) (g.P.Feed.group c.args.probe.now)
-    (g.P.Feed.group c.probe.new.self) c.requires.ready.stack_is c.requires.ready.plans_are w c.args.event.now c.in-Ok.probed
+    (lines_are (file_tree texts.file.now) (stack_tree texts.stack.now) (plans_tree texts.plans.now)
+    (g.P.Feed.group c.args.probe.now)
+    (g.P.Feed.group c.probe.new.self) c.requires.ready.stack_is c.requires.ready.plans_are w c.args.event.now
+    c.in-Ok.probed
     (c.in-Ok.ensures.probed w stands) c.args.number c.member_of.result c.member_of.ensures)
     c.in_ok-write_probed-in-Ok.ensures)

@@ -14,7 +14,8 @@ returns-in-Found c =
     let k = c.loop-index.index in
     let lt : k < length visits.items = omega (arith, c.loop-index-test.true, c.len-index-end.ensures, visits.ok) in
     sym (subst (Sought (spot_at c.args.case file stack visits.items k c.index-visit.result.now) _ _) c.in-Found.is
-    (seeks_on c.args.case file stack visits.items k c.index-visit.result.now _ _ _ lt c.index-visit.ensures c.loop-index.invariant c.pass_visit.ensures))
+    (seeks_on c.args.case file stack visits.items k c.index-visit.result.now _ _ _ lt c.index-visit.ensures
+    c.loop-index.invariant c.pass_visit.ensures))
 
 pub loop-index-preserved : goal.loop-index-preserved
 loop-index-preserved c =
@@ -27,10 +28,13 @@ loop-index-preserved c =
     let lt : k < length visits.items = omega (arith, c.loop-index-test.true, c.len-index-end.ensures, visits.ok) in
     subst (Seeks rest sought) (sym c.in_default.is)
     (subst (Sought (spot_at c.args.case file stack visits.items k c.index-visit.result.now) rest sought) c.in_default.is
-    (seeks_on c.args.case file stack visits.items k c.index-visit.result.now _ _ _ lt c.index-visit.ensures c.loop-index.invariant c.pass_visit.ensures))
+    (seeks_on c.args.case file stack visits.items k c.index-visit.result.now _ _ _ lt c.index-visit.ensures
+    c.loop-index.invariant c.pass_visit.ensures))
 
 pub returns : goal.returns
 returns c =
     let visits = c.args.shape.now.visits in
-    let past : length visits.items ≤ c.loop-index.index = omega (arith, c.loop-index-test.false, c.len-index-end.ensures, visits.ok) in
-    seeks_none c.args.case (file_tree c.args.file.now) (stack_tree c.args.stack.now) visits.items c.loop-index.index _ _ past c.loop-index.invariant
+    let past : length visits.items ≤ c.loop-index.index =
+    omega (arith, c.loop-index-test.false, c.len-index-end.ensures, visits.ok) in
+    seeks_none c.args.case (file_tree c.args.file.now) (stack_tree c.args.stack.now) visits.items c.loop-index.index _ _
+    past c.loop-index.invariant

@@ -24,5 +24,6 @@ returns-in-Err-fetch_plan g c = stopped_at_plan (words_of c.args.node.now)
     (around g.S.Shelf g.O.Sink c.args.shelf.now c.fetch_plan.new.shelf c.args.out.now c.args.out.now)
     (beyond g.N.Links g.C.Clock c.args.links.now c.args.links.now c.args.clock.now c.args.clock.now)
     (record { faults = refl; sends = refl; told = refl; clock = refl }) refl
-    (g.S.Shelf.faults c.fetch_stack.new.shelf) (stack_tree c.in-Ok.stack) (shown c.in-Err-fetch_plan.ending) c.in-Ok.ensures.read
+    (g.S.Shelf.faults c.fetch_stack.new.shelf) (stack_tree c.in-Ok.stack) (shown c.in-Err-fetch_plan.ending)
+    c.in-Ok.ensures.read
     (rw c.in-Ok.ensures.kept at c.in-Err-fetch_plan.ensures)

@@ -6,7 +6,8 @@ use Rattle.node_jobs.proofs.Plans.{large_plan}
 use Rattle.node_jobs.proofs.plan.fetch_plan.Goals as goal
 
 pub returns-in-Ok : goal.returns-in-Ok
-returns-in-Ok g c = fetches node_plan IsServable _ _ _ _ c.in-Ok.text.items _ c.in-Ok.ensures.read (rw c.deref.ensures.value at c.judged.ensures)
+returns-in-Ok g c = fetches node_plan IsServable _ _ _ _ c.in-Ok.text.items _ c.in-Ok.ensures.read
+    (rw c.deref.ensures.value at c.judged.ensures)
 
 pub returns-in-Err : goal.returns-in-Err
 returns-in-Err g c = stops_unread node_plan large_plan _ _ _ _ (shown c.in-Err.ending) c.in-Err.ensures.read

@@ -8,4 +8,5 @@ returns-in-Taken-clause-handed g c = rw c.in-Taken.is (c.pass_taken.ensures.hand
 
 pub returns-in-Refused-clause-handed : goal.returns-in-Refused-clause-handed
 returns-in-Refused-clause-handed g c =
-    rw c.in-Refused.is (lines_handled _ _ (_ ∷ []) c.write_refusal.result (omega arith) c.write_refusal.ensures refl refl refl)
+    rw c.in-Refused.is (lines_handled _ _ (_ ∷ []) c.write_refusal.result (omega arith) c.write_refusal.ensures refl
+    refl refl)

@@ -18,8 +18,10 @@ returns-in_err-turn-clause-told g c =
     let behind = now (g.F.Feed.group on.feed) on.desk
     (around g.O.Sink g.N.Links on.out on.links) (g.C.Clock.told on.clock) in
     let p = err_from_is_err_and c.from_residual.result c.from_residual.ensures.1 in
-    rw (p.1, p.2) (turn_not stack plans course c.args.patience start (g.N.Links.listening c.args.links.now) c.loop-t.t c.loop-t.progress on.progress at behind
-    (g.N.Links.listening c.loop-t.links) (g.N.Links.listening on.links) c.loop-t.invariant c.in_err-turn.field-0.0 c.loop-t-test.true
+    rw (p.1, p.2) (turn_not stack plans course c.args.patience start (g.N.Links.listening c.args.links.now) c.loop-t.t
+    c.loop-t.progress on.progress at behind
+    (g.N.Links.listening c.loop-t.links) (g.N.Links.listening on.links) c.loop-t.invariant c.in_err-turn.field-0.0
+    c.loop-t-test.true
     c.in_err-turn.ensures.told)
 
 pub loop-t-preserved : goal.loop-t-preserved
@@ -34,9 +36,12 @@ loop-t-preserved g c =
     let on = c.turn.new in
     let behind = now (g.F.Feed.group on.feed) on.desk
     (around g.O.Sink g.N.Links on.out on.links) (g.C.Clock.told on.clock) in
-    turn_so stack plans course c.args.patience start (g.N.Links.listening c.args.links.now) c.loop-t.t c.loop-t.progress on.progress at behind
-    (g.N.Links.listening c.loop-t.links) (g.N.Links.listening on.links) c.loop-t.invariant c.in_ok-turn.ensures.told c.in_ok-turn.ensures.rests
-    c.in_ok-turn.ensures.passed c.in_ok-turn.ensures.due c.in_ok-turn.ensures.within c.in_ok-turn.ensures.few c.in_ok-turn.ensures.listening
+    turn_so stack plans course c.args.patience start (g.N.Links.listening c.args.links.now) c.loop-t.t c.loop-t.progress
+    on.progress at behind
+    (g.N.Links.listening c.loop-t.links) (g.N.Links.listening on.links) c.loop-t.invariant c.in_ok-turn.ensures.told
+    c.in_ok-turn.ensures.rests
+    c.in_ok-turn.ensures.passed c.in_ok-turn.ensures.due c.in_ok-turn.ensures.within
+    c.in_ok-turn.ensures.few c.in_ok-turn.ensures.listening
 
 pub returns-clause-told : goal.returns-clause-told
 returns-clause-told g c =
@@ -47,5 +52,6 @@ returns-clause-told g c =
     (around g.O.Sink g.N.Links c.args.out.now c.args.links.now) (g.C.Clock.told c.args.clock.now) in
     let at = now (g.F.Feed.group c.loop-t.feed) c.loop-t.desk
     (around g.O.Sink g.N.Links c.loop-t.out c.loop-t.links) (g.C.Clock.told c.loop-t.clock) in
-    turns_made stack plans course c.args.patience start (g.N.Links.listening c.args.links.now) c.loop-t.t c.loop-t.progress at
+    turns_made stack plans course c.args.patience start (g.N.Links.listening c.args.links.now) c.loop-t.t
+    c.loop-t.progress at
     (g.N.Links.listening c.loop-t.links) (omega (arith, c.loop-t-test.false, c.loop-t.auto.t-end)) c.loop-t.invariant

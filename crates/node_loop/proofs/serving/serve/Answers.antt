@@ -10,29 +10,36 @@ use Rattle.node_loop.specs.Around.{around, surrounding}
 use Rattle.node_loop.specs.Course.{now, plans_in, stack_in}
 use Rattle.node_loop.specs.Listening.{ListensAll}
 use Rattle.node_loop.specs.Serve.{Serves, whereabouts}
-use Rattle.node_loop.proofs.Ends.{all_served, made_first, not_all_listen, not_all_made, not_begun, reached, rests_first, up_first}
+use Rattle.node_loop.proofs.Ends.{all_served, made_first, not_all_listen, not_all_made, not_begun, reached, rests_first}
+use Rattle.node_loop.proofs.Ends.{up_first}
 use Rattle.node_loop.proofs.serving.serve.Goals as goal
 
 pub returns-in-Err : goal.returns-in-Err
 returns-in-Err g c =
-    not_begun (stack_in c.args.course) c.args.course.plan.now c.args.course.me.now c.args.course.turns c.args.patience (g.F.Feed.group c.args.feed.now).mode c.stopped_goes_on.ensures
+    not_begun (stack_in c.args.course) c.args.course.plan.now c.args.course.me.now c.args.course.turns c.args.patience
+    (g.F.Feed.group c.args.feed.now).mode c.stopped_goes_on.ensures
     (whereabouts (around g.O.Sink g.N.Links c.args.out.now c.args.links.now) (g.C.Clock.told c.args.clock.now))
 
 pub listen_all-requires-clause-members : goal.listen_all-requires-clause-members
 listen_all-requires-clause-members g c =
-    subst (λ peers. AllByRecursion (λ id. id < length peers) c.args.course.me.now) (sym c.slice.ensures) c.requires.members
+    subst (λ peers. AllByRecursion (λ id. id < length peers) c.args.course.me.now) (sym c.slice.ensures)
+    c.requires.members
 
 pub returns-in_err-listen_all : goal.returns-in_err-listen_all
 returns-in_err-listen_all g c =
     let p = err_from_is_err_and c.from_residual.result c.from_residual.ensures.1 in
     let links = c.args.links.now in
     let listening = c.listen_all.new.links in
-    rw (p.1, p.2) (not_all_listen (stack_in c.args.course) c.args.course.plan.now c.args.course.me.now c.args.course.turns c.args.patience
+    rw (p.1, p.2) (not_all_listen (stack_in c.args.course) c.args.course.plan.now c.args.course.me.now
+    c.args.course.turns c.args.patience
     (g.F.Feed.group c.args.feed.now).mode c.stopped_goes_on.ensures (tells_of g.O.Sink c.args.out.now)
-    (g.C.Clock.told c.args.clock.now) (g.N.Links.faults links) (g.N.Links.faults listening) (g.N.Links.send_faults links) (g.N.Links.send_faults listening)
+    (g.C.Clock.told c.args.clock.now) (g.N.Links.faults links) (g.N.Links.faults listening)
+    (g.N.Links.send_faults links) (g.N.Links.send_faults listening)
     (g.N.Links.told links) (g.N.Links.told listening) c.in_err-listen_all.field-0.0
-    (subst (λ peers. ListensAll peers c.args.course.me.now (g.N.Links.faults links) (g.N.Links.faults listening) (g.N.Links.told links)
-    (g.N.Links.told listening) (Err c.in_err-listen_all.field-0.0)) c.slice.ensures c.in_err-listen_all.ensures.told) c.in_err-listen_all.ensures.sends)
+    (subst (λ peers. ListensAll peers c.args.course.me.now (g.N.Links.faults links) (g.N.Links.faults listening)
+    (g.N.Links.told links)
+    (g.N.Links.told listening) (Err c.in_err-listen_all.field-0.0)) c.slice.ensures c.in_err-listen_all.ensures.told)
+    c.in_err-listen_all.ensures.sends)
 
 pub make_turns-requires-clause-up : goal.make_turns-requires-clause-up
 make_turns-requires-clause-up g c =
@@ -45,11 +52,15 @@ make_turns-requires-clause-up g c =
     let group = g.F.Feed.group c.args.feed.now in
     let mode = group.mode in
     let desk = c.in-Ok.desk in
-    up_first stack plan me turns patience mode plans group desk (g.N.Links.listening c.listen_all.new.links) c.requires.typed
+    up_first stack plan me turns patience mode plans group desk (g.N.Links.listening c.listen_all.new.links)
+    c.requires.typed
     (subst AreNumbered (sym c.requires.plans) (plans_are_numbered stack c.requires.typed))
-    (rests_first stack plan me turns patience mode plans group desk c.requires.typed c.number_fits.ensures c.number_fits-2.ensures c.requires.few_peers
-    refl c.requires.stack c.requires.group_plans c.requires.group (rw (c.deref.ensures, c.stack.ensures) at c.in-Ok.ensures.places)) c.requires.members
-    (subst (λ peers. AllByRecursion (λ id. g.N.Links.listening c.listen_all.new.links id ≡ Some (length peers)) me) c.slice.ensures
+    (rests_first stack plan me turns patience mode plans group desk c.requires.typed c.number_fits.ensures
+    c.number_fits-2.ensures c.requires.few_peers
+    refl c.requires.stack c.requires.group_plans c.requires.group
+    (rw (c.deref.ensures, c.stack.ensures) at c.in-Ok.ensures.places)) c.requires.members
+    (subst (λ peers. AllByRecursion (λ id. g.N.Links.listening c.listen_all.new.links id ≡ Some (length peers)) me)
+    c.slice.ensures
     c.in_ok-listen_all.ensures.listening)
 
 pub returns-in_err-make_turns : goal.returns-in_err-make_turns
@@ -73,15 +84,21 @@ returns-in_err-make_turns g c =
     let at = now (g.F.Feed.group on.feed) on.desk
     (around g.O.Sink g.N.Links on.out on.links) (g.C.Clock.told on.clock) in
     let p = err_from_is_err_and c.from_residual-in_err-make_turns.result c.from_residual-in_err-make_turns.ensures.1 in
-    rw (p.1, p.2) (not_all_made stack plan me turns patience mode c.stopped_goes_on.ensures (whereabouts before clock) from
-    (reached before.output plan.peers me (g.N.Links.faults links) (g.N.Links.faults listening) (g.N.Links.send_faults links) (g.N.Links.send_faults listening)
+    rw (p.1, p.2) (not_all_made stack plan me turns patience mode c.stopped_goes_on.ensures (whereabouts before clock)
+    from
+    (reached before.output plan.peers me (g.N.Links.faults links) (g.N.Links.faults listening)
+    (g.N.Links.send_faults links) (g.N.Links.send_faults listening)
     (g.N.Links.told links) (g.N.Links.told listening)
     (subst (λ peers. ListensAll peers me (g.N.Links.faults links) (g.N.Links.faults listening) (g.N.Links.told links)
-    (g.N.Links.told listening) (Ok tt)) c.slice.ensures c.in_ok-listen_all.ensures.told) c.in_ok-listen_all.ensures.sends) at
+    (g.N.Links.told listening) (Ok tt)) c.slice.ensures c.in_ok-listen_all.ensures.told)
+    c.in_ok-listen_all.ensures.sends) at
     c.in_err-make_turns.field-0.0
     (made_first stack plan me turns patience mode plans group desk
-    (rests_first stack plan me turns patience mode plans group desk c.requires.typed c.number_fits.ensures c.number_fits-2.ensures c.requires.few_peers
-    refl c.requires.stack c.requires.group_plans c.requires.group (rw (c.deref.ensures, c.stack.ensures) at c.in-Ok.ensures.places)) c.in-Ok.ensures.none c.requires.plans from clock at
+    (rests_first stack plan me turns patience mode plans group desk c.requires.typed c.number_fits.ensures
+    c.number_fits-2.ensures c.requires.few_peers
+    refl c.requires.stack c.requires.group_plans c.requires.group
+    (rw (c.deref.ensures, c.stack.ensures) at c.in-Ok.ensures.places)) c.in-Ok.ensures.none c.requires.plans from
+    clock at
     (Err c.in_err-make_turns.field-0.0) c.in_err-make_turns.ensures.told))
 
 pub returns : goal.returns
@@ -105,15 +122,21 @@ returns g c =
     let at = now (g.F.Feed.group on.feed) on.desk
     (around g.O.Sink g.N.Links on.out on.links) (g.C.Clock.told on.clock) in
     let last = tells_of g.O.Sink c.write_end.new.out in
-    subst (Serves (record { stack = stack; plan = plan; words = node_words turns me patience mode }) (whereabouts before clock)
+    subst (Serves (record { stack = stack; plan = plan; words = node_words turns me patience mode })
+    (whereabouts before clock)
     (whereabouts (surrounding last at.around.faults at.around.sends at.around.told) at.clock)) (sym c.cut.ensures)
     (all_served stack plan me turns patience mode c.stopped_goes_on.ensures (whereabouts before clock) from
-    (reached before.output plan.peers me (g.N.Links.faults links) (g.N.Links.faults listening) (g.N.Links.send_faults links) (g.N.Links.send_faults listening)
+    (reached before.output plan.peers me (g.N.Links.faults links) (g.N.Links.faults listening)
+    (g.N.Links.send_faults links) (g.N.Links.send_faults listening)
     (g.N.Links.told links) (g.N.Links.told listening)
     (subst (λ peers. ListensAll peers me (g.N.Links.faults links) (g.N.Links.faults listening) (g.N.Links.told links)
-    (g.N.Links.told listening) (Ok tt)) c.slice.ensures c.in_ok-listen_all.ensures.told) c.in_ok-listen_all.ensures.sends) at
+    (g.N.Links.told listening) (Ok tt)) c.slice.ensures c.in_ok-listen_all.ensures.told)
+    c.in_ok-listen_all.ensures.sends) at
     (made_first stack plan me turns patience mode plans group desk
-    (rests_first stack plan me turns patience mode plans group desk c.requires.typed c.number_fits.ensures c.number_fits-2.ensures c.requires.few_peers
-    refl c.requires.stack c.requires.group_plans c.requires.group (rw (c.deref.ensures, c.stack.ensures) at c.in-Ok.ensures.places)) c.in-Ok.ensures.none c.requires.plans from clock at (Ok tt)
+    (rests_first stack plan me turns patience mode plans group desk c.requires.typed c.number_fits.ensures
+    c.number_fits-2.ensures c.requires.few_peers
+    refl c.requires.stack c.requires.group_plans c.requires.group
+    (rw (c.deref.ensures, c.stack.ensures) at c.in-Ok.ensures.places)) c.in-Ok.ensures.none c.requires.plans from
+    clock at (Ok tt)
     c.in_ok-make_turns.ensures.told)
     last c.write_end.result c.write_end.ensures)

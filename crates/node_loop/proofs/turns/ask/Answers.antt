@@ -12,29 +12,35 @@ returns-in-Ok-Some-clause-told g c =
     let told : FedOn (stack_in c.args.course) (plans_in c.args.course)
     (Raw c.args.id (take _ (with_items c.args.desk.now.room c.recv.new.into).items))
     (g.F.Feed.group c.args.feed.now) (g.F.Feed.group c.feed_datagram.new.feed)
-    (record c.args.desk.now { room = with_items c.args.desk.now.room c.recv.new.into; room_size = _ }) c.feed_datagram.new.desk
-    (around g.O.Sink g.N.Links c.args.out.now c.recv.new.self) (around g.O.Sink g.N.Links c.feed_datagram.new.out c.feed_datagram.new.links)
+    (record c.args.desk.now { room = with_items c.args.desk.now.room c.recv.new.into; room_size = _ })
+    c.feed_datagram.new.desk
+    (around g.O.Sink g.N.Links c.args.out.now c.recv.new.self)
+    (around g.O.Sink g.N.Links c.feed_datagram.new.out c.feed_datagram.new.links)
     c.feed_datagram.result = c.feed_datagram.ensures.told in
     rw c.cut.ensures
-    (came (stack_in c.args.course) (plans_in c.args.course) c.args.id c.args.patience.now (g.F.Feed.group c.args.feed.now) c.args.desk.now _
+    (came (stack_in c.args.course) (plans_in c.args.course) c.args.id c.args.patience.now
+    (g.F.Feed.group c.args.feed.now) c.args.desk.now _
     (take c.in-Ok-Some.count c.recv.new.into) _ (g.F.Feed.group c.feed_datagram.new.feed) _
     c.feed_datagram.new.desk _ _ c.feed_datagram.result
     (record { outputs = refl; events = refl })
-    (met_came c.args.id c.recv.new.into _ _ refl c.recv.ensures.sends c.in-Ok-Some.count c.in-Ok-Some.field-0 c.in-Ok-Some.field-0-is
+    (met_came c.args.id c.recv.new.into _ _ refl c.recv.ensures.sends c.in-Ok-Some.count c.in-Ok-Some.field-0
+    c.in-Ok-Some.field-0-is
     c.in-Ok-Some.ensures.counted c.in-Ok-Some.ensures.told)
     (ap₂ take c.in-Ok-Some.count-is (with_items_is c.args.desk.now.room c.recv.new.into (search rules)))
     told)
 
 pub returns-in-Ok-Some-clause-rests : goal.returns-in-Ok-Some-clause-rests
 returns-in-Ok-Some-clause-rests g c =
-    rw c.cut.ensures (on_ok _ c.feed_datagram.result (again_on (stack_in c.args.course) (plans_in c.args.course) _ _ _ _ _ c.feed_datagram.result
+    rw c.cut.ensures (on_ok _ c.feed_datagram.result
+    (again_on (stack_in c.args.course) (plans_in c.args.course) _ _ _ _ _ c.feed_datagram.result
     (record { outputs = refl; events = refl }) c.feed_datagram.ensures.rests))
 
 pub returns-in-Ok-None-clause-told : goal.returns-in-Ok-None-clause-told
 returns-in-Ok-None-clause-told g c =
     quiet (stack_in c.args.course) (plans_in c.args.course) c.args.id c.args.patience.now _ _ _ _ _
     (record { outputs = refl; events = refl })
-    (met_quiet c.args.id c.recv.new.into _ _ refl c.recv.ensures.sends c.in-Ok-None.field-0 c.in-Ok-None.field-0-is c.in-Ok-None.ensures.counted
+    (met_quiet c.args.id c.recv.new.into _ _ refl c.recv.ensures.sends c.in-Ok-None.field-0 c.in-Ok-None.field-0-is
+    c.in-Ok-None.ensures.counted
     c.in-Ok-None.ensures.told)
 
 pub returns-in-Err-Failed-clause-told : goal.returns-in-Err-Failed-clause-told
@@ -42,7 +48,8 @@ returns-in-Err-Failed-clause-told g c =
     failed (stack_in c.args.course) (plans_in c.args.course) c.args.id _ _ _ _
     (around g.O.Sink g.N.Links c.args.out.now c.recv.new.self) _
     (record { outputs = refl; events = refl })
-    (met_broke c.args.id c.recv.new.into _ _ refl c.recv.ensures.sends c.in-Err-Failed.field-0 c.in-Err-Failed.field-0-is c.in-Err-Failed.ensures.counted
+    (met_broke c.args.id c.recv.new.into _ _ refl c.recv.ensures.sends c.in-Err-Failed.field-0
+    c.in-Err-Failed.field-0-is c.in-Err-Failed.ensures.counted
     c.in-Err-Failed.ensures.told)
     refl refl refl c.args.patience.now c.bear.new.patience c.bear.result c.bear.ensures
 

@@ -10,5 +10,7 @@ returns-in-Err-clause-told g c c' b moments answers borne rest clock within so =
 
 pub returns-clause-told : goal.returns-clause-told
 returns-clause-told g c =
-    of_bytes (stack_in c.args.course) (plans_in c.args.course) c.args.id (take c.args.count c.args.desk.now.room.items) _ _ _ _ _ _ _ c.feed_on.result
-    (c.of.ensures ∙ c.in-Ok.ensures.items_if_clones_equal (λ x y same. same) ∙ ap (take c.args.count) c.deref.ensures.value) c.feed_on.ensures.told
+    of_bytes (stack_in c.args.course) (plans_in c.args.course) c.args.id (take c.args.count c.args.desk.now.room.items)
+    _ _ _ _ _ _ _ c.feed_on.result
+    (c.of.ensures ∙ c.in-Ok.ensures.items_if_clones_equal (λ x y same. same) ∙
+    ap (take c.args.count) c.deref.ensures.value) c.feed_on.ensures.told

@@ -4,6 +4,7 @@ use Rattle.node_loop.proofs.Turning.{Ticked}
 use Rattle.node_loop.proofs.turns.tick_all.Given as goal
 
 abbrev pub invariant-loop-id : goal.invariant-loop-id
-invariant-loop-id g l = Ticked (stack_in l.course) (plans_in l.course) l.moment l.course.me.now l.id-index (g.F.Feed.group l.initial.feed) (g.F.Feed.group l.feed) l.initial.desk l.desk
+invariant-loop-id g l = Ticked (stack_in l.course) (plans_in l.course) l.moment l.course.me.now l.id-index
+    (g.F.Feed.group l.initial.feed) (g.F.Feed.group l.feed) l.initial.desk l.desk
     (around g.O.Sink g.N.Links l.initial.out l.initial.links) (around g.O.Sink g.N.Links l.out l.links)
     (g.N.Links.listening l.initial.links) (g.N.Links.listening l.links)

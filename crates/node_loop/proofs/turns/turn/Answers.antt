@@ -19,16 +19,21 @@ pub returns-in_err-cut-clause-told : goal.returns-in_err-cut-clause-told
 returns-in_err-cut-clause-told g c =
     let p = err_from_is_err_and c.from_residual.result c.from_residual.ensures.1 in
     rw (p.1, p.2) (λ b borne sum so.
-    ticks_end (stack_in c.args.course) (plans_in c.args.course) (course_of c.args.course) b c.args.progress.now.turn c.requires.turns c.args.progress.now.patience
-    borne c.now-moment.result sum (g.F.Feed.group c.args.feed.now) (g.F.Feed.group c.tick_all.new.feed) c.args.desk.now c.tick_all.new.desk _ _
-    (g.C.Clock.told c.args.clock.now) (g.C.Clock.told c.now-moment.new.self) c.now-moment.ensures.moment c.now-moment.ensures.kept so
+    ticks_end (stack_in c.args.course) (plans_in c.args.course) (course_of c.args.course) b c.args.progress.now.turn
+    c.requires.turns c.args.progress.now.patience
+    borne c.now-moment.result sum (g.F.Feed.group c.args.feed.now) (g.F.Feed.group c.tick_all.new.feed) c.args.desk.now
+    c.tick_all.new.desk _ _
+    (g.C.Clock.told c.args.clock.now) (g.C.Clock.told c.now-moment.new.self) c.now-moment.ensures.moment
+    c.now-moment.ensures.kept so
     c.args.progress.now.patience c.tick_all.result _ (sym c.cut.ensures ∙ c.in_err-cut.was)
-    (λ m k borne clock within so. c.tick_all.ensures.told (course_of c.args.course) b m k c.args.progress.now.turn c.args.progress.now.patience borne clock within so))
+    (λ m k borne clock within so. c.tick_all.ensures.told (course_of c.args.course) b m k c.args.progress.now.turn
+    c.args.progress.now.patience borne clock within so))
 
 pub ask_all-requires-clause-up : goal.ask_all-requires-clause-up
 ask_all-requires-clause-up g c =
     up_on (stack_in c.args.course) (plans_in c.args.course) _ _ _ _ _ _ c.args.course.me.now c.requires.up
-    (on_well _ c.tick_all.result _ (sym c.cut.ensures ∙ c.in_ok-cut.was) c.tick_all.ensures.rests) c.tick_all.ensures.listening
+    (on_well _ c.tick_all.result _ (sym c.cut.ensures ∙ c.in_ok-cut.was) c.tick_all.ensures.rests)
+    c.tick_all.ensures.listening
 
 pub ask_all-requires-clause-few : goal.ask_all-requires-clause-few
 ask_all-requires-clause-few g c =
@@ -45,21 +50,30 @@ pub returns-in_err-ask_all-clause-told : goal.returns-in_err-ask_all-clause-told
 returns-in_err-ask_all-clause-told g c =
     let p = err_from_is_err_and c.from_residual-in_err-ask_all.result c.from_residual-in_err-ask_all.ensures.1 in
     rw (p.1, p.2) (λ b borne sum so.
-    asks_end (stack_in c.args.course) (plans_in c.args.course) (course_of c.args.course) b c.args.progress.now.turn c.requires.turns c.args.progress.now.patience
-    borne c.now-moment.result sum (g.F.Feed.group c.args.feed.now) (g.F.Feed.group c.tick_all.new.feed) c.args.desk.now c.tick_all.new.desk _ _
-    (g.C.Clock.told c.args.clock.now) (g.C.Clock.told c.now-moment.new.self) c.now-moment.ensures.moment c.now-moment.ensures.kept so
-    (subst (TickedOn (stack_in c.args.course) (plans_in c.args.course) (course_of c.args.course) b c.args.progress.now.turn c.requires.turns c.now-moment.result
-    c.args.progress.now.patience (g.F.Feed.group c.args.feed.now) (g.F.Feed.group c.tick_all.new.feed) c.args.desk.now c.tick_all.new.desk _ _)
+    asks_end (stack_in c.args.course) (plans_in c.args.course) (course_of c.args.course) b c.args.progress.now.turn
+    c.requires.turns c.args.progress.now.patience
+    borne c.now-moment.result sum (g.F.Feed.group c.args.feed.now) (g.F.Feed.group c.tick_all.new.feed) c.args.desk.now
+    c.tick_all.new.desk _ _
+    (g.C.Clock.told c.args.clock.now) (g.C.Clock.told c.now-moment.new.self) c.now-moment.ensures.moment
+    c.now-moment.ensures.kept so
+    (subst (TickedOn (stack_in c.args.course) (plans_in c.args.course) (course_of c.args.course) b
+    c.args.progress.now.turn c.requires.turns c.now-moment.result
+    c.args.progress.now.patience (g.F.Feed.group c.args.feed.now) (g.F.Feed.group c.tick_all.new.feed) c.args.desk.now
+    c.tick_all.new.desk _ _)
     (well c.tick_all.result _ (sym c.cut.ensures ∙ c.in_ok-cut.was))
-    (λ m k borne clock within so. c.tick_all.ensures.told (course_of c.args.course) b m k c.args.progress.now.turn c.args.progress.now.patience borne clock within so))
+    (λ m k borne clock within so. c.tick_all.ensures.told (course_of c.args.course) b m k c.args.progress.now.turn
+    c.args.progress.now.patience borne clock within so))
     c.ask_all.new.patience (g.F.Feed.group c.ask_all.new.feed) c.ask_all.new.desk _ _
     (λ c' b m k t borne clock sum within so. c.in_err-ask_all.ensures.told c' b m k t borne clock sum within so))
 
 pub feed_planned-requires-clause-up : goal.feed_planned-requires-clause-up
 feed_planned-requires-clause-up g c =
-    up_on (stack_in c.args.course) (plans_in c.args.course) (g.F.Feed.group c.args.feed.now) _ c.args.desk.now _ _ _ c.args.course.me.now c.requires.up
-    (again_then (stack_in c.args.course) (plans_in c.args.course) _ (g.F.Feed.group c.tick_all.new.feed) _ _ c.tick_all.new.desk _
-    (on_well _ c.tick_all.result _ (sym c.cut.ensures ∙ c.in_ok-cut.was) c.tick_all.ensures.rests) c.in_ok-ask_all.ensures.rests) (λ m. c.ask_all.ensures.listening m ∙ c.tick_all.ensures.listening m)
+    up_on (stack_in c.args.course) (plans_in c.args.course) (g.F.Feed.group c.args.feed.now) _ c.args.desk.now _ _ _
+    c.args.course.me.now c.requires.up
+    (again_then (stack_in c.args.course) (plans_in c.args.course) _ (g.F.Feed.group c.tick_all.new.feed) _ _
+    c.tick_all.new.desk _
+    (on_well _ c.tick_all.result _ (sym c.cut.ensures ∙ c.in_ok-cut.was) c.tick_all.ensures.rests)
+    c.in_ok-ask_all.ensures.rests) (λ m. c.ask_all.ensures.listening m ∙ c.tick_all.ensures.listening m)
 
 pub feed_planned-requires-clause-few : goal.feed_planned-requires-clause-few
 feed_planned-requires-clause-few g c =
@@ -75,20 +89,30 @@ feed_planned-requires-clause-few g c =
 
 pub returns-clause-rests : goal.returns-clause-rests
 returns-clause-rests g c = rw c.cut-2.ensures
-    (rests_end (stack_in c.args.course) (plans_in c.args.course) _ (g.F.Feed.group c.tick_all.new.feed) (g.F.Feed.group c.ask_all.new.feed) _
+    (rests_end (stack_in c.args.course) (plans_in c.args.course) _ (g.F.Feed.group c.tick_all.new.feed)
+    (g.F.Feed.group c.ask_all.new.feed) _
     _ c.tick_all.new.desk c.ask_all.new.desk _ c.feed_planned.result
-    (on_well _ c.tick_all.result _ (sym c.cut.ensures ∙ c.in_ok-cut.was) c.tick_all.ensures.rests) c.in_ok-ask_all.ensures.rests c.feed_planned.ensures.rests)
+    (on_well _ c.tick_all.result _ (sym c.cut.ensures ∙ c.in_ok-cut.was) c.tick_all.ensures.rests)
+    c.in_ok-ask_all.ensures.rests c.feed_planned.ensures.rests)
 
 pub returns-clause-told : goal.returns-clause-told
 returns-clause-told g c = rw c.cut-2.ensures (λ b borne sum so.
-    turn_end (stack_in c.args.course) (plans_in c.args.course) (course_of c.args.course) b c.args.progress.now.turn c.requires.turns c.args.progress.now.patience
-    borne c.now-moment.result sum (g.F.Feed.group c.args.feed.now) (g.F.Feed.group c.tick_all.new.feed) c.args.desk.now c.tick_all.new.desk _ _
-    (g.C.Clock.told c.args.clock.now) (g.C.Clock.told c.now-moment.new.self) c.now-moment.ensures.moment c.now-moment.ensures.kept so
-    (subst (TickedOn (stack_in c.args.course) (plans_in c.args.course) (course_of c.args.course) b c.args.progress.now.turn c.requires.turns c.now-moment.result
-    c.args.progress.now.patience (g.F.Feed.group c.args.feed.now) (g.F.Feed.group c.tick_all.new.feed) c.args.desk.now c.tick_all.new.desk _ _)
+    turn_end (stack_in c.args.course) (plans_in c.args.course) (course_of c.args.course) b c.args.progress.now.turn
+    c.requires.turns c.args.progress.now.patience
+    borne c.now-moment.result sum (g.F.Feed.group c.args.feed.now) (g.F.Feed.group c.tick_all.new.feed) c.args.desk.now
+    c.tick_all.new.desk _ _
+    (g.C.Clock.told c.args.clock.now) (g.C.Clock.told c.now-moment.new.self) c.now-moment.ensures.moment
+    c.now-moment.ensures.kept so
+    (subst (TickedOn (stack_in c.args.course) (plans_in c.args.course) (course_of c.args.course) b
+    c.args.progress.now.turn c.requires.turns c.now-moment.result
+    c.args.progress.now.patience (g.F.Feed.group c.args.feed.now) (g.F.Feed.group c.tick_all.new.feed) c.args.desk.now
+    c.tick_all.new.desk _ _)
     (well c.tick_all.result _ (sym c.cut.ensures ∙ c.in_ok-cut.was))
-    (λ m k borne clock within so. c.tick_all.ensures.told (course_of c.args.course) b m k c.args.progress.now.turn c.args.progress.now.patience borne clock within so))
-    c.ask_all.new.patience (g.F.Feed.group c.ask_all.new.feed) c.ask_all.new.desk _ c.args.progress.now.next c.requires.passed
+    (λ m k borne clock within so. c.tick_all.ensures.told (course_of c.args.course) b m k c.args.progress.now.turn
+    c.args.progress.now.patience borne clock within so))
+    c.ask_all.new.patience (g.F.Feed.group c.ask_all.new.feed) c.ask_all.new.desk _ c.args.progress.now.next
+    c.requires.passed
     (λ c' b m k t borne clock sum within so. c.in_ok-ask_all.ensures.told c' b m k t borne clock sum within so)
     (g.F.Feed.group c.feed_planned.new.feed) c.feed_planned.new.desk _ c.feed_planned.result
-    (λ m k borne clock within so. c.feed_planned.ensures.told (course_of c.args.course) b m k c.ask_all.new.patience borne clock within so))
+    (λ m k borne clock within so. c.feed_planned.ensures.told (course_of c.args.course) b m k c.ask_all.new.patience
+    borne clock within so))

@@ -10,10 +10,16 @@ returns-in_err-place-clause-first c =
     ∙ sym (first_for_past c.args.member c.args.waiting.now.items (rw c.deref.ensures.value at c.in_err-place.ensures)).0
 
 pub returns-in_err-place-clause-rest : goal.returns-in_err-place-clause-rest
-returns-in_err-place-clause-rest c = sym (first_for_past c.args.member c.args.waiting.now.items (rw c.deref.ensures.value at c.in_err-place.ensures)).1
+returns-in_err-place-clause-rest c =
+    sym (first_for_past c.args.member c.args.waiting.now.items (rw c.deref.ensures.value at c.in_err-place.ensures)).1
 
 pub returns-clause-first : goal.returns-clause-first
-returns-clause-first c = sym (first_for_at c.args.member c.args.waiting.now.items c.in_ok-place.place c.remove.result (rw c.deref.ensures.value at c.in_ok-place.ensures) c.remove.ensures.value).0
+returns-clause-first c =
+    sym (first_for_at c.args.member c.args.waiting.now.items c.in_ok-place.place c.remove.result
+    (rw c.deref.ensures.value at c.in_ok-place.ensures) c.remove.ensures.value).0
 
 pub returns-clause-rest : goal.returns-clause-rest
-returns-clause-rest c = rw c.remove.ensures.items (sym (first_for_at c.args.member c.args.waiting.now.items c.in_ok-place.place c.remove.result (rw c.deref.ensures.value at c.in_ok-place.ensures) c.remove.ensures.value).1)
+returns-clause-rest c =
+    rw c.remove.ensures.items
+    (sym (first_for_at c.args.member c.args.waiting.now.items c.in_ok-place.place c.remove.result
+    (rw c.deref.ensures.value at c.in_ok-place.ensures) c.remove.ensures.value).1)

@@ -13,7 +13,8 @@ loop-preserved g c =
             in_range = grind (arith, common_steps);
             written =
                 rw w.written-is
-                (appends_piece (g.W.Write.contents c.args.stream.now) (g.W.Write.contents c.loop.stream) (g.W.Write.contents c.write.new.self) c.args.bytes.now c.loop.written w.in-Ok.count
+                (appends_piece (g.W.Write.contents c.args.stream.now) (g.W.Write.contents c.loop.stream)
+                (g.W.Write.contents c.write.new.self) c.args.bytes.now c.loop.written w.in-Ok.count
                 c.loop.invariant.written (rw take_rest at w.in-Ok.ensures.bytes));
           }
       | in-Err w ↦

@@ -6,4 +6,15 @@ use Rattle.pack_laws.proofs.samples.numbers_are_read.Goals as goal
 
 pub returns : goal.returns
 unfolding digits kinds reserved symbols
-returns c = ((refl, refl), (refl, refl), (refl, refl), (refl, refl), (refl, refl), (refl, refl), (refl, refl), (refl, refl), (refl, refl), (refl, refl))
+returns c = (
+  (refl, refl),
+  (refl, refl),
+  (refl, refl),
+  (refl, refl),
+  (refl, refl),
+  (refl, refl),
+  (refl, refl),
+  (refl, refl),
+  (refl, refl),
+  (refl, refl),
+)

@@ -5,4 +5,5 @@ use Rattle.packet_laws.proofs.Strays.{received_as_meant}
 use Rattle.packet_full.proofs.laws.written_is_read.Goals as goal
 
 pub returns : goal.returns
-returns c = λ stack here packet is. received_as_meant stack [] here (full_bytes packet) packet (one_full_spelling stack [] packet is).0
+returns c = λ stack here packet is. received_as_meant stack [] here (full_bytes packet) packet
+    (one_full_spelling stack [] packet is).0

@@ -5,4 +5,5 @@ use Rattle.packet_short.proofs.agreement.behind.Goals as goal
 pub returns-in_default : goal.returns-in_default
 returns-in_default c =
     sym (sym c.loop-place.invariant ∙ none_behind c.loop-place.left.now c.args.fields.now c.loop-place.place
-    (omega (arith, c.len-place-end.ensures.count, c.loop-place-test.true)) (empty_list c.loop-place.left.now c.in_default.ensures.cases))
+    (omega (arith, c.len-place-end.ensures.count, c.loop-place-test.true))
+    (empty_list c.loop-place.left.now c.in_default.ensures.cases))

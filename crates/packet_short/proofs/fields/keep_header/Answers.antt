@@ -3,4 +3,5 @@ use Rattle.packet_short.proofs.Alike.{all_behind}
 use Rattle.packet_short.proofs.fields.keep_header.Goals as goal
 
 pub returns-then-len-eq0-clause-rest : goal.returns-then-len-eq0-clause-rest
-returns-then-len-eq0-clause-rest c = all_behind c.args.planned.now c.args.header.now.fields (sym c.len.ensures.count ∙ c.if-len-eq0.true)
+returns-then-len-eq0-clause-rest c = all_behind c.args.planned.now c.args.header.now.fields
+    (sym c.len.ensures.count ∙ c.if-len-eq0.true)

@@ -4,5 +4,6 @@ use Rattle.packet_short.proofs.fields.variable_fields.Goals as goal
 
 pub returns-clause-items : goal.returns-clause-items
 returns-clause-items c =
-    rw (← c.slice-header-items.ensures) (headers_kept _ c.loop-header.left.now c.slice-header-items.result.now c.loop-header.header-index _
+    rw (← c.slice-header-items.ensures)
+    (headers_kept _ c.loop-header.left.now c.slice-header-items.result.now c.loop-header.header-index _
     c.loop-header.invariant.items (omega (arith, c.loop-header-test.false)))

@@ -8,17 +8,21 @@ use Rattle.packet_short.proofs.fit.fits_first_keeping.Goals as goal
 
 pub is_fitting_keeping-requires : goal.is_fitting_keeping-requires
 is_fitting_keeping-requires c =
-    room_first (vec_capacity c.args.into.now) (plans_tree c.args.plans.now) (plan_tree c.in-Some.plan.now) c.requires.room c.in-Some.ensures
+    room_first (vec_capacity c.args.into.now) (plans_tree c.args.plans.now) (plan_tree c.in-Some.plan.now)
+    c.requires.room c.in-Some.ensures
 
 pub returns-in-Some-clause-fits : goal.returns-in-Some-clause-fits
 returns-in-Some-clause-fits c =
-    at_first (plans_tree c.args.plans.now) (fits_headers c.args.kind c.args.headers.now) (plan_tree c.in-Some.plan.now) _ c.in-Some.ensures
+    at_first (plans_tree c.args.plans.now) (fits_headers c.args.kind c.args.headers.now) (plan_tree c.in-Some.plan.now)
+    _ c.in-Some.ensures
     c.is_fitting_keeping.ensures.fits
 
 pub returns-in-Some-clause-fields : goal.returns-in-Some-clause-fields
 returns-in-Some-clause-fields c =
-    kept_first (plans_tree c.args.plans.now) (plan_tree c.in-Some.plan.now) c.is_fitting_keeping.result _ _ c.in-Some.ensures
+    kept_first (plans_tree c.args.plans.now) (plan_tree c.in-Some.plan.now) c.is_fitting_keeping.result _ _
+    c.in-Some.ensures
     c.is_fitting_keeping.ensures.fields
 
 pub returns-in-None-clause-fits : goal.returns-in-None-clause-fits
-returns-in-None-clause-fits c = no_first (plans_tree c.args.plans.now) (fits_headers c.args.kind c.args.headers.now) c.in-None.ensures
+returns-in-None-clause-fits c = no_first (plans_tree c.args.plans.now) (fits_headers c.args.kind c.args.headers.now)
+    c.in-None.ensures

@@ -14,7 +14,8 @@ loop-next-init c =
 
 pub returns-then-fits_first : goal.returns-then-fits_first
 returns-then-fits_first c =
-    least_first (plans_tree c.args.plans.now) (fits_headers c.args.kind c.args.headers.now) (sym c.if-fits_first.true ∙ c.fits_first.ensures)
+    least_first (plans_tree c.args.plans.now) (fits_headers c.args.kind c.args.headers.now)
+    (sym c.if-fits_first.true ∙ c.fits_first.ensures)
 
 pub returns-then-is_fitting : goal.returns-then-is_fitting
 returns-then-is_fitting c =
@@ -32,7 +33,8 @@ loop-next-preserved c =
     let fit : Plan → Bool = fits_headers c.args.kind c.args.headers.now in
     let print : ℕ = print_of c.args.kind (map (λ h. h.tag) c.args.headers.now) in
     let stands : Stands plans fit print _ = subst (λ o. Stands plans fit print o) c.in-Some.is c.loop-next.invariant in
-    passed plans fit print c.in-Some.number (plan_tree c.index-slice-from.result) _ (printed c.args.kind c.args.headers.now) stands
+    passed plans fit print c.in-Some.number (plan_tree c.index-slice-from.result) _
+    (printed c.args.kind c.args.headers.now) stands
     (listed plans c.slice.result.now _ _ _ c.slice.ensures.plans c.from.ensures c.index-slice-from.is stands.found.0)
     (sym c.is_fitting.ensures ∙ c.if-is_fitting.false) c.next-next.ensures
 

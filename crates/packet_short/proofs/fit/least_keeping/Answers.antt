@@ -18,7 +18,8 @@ returns-then-fits_first_keeping-clause-least c =
 
 pub returns-then-fits_first_keeping-clause-fields : goal.returns-then-fits_first_keeping-clause-fields
 returns-then-fits_first_keeping-clause-fields c =
-    subst (λ b. KeepsIf b (kept_by (plans_tree c.args.plans.now) (Some 0) (flat_map (λ h. h.fields) c.args.headers.now)) c.fits_first_keeping.new.into.items)
+    subst (λ b. KeepsIf b (kept_by (plans_tree c.args.plans.now) (Some 0) (flat_map (λ h. h.fields) c.args.headers.now))
+    c.fits_first_keeping.new.into.items)
     c.if-fits_first_keeping.true c.fits_first_keeping.ensures.fields
 
 pub loop-next-init : goal.loop-next-init
@@ -34,9 +35,11 @@ is_fitting_keeping-requires c =
     let plans : List Plan = plans_tree c.args.plans.now in
     let fit : Plan → Bool = fits_headers c.args.kind c.args.headers.now in
     let print : ℕ = print_of c.args.kind (map (λ h. h.tag) c.args.headers.now) in
-    let stands : Stands plans fit print _ = subst (λ o. Stands plans fit print o) c.in-Some.is c.loop-next.invariant.stands in
+    let stands : Stands plans fit print _ =
+    subst (λ o. Stands plans fit print o) c.in-Some.is c.loop-next.invariant.stands in
     has_room _ plans c.in-Some.number (plan_tree c.index-slice-from.result)
-    (subst (λ most. AllByRecursion (HasAtMost most) plans) (sym c.loop-next.invariant.capacity) c.requires.room) stands.found.0
+    (subst (λ most. AllByRecursion (HasAtMost most) plans) (sym c.loop-next.invariant.capacity) c.requires.room)
+    stands.found.0
     (listed plans c.slice.result.now _ _ _ c.slice.ensures.plans c.from.ensures c.index-slice-from.is stands.found.0)
 
 pub returns-then-is_fitting_keeping-clause-least : goal.returns-then-is_fitting_keeping-clause-least
@@ -44,7 +47,8 @@ returns-then-is_fitting_keeping-clause-least c =
     let plans : List Plan = plans_tree c.args.plans.now in
     let fit : Plan → Bool = fits_headers c.args.kind c.args.headers.now in
     let print : ℕ = print_of c.args.kind (map (λ h. h.tag) c.args.headers.now) in
-    let stands : Stands plans fit print _ = subst (λ o. Stands plans fit print o) c.in-Some.is c.loop-next.invariant.stands in
+    let stands : Stands plans fit print _ =
+    subst (λ o. Stands plans fit print o) c.in-Some.is c.loop-next.invariant.stands in
     found_least plans fit print c.in-Some.number (plan_tree c.index-slice-from.result) stands
     (listed plans c.slice.result.now _ _ _ c.slice.ensures.plans c.from.ensures c.index-slice-from.is stands.found.0)
     (sym c.is_fitting_keeping.ensures.fits ∙ c.if-is_fitting_keeping.true)
@@ -54,7 +58,8 @@ returns-then-is_fitting_keeping-clause-fields c =
     let plans : List Plan = plans_tree c.args.plans.now in
     let fit : Plan → Bool = fits_headers c.args.kind c.args.headers.now in
     let print : ℕ = print_of c.args.kind (map (λ h. h.tag) c.args.headers.now) in
-    let stands : Stands plans fit print _ = subst (λ o. Stands plans fit print o) c.in-Some.is c.loop-next.invariant.stands in
+    let stands : Stands plans fit print _ =
+    subst (λ o. Stands plans fit print o) c.in-Some.is c.loop-next.invariant.stands in
     kept_of plans c.in-Some.number (plan_tree c.index-slice-from.result) c.is_fitting_keeping.result _ _ stands.found.0
     (listed plans c.slice.result.now _ _ _ c.slice.ensures.plans c.from.ensures c.index-slice-from.is stands.found.0)
     c.if-is_fitting_keeping.true c.is_fitting_keeping.ensures.fields
@@ -64,11 +69,14 @@ loop-next-preserved c =
     let plans : List Plan = plans_tree c.args.plans.now in
     let fit : Plan → Bool = fits_headers c.args.kind c.args.headers.now in
     let print : ℕ = print_of c.args.kind (map (λ h. h.tag) c.args.headers.now) in
-    let stands : Stands plans fit print _ = subst (λ o. Stands plans fit print o) c.in-Some.is c.loop-next.invariant.stands in
+    let stands : Stands plans fit print _ =
+    subst (λ o. Stands plans fit print o) c.in-Some.is c.loop-next.invariant.stands in
     record {
       stands =
-          passed plans fit print c.in-Some.number (plan_tree c.index-slice-from.result) _ (printed c.args.kind c.args.headers.now) stands
-          (listed plans c.slice.result.now _ _ _ c.slice.ensures.plans c.from.ensures c.index-slice-from.is stands.found.0)
+          passed plans fit print c.in-Some.number (plan_tree c.index-slice-from.result) _
+          (printed c.args.kind c.args.headers.now) stands
+          (listed plans c.slice.result.now _ _ _ c.slice.ensures.plans c.from.ensures c.index-slice-from.is
+          stands.found.0)
           (sym c.is_fitting_keeping.ensures.fits ∙ c.if-is_fitting_keeping.false) c.next-next.ensures;
       capacity = c.is_fitting_keeping.ensures.capacity ∙ c.loop-next.invariant.capacity;
     }

@@ -7,7 +7,8 @@ use Rattle.packet_short.proofs.fit.least_keeping.Given as goal
 
 abbrev pub invariant-loop-next : goal.invariant-loop-next
 invariant-loop-next l = record {
-  stands : Stands (plans_tree l.plans) (fits_headers l.kind l.headers) (print_of l.kind (map (λ h. h.tag) l.headers)) l.next;
+  stands : Stands (plans_tree l.plans) (fits_headers l.kind l.headers) (print_of l.kind (map (λ h. h.tag) l.headers))
+      l.next;
   capacity : vec_capacity l.into ≡ vec_capacity l.fn.into;
 }
 

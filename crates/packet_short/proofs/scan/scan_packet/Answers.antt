@@ -7,24 +7,30 @@ use Rattle.packet_short.proofs.scan.scan_packet.Goals as goal
 
 pub returns-in-Err-clause-read : goal.returns-in-Err-clause-read
 returns-in-Err-clause-read c =
-    not_opened (stack_tree c.args.stack.now) (plans_tree c.args.plans.now) c.args.here.now c.args.bytes.now _ c.in-Err.ensures.front
+    not_opened (stack_tree c.args.stack.now) (plans_tree c.args.plans.now) c.args.here.now c.args.bytes.now _
+    c.in-Err.ensures.front
 
 pub returns-in-Err-contents-clause-read : goal.returns-in-Err-contents-clause-read
 returns-in-Err-contents-clause-read c =
-    not_contents (stack_tree c.args.stack.now) (plans_tree c.args.plans.now) c.args.here.now c.args.bytes.now _ _ _ c.in-Ok.ensures.front
+    not_contents (stack_tree c.args.stack.now) (plans_tree c.args.plans.now) c.args.here.now c.args.bytes.now _ _ _
+    c.in-Ok.ensures.front
     c.in-Err-contents.ensures
 
 pub close-requires : goal.close-requires
 close-requires c = λ short.
     (any_ends (stack_tree c.args.stack.now) (plans_tree c.args.plans.now) c.args.here.now c.args.bytes.now _ _ _ _
     (record { places = c.is_within_limits.ensures.places; fields = c.is_within_limits.ensures.fields })
-    (are_bytes c.args.bytes.now c.type_inv.bytes) c.in-Ok.ensures.front c.in-Ok.ensures.read c.in-Ok-contents.ensures short).behind
+    (are_bytes c.args.bytes.now c.type_inv.bytes) c.in-Ok.ensures.front c.in-Ok.ensures.read c.in-Ok-contents.ensures
+    short).behind
 
 pub returns-clause-read : goal.returns-clause-read
 returns-clause-read c =
-    closed_scan (stack_tree c.args.stack.now) (plans_tree c.args.plans.now) c.args.here.now c.args.bytes.now _ _ _ _ _ _ c.in-Ok.ensures.front
+    closed_scan (stack_tree c.args.stack.now) (plans_tree c.args.plans.now) c.args.here.now c.args.bytes.now _ _ _ _ _ _
+    c.in-Ok.ensures.front
     c.in-Ok.ensures.own c.in-Ok-contents.ensures
-    (λ short. (any_ends (stack_tree c.args.stack.now) (plans_tree c.args.plans.now) c.args.here.now c.args.bytes.now _ _ _ _
+    (λ short. (any_ends (stack_tree c.args.stack.now) (plans_tree c.args.plans.now) c.args.here.now c.args.bytes.now _ _
+    _ _
     (record { places = c.is_within_limits.ensures.places; fields = c.is_within_limits.ensures.fields })
-    (are_bytes c.args.bytes.now c.type_inv.bytes) c.in-Ok.ensures.front c.in-Ok.ensures.read c.in-Ok-contents.ensures short).ends)
+    (are_bytes c.args.bytes.now c.type_inv.bytes) c.in-Ok.ensures.front c.in-Ok.ensures.read c.in-Ok-contents.ensures
+    short).ends)
     c.close.ensures

@@ -9,6 +9,8 @@ explain-wrote-requires-clause-first g c =
     rw c.deref.ensures (first (stack_tree c.args.stack) c.in-Ok.examination c.args.script.now c.in-Ok.ensures)
 
 pub returns-in-Ok : goal.returns-in-Ok
-returns-in-Ok g c = rw c.with_room.ensures (explained (stack_tree c.args.stack) c.in-Ok.examination c.args.script.now c.in-Ok.ensures
-    (file_tree c.args.file.now) (tells_of g.O.Sink c.args.out.now) (tells_of g.O.Sink c.explain-wrote.new.out) c.explain-wrote.result
+returns-in-Ok g c = rw c.with_room.ensures
+    (explained (stack_tree c.args.stack) c.in-Ok.examination c.args.script.now c.in-Ok.ensures
+    (file_tree c.args.file.now) (tells_of g.O.Sink c.args.out.now) (tells_of g.O.Sink c.explain-wrote.new.out)
+    c.explain-wrote.result
     (rw c.deref.ensures at c.explain-wrote.ensures))

@@ -9,7 +9,9 @@ pub returns-in-Ok : goal.returns-in-Ok
 returns-in-Ok g c =
     let stack = stack_tree c.args.stack in
     let r = c.args.replay.now in
-    let a = around g.S.Shelf g.O.Sink c.args.shelf.now c.fetch_traces.new.shelf c.args.out.now c.play_with-run.new.out in
+    let a = around g.S.Shelf g.O.Sink c.args.shelf.now c.fetch_traces.new.shelf c.args.out.now c.play_with-run.new.out
+    in
     subst (PlaysTraces stack c.args.script.now r.traces.now r.wire r.count a) (sym c.ending.ensures)
-    (played_traces stack c.args.script.now r.traces.now r.wire r.count a (has_room_for stack c.args.script.now.members c.if-not-has_room.ensures)
+    (played_traces stack c.args.script.now r.traces.now r.wire r.count a
+    (has_room_for stack c.args.script.now.members c.if-not-has_room.ensures)
     c.in-Ok.ensures.0 c.play_with-run.result c.play_with-run.ensures)

@@ -9,7 +9,8 @@ use Rattle.group_open.proofs.Running.{can_run}
 use Rattle.play_jobs.proofs.load.load_stack.Goals as goal
 
 pub play_load-requires-clause-runs : goal.play_load-requires-clause-runs
-play_load-requires-clause-runs g c = can_run (shown_mode c.args.load.now.mode) _ (means_sound _ _ c.in-Ok.ensures.read.means)
+play_load-requires-clause-runs g c =
+    can_run (shown_mode c.args.load.now.mode) _ (means_sound _ _ c.in-Ok.ensures.read.means)
 
 pub play_load-requires-clause-members : goal.play_load-requires-clause-members
 play_load-requires-clause-members g c = rw c.workload_of.ensures c.args.load.now.within
@@ -21,6 +22,8 @@ pub returns-in-Ok : goal.returns-in-Ok
 returns-in-Ok g c =
     let job = c.args.load.now in
     let a = around g.S.Shelf g.O.Sink c.args.shelf.now c.fetch_stack.new.shelf c.args.out.now c.play_load.new.out in
-    subst (Comes (load job.file.now job.seed job.events job.members job.raw (shown_mode job.mode)) a) (sym c.ending.ensures)
-    (load_comes job.file.now job.seed job.events job.members job.raw (shown_mode job.mode) a (stack_tree c.in-Ok.stack) c.in-Ok.ensures.read c.play_load.result
+    subst (Comes (load job.file.now job.seed job.events job.members job.raw (shown_mode job.mode)) a)
+    (sym c.ending.ensures)
+    (load_comes job.file.now job.seed job.events job.members job.raw (shown_mode job.mode) a (stack_tree c.in-Ok.stack)
+    c.in-Ok.ensures.read c.play_load.result
     (rw c.workload_of.ensures at c.play_load.ensures))

@@ -4,4 +4,5 @@ use Rattle.report_lines.proofs.Nones.{none_is}
 use Rattle.report_lines.proofs.chain.is_none.Goals as goal
 
 pub returns : goal.returns
-returns c = λ empty. none_is c.args.header.now c.if-header-ne0.false (sym c.len.ensures.count ∙ eqb-true c.len.result 0 empty)
+returns c = λ empty. none_is c.args.header.now c.if-header-ne0.false
+    (sym c.len.ensures.count ∙ eqb-true c.len.result 0 empty)

@@ -3,4 +3,5 @@ use Rattle.report_lines.proofs.chain.is_none_of.Goals as goal
 
 pub returns : goal.returns
 returns c =
-    λ empty. none_at c.args.headers.now c.args.k c.args.place c.in-Some.header c.in-Some.ensures c.if-header-place.false (c.is_none.ensures empty)
+    λ empty. none_at c.args.headers.now c.args.k c.args.place c.in-Some.header c.in-Some.ensures c.if-header-place.false
+    (c.is_none.ensures empty)

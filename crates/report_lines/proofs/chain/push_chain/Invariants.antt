@@ -4,7 +4,8 @@ use Rattle.report_lines.specs.Nones.{chained}
 use Rattle.report_lines.proofs.chain.push_chain.Given as goal
 
 abbrev pub invariant-loop-k : goal.invariant-loop-k
-invariant-loop-k l = l.line ++ chained (stack_tree l.stack) (drop l.k l.headers) ≡ l.initial.line ++ chained (stack_tree l.stack) l.headers
+invariant-loop-k l = l.line ++ chained (stack_tree l.stack) (drop l.k l.headers) ≡ l.initial.line ++
+    chained (stack_tree l.stack) l.headers
 
 abbrev pub decreases-loop-k : goal.decreases-loop-k
 decreases-loop-k l = l.count - l.k

@@ -3,7 +3,8 @@ use Rattle.report_lines.proofs.Decimals.{push_one, push_two, push_three, push_fo
 use Rattle.report_lines.proofs.line.push_short.Goals as goal
 
 pub returns-then-number-lt10 : goal.returns-then-number-lt10
-returns-then-number-lt10 c = push_one c.args.number _ _ _ c.if-number-lt10.true c.digit.ensures c.push_reserved.ensures.items
+returns-then-number-lt10 c = push_one c.args.number _ _ _ c.if-number-lt10.true c.digit.ensures
+    c.push_reserved.ensures.items
 
 pub returns-then-number-lt100 : goal.returns-then-number-lt100
 returns-then-number-lt100 c =
@@ -21,6 +22,7 @@ returns-then-number-lt1000 c =
 pub returns-else-number-lt1000 : goal.returns-else-number-lt1000
 returns-else-number-lt1000 c =
     push_four c.args.number _ _ _ _ _ _ _ _ _ (omega (arith, c.if-number-lt1000.false)) c.requires.short
-    c.digit-else-number-lt1000.ensures c.digit-else-number-lt1000-2.ensures c.digit-else-number-lt1000-3.ensures c.digit-else-number-lt1000-4.ensures
+    c.digit-else-number-lt1000.ensures c.digit-else-number-lt1000-2.ensures c.digit-else-number-lt1000-3.ensures
+    c.digit-else-number-lt1000-4.ensures
     c.push_reserved-else-number-lt1000.ensures.items c.push_reserved-else-number-lt1000-2.ensures.items
     c.push_reserved-else-number-lt1000-3.ensures.items c.push_reserved-else-number-lt1000-4.ensures.items

@@ -7,4 +7,5 @@ returns-in-Cast c =
 
 pub returns-in-Send : goal.returns-in-Send
 returns-in-Send c =
-    rw (decimal_digit c.args.id c.requires.0, decimal_digit c.args.peer c.requires.1, c.in-Send.is) c.text-in-Send.ensures
+    rw (decimal_digit c.args.id c.requires.0, decimal_digit c.args.peer c.requires.1, c.in-Send.is)
+    c.text-in-Send.ensures

@@ -10,5 +10,6 @@ pub returns : goal.returns
 returns g c =
     let s = state_at (g.S.Feed.group c.args.group.now) c.args.spot.id c.args.spot.place in
     in_other_words _ _ _ _ _
-    (numbers_parts c.args.spot.id c.args.spot.place (layer_tree c.args.layer.now) c.args.name.now (numbers_text (numbers_in (cell_at s c.args.spot.cell))))
+    (numbers_parts c.args.spot.id c.args.spot.place (layer_tree c.args.layer.now) c.args.name.now
+    (numbers_text (numbers_in (cell_at s c.args.spot.cell))))
     c.push_cell_numbers.ensures

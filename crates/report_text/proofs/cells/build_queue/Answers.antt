@@ -11,6 +11,7 @@ pub returns : goal.returns
 returns g c =
     let s = state_at (g.S.Feed.group c.args.group.now) c.args.spot.id c.args.spot.place in
     in_other_words _ _ _ _ _
-    (queue_parts c.args.queues.is_array c.args.spot.id c.args.spot.place (layer_tree c.args.queues.layer.now) c.args.queues.name.now
+    (queue_parts c.args.queues.is_array c.args.spot.id c.args.spot.place (layer_tree c.args.queues.layer.now)
+    c.args.queues.name.now
     (rows_text (stack_tree c.args.stack.now) (rows_at s c.args.spot.cell c.args.queue)) c.args.queue)
     c.push_queue.ensures

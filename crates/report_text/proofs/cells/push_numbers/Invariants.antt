@@ -8,4 +8,5 @@ use Rattle.report_text.proofs.cells.push_numbers.Given as goal
 abbrev pub invariant-loop-k : goal.invariant-loop-k
 invariant-loop-k g l =
     l.line ≡ l.initial.line
-    ++ join_by decimal (codes " ") (take l.k (numbers_in (cell_at (state_at (g.S.Feed.group l.group) l.spot.id l.spot.place) l.spot.cell)))
+    ++ join_by decimal (codes " ")
+    (take l.k (numbers_in (cell_at (state_at (g.S.Feed.group l.group) l.spot.id l.spot.place) l.spot.cell)))

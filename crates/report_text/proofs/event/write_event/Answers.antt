@@ -14,8 +14,10 @@ returns-in-Stepped g c =
     let plans = plans_tree manner.plans.now in
     let m = shown_in (g.S.Feed.group c.args.group.now) (member_of outcome.event.now) in
     wrote_as _ _ _ _ _
-    (ap (λ id. stepped_lines (stack_tree manner.stack.now) (annex_of manner.wire plans) id outcome.first outcome.outputs.now.outputs c.in-Stepped.stepped)
+    (ap (λ id. stepped_lines (stack_tree manner.stack.now) (annex_of manner.wire plans) id outcome.first
+    outcome.outputs.now.outputs c.in-Stepped.stepped)
     c.member_of-id.ensures
-    ∙ ap (λ did. told_lines (stack_tree manner.stack.now) plans manner.wire outcome.event.now did outcome.outputs.now.outputs m outcome.first)
+    ∙ ap (λ did. told_lines (stack_tree manner.stack.now) plans manner.wire outcome.event.now did
+    outcome.outputs.now.outputs m outcome.first)
     (sym c.in-Stepped.is))
     c.write_stepped.ensures

@@ -13,7 +13,8 @@ invariant-loop-k g l = record {
   gained : Gains
       (tells_of g.O.Sink l.initial.out)
       (tells_of g.O.Sink l.out)
-      (lines_of_outputs (stack_tree l.manner.stack.now) (annex_of l.manner.wire (plans_tree l.manner.plans.now)) l.issue.id l.issue.first
+      (lines_of_outputs (stack_tree l.manner.stack.now) (annex_of l.manner.wire (plans_tree l.manner.plans.now))
+      l.issue.id l.issue.first
       (take l.k l.issue.outputs.now.outputs));
   numbered : l.number ≡ number_after l.issue.first (take l.k l.issue.outputs.now.outputs);
   few : l.number ≤ l.issue.first + l.k;

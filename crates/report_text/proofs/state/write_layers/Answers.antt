@@ -13,18 +13,22 @@ loop-place-preserved g c =
     let m = shown_in (g.S.Feed.group c.args.group.now) c.args.id in
     turns_more (layer_shown (stack_tree c.args.stack.now) c.args.id m) (stack_tree c.args.stack.now) c.loop-place.place
     (layer_tree c.deref.result.now) no_layer _ _ _
-    c.loop-place.invariant c.in_ok-write_layer.ensures (omega (arith, c.loop-place-test.true, c.places-place-end.ensures)) (search rules)
+    c.loop-place.invariant c.in_ok-write_layer.ensures
+    (omega (arith, c.loop-place-test.true, c.places-place-end.ensures)) (search rules)
 
 pub returns-in_err-write_layer : goal.returns-in_err-write_layer
 returns-in_err-write_layer g c =
     let m = shown_in (g.S.Feed.group c.args.group.now) c.args.id in
     let p = err_from_is_err_and c.from_residual.result c.from_residual.ensures.1 in
-    rw (p.1, p.2) (turns_cut (layer_shown (stack_tree c.args.stack.now) c.args.id m) (stack_tree c.args.stack.now) c.loop-place.place
+    rw (p.1, p.2) (turns_cut (layer_shown (stack_tree c.args.stack.now) c.args.id m) (stack_tree c.args.stack.now)
+    c.loop-place.place
     (layer_tree c.deref.result.now) no_layer _ _ _ _
-    c.loop-place.invariant c.in_err-write_layer.ensures (omega (arith, c.loop-place-test.true, c.places-place-end.ensures)) (search rules))
+    c.loop-place.invariant c.in_err-write_layer.ensures
+    (omega (arith, c.loop-place-test.true, c.places-place-end.ensures)) (search rules))
 
 pub returns : goal.returns
 returns g c =
     let m = shown_in (g.S.Feed.group c.args.group.now) c.args.id in
-    turns_done (layer_shown (stack_tree c.args.stack.now) c.args.id m) (stack_tree c.args.stack.now) c.loop-place.place _ _
+    turns_done (layer_shown (stack_tree c.args.stack.now) c.args.id m) (stack_tree c.args.stack.now) c.loop-place.place
+    _ _
     c.loop-place.invariant (omega (arith, c.loop-place-test.false, c.places-place-end.ensures))

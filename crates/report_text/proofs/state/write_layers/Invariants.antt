@@ -11,4 +11,5 @@ abbrev pub invariant-loop-place : goal.invariant-loop-place
 invariant-loop-place g l = Gains
     (tells_of g.O.Sink l.initial.out)
     (tells_of g.O.Sink l.out)
-    (flat_map (layer_shown (stack_tree l.stack) l.id (shown_in (g.S.Feed.group l.group) l.id)) (take l.place (enumerate_from 0 (stack_tree l.stack))))
+    (flat_map (layer_shown (stack_tree l.stack) l.id (shown_in (g.S.Feed.group l.group) l.id))
+    (take l.place (enumerate_from 0 (stack_tree l.stack))))

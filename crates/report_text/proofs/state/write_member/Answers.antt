@@ -12,7 +12,8 @@ returns-in_err-write_view-in-Some g c =
     let m = shown_in (g.S.Feed.group c.args.group.now) c.args.id in
     let p = err_from_is_err_and c.from_residual.result c.from_residual.ensures.1 in
     rw (p.1, p.2) (part_of _ _ _ (layers_shown (stack_tree c.args.stack.now) c.args.id m) _ _
-    (sym (member_inside (stack_tree c.args.stack.now) c.args.id m _ c.in-Some.ensures)) c.in_err-write_view-in-Some.ensures)
+    (sym (member_inside (stack_tree c.args.stack.now) c.args.id m _ c.in-Some.ensures))
+    c.in_err-write_view-in-Some.ensures)
 
 pub returns-in_ok-write_view-in-Some : goal.returns-in_ok-write_view-in-Some
 returns-in_ok-write_view-in-Some g c =

@@ -7,14 +7,17 @@ use Rattle.run_audit.proofs.clashes.earliest.Goals as goal
 
 pub returns-then-clashes : goal.returns-then-clashes
 returns-then-clashes c =
-    let here = found_here (spec.clashes (lists_shown c.args.lists) (placed_shown c.args.entry.now)) placed_shown c.args.front.now c.loop-other.other-index _ c.loop-other-test.true (sym c.if-clashes.ensures) in
+    let here = found_here (spec.clashes (lists_shown c.args.lists) (placed_shown c.args.entry.now)) placed_shown
+    c.args.front.now c.loop-other.other-index _ c.loop-other-test.true (sym c.if-clashes.ensures) in
     sym (ap (option_map (spec.lines_at (placed_shown c.args.entry.now))) (sym c.loop-other.invariant ∙ here))
 
 pub loop-other-preserved : goal.loop-other-preserved
 loop-other-preserved c =
-    found_later (spec.clashes (lists_shown c.args.lists) (placed_shown c.args.entry.now)) placed_shown c.args.front.now c.loop-other.other-index _ c.loop-other-test.true (sym c.if-clashes.ensures) ∙ c.loop-other.invariant
+    found_later (spec.clashes (lists_shown c.args.lists) (placed_shown c.args.entry.now)) placed_shown c.args.front.now
+    c.loop-other.other-index _ c.loop-other-test.true (sym c.if-clashes.ensures) ∙ c.loop-other.invariant
 
 pub returns : goal.returns
 returns c =
-    let none = found_none (spec.clashes (lists_shown c.args.lists) (placed_shown c.args.entry.now)) placed_shown c.args.front.now c.loop-other.other-index c.loop-other-test.false in
+    let none = found_none (spec.clashes (lists_shown c.args.lists) (placed_shown c.args.entry.now)) placed_shown
+    c.args.front.now c.loop-other.other-index c.loop-other-test.false in
     sym (ap (option_map (spec.lines_at (placed_shown c.args.entry.now))) (sym c.loop-other.invariant ∙ none))

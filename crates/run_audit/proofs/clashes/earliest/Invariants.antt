@@ -7,4 +7,5 @@ use Rattle.run_audit.proofs.clashes.earliest.Given as goal
 
 abbrev pub invariant-loop-other : goal.invariant-loop-other
 invariant-loop-other l =
-    find (spec.clashes (lists_shown l.lists) (placed_shown l.entry)) (map placed_shown (drop l.other-index l.front)) ≡ find (spec.clashes (lists_shown l.lists) (placed_shown l.entry)) (map placed_shown l.front)
+    find (spec.clashes (lists_shown l.lists) (placed_shown l.entry)) (map placed_shown (drop l.other-index l.front)) ≡
+    find (spec.clashes (lists_shown l.lists) (placed_shown l.entry)) (map placed_shown l.front)

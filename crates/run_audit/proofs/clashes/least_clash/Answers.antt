@@ -6,16 +6,23 @@ use Rattle.run_audit.proofs.Agree.{nothing_seen, agrees_further, clash_found, no
 use Rattle.run_audit.proofs.clashes.least_clash.Goals as goal
 
 pub loop-index-init : goal.loop-index-init
-loop-index-init c = nothing_seen (lists_shown c.args.lists) (hash.get same_place_key c.new-agreed.result) (λ q. rw c.new-agreed.ensures.empty refl)
+loop-index-init c = nothing_seen (lists_shown c.args.lists) (hash.get same_place_key c.new-agreed.result)
+    (λ q. rw c.new-agreed.ensures.empty refl)
 
 pub returns-then-disagrees : goal.returns-then-disagrees
 returns-then-disagrees c =
     c.earliest.ensures
-    ∙ clash_found (lists_shown c.args.lists) (hash.get same_place_key c.loop-index.agreed) c.args.placed.now c.loop-index.index _ c.place_key-key.result c.seen_at-seen.result _ c.loop-index-test.true c.requires c.loop-index.invariant c.place_key-key.ensures c.seen_at-seen.ensures c.if-disagrees.ensures refl
+    ∙ clash_found (lists_shown c.args.lists) (hash.get same_place_key c.loop-index.agreed) c.args.placed.now
+    c.loop-index.index _ c.place_key-key.result c.seen_at-seen.result _ c.loop-index-test.true c.requires
+    c.loop-index.invariant c.place_key-key.ensures c.seen_at-seen.ensures c.if-disagrees.ensures refl
 
 pub loop-index-preserved : goal.loop-index-preserved
 loop-index-preserved c =
-    agrees_further (lists_shown c.args.lists) (hash.get same_place_key c.loop-index.agreed) (hash.get same_place_key c.insert.new.self) c.args.placed.now c.loop-index.index _ c.place_key-key.result c.seen_at-seen.result c.joined.result c.loop-index-test.true c.loop-index.invariant c.place_key-key.ensures c.seen_at-seen.ensures c.if-disagrees.ensures c.joined.ensures c.in_ok-insert.ensures.updates.0
+    agrees_further (lists_shown c.args.lists) (hash.get same_place_key c.loop-index.agreed)
+    (hash.get same_place_key c.insert.new.self) c.args.placed.now c.loop-index.index _ c.place_key-key.result
+    c.seen_at-seen.result c.joined.result c.loop-index-test.true c.loop-index.invariant c.place_key-key.ensures
+    c.seen_at-seen.ensures c.if-disagrees.ensures c.joined.ensures c.in_ok-insert.ensures.updates.0
 
 pub returns : goal.returns
-returns c = no_clash (lists_shown c.args.lists) (hash.get same_place_key c.loop-index.agreed) c.args.placed.now c.loop-index.index c.loop-index-test.false c.loop-index.invariant
+returns c = no_clash (lists_shown c.args.lists) (hash.get same_place_key c.loop-index.agreed) c.args.placed.now
+    c.loop-index.index c.loop-index-test.false c.loop-index.invariant

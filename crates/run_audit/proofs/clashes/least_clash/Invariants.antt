@@ -7,4 +7,5 @@ use Rattle.run_audit.proofs.Agree.{Agreed}
 use Rattle.run_audit.proofs.clashes.least_clash.Given as goal
 
 abbrev pub invariant-loop-index : goal.invariant-loop-index
-invariant-loop-index l = Agreed (lists_shown l.lists) (hash.get same_place_key l.agreed) (map placed_shown (take l.index l.placed))
+invariant-loop-index l = Agreed (lists_shown l.lists) (hash.get same_place_key l.agreed)
+    (map placed_shown (take l.index l.placed))

@@ -8,17 +8,20 @@ use Rattle.run_audit.proofs.contents.rank.Goals as goal
 
 pub next_rank-requires : goal.next_rank-requires
 next_rank-requires c =
-    few_placed (hash.get same_content_key c.loop-entry.counts) c.loop-entry.ranked.items c.args.entries.now c.loop-entry.entry-index _ _ (omega arith) (omega arith) c.loop-entry.invariant c.content_of.ensures
+    few_placed (hash.get same_content_key c.loop-entry.counts) c.loop-entry.ranked.items c.args.entries.now
+    c.loop-entry.entry-index _ _ (omega arith) (omega arith) c.loop-entry.invariant c.content_of.ensures
 
 pub loop-entry-preserved : goal.loop-entry-preserved
 loop-entry-preserved c =
     let f = hash.get same_content_key c.loop-entry.counts in
     let g = hash.get same_content_key c.next_rank.new.counts in
     rw c.in_ok-push.ensures.items (
-    ranks_on f g c.loop-entry.ranked.items c.in_ok-place.place c.args.entries.now c.loop-entry.entry-index _ (omega arith) (answers c.loop-entry.counts) c.loop-entry.invariant
+    ranks_on f g c.loop-entry.ranked.items c.in_ok-place.place c.args.entries.now c.loop-entry.entry-index _
+    (omega arith) (answers c.loop-entry.counts) c.loop-entry.invariant
     (c.in_ok-place.ensures.0 ∙ ap (λ k. unwrap_or (f k) 0) c.content_of.ensures)
     (subst (λ (k : Content). OneMore f g k) c.content_of.ensures c.in_ok-place.ensures.1)
     )
 
 pub returns : goal.returns
-returns c = all_ranked (hash.get same_content_key c.loop-entry.counts) c.loop-entry.ranked.items c.args.entries.now c.loop-entry.entry-index (omega arith) c.loop-entry.invariant
+returns c = all_ranked (hash.get same_content_key c.loop-entry.counts) c.loop-entry.ranked.items c.args.entries.now
+    c.loop-entry.entry-index (omega arith) c.loop-entry.invariant

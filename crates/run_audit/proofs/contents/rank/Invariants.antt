@@ -7,4 +7,5 @@ use Rattle.run_audit.proofs.Ranks.{IsRanked}
 use Rattle.run_audit.proofs.contents.rank.Given as goal
 
 abbrev pub invariant-loop-entry : goal.invariant-loop-entry
-invariant-loop-entry l = IsRanked (hash.get same_content_key l.counts) l.ranked.items (map entry_shown (take l.entry-index l.entries))
+invariant-loop-entry l = IsRanked (hash.get same_content_key l.counts) l.ranked.items
+    (map entry_shown (take l.entry-index l.entries))

@@ -6,4 +6,5 @@ use Rattle.run_audit.proofs.Endings.{Leads}
 use Rattle.run_audit.proofs.ended.ended_segments.Given as goal
 
 abbrev pub invariant-loop-index : goal.invariant-loop-index
-invariant-loop-index l = Leads (l.index + 1) l.segments (hash.get nat_eq l.held) l.all.items (take l.index (numbered l.lines))
+invariant-loop-index l = Leads (l.index + 1) l.segments (hash.get nat_eq l.held) l.all.items
+    (take l.index (numbered l.lines))

@@ -11,7 +11,8 @@ use Rattle.run_audit.proofs.judge.difference.Goals as goal
 pub returns : goal.returns
 returns c =
     subst (λ lacks. IfOk c.least_lack.result (λ breach. breach ≡ least lacks))
-    (ap (λ es. all_lacks (map ended_shown es)) c.as_slice.ensures.value ∙ ap all_lacks c.in_ok-ended.ensures ∙ same_finding (numbered c.args.lines.now))
+    (ap (λ es. all_lacks (map ended_shown es)) c.as_slice.ensures.value ∙ ap all_lacks c.in_ok-ended.ensures ∙
+    same_finding (numbered c.args.lines.now))
     c.least_lack.ensures
 
 pub least_lack-requires : goal.least_lack-requires

@@ -11,7 +11,8 @@ use Rattle.run_audit.proofs.judge.disorder.Goals as goal
 
 pub place-requires : goal.place-requires
 place-requires c =
-    let few : length (entries_of (numbered c.args.lines.now)) ≤ length (numbered c.args.lines.now) = few_entries [] (numbered c.args.lines.now) in
+    let few : length (entries_of (numbered c.args.lines.now)) ≤ length (numbered c.args.lines.now) =
+    few_entries [] (numbered c.args.lines.now) in
     let counted = ap length c.in_ok-entries.ensures in
     let mapped = length-map c.in_ok-entries.entries.items entry_shown in
     let all = length-enumerate_from 1 (map shown c.args.lines.now) in
@@ -20,4 +21,5 @@ place-requires c =
 
 pub least_clash-requires : goal.least_clash-requires
 least_clash-requires c =
-    rw (c.as_slice-2.ensures.value, c.in_ok-placed.ensures, c.as_slice.ensures.value, c.in_ok-entries.ensures) (in_order (lists_shown c.args.lists) (map shown c.args.lines.now))
+    rw (c.as_slice-2.ensures.value, c.in_ok-placed.ensures, c.as_slice.ensures.value, c.in_ok-entries.ensures)
+    (in_order (lists_shown c.args.lists) (map shown c.args.lines.now))

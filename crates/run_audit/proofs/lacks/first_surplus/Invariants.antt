@@ -7,4 +7,5 @@ use Rattle.run_audit.specs.Lacks.{Counts, ranked_shown, same_content_key, surplu
 use Rattle.run_audit.proofs.lacks.first_surplus.Given as goal
 
 abbrev pub invariant-loop-delivery : goal.invariant-loop-delivery
-invariant-loop-delivery l = (all : List segment.Entry) → Counts (hash.get same_content_key l.counts) all → l.found ≡ least (surplus l.line all (map ranked_shown (take l.delivery-index l.deliveries)))
+invariant-loop-delivery l = (all : List segment.Entry) → Counts (hash.get same_content_key l.counts) all →
+    l.found ≡ least (surplus l.line all (map ranked_shown (take l.delivery-index l.deliveries)))

@@ -9,5 +9,6 @@ pub returns : goal.returns
 returns c =
     λ counts.
     c.first_surplus.ensures (entries_in (ended_shown c.args.one.now)) counts
-    ∙ (λ i. least (surplus c.args.one.now.line (entries_in (ended_shown c.args.one.now)) (map ranked_shown (c.as_slice.ensures.value i))))
+    ∙ (λ i. least (surplus c.args.one.now.line (entries_in (ended_shown c.args.one.now))
+    (map ranked_shown (c.as_slice.ensures.value i))))
     ∙ sym (lack_of_other (ended_shown c.args.one.now) (ended_shown c.args.other.now) _ c.if-not-goes_along.ensures)

@@ -6,4 +6,6 @@ use Rattle.run_audit.specs.Marks.{same_item_key, sooner_in}
 use Rattle.run_audit.proofs.marks.first_lacking.Given as goal
 
 abbrev pub invariant-loop-one : goal.invariant-loop-one
-invariant-loop-one l = l.found ≡ fold (sooner_in (hash.get same_item_key l.marks.items) (hash.get same_way l.marks.groups)) None (take l.one-index l.ended)
+invariant-loop-one l = l.found ≡
+    fold (sooner_in (hash.get same_item_key l.marks.items) (hash.get same_way l.marks.groups)) None
+    (take l.one-index l.ended)

@@ -6,4 +6,5 @@ use Rattle.run_audit.specs.Marks.{Marked, same_item_key}
 use Rattle.run_audit.proofs.marks.mark_all.Given as goal
 
 abbrev pub invariant-loop-index : goal.invariant-loop-index
-invariant-loop-index l = Marked (hash.get same_item_key l.items) (hash.get same_way l.groups) (map ended_shown (drop l.index l.ended))
+invariant-loop-index l = Marked (hash.get same_item_key l.items) (hash.get same_way l.groups)
+    (map ended_shown (drop l.index l.ended))

@@ -7,8 +7,12 @@ use Rattle.run_audit.proofs.marks.mark_segment.Goals as goal
 pub loop-delivery-preserved : goal.loop-delivery-preserved
 loop-delivery-preserved c =
     let f = hash.get same_item_key c.loop-delivery.items in
-    marked_on (hash.get same_item_key c.args.items.now) f (hash.get same_item_key c.insert.new.self) c.args.behind c.args.one.now c.deref-delivery-items.result.now c.loop-delivery.delivery-index _ c.item_of-item.result c.marked-mark.result (omega arith) (item_answers c.loop-delivery.items) c.loop-delivery.invariant c.item_of-item.ensures
-    (c.marked-mark.ensures ∙ ap (λ o. marked o c.args.behind c.args.one.now.member c.args.one.now.line) c.mark_at.ensures)
+    marked_on (hash.get same_item_key c.args.items.now) f (hash.get same_item_key c.insert.new.self) c.args.behind
+    c.args.one.now c.deref-delivery-items.result.now c.loop-delivery.delivery-index _ c.item_of-item.result
+    c.marked-mark.result (omega arith) (item_answers c.loop-delivery.items) c.loop-delivery.invariant
+    c.item_of-item.ensures
+    (c.marked-mark.ensures ∙ ap (λ o. marked o c.args.behind c.args.one.now.member c.args.one.now.line)
+    c.mark_at.ensures)
     c.in_ok-insert.ensures.updates.0
 
 pub returns : goal.returns
@@ -16,4 +20,5 @@ returns c =
     let old = hash.get same_item_key c.args.items.now in
     let new = hash.get same_item_key c.loop-delivery.items in
     subst (IsMarkedBy old new c.args.behind c.args.one.now) c.deref-delivery-items.ensures.value
-    (all_marked old new c.args.behind c.args.one.now c.deref-delivery-items.result.now c.loop-delivery.delivery-index (omega arith) c.loop-delivery.invariant)
+    (all_marked old new c.args.behind c.args.one.now c.deref-delivery-items.result.now c.loop-delivery.delivery-index
+    (omega arith) c.loop-delivery.invariant)

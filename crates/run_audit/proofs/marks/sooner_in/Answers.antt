@@ -12,11 +12,15 @@ loop-delivery-preserved c =
     let groups = hash.get same_way c.args.marks.now.groups in
     let mark = c.mark_at-mark.ensures ∙ ap items c.item_of.ensures in
     c.sooner-found.ensures
-    ∙ (λ i. sooner c.loop-delivery.found ((c.lack_line.ensures ∙ (λ j. lack_line (mark j) (c.group_at-group.ensures j))) i))
-    ∙ folded_on (sooner_of items groups c.args.one.now.way) c.args.found c.loop-delivery.found c.deref-delivery-items.result.now c.loop-delivery.delivery-index _ (omega arith) c.loop-delivery.invariant
+    ∙ (λ i. sooner c.loop-delivery.found
+    ((c.lack_line.ensures ∙ (λ j. lack_line (mark j) (c.group_at-group.ensures j))) i))
+    ∙ folded_on (sooner_of items groups c.args.one.now.way) c.args.found c.loop-delivery.found
+    c.deref-delivery-items.result.now c.loop-delivery.delivery-index _ (omega arith) c.loop-delivery.invariant
 
 pub returns : goal.returns
 returns c =
-    let line = sooner_of (hash.get same_item_key c.args.marks.now.items) (hash.get same_way c.args.marks.now.groups) c.args.one.now.way in
-    all_folded line c.args.found c.loop-delivery.found c.deref-delivery-items.result.now c.loop-delivery.delivery-index (omega arith) c.loop-delivery.invariant
+    let line = sooner_of (hash.get same_item_key c.args.marks.now.items) (hash.get same_way c.args.marks.now.groups)
+    c.args.one.now.way in
+    all_folded line c.args.found c.loop-delivery.found c.deref-delivery-items.result.now c.loop-delivery.delivery-index
+    (omega arith) c.loop-delivery.invariant
     ∙ ap (fold line c.args.found) c.deref-delivery-items.ensures.value

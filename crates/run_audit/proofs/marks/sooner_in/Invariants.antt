@@ -7,4 +7,5 @@ use Rattle.run_audit.proofs.marks.sooner_in.Given as goal
 
 abbrev pub invariant-loop-delivery : goal.invariant-loop-delivery
 invariant-loop-delivery l =
-    l.found ≡ fold (sooner_of (hash.get same_item_key l.marks.items) (hash.get same_way l.marks.groups) l.one.way) l.fn.found (take l.delivery-index l.delivery-items)
+    l.found ≡ fold (sooner_of (hash.get same_item_key l.marks.items) (hash.get same_way l.marks.groups) l.one.way)
+    l.fn.found (take l.delivery-index l.delivery-items)

@@ -6,4 +6,5 @@ use Rattle.run_audit.proofs.report.read_lines.Goals as goal
 
 pub loop-line-init : goal.loop-line-init
 loop-line-init c =
-    begins c.args.text.now _ _ _ (ap (map shown) c.new-lines.ensures.items) (ap length c.new-lines.ensures.items) (ap parts_left c.into_iter-line-iterator.ensures.into_iter_gives ∙ c.lines-line-items.ensures) c.requires
+    begins c.args.text.now _ _ _ (ap (map shown) c.new-lines.ensures.items) (ap length c.new-lines.ensures.items)
+    (ap parts_left c.into_iter-line-iterator.ensures.into_iter_gives ∙ c.lines-line-items.ensures) c.requires

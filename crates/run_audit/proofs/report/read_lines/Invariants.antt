@@ -8,5 +8,7 @@ use Rattle.run_audit.proofs.report.read_lines.Given as goal
 
 abbrev pub invariant-loop-line : goal.invariant-loop-line
 invariant-loop-line l =
-    (with_front (map shown l.lines.items) (report_from (stage_shown l.stage) (length l.lines.items + 1) (parts_left l.line-iterator)) ≡ report_from running 1 (lines_of l.fn.text))
+    (with_front (map shown l.lines.items)
+    (report_from (stage_shown l.stage) (length l.lines.items + 1) (parts_left l.line-iterator)) ≡
+    report_from running 1 (lines_of l.fn.text))
     × (length l.lines.items + length (parts_left l.line-iterator) ≤ 67108865)

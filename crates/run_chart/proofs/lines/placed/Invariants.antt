@@ -6,4 +6,5 @@ use Rattle.run_chart.proofs.lines.placed.Given as goal
 
 abbrev pub invariant-loop-place : goal.invariant-loop-place
 invariant-loop-place l =
-    (map line_shown l.lines.items ≡ lines_from l.first 0 (texts_shown (take l.place l.texts))) × (length l.lines.items ≡ l.place)
+    (map line_shown l.lines.items ≡ lines_from l.first 0 (texts_shown (take l.place l.texts))) ×
+    (length l.lines.items ≡ l.place)

@@ -5,4 +5,5 @@ use Rattle.run_chart.proofs.marks.bringer.Goals as goal
 pub returns-in-Deliver : goal.returns-in-Deliver
 returns-in-Deliver c = λ before agrees.
     rw c.in-Deliver.is
-    (c.from_another.ensures ∙ ap (from_another c.in-Deliver.member) (c.get.ensures.value ∙ agrees (record { word = c.in-Deliver.body })))
+    (c.from_another.ensures ∙
+    ap (from_another c.in-Deliver.member) (c.get.ensures.value ∙ agrees (record { word = c.in-Deliver.body })))

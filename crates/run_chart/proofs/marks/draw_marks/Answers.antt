@@ -6,5 +6,7 @@ use Rattle.run_chart.proofs.marks.draw_marks.Goals as goal
 
 pub loop-line-preserved : goal.loop-line-preserved
 loop-line-preserved c =
-    drawn_more c.args.lines.now c.loop-line.line-index _ _ _ _ _ (hash.get same_body c.loop-line.bearers) (hash.get same_body c.note.new.bearers)
-    (omega arith) c.loop-line.invariant.0 c.loop-line.invariant.1 c.bringer.ensures c.in_ok-draw_mark.ensures c.in_ok-note.ensures
+    drawn_more c.args.lines.now c.loop-line.line-index _ _ _ _ _ (hash.get same_body c.loop-line.bearers)
+    (hash.get same_body c.note.new.bearers)
+    (omega arith) c.loop-line.invariant.0 c.loop-line.invariant.1 c.bringer.ensures c.in_ok-draw_mark.ensures
+    c.in_ok-note.ensures

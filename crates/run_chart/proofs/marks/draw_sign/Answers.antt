@@ -16,6 +16,7 @@ returns c =
     let three = two ++ (codes "'") in
     let to_four = more start three (numbered (codes "x") c.args.line.now.x) _ _ to_three c.in_ok-attribute.ensures in
     let four = three ++ (numbered (codes "x") c.args.line.now.x) in
-    let to_five = more start four (numbered (codes "y") (y_of says)) _ _ to_four (rw c.y.ensures at c.in_ok-attribute-2.ensures) in
+    let to_five = more start four (numbered (codes "y") (y_of says)) _ _ to_four
+    (rw c.y.ensures at c.in_ok-attribute-2.ensures) in
     let five = four ++ (numbered (codes "y") (y_of says)) in
     last c.put-4.result start five (codes "/>") _ _ to_five c.put-4.ensures

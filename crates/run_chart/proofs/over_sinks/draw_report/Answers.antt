@@ -4,7 +4,8 @@ use Rattle.run_chart.proofs.over_sinks.draw_report.Goals as goal
 
 pub returns-in-Ok : goal.returns-in-Ok
 returns-in-Ok g c =
-    written (request_shown c.args.request) _ _ _ c.in-Ok.picture.items _ _ c.write.result c.in-Ok.ensures (rw c.deref.ensures.value at c.write.ensures)
+    written (request_shown c.args.request) _ _ _ c.in-Ok.picture.items _ _ c.write.result c.in-Ok.ensures
+    (rw c.deref.ensures.value at c.write.ensures)
 
 pub returns-in-Err : goal.returns-in-Err
 returns-in-Err g c = stopped (request_shown c.args.request) _ _ _ _ c.in-Err.ending c.in-Err.ensures

@@ -9,5 +9,6 @@ returns g c = record {
   end = c.perform-ending.result;
   came = c.perform-ending.ensures;
   said = c.say.ensures;
-  exact = exact (request_of (map string_bytes c.args.words.now)) _ _ c.perform-ending.result c.perform-ending.ensures c.say.ensures;
+  exact = exact (request_of (map string_bytes c.args.words.now)) _ _ c.perform-ending.result c.perform-ending.ensures
+      c.say.ensures;
 }

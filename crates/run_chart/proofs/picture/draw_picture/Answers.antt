@@ -15,11 +15,15 @@ returns c =
     let lines = map line_shown c.args.lines.now in
     let end = across (length lines) in
     let one = opening (end + 100) (down (rows lines)) in
-    let to_two = more start one style _ _ (rw (c.down.ensures.is, c.end_of-end.ensures.is, c.count_rows-rows.ensures) at c.in_ok-draw_opening.ensures) (rw c.style.ensures at c.in_ok-put.ensures) in
+    let to_two = more start one style _ _
+    (rw (c.down.ensures.is, c.end_of-end.ensures.is, c.count_rows-rows.ensures) at c.in_ok-draw_opening.ensures)
+    (rw c.style.ensures at c.in_ok-put.ensures) in
     let two = one ++ style in
-    let to_three = more start two (axis_line end) _ _ to_two (rw c.end_of-end.ensures.is at c.in_ok-draw_axis.ensures) in
+    let to_three = more start two (axis_line end) _ _ to_two (rw c.end_of-end.ensures.is at c.in_ok-draw_axis.ensures)
+    in
     let three = two ++ (axis_line end) in
-    let to_four = more start three (rows_below (rows lines) end lines) _ _ to_three (rw (c.count_rows-rows.ensures, c.end_of-end.ensures.is) at c.in_ok-draw_rows.ensures) in
+    let to_four = more start three (rows_below (rows lines) end lines) _ _ to_three
+    (rw (c.count_rows-rows.ensures, c.end_of-end.ensures.is) at c.in_ok-draw_rows.ensures) in
     let four = three ++ (rows_below (rows lines) end lines) in
     let to_five = more start four (concat (marks [] lines)) _ _ to_four c.in_ok-draw_marks.ensures in
     let five = four ++ (concat (marks [] lines)) in

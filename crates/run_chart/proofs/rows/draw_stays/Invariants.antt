@@ -5,4 +5,5 @@ use Rattle.run_chart.proofs.rows.draw_stays.Given as goal
 
 abbrev pub invariant-loop-line : goal.invariant-loop-line
 invariant-loop-line l =
-    l.text ++ stays_from l.member l.end l.turn l.lines l.line-index ≡ l.initial.text ++ stays_from l.member l.end first_turn l.lines 0
+    l.text ++ stays_from l.member l.end l.turn l.lines l.line-index ≡ l.initial.text ++
+    stays_from l.member l.end first_turn l.lines 0

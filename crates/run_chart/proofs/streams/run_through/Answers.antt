@@ -21,7 +21,8 @@ returns-clause-through g c =
     let said = subst (λ end. Said end e) c.closed.ensures c.say-status.ensures in
     let put = tells (gathered (g.O.Write.contents out.stream) out.done out.held.items) None out.faults in
     let start = c.args.out.now in
-    let a = surrounding (g.S.Shelf.told c.args.shelf.now) (g.S.Shelf.faults c.args.shelf.now) (g.S.Shelf.faults c.perform-ending.new.shelf)
+    let a = surrounding (g.S.Shelf.told c.args.shelf.now) (g.S.Shelf.faults c.args.shelf.now)
+    (g.S.Shelf.faults c.perform-ending.new.shelf)
     (tells (gathered (g.O.Write.contents start.stream) start.done start.held.items) None start.faults) put in
     let request = request_of (map string_bytes c.args.words.now) in
     record {

@@ -4,4 +4,5 @@ use Rattle.std.specs.List.{range_with_len}
 use Rattle.script_text.proofs.datagram.counting.Given as goal
 
 abbrev pub invariant-loop-place : goal.invariant-loop-place
-invariant-loop-place l = (l.bytes.items ≡ map (λ byte. byte % 256) (range_with_len l.number l.place)) × (l.size ≤ vec_capacity l.bytes)
+invariant-loop-place l = (l.bytes.items ≡ map (λ byte. byte % 256) (range_with_len l.number l.place)) ×
+    (l.size ≤ vec_capacity l.bytes)

@@ -5,4 +5,5 @@ use Rattle.script_text.proofs.event.event_on.Goals as goal
 
 pub returns-in-Err-clause-said : goal.returns-in-Err-clause-said
 returns-in-Err-clause-said c =
-    rw c.at.ensures (fault_at c.args.members c.args.line.number (event_line (words_of c.args.line.text.now)) c.in-Err.error c.in-Err.ensures)
+    rw c.at.ensures (fault_at c.args.members c.args.line.number (event_line (words_of c.args.line.text.now))
+    c.in-Err.error c.in-Err.ensures)

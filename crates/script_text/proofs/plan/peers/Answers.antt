@@ -13,7 +13,9 @@ loop-member-init c = rw c.new-peers.ensures.items (no_peers c.args.members (line
 pub loop-member-preserved : goal.loop-member-preserved
 loop-member-preserved c =
     rw c.in_ok-push.ensures.items
-    (one_more_peer c.args.members c.loop-member.member (lines_left c.args.lines.now) (lines_left c.loop-member.lines) (lines_left c.next.new.self) (numbered c.in-Some.line) c.loop-member.peers.items c.in_ok-peer_on.field-0 c.loop-member-test.true c.loop-member.invariant c.in-Some.ensures.steps c.in_ok-peer_on.ensures)
+    (one_more_peer c.args.members c.loop-member.member (lines_left c.args.lines.now) (lines_left c.loop-member.lines)
+    (lines_left c.next.new.self) (numbered c.in-Some.line) c.loop-member.peers.items c.in_ok-peer_on.field-0
+    c.loop-member-test.true c.loop-member.invariant c.in-Some.ensures.steps c.in_ok-peer_on.ensures)
 
 pub returns-in_err-peer_on-clause-spelled : goal.returns-in_err-peer_on-clause-spelled
 returns-in_err-peer_on-clause-spelled c =
@@ -21,5 +23,8 @@ returns-in_err-peer_on-clause-spelled c =
     let line = numbered c.in-Some.line in
     let lines = lines_left c.args.lines.now in
     rw (p.1, p.2)
-    (passed_on (in_form line.0 (said_by (peer_line c.loop-member.member) line.1)) (first_peers c.args.members c.args.behind lines) c.in_err-peer_on.field-0.0 c.in_err-peer_on.ensures
-    (λ fault reads. bad_peer c.args.members c.args.behind c.loop-member.member lines (lines_left c.loop-member.lines) (lines_left c.next.new.self) line c.loop-member.peers.items fault c.loop-member-test.true c.loop-member.invariant c.in-Some.ensures.steps reads))
+    (passed_on (in_form line.0 (said_by (peer_line c.loop-member.member) line.1))
+    (first_peers c.args.members c.args.behind lines) c.in_err-peer_on.field-0.0 c.in_err-peer_on.ensures
+    (λ fault reads. bad_peer c.args.members c.args.behind c.loop-member.member lines (lines_left c.loop-member.lines)
+    (lines_left c.next.new.self) line c.loop-member.peers.items fault c.loop-member-test.true
+    c.loop-member.invariant c.in-Some.ensures.steps reads))

@@ -12,6 +12,9 @@ loop-line-preserved c =
     let turns = c.loop-line.turns.items in
     let turn = c.in_ok-turn.turn in
     rw c.in_ok-push.ensures.items (
-      one_more_turn members c.loop-line.earliest turns (numbered c.in-Some.line) turn (lines_left c.loop-line.line-iterator) (lines_left c.next.new.self) (turns_of members 0 (lines_left c.args.lines)) c.in-Some.ensures.steps c.in_ok-turn.ensures.said c.loop-line.invariant.0,
+      one_more_turn members c.loop-line.earliest turns (numbered c.in-Some.line) turn
+          (lines_left c.loop-line.line-iterator) (lines_left c.next.new.self)
+          (turns_of members 0 (lines_left c.args.lines))
+          c.in-Some.ensures.steps c.in_ok-turn.ensures.said c.loop-line.invariant.0,
       All-push (λ turn. member_of turn.1 < members) turns turn c.loop-line.invariant.1 c.in_ok-turn.ensures.of_member,
     )

@@ -13,6 +13,9 @@ loop-line-preserved c =
     let event = c.in_ok-event_on.field-0 in
     let all = lines_left c.loop-line.line-iterator in
     rw c.in_ok-push.ensures.items (
-      goes_on members events (numbered c.in-Some.line) event all (lines_left c.next.new.self) (events_of members (lines_left c.args.lines)) c.in-Some.ensures.steps c.in_ok-event_on.ensures.said c.loop-line.invariant.0,
-      All-push (λ event. member_of event < members) events event c.loop-line.invariant.1 c.in_ok-event_on.ensures.of_member,
+      goes_on members events (numbered c.in-Some.line) event all (lines_left c.next.new.self)
+          (events_of members (lines_left c.args.lines)) c.in-Some.ensures.steps c.in_ok-event_on.ensures.said
+          c.loop-line.invariant.0,
+      All-push (λ event. member_of event < members) events event c.loop-line.invariant.1
+          c.in_ok-event_on.ensures.of_member,
     )

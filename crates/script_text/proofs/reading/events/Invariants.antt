@@ -8,5 +8,6 @@ use Rattle.script_text.proofs.reading.events.Given as goal
 
 abbrev pub invariant-loop-line : goal.invariant-loop-line
 invariant-loop-line l =
-    (with_front l.events.items (events_of l.members (lines_left l.line-iterator)) ≡ events_of l.members (lines_left l.fn.lines))
+    (with_front l.events.items (events_of l.members (lines_left l.line-iterator)) ≡
+    events_of l.members (lines_left l.fn.lines))
     × All (λ event. member_of event < l.members) l.events.items

@@ -7,7 +7,8 @@ use Rattle.script_text.proofs.splits.cut_at.Goals as goal
 pub returns-then-place-text : goal.returns-then-place-text
 returns-then-place-text c = (
   sym (take_all c.args.place c.args.text.now (omega arith)),
-  split_at_none (λ byte. byte == c.args.at) c.args.text.now (λ k low below. c.requires.1 k low (omega (arith, below, c.if-place-text.true))),
+  split_at_none (λ byte. byte == c.args.at) c.args.text.now
+      (λ k low below. c.requires.1 k low (omega (arith, below, c.if-place-text.true))),
 )
 
 pub returns-then-text-place : goal.returns-then-text-place

@@ -11,5 +11,10 @@ loop-place-preserved c =
     let text = c.args.text.now in
     let is_digit : is_ascii_digit (get_or text i 0) ≡ true = sym c.if-not-is_ascii_digit.ensures.value in
     let digit = digit_is (get_or text i 0) is_digit in
-    let more = digits_value_more 10 text i (omega arith) in
-    ((rw (list_all_more is_ascii_digit text i 0 (omega arith), c.loop-place.invariant.0.0, is_digit) refl, omega arith), omega arith)
+    let more = digits_value_more 10 text i (omega arith) in (
+      (
+        rw (list_all_more is_ascii_digit text i 0 (omega arith), c.loop-place.invariant.0.0, is_digit) refl,
+        omega arith,
+      ),
+      omega arith,
+    )

@@ -23,5 +23,8 @@ loop-byte-preserved c =
     let word = c.args.word.now in
     let is_digit : is_ascii_digit (get_or word i 0) ≡ true = sym c.if-not-is_ascii_digit.ensures.value in
     let digit = digit_is (get_or word i 0) is_digit in
-    let more = digits_value_more 10 word i (omega arith) in
-    (rw (list_all_more is_ascii_digit word i 0 (omega arith), c.loop-byte.invariant.0, is_digit) refl, omega arith, omega arith)
+    let more = digits_value_more 10 word i (omega arith) in (
+      rw (list_all_more is_ascii_digit word i 0 (omega arith), c.loop-byte.invariant.0, is_digit) refl,
+      omega arith,
+      omega arith,
+    )

@@ -5,4 +5,5 @@ use Rattle.std.specs.Str.Parse.{digits_value}
 use Rattle.script_text.proofs.values.value_within.Given as goal
 
 abbrev pub invariant-loop-byte : goal.invariant-loop-byte
-invariant-loop-byte l = (list_all is_ascii_digit (take l.byte-index l.word) ≡ true) × (l.value ≡ digits_value 10 (take l.byte-index l.word)) × (l.value ≤ l.high)
+invariant-loop-byte l = (list_all is_ascii_digit (take l.byte-index l.word) ≡ true) ×
+    (l.value ≡ digits_value 10 (take l.byte-index l.word)) × (l.value ≤ l.high)

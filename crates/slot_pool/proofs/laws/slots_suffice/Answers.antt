@@ -1,4 +1,5 @@
-use Rattle.slot_pool.proofs.References.{spare-fresh, puts-spare, keep-spare, end-spare, spare-full, full-spare, slots-shared, not-full}
+use Rattle.slot_pool.proofs.References.{spare-fresh, puts-spare, keep-spare, end-spare, spare-full, full-spare}
+use Rattle.slot_pool.proofs.References.{slots-shared, not-full}
 use Rattle.slot_pool.proofs.laws.slots_suffice.Goals as goal
 
 pub returns-clause-fresh : goal.returns-clause-fresh

@@ -6,4 +6,5 @@ use Rattle.stack_shapes.specs.Shapes.{plan_shapes}
 use Rattle.stack_shapes.proofs.made.all_shapes.Given as goal
 
 abbrev pub invariant-loop-plan : goal.invariant-loop-plan
-invariant-loop-plan l = map case_trees l.all.items ≡ map (plan_shapes (stack_tree l.stack)) (map plan_tree (take l.plan-index l.plans))
+invariant-loop-plan l = map case_trees l.all.items ≡
+    map (plan_shapes (stack_tree l.stack)) (map plan_tree (take l.plan-index l.plans))

@@ -4,4 +4,5 @@ use Rattle.stack_shapes.proofs.Few.{drawn_few}
 use Rattle.stack_shapes.proofs.made.app_shapes.Goals as goal
 
 pub returns-clause-few : goal.returns-clause-few
-returns-clause-few c = drawn_few (stack_tree c.args.stack.now) _ (case_trees c.in_ok-shapes.field-0) c.in_ok-shapes.ensures
+returns-clause-few c = drawn_few (stack_tree c.args.stack.now) _ (case_trees c.in_ok-shapes.field-0)
+    c.in_ok-shapes.ensures

@@ -5,4 +5,5 @@ use Rattle.stackc_run.proofs.Performed.{does}
 use Rattle.stackc_run.proofs.over_sinks.run.Goals as goal
 
 pub returns : goal.returns
-returns g c = does (map string_bytes c.args.words.now) _ refl _ _ _ (shown c.perform-ending.result) c.perform-ending.ensures c.say.ensures
+returns g c = does (map string_bytes c.args.words.now) _ refl _ _ _ (shown c.perform-ending.result)
+    c.perform-ending.ensures c.say.ensures

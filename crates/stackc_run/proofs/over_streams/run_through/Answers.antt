@@ -22,9 +22,11 @@ returns-clause-through g c =
     let said = subst (λ end. Said end e) c.closed.ensures c.say-status.ensures in
     let put = tells (gathered (g.O.Write.contents out.stream) out.done out.held.items) None out.faults in
     let start = c.args.out.now in
-    let a = surrounding (g.S.Shelf.told c.args.shelf.now) (g.S.Shelf.faults c.args.shelf.now) (g.S.Shelf.faults c.perform-ending.new.shelf)
+    let a = surrounding (g.S.Shelf.told c.args.shelf.now) (g.S.Shelf.faults c.args.shelf.now)
+    (g.S.Shelf.faults c.perform-ending.new.shelf)
     (tells (gathered (g.O.Write.contents start.stream) start.done start.held.items) None start.faults) put in
-    let n = beyond g.N.Links g.C.Clock c.args.links.now c.perform-ending.new.links c.args.clock.now c.perform-ending.new.clock in
+    let n = beyond g.N.Links g.C.Clock c.args.links.now c.perform-ending.new.links c.args.clock.now
+    c.perform-ending.new.clock in
     record {
       put = put;
       end = shown c.perform-ending.result;
@@ -33,7 +35,8 @@ returns-clause-through g c =
       handed_on = c.hand_on-whole.ensures;
       closing = closing;
       said = said;
-      does = λ is. does (map string_bytes c.args.words.now) (job_of_words (map string_bytes c.args.words.now)) refl a n e (shown c.perform-ending.result) c.perform-ending.ensures (subst (λ end. Said end e) is said);
+      does = λ is. does (map string_bytes c.args.words.now) (job_of_words (map string_bytes c.args.words.now)) refl a n
+          e (shown c.perform-ending.result) c.perform-ending.ensures (subst (λ end. Said end e) is said);
       heard = c.hand_on.result;
       told_on = c.hand_on.ensures;
     }

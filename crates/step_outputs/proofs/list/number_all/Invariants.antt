@@ -3,4 +3,5 @@ use Rattle.step_outputs.specs.Kept.{numbered}
 use Rattle.step_outputs.proofs.list.number_all.Given as goal
 
 abbrev pub invariant-loop-kept : goal.invariant-loop-kept
-invariant-loop-kept l = numbered l.count l.first l.fn.list ≡ take l.kept-index l.list ++ numbered l.count l.next (drop l.kept-index l.list)
+invariant-loop-kept l = numbered l.count l.first l.fn.list ≡ take l.kept-index l.list ++
+    numbered l.count l.next (drop l.kept-index l.list)

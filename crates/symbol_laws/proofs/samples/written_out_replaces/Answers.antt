@@ -12,7 +12,10 @@ returns c = (
     acts = refl;
     closed = (
       (omega arith, tt),
-      ((omega arith, tt, (omega arith, tt)), (((tt, tt), record { chain_is = ((omega arith, tt), tt); core_is = tt }), tt)),
+      (
+        (omega arith, tt, (omega arith, tt)),
+        (((tt, tt), record { chain_is = ((omega arith, tt), tt); core_is = tt }), tt),
+      ),
     );
     there = (
       (inl (refl, refl), tt),

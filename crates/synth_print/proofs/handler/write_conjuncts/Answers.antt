@@ -12,7 +12,8 @@ pub loop-k-preserved : goal.loop-k-preserved
 loop-k-preserved g c =
     let s = c.args.scope.now in
     let x = number_in (terms_in s) c.node_of-conjunct.result in
-    turns_more (conjunct_turn (layers_in s)) (numbers_of s.source.now c.args.conjuncts.now) c.loop-k.k x x _ _ _ c.loop-k.invariant c.in_ok-write_conjunct.ensures
+    turns_more (conjunct_turn (layers_in s)) (numbers_of s.source.now c.args.conjuncts.now) c.loop-k.k x x _ _ _
+    c.loop-k.invariant c.in_ok-write_conjunct.ensures
     (omega (arith, c.loop-k-test.true, length-map c.args.conjuncts.now (number_in (terms_in s))))
     (node_at (terms_in s) c.args.conjuncts.now c.loop-k.k c.node_of-conjunct.result x c.node_of-conjunct.ensures)
 
@@ -21,7 +22,8 @@ returns-in_err-write_conjunct g c =
     let p = err_from_is_err_and c.from_residual.result c.from_residual.ensures.1 in
     let s = c.args.scope.now in
     let x = number_in (terms_in s) c.node_of-conjunct.result in
-    rw (p.1, p.2) (turns_cut (conjunct_turn (layers_in s)) (numbers_of s.source.now c.args.conjuncts.now) c.loop-k.k x x _ _ _ _
+    rw (p.1, p.2) (turns_cut (conjunct_turn (layers_in s)) (numbers_of s.source.now c.args.conjuncts.now) c.loop-k.k x x
+    _ _ _ _
     c.loop-k.invariant c.in_err-write_conjunct.ensures
     (omega (arith, c.loop-k-test.true, length-map c.args.conjuncts.now (number_in (terms_in s))))
     (node_at (terms_in s) c.args.conjuncts.now c.loop-k.k c.node_of-conjunct.result x c.node_of-conjunct.ensures))
@@ -29,5 +31,6 @@ returns-in_err-write_conjunct g c =
 pub returns : goal.returns
 returns g c =
     let s = c.args.scope.now in
-    turns_done (conjunct_turn (layers_in s)) (numbers_of s.source.now c.args.conjuncts.now) c.loop-k.k _ _ c.loop-k.invariant
+    turns_done (conjunct_turn (layers_in s)) (numbers_of s.source.now c.args.conjuncts.now) c.loop-k.k _ _
+    c.loop-k.invariant
     (omega (arith, c.loop-k-test.false, length-map c.args.conjuncts.now (number_in (terms_in s))))

@@ -10,4 +10,5 @@ abbrev pub invariant-loop-k : goal.invariant-loop-k
 invariant-loop-k g l = Gains
     (tells_of g.O.Sink l.initial.out)
     (tells_of g.O.Sink l.out)
-    (flat_map (conjunct_turn (layers_in l.scope)) (take l.k (enumerate_from 0 (numbers_of l.scope.source.now l.conjuncts))))
+    (flat_map (conjunct_turn (layers_in l.scope))
+    (take l.k (enumerate_from 0 (numbers_of l.scope.source.now l.conjuncts))))

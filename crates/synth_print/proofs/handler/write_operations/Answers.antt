@@ -21,12 +21,14 @@ loop-k-preserved g c =
     record {
       gained = operations_more s.noting stack (operations_in s) c.loop-k.k o o
           (omega (arith, c.loop-k-test.true, length-map s.operations.now (operation_in ts cs)))
-          (operation_at ts cs s.operations.now c.loop-k.k c.operation_at-operation.result o c.operation_at-operation.ensures.is)
+          (operation_at ts cs s.operations.now c.loop-k.k c.operation_at-operation.result o
+          c.operation_at-operation.ensures.is)
           (written_of c.args.stack.now s c.loop-k.written) c.loop-k.invariant.written
           _ _ _ c.loop-k.invariant.gained c.in_ok-write_operation.ensures.wrote;
       written = written_next s.noting stack (operations_in s) c.loop-k.k o o
           (omega (arith, c.loop-k-test.true, length-map s.operations.now (operation_in ts cs)))
-          (operation_at ts cs s.operations.now c.loop-k.k c.operation_at-operation.result o c.operation_at-operation.ensures.is)
+          (operation_at ts cs s.operations.now c.loop-k.k c.operation_at-operation.result o
+          c.operation_at-operation.ensures.is)
           (written_of c.args.stack.now s c.loop-k.written) c.loop-k.invariant.written
           _ c.in_ok-write_operation.ensures.written;
       few = omega (arith, c.in_ok-write_operation.ensures.few, c.loop-k.invariant.few);
@@ -41,7 +43,8 @@ returns-in_err-write_operation g c =
     let o = operation_in ts cs c.operation_at-operation.result in
     rw (p.1, p.2) (operations_cut s.noting (stack_tree c.args.stack.now) (operations_in s) c.loop-k.k o o
     (omega (arith, c.loop-k-test.true, length-map s.operations.now (operation_in ts cs)))
-    (operation_at ts cs s.operations.now c.loop-k.k c.operation_at-operation.result o c.operation_at-operation.ensures.is)
+    (operation_at ts cs s.operations.now c.loop-k.k c.operation_at-operation.result o
+    c.operation_at-operation.ensures.is)
     (written_of c.args.stack.now s c.loop-k.written) c.loop-k.invariant.written
     _ _ _ _ c.loop-k.invariant.gained c.in_err-write_operation.ensures.wrote)
 
@@ -49,4 +52,8 @@ pub returns : goal.returns
 returns g c =
     let s = c.args.source.now in
     operations_done s.noting (stack_tree c.args.stack.now) (operations_in s) c.loop-k.k _ _ c.loop-k.invariant.gained
-    (omega (arith, c.loop-k-test.false, length-map s.operations.now (operation_in (terms (nodes_in s.nodes)) (chains s.links.now))))
+    (omega (
+      arith,
+      c.loop-k-test.false,
+      length-map s.operations.now (operation_in (terms (nodes_in s.nodes)) (chains s.links.now)),
+    ))

@@ -14,6 +14,7 @@ invariant-loop-k g l = record {
       (tells_of g.O.Sink l.initial.out)
       (tells_of g.O.Sink l.out)
       (all_done l.source.noting (stack_tree l.stack) (take l.k (operations_in l.source)));
-  written : written_of l.stack l.source l.written ≡ bare (so_far l.source.noting (stack_tree l.stack) (take l.k (operations_in l.source)));
+  written : written_of l.stack l.source l.written ≡
+      bare (so_far l.source.noting (stack_tree l.stack) (take l.k (operations_in l.source)));
   few : l.written.binds ≤ l.k;
 }

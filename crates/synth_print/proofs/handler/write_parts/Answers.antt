@@ -21,5 +21,6 @@ pub returns : goal.returns
 returns g c =
     let s = c.args.source.now in
     wrote_as _ _ _ _ _
-    (handler_lines (stack_tree c.args.stack.now) s.noting (handler_in s c.args.values.now c.args.conjuncts.now) c.requires.spelled)
+    (handler_lines (stack_tree c.args.stack.now) s.noting (handler_in s c.args.values.now c.args.conjuncts.now)
+    c.requires.spelled)
     (wrote_both _ _ _ _ _ _ c.in_ok-write_guard.ensures c.write_operations.ensures)

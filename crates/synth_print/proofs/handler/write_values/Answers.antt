@@ -12,7 +12,8 @@ pub loop-k-preserved : goal.loop-k-preserved
 loop-k-preserved g c =
     let s = c.args.scope.now in
     let x = number_in (terms_in s) c.node_of-value.result in
-    turns_more (value_turn (layers_in s)) (numbers_of s.source.now c.args.values.now) c.loop-k.k x x _ _ _ c.loop-k.invariant c.in_ok-write_value.ensures
+    turns_more (value_turn (layers_in s)) (numbers_of s.source.now c.args.values.now) c.loop-k.k x x _ _ _
+    c.loop-k.invariant c.in_ok-write_value.ensures
     (omega (arith, c.loop-k-test.true, length-map c.args.values.now (number_in (terms_in s))))
     (node_at (terms_in s) c.args.values.now c.loop-k.k c.node_of-value.result x c.node_of-value.ensures)
 
@@ -21,7 +22,8 @@ returns-in_err-write_value g c =
     let p = err_from_is_err_and c.from_residual.result c.from_residual.ensures.1 in
     let s = c.args.scope.now in
     let x = number_in (terms_in s) c.node_of-value.result in
-    rw (p.1, p.2) (turns_cut (value_turn (layers_in s)) (numbers_of s.source.now c.args.values.now) c.loop-k.k x x _ _ _ _
+    rw (p.1, p.2) (turns_cut (value_turn (layers_in s)) (numbers_of s.source.now c.args.values.now) c.loop-k.k x x _ _ _
+    _
     c.loop-k.invariant c.in_err-write_value.ensures
     (omega (arith, c.loop-k-test.true, length-map c.args.values.now (number_in (terms_in s))))
     (node_at (terms_in s) c.args.values.now c.loop-k.k c.node_of-value.result x c.node_of-value.ensures))

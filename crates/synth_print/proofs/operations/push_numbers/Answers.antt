@@ -11,5 +11,11 @@ loop-k-preserved c =
     line_lead (number_texts (layers_in s) (written_in s) (terms_in s) c.args.numbers.now) c.loop-k.k _ _ _ _
     c.loop-k.invariant c.in_ok-push_lead.ensures
     (c.in_ok-push_number.ensures ∙ ap (λ text. c.push_lead.new.line ++ text)
-    (number_text_at (layers_in s) (written_in s) (terms_in s) c.args.numbers.now c.loop-k.k c.at.result few c.at.ensures))
-    (omega (arith, c.loop-k-test.true, c.len-k-end.ensures.count, many_numbers (layers_in s) (written_in s) (terms_in s) c.args.numbers.now))
+    (number_text_at (layers_in s) (written_in s) (terms_in s) c.args.numbers.now c.loop-k.k c.at.result few
+    c.at.ensures))
+    (omega (
+      arith,
+      c.loop-k-test.true,
+      c.len-k-end.ensures.count,
+      many_numbers (layers_in s) (written_in s) (terms_in s) c.args.numbers.now,
+    ))

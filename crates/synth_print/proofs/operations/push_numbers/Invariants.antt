@@ -6,4 +6,5 @@ use Rattle.synth_print.proofs.operations.push_numbers.Given as goal
 
 abbrev pub invariant-loop-k : goal.invariant-loop-k
 invariant-loop-k l =
-    l.line ≡ l.initial.line ++ joined (take l.k (number_texts (layers_in l.scope) (written_in l.scope) (terms_in l.scope) l.numbers))
+    l.line ≡ l.initial.line ++
+    joined (take l.k (number_texts (layers_in l.scope) (written_in l.scope) (terms_in l.scope) l.numbers))

@@ -4,5 +4,6 @@ use Rattle.synth_print.proofs.operations.push_row.Goals as goal
 
 pub returns : goal.returns
 returns c =
-    rows_listed (layers_in c.args.scope.now) (written_in c.args.scope.now) (terms_in c.args.scope.now) (chains_in c.args.scope.now)
+    rows_listed (layers_in c.args.scope.now) (written_in c.args.scope.now) (terms_in c.args.scope.now)
+    (chains_in c.args.scope.now)
     c.args.numbers.now c.args.message _ _ _ c.push_row_parts.ensures

@@ -13,7 +13,8 @@ returns-in_err-write_entries g c =
     let p = err_from_is_err_and c.from_residual.result c.from_residual.ensures.1 in
     rw (p.1, p.2) (part_of _ _ _ (ended_line (end_line (bypasses_tree c.args.bypasses.now)) ∷ [])
     (printed_lines (stack_tree c.args.stack.now) (map plan_tree c.args.plans.now) (bypasses_tree c.args.bypasses.now)) _
-    (sym (all_is (stack_tree c.args.stack.now) (map plan_tree c.args.plans.now) c.args.bypasses.now)) c.in_err-write_entries.ensures)
+    (sym (all_is (stack_tree c.args.stack.now) (map plan_tree c.args.plans.now) c.args.bypasses.now))
+    c.in_err-write_entries.ensures)
 
 pub returns : goal.returns
 returns g c =

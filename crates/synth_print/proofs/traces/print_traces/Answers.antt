@@ -8,5 +8,6 @@ use Rattle.trace_core.specs.Bypasses.{bypasses_tree}
 pub returns : goal.returns
 returns g c =
     wrote_as _ _ _ _ _
-    (ap (λ plans. map ended_line (file_lines (stack_tree c.args.stack.now) plans (bypasses_tree c.args.bypasses.now))) c.slice.ensures.plans)
+    (ap (λ plans. map ended_line (file_lines (stack_tree c.args.stack.now) plans (bypasses_tree c.args.bypasses.now)))
+    c.slice.ensures.plans)
     c.write_file.ensures

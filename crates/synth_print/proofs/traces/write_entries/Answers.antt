@@ -13,7 +13,8 @@ returns-in_err-write_own g c =
     let p = err_from_is_err_and c.from_residual.result c.from_residual.ensures.1 in
     let stack = stack_tree c.args.stack.now in
     let plans = map plan_tree c.args.plans.now in
-    rw (p.1, p.2) (part_of _ _ _ (flat_map (plan_turn stack (bypasses_tree c.args.bypasses.now)) (enumerate_from 0 plans))
+    rw (p.1, p.2) (part_of _ _ _
+    (flat_map (plan_turn stack (bypasses_tree c.args.bypasses.now)) (enumerate_from 0 plans))
     (all_traces stack plans c.args.bypasses.now) _ refl c.in_err-write_own.ensures)
 
 pub returns : goal.returns

@@ -15,7 +15,8 @@ returns-in_err-put_line g c =
     let p = err_from_is_err_and c.from_residual.result c.from_residual.ensures.1 in
     let stack = stack_tree c.args.stack.now in
     let plans = map plan_tree c.args.plans.now in
-    rw (p.1, p.2) (part_of _ _ (ended_line (codes "bypasses 1") ∷ []) (all_traces stack plans c.args.bypasses.now ++ ended_line (codes "end") ∷ [])
+    rw (p.1, p.2) (part_of _ _ (ended_line (codes "bypasses 1") ∷ [])
+    (all_traces stack plans c.args.bypasses.now ++ ended_line (codes "end") ∷ [])
     (ended (file_lines stack plans (bypasses_tree c.args.bypasses.now))) _
     (sym (all_is stack plans c.args.bypasses.now)) c.in_err-put_line.ensures.wrote)
 

@@ -20,7 +20,8 @@ pub returns-in_err-write_planned : goal.returns-in_err-write_planned
 returns-in_err-write_planned g c =
     let p = err_from_is_err_and c.from_residual.result c.from_residual.ensures.1 in
     let plans = map plan_tree c.args.plans.now in
-    rw (p.1, p.2) (turns_cut (plan_turn (stack_tree c.args.stack.now) (bypasses_tree c.args.bypasses.now)) plans c.loop-k.k
+    rw (p.1, p.2) (turns_cut (plan_turn (stack_tree c.args.stack.now) (bypasses_tree c.args.bypasses.now)) plans
+    c.loop-k.k
     (get_or plans c.loop-k.k no_plan) no_plan _ _ _ _ c.loop-k.invariant c.in_err-write_planned.ensures
     (omega (arith, c.loop-k-test.true, length-map c.args.plans.now plan_tree)) refl)
 

@@ -12,4 +12,5 @@ abbrev pub invariant-loop-k : goal.invariant-loop-k
 invariant-loop-k g l = Gains
     (tells_of g.O.Sink l.initial.out)
     (tells_of g.O.Sink l.out)
-    (flat_map (plan_turn (stack_tree l.stack) (bypasses_tree l.bypasses)) (take l.k (enumerate_from 0 (map plan_tree l.plans))))
+    (flat_map (plan_turn (stack_tree l.stack) (bypasses_tree l.bypasses))
+    (take l.k (enumerate_from 0 (map plan_tree l.plans))))

@@ -1,7 +1,8 @@
 use Rattle.std.proofs.Common.{rules, sym, ◌∙◌}
 use Rattle.trace_words.specs.Reading.{left}
 use Rattle.trace_expressions.specs.Inside.{inner}
-use Rattle.trace_expressions.proofs.Arms.{choice_read, cut_read, held_read, item_read, join_read, operation_read, tail_read}
+use Rattle.trace_expressions.proofs.Arms.{choice_read, cut_read, held_read, item_read, join_read, operation_read}
+use Rattle.trace_expressions.proofs.Arms.{tail_read}
 use Rattle.trace_expressions.proofs.Cells.{both_read}
 use Rattle.trace_expressions.proofs.Opened.{message_opened, no_cell, number_opened, operation_opened}
 use Rattle.trace_words.specs.Names.{words_in}

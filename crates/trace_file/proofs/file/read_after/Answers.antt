@@ -7,6 +7,7 @@ use Rattle.trace_file.proofs.Steps.{ended_read}
 use Rattle.trace_file.proofs.file.read_after.Goals as goal
 
 pub returns : goal.returns
-returns c = ended_read (stack_tree c.args.stack.now) c.loop-line.reading c.loop-line.number (lines_left c.loop-line.line-iterator)
+returns c = ended_read (stack_tree c.args.stack.now) c.loop-line.reading c.loop-line.number
+    (lines_left c.loop-line.line-iterator)
     (traces_from (stack_tree c.args.stack.now) (begun_after c.args.due.now) 2 (lines_left c.args.lines)) c.finish.result
     (search rules) c.loop-line.invariant.0 (c.finish.ensures (stack_tree c.args.stack.now))

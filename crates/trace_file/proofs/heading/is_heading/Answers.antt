@@ -6,4 +6,5 @@ use Rattle.trace_file.proofs.heading.is_heading.Goals as goal
 
 pub returns-in-Ok : goal.returns-in-Ok
 returns-in-Ok c = c.is_empty.ensures
-    ∙ sym (whole_told (file.heading c.args.due.now.entry c.args.due.now.case) c.args.line.now (left c.heading.new.text) (search rules))
+    ∙ sym (whole_told (file.heading c.args.due.now.entry c.args.due.now.case) c.args.line.now (left c.heading.new.text)
+    (search rules))

@@ -5,7 +5,10 @@ use Rattle.trace_operations.proofs.Writing.{set_read}
 use Rattle.trace_operations.proofs.write.set.Goals as goal
 
 pub returns : goal.returns
-returns c = set_read (layers_in c.args.scope.now) (named_in c.args.scope.now) (left c.args.text.now) (left c.the.new.self) (left c.target.new.text)
-    (left c.the-2.new.self) (left c.number.new.text) c.args.store.now (record { nodes = c.number.new.nodes; links = c.args.store.now.links })
-    c.target.new.nodes c.in_ok-target.target c.in_ok-value.value c.setting.result (search rules) (search rules) (search rules)
+returns c = set_read (layers_in c.args.scope.now) (named_in c.args.scope.now) (left c.args.text.now)
+    (left c.the.new.self) (left c.target.new.text)
+    (left c.the-2.new.self) (left c.number.new.text) c.args.store.now
+    (record { nodes = c.number.new.nodes; links = c.args.store.now.links })
+    c.target.new.nodes c.in_ok-target.target c.in_ok-value.value c.setting.result (search rules) (search rules)
+    (search rules)
     (search rules) refl c.setting.ensures

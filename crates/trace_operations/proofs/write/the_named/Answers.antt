@@ -5,6 +5,7 @@ use Rattle.trace_words.proofs.Fronts.{both_texts}
 use Rattle.trace_operations.proofs.write.the_named.Goals as goal
 
 pub returns : goal.returns
-returns c = both_texts (c.args.front.now ++ decimal c.args.number) (codes " = ") (left c.args.text.now) (left c.the_numbered.new.self)
+returns c = both_texts (c.args.front.now ++ decimal c.args.number) (codes " = ") (left c.args.text.now)
+    (left c.the_numbered.new.self)
     (left c.the.new.self)
     c.the.result (search rules) c.the.ensures

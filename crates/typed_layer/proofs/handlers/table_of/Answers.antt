@@ -8,7 +8,8 @@ loop-left-init c = (search rules, table_starts c.args.handlers.now _ (search rul
 
 pub loop-left-preserved : goal.loop-left-preserved
 loop-left-preserved c =
-    table_step c.args.handlers.now c.loop-left.left c.index-handlers-left.result _ _ c.loop-left-test.true c.loop-left.invariant.0
+    table_step c.args.handlers.now c.loop-left.left c.index-handlers-left.result _ _ c.loop-left-test.true
+    c.loop-left.invariant.0
     c.index-handlers-left.is c.loop-left.invariant.1 c.enter.ensures
 
 pub returns : goal.returns

@@ -15,7 +15,8 @@ bit_of at small =
 
 pub loop-id-init : goal.loop-id-init
 loop-id-init c =
-    let begins = mask_begins c.args.view c.args.ranks in (omega arith, omega arith, begins ∙ sym (zero-add (mask_from c.args.view c.args.ranks 0 0)))
+    let begins = mask_begins c.args.view c.args.ranks in
+    (omega arith, omega arith, begins ∙ sym (zero-add (mask_from c.args.view c.args.ranks 0 0)))
 
 pub loop-id-preserved : goal.loop-id-preserved
 loop-id-preserved c =
@@ -36,7 +37,8 @@ loop-id-preserved c =
             x.mask-is,
             bit_of at c.loop-id-test.true,
             ap (λ r. mask_from view ranks r (at + 1)) w.rank-is,
-            mask_set view ranks rank at c.loop-id-test.true (sym c.has.ensures ∙ w.if-has.true) (sym w.has-then-has.ensures ∙ x.if-has-2.true),
+            mask_set view ranks rank at c.loop-id-test.true (sym c.has.ensures ∙ w.if-has.true)
+                (sym w.has-then-has.ensures ∙ x.if-has-2.true),
           ),
         )
         | else-has-2 x ↦ (
@@ -48,14 +50,16 @@ loop-id-preserved c =
             w.mask-is,
             x.mask-is,
             ap (λ r. mask_from view ranks r (at + 1)) w.rank-is,
-            mask_unset view ranks rank at c.loop-id-test.true (sym c.has.ensures ∙ w.if-has.true) (sym w.has-then-has.ensures ∙ x.if-has-2.false),
+            mask_unset view ranks rank at c.loop-id-test.true (sym c.has.ensures ∙ w.if-has.true)
+                (sym w.has-then-has.ensures ∙ x.if-has-2.false),
           ),
         )
       ]
       | else-has w ↦ (
         omega (arith, w.rank-is, old.0),
         omega (arith, w.mask-is, more, old.1),
-        old.2 ∙ ap (λ rest. c.loop-id.mask + rest) (mask_without view ranks rank at c.loop-id-test.true (sym c.has.ensures ∙ w.if-has.false))
+        old.2 ∙ ap (λ rest. c.loop-id.mask + rest)
+            (mask_without view ranks rank at c.loop-id-test.true (sym c.has.ensures ∙ w.if-has.false))
             ∙ ap (λ m. m + mask_from view ranks rank (at + 1)) (sym w.mask-is)
             ∙ ap (λ r. c.if-has.mask + mask_from view ranks r (at + 1)) (sym w.rank-is),
       )

@@ -9,7 +9,8 @@ loop-other-init c = (omega arith, rank_begins c.args.view c.args.id)
 pub returns-then-other-id : goal.returns-then-other-id
 returns-then-other-id c =
     let set = sym c.has.ensures ∙ c.if-has.true in
-    sym (c.loop-other.invariant.1 ∙ rank_here c.args.view c.args.id c.loop-other.rank c.loop-other.other c.loop-other-test.true set c.if-other-id.true)
+    sym (c.loop-other.invariant.1 ∙ rank_here c.args.view c.args.id c.loop-other.rank c.loop-other.other
+    c.loop-other-test.true set c.if-other-id.true)
 
 pub loop-other-preserved : goal.loop-other-preserved
 loop-other-preserved c =
@@ -25,11 +26,13 @@ loop-other-preserved c =
       )
       | else-has w ↦ (
         omega (arith, w.rank-is, c.loop-other.invariant.0),
-        c.loop-other.invariant.1 ∙ rank_without view id rank at c.loop-other-test.true (sym c.has.ensures ∙ w.if-has.false)
+        c.loop-other.invariant.1 ∙ rank_without view id rank at c.loop-other-test.true
+            (sym c.has.ensures ∙ w.if-has.false)
             ∙ ap (λ count. rank_from view id count (at + 1)) (sym w.rank-is),
       )
     ]
 
 pub returns : goal.returns
 returns c =
-    sym (c.loop-other.invariant.1 ∙ rank_ends c.args.view c.args.id c.loop-other.rank c.loop-other.other (omega (arith, c.loop-other-test.false)))
+    sym (c.loop-other.invariant.1 ∙ rank_ends c.args.view c.args.id c.loop-other.rank c.loop-other.other
+    (omega (arith, c.loop-other-test.false)))

@@ -14,7 +14,8 @@ returns c = (
     orderly = search rules;
     accepts = refl;
     enters = refl;
-    known = known_to_the_end (counter ∷ []) 3 (starting (unstarted (fresh_states (counter ∷ []))) (cast_at 1)) (search rules);
+    known = known_to_the_end (counter ∷ []) 3 (starting (unstarted (fresh_states (counter ∷ []))) (cast_at 1))
+        (search rules);
   },
   refl,
   refl,

@@ -2,4 +2,5 @@ use Rattle.world_core.proofs.Gives.{give_asks}
 use Rattle.world_core.proofs.asked.input_of.Goals as goal
 
 pub returns-in-Give-clause-asks : goal.returns-in-Give-clause-asks
-returns-in-Give-clause-asks c = λ stack plans w same. give_asks stack plans w _ _ _ _ c.in-Give.is (c.given.ensures.asks stack plans w same)
+returns-in-Give-clause-asks c = λ stack plans w same.
+    give_asks stack plans w _ _ _ _ c.in-Give.is (c.given.ensures.asks stack plans w same)

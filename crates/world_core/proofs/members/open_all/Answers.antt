@@ -7,7 +7,14 @@ use Rattle.world_core.proofs.members.open_all.Goals as goal
 
 pub loop-id-init : goal.loop-id-init
 loop-id-init c = record {
-  below = record { opened_are = search rules; seated = search rules; few = λ lt. absurd (omega arith); same = refl; made = omega arith };
+  below = record {
+    opened_are = search rules;
+    seated = search rules;
+    few = λ lt. absurd (omega arith);
+    same =
+        refl;
+    made = omega arith;
+  };
   room = search rules;
 }
 
@@ -39,7 +46,8 @@ loop-id-preserved c = record {
 }
 
 pub returns-in-Err-begin : goal.returns-in-Err-begin
-returns-in-Err-begin c = open_fails _ _ c.loop-id.id c.first_view-view.result _ _ _ _ c.in-Err-begin.error c.loop-id.invariant.below
+returns-in-Err-begin c = open_fails _ _ c.loop-id.id c.first_view-view.result _ _ _ _ c.in-Err-begin.error
+    c.loop-id.invariant.below
     c.loop-id-test.true c.first_view-view.ensures c.requires.members.1 c.in-Err-begin.ensures
 
 pub returns : goal.returns

@@ -17,21 +17,27 @@ invariant_of-result c =
     let same : rc_value c.in_ok-stack.stack ≡ rc_value c.args.opening.stack.now = search rules in
     let plans : rc_value c.in_ok-plans.plans ≡ rc_value c.args.opening.plans.now = search rules in
     let codes : option_map rc_value c.in_ok-codes.codes ≡ codes_in c.args.opening = c.in_ok-codes.ensures in
-    let both = opened_member (stack_tree (rc_value c.args.opening.stack.now)) c.member_count-most.result c.args.view c.args.id _ _
-    c.in_ok-kit.kit.works c.requires.opening.typed (record { ltime = omega arith; mask = omega arith }) c.member_count-most.ensures.count
+    let both = opened_member (stack_tree (rc_value c.args.opening.stack.now)) c.member_count-most.result c.args.view
+    c.args.id _ _
+    c.in_ok-kit.kit.works c.requires.opening.typed (record { ltime = omega arith; mask = omega arith })
+    c.member_count-most.ensures.count
     c.in_ok-kit.ensures.works in record {
       typed = search rules;
       plans_are = search rules;
       entries_are = search rules;
       starts_are = c.requires.opening.starts_are ∙ ap (λ (s : Stack). starts_of (stack_tree s)) (sym same);
       codes_are = subst (λ (s : Stack). AreCodes (stack_tree s) (option_map rc_value c.in_ok-codes.codes)) (sym same)
-          (subst (λ (made : Option CodesTree). AreCodes (stack_tree (rc_value c.args.opening.stack.now)) made) (sym codes)
+          (subst (λ (made : Option CodesTree). AreCodes (stack_tree (rc_value c.args.opening.stack.now)) made)
+          (sym codes)
           c.requires.opening.codes_are);
       rank_is = (c.rank_in.ensures.rank, c.rank_in.ensures.few);
       bare = search rules;
-      ready = subst (λ (s : Stack). IsReady (stack_tree s) c.member_count-most.result c.in_ok-kit.kit.works) (sym same) both.0;
-      spare = spare_for (codes_in c.args.opening) (option_map rc_value c.in_ok-codes.codes) (rc_value c.args.opening.plans.now) (rc_value c.in_ok-plans.plans) c.in_ok-kit.kit.scratch
+      ready = subst (λ (s : Stack). IsReady (stack_tree s) c.member_count-most.result c.in_ok-kit.kit.works) (sym same)
+          both.0;
+      spare = spare_for (codes_in c.args.opening) (option_map rc_value c.in_ok-codes.codes)
+          (rc_value c.args.opening.plans.now) (rc_value c.in_ok-plans.plans) c.in_ok-kit.kit.scratch
           (sym codes) (sym plans) c.in_ok-kit.ensures.spare;
-      at = subst (λ (s : Stack). IsIn (stack_tree s) c.member_count-most.result c.args.view c.args.id (states_in c.in_ok-kit.kit.works)) (sym same)
+      at = subst (λ (s : Stack). IsIn (stack_tree s) c.member_count-most.result c.args.view c.args.id
+          (states_in c.in_ok-kit.kit.works)) (sym same)
           both.1;
     }

@@ -17,10 +17,13 @@ use Rattle.bypass_member.proofs.member.Member.step.Goals as goal
 
 pub returns-in-Err-clause-step : goal.returns-in-Err-clause-step
 returns-in-Err-clause-step c =
-    let not = entered_same c.deref.result.now (rc_value c.self.inside.stack) c.deref-2.result.now (rc_value c.self.inside.plans) (here_at c.self.inside c.in-Some.view)
-    (here_in (placed c.self.inside) c.in-Some.view) (input_meant c.args.input) (Err (refusal_meant c.in-Err.reason)) c.deref.ensures c.deref-2.ensures
+    let not = entered_same c.deref.result.now (rc_value c.self.inside.stack) c.deref-2.result.now
+    (rc_value c.self.inside.plans) (here_at c.self.inside c.in-Some.view)
+    (here_in (placed c.self.inside) c.in-Some.view) (input_meant c.args.input) (Err (refusal_meant c.in-Err.reason))
+    c.deref.ensures c.deref-2.ensures
     (stands c.self.inside c.in-Some.view c.self.invariant c.in-Some.is) c.in-Err.ensures.judged in record {
-      why = subst (λ (p : Placed). step_of p (input_meant c.args.input) ≡ Err (refusal_meant c.in-Err.reason)) c.self.view_is
+      why = subst (λ (p : Placed). step_of p (input_meant c.args.input) ≡ Err (refusal_meant c.in-Err.reason))
+          c.self.view_is
           (refused_in (placed c.self.inside) c.in-Some.view (states_in c.self.inside.works) (input_meant c.args.input)
           (ap (λ (v : Option View). member_in v (states_in c.self.inside.works)) c.in-Some.is) c.in-Err.reason not);
       same = c.self.view_is;
@@ -35,24 +38,44 @@ take-common-requires-clause-ground c =
 
 pub take-common-requires-clause-entered : goal.take-common-requires-clause-entered
 take-common-requires-clause-entered c =
-    entered_is c.self.inside c.deref.result.now c.deref-3.result.now c.deref-2.result.now (here_at c.self.inside c.in-Some.view)
+    entered_is c.self.inside c.deref.result.now c.deref-3.result.now c.deref-2.result.now
+    (here_at c.self.inside c.in-Some.view)
     (input_meant c.args.input) c.in-Ok.entry
     c.self.invariant c.deref.ensures c.deref-3.ensures c.deref-2.ensures c.in-Ok.ensures.input c.in-Ok.ensures.judged
 
 pub returns-clause-step : goal.returns-clause-step
 returns-clause-step c =
     let here = stands c.self.inside c.in-Some.view c.self.invariant c.in-Some.is in
-    let enters = entered_same c.deref.result.now (rc_value c.self.inside.stack) c.deref-2.result.now (rc_value c.self.inside.plans)
+    let enters = entered_same c.deref.result.now (rc_value c.self.inside.stack) c.deref-2.result.now
+    (rc_value c.self.inside.plans)
     (here_at c.self.inside c.in-Some.view)
-    (here_in (placed c.self.inside) c.in-Some.view) (input_meant c.args.input) _ c.deref.ensures c.deref-2.ensures here c.in-Ok.ensures.judged in
+    (here_in (placed c.self.inside) c.in-Some.view) (input_meant c.args.input) _ c.deref.ensures c.deref-2.ensures here
+    c.in-Ok.ensures.judged in
     subst (λ (p : Placed). Takes p (input_meant c.args.input)
-    (placed (record c.self.inside { view = c.follow.new.view; rank = c.follow.new.rank; works = c.take-common.new.works; scratch = c.take-common.new.scratch }))
-    c.take-common.new.out.outputs c.args.visits.now c.take-common.new.visits c.take-common.result.common c.take-common.result.change)
+    (placed (record c.self.inside {
+      view = c.follow.new.view;
+      rank = c.follow.new.rank;
+      works = c.take-common.new.works;
+      scratch =
+          c.take-common.new.scratch;
+    }))
+    c.take-common.new.out.outputs c.args.visits.now c.take-common.new.visits c.take-common.result.common
+    c.take-common.result.change)
     c.self.view_is
     (takes (placed c.self.inside) c.in-Some.view (states_in c.self.inside.works) (input_meant c.args.input)
-    (ap (λ (v : Option View). member_in v (states_in c.self.inside.works)) c.in-Some.is) _ (entry_meant (here_at c.self.inside c.in-Some.view) c.in-Ok.entry)
-    c.self.inside.works c.take-common.new.works c.take-common.new.out c.args.visits.now c.take-common.new.visits c.take-common.result
-    (placed (record c.self.inside { view = c.follow.new.view; rank = c.follow.new.rank; works = c.take-common.new.works; scratch = c.take-common.new.scratch }))
-    (ap stack_tree c.deref-3.ensures) (ap plans_tree c.deref-4.ensures) (ap mode_with c.lent.ensures) here refl enters c.take-common.ensures.taken
-    refl refl (ap (λ (v : Option View). member_in v (states_in c.take-common.new.works)) (c.follow.ensures.view c.in-Some.view c.in-Some.is)) refl
+    (ap (λ (v : Option View). member_in v (states_in c.self.inside.works)) c.in-Some.is) _
+    (entry_meant (here_at c.self.inside c.in-Some.view) c.in-Ok.entry)
+    c.self.inside.works c.take-common.new.works c.take-common.new.out c.args.visits.now c.take-common.new.visits
+    c.take-common.result
+    (placed (record c.self.inside {
+      view = c.follow.new.view;
+      rank = c.follow.new.rank;
+      works = c.take-common.new.works;
+      scratch =
+          c.take-common.new.scratch;
+    }))
+    (ap stack_tree c.deref-3.ensures) (ap plans_tree c.deref-4.ensures) (ap mode_with c.lent.ensures) here refl enters
+    c.take-common.ensures.taken
+    refl refl (ap (λ (v : Option View). member_in v (states_in c.take-common.new.works))
+    (c.follow.ensures.view c.in-Some.view c.in-Some.is)) refl
     (record { stack = refl; plans = refl; mode = refl; group = refl; stamp = refl; id = refl; most = refl }))

@@ -18,9 +18,11 @@ pub returns-then-index-slot : goal.returns-then-index-slot
 returns-then-index-slot g c =
     let at = looked _ _ _ _ c.deref.ensures.value c.in-Some.ensures in
     let s = lies _ _ _ _ _ _ c.self.invariant.laid at in
-    get_or_read_under c.self.inside.block.items (c.in-Some.slot.now.at + c.args.index) (length c.self.inside.block.items) _ 0 c.index.ensures
+    get_or_read_under c.self.inside.block.items (c.in-Some.slot.now.at + c.args.index)
+    (length c.self.inside.block.items) _ 0 c.index.ensures
     (omega (arith, s.before)) refl
-    ∙ number_read _ _ _ _ _ _ _ _ (ap (λ (k : Kept g.row.R.Denot). k.cells) c.self.view_is) c.self.invariant.laid at c.if-index-slot.true
+    ∙ number_read _ _ _ _ _ _ _ _ (ap (λ (k : Kept g.row.R.Denot). k.cells) c.self.view_is) c.self.invariant.laid at
+    c.if-index-slot.true
 
 pub returns-else-index-slot : goal.returns-else-index-slot
 returns-else-index-slot g c =
@@ -29,4 +31,5 @@ returns-else-index-slot g c =
 
 pub returns-in-None : goal.returns-in-None
 returns-in-None g c = ap (λ (cell : KeptCell g.row.R.Denot). slice_index (numbers_kept cell) c.args.index)
-    (nothing_read _ _ _ _ (ap (λ (k : Kept g.row.R.Denot). k.cells) c.self.view_is) (looked _ _ _ _ c.deref.ensures.value c.in-None.ensures))
+    (nothing_read _ _ _ _ (ap (λ (k : Kept g.row.R.Denot). k.cells) c.self.view_is)
+    (looked _ _ _ _ c.deref.ensures.value c.in-None.ensures))

@@ -4,10 +4,12 @@ use Rattle.cell_store.proofs.Laid.{looked, queues_read, nothing_read}
 use Rattle.cell_store.proofs.cells.Cells.len.Goals as goal
 
 pub returns-in-Some : goal.returns-in-Some
-returns-in-Some g c = c.from.ensures ∙ c.len.ensures ∙ ap (λ (qs : List (List g.row.R.Denot)). length (slice_index_or qs c.args.index []))
+returns-in-Some g c = c.from.ensures ∙ c.len.ensures ∙
+    ap (λ (qs : List (List g.row.R.Denot)). length (slice_index_or qs c.args.index []))
     (queues_read _ _ _ _ _ _ _ (ap (λ (k : Kept g.row.R.Denot). k.cells) c.self.view_is) c.self.invariant.laid
     (looked _ _ _ _ c.deref.ensures.value c.in-Some.ensures))
 
 pub returns-in-None : goal.returns-in-None
 returns-in-None g c = ap (λ (cell : KeptCell g.row.R.Denot). length (slice_index_or (queues_kept cell) c.args.index []))
-    (nothing_read _ _ _ _ (ap (λ (k : Kept g.row.R.Denot). k.cells) c.self.view_is) (looked _ _ _ _ c.deref.ensures.value c.in-None.ensures))
+    (nothing_read _ _ _ _ (ap (λ (k : Kept g.row.R.Denot). k.cells) c.self.view_is)
+    (looked _ _ _ _ c.deref.ensures.value c.in-None.ensures))

@@ -6,7 +6,8 @@ use Rattle.cell_store.proofs.cells.Cells.numbers_count.Goals as goal
 
 pub overflow_cast-result : goal.overflow_cast-result
 overflow_cast-result g c =
-    let few = few_numbers _ _ _ _ _ _ c.self.invariant.most_few c.self.invariant.laid (looked _ _ _ _ c.deref.ensures.value c.in-Some.ensures) in
+    let few = few_numbers _ _ _ _ _ _ c.self.invariant.most_few c.self.invariant.laid
+    (looked _ _ _ _ c.deref.ensures.value c.in-Some.ensures) in
     omega (arith, few)
 
 pub returns-in-Some : goal.returns-in-Some
@@ -16,4 +17,5 @@ returns-in-Some g c =
 
 pub returns-in-None : goal.returns-in-None
 returns-in-None g c = ap (λ (cell : KeptCell g.row.R.Denot). length (numbers_kept cell))
-    (nothing_read _ _ _ _ (ap (λ (k : Kept g.row.R.Denot). k.cells) c.self.view_is) (looked _ _ _ _ c.deref.ensures.value c.in-None.ensures))
+    (nothing_read _ _ _ _ (ap (λ (k : Kept g.row.R.Denot). k.cells) c.self.view_is)
+    (looked _ _ _ _ c.deref.ensures.value c.in-None.ensures))

@@ -7,7 +7,8 @@ use Rattle.cell_store.proofs.cells.Cells.queues_count.Goals as goal
 pub overflow_cast-result : goal.overflow_cast-result
 overflow_cast-result g c =
     let count = c.count.ensures.count in let within = c.count.ensures.few in
-    let few = few_queues _ _ _ _ _ _ c.self.invariant.most_few c.self.invariant.laid (looked _ _ _ _ c.deref.ensures.value c.in-Some.ensures)
+    let few = few_queues _ _ _ _ _ _ c.self.invariant.most_few c.self.invariant.laid
+    (looked _ _ _ _ c.deref.ensures.value c.in-Some.ensures)
     (omega arith) in
     omega (arith, few, count)
 
@@ -18,4 +19,5 @@ returns-in-Some g c = c.count.ensures.count ∙ ap (λ (qs : List (List g.row.R.
 
 pub returns-in-None : goal.returns-in-None
 returns-in-None g c = ap (λ (cell : KeptCell g.row.R.Denot). length (queues_kept cell))
-    (nothing_read _ _ _ _ (ap (λ (k : Kept g.row.R.Denot). k.cells) c.self.view_is) (looked _ _ _ _ c.deref.ensures.value c.in-None.ensures))
+    (nothing_read _ _ _ _ (ap (λ (k : Kept g.row.R.Denot). k.cells) c.self.view_is)
+    (looked _ _ _ _ c.deref.ensures.value c.in-None.ensures))

@@ -4,10 +4,13 @@ use Rattle.cell_store.proofs.Laid.{looked, queues_read, nothing_read}
 use Rattle.cell_store.proofs.cells.Cells.row.Goals as goal
 
 pub returns-in-Some : goal.returns-in-Some
-returns-in-Some g c = c.row.ensures ∙ ap (λ (qs : List (List g.row.R.Denot)). slice_get (slice_index_or qs c.args.index []) c.args.row)
+returns-in-Some g c = c.row.ensures ∙
+    ap (λ (qs : List (List g.row.R.Denot)). slice_get (slice_index_or qs c.args.index []) c.args.row)
     (queues_read _ _ _ _ _ _ _ (ap (λ (k : Kept g.row.R.Denot). k.cells) c.self.view_is) c.self.invariant.laid
     (looked _ _ _ _ c.deref.ensures.value c.in-Some.ensures))
 
 pub returns-in-None : goal.returns-in-None
-returns-in-None g c = ap (λ (cell : KeptCell g.row.R.Denot). slice_get (slice_index_or (queues_kept cell) c.args.index []) c.args.row)
-    (nothing_read _ _ _ _ (ap (λ (k : Kept g.row.R.Denot). k.cells) c.self.view_is) (looked _ _ _ _ c.deref.ensures.value c.in-None.ensures))
+returns-in-None g c =
+    ap (λ (cell : KeptCell g.row.R.Denot). slice_get (slice_index_or (queues_kept cell) c.args.index []) c.args.row)
+    (nothing_read _ _ _ _ (ap (λ (k : Kept g.row.R.Denot). k.cells) c.self.view_is)
+    (looked _ _ _ _ c.deref.ensures.value c.in-None.ensures))

@@ -17,13 +17,15 @@ index_mut-requires g c =
 pub returns-then-index-slot : goal.returns-then-index-slot
 returns-then-index-slot g c =
     changed _ _ _ _ _ (number_set c.args.index c.args.value) _ _ _ c.self.view_is
-    (number_written _ _ _ c.self.inside.block.items c.self.inside.slots.items c.args.cell c.args.index c.args.value c.in-Some.slot.now
+    (number_written _ _ _ c.self.inside.block.items c.self.inside.slots.items c.args.cell c.args.index c.args.value
+    c.in-Some.slot.now
     c.self.invariant.laid (looked _ _ _ _ c.deref.ensures.value c.in-Some.ensures) c.if-index-slot.true)
 
 pub returns-else-index-slot : goal.returns-else-index-slot
 returns-else-index-slot g c =
     unchanged _ _ _ _ _ (number_set c.args.index c.args.value) _ _ c.self.view_is
-    (number_past _ _ c.self.inside.block.items c.self.inside.slots.items c.args.cell c.args.index c.args.value c.in-Some.slot.now
+    (number_past _ _ c.self.inside.block.items c.self.inside.slots.items c.args.cell c.args.index c.args.value
+    c.in-Some.slot.now
     c.self.invariant.laid (looked _ _ _ _ c.deref.ensures.value c.in-Some.ensures) c.if-index-slot.false)
 
 pub returns-in_default : goal.returns-in_default

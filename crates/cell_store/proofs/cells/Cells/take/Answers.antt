@@ -16,7 +16,8 @@ pub returns-then-cell-len-clause-row : goal.returns-then-cell-len-clause-row
 returns-then-cell-len-clause-row g c =
     let within : c.args.cell < length c.self.inside.slots.items = search rules in
     let at = got c.self.inside.slots.items c.args.cell _ within c.index_mut-slot.ensures.value in
-    c.take.ensures.row ∙ ap (λ rows. slice_get rows 0) (queue_read _ _ _ _ _ _ _ _ _ _ _ _ c.self.view_is c.self.invariant.laid at)
+    c.take.ensures.row ∙ ap (λ rows. slice_get rows 0)
+    (queue_read _ _ _ _ _ _ _ _ _ _ _ _ c.self.view_is c.self.invariant.laid at)
 
 pub returns-then-cell-len-clause-rest : goal.returns-then-cell-len-clause-rest
 returns-then-cell-len-clause-rest g c =
@@ -30,8 +31,10 @@ returns-then-cell-len-clause-room g c =
     let within : c.args.cell < length c.self.inside.slots.items = search rules in
     let at = got c.self.inside.slots.items c.args.cell _ within c.index_mut-slot.ensures.value in
     let rows = queue_read _ _ _ _ _ _ _ _ _ _ _ _ c.self.view_is c.self.invariant.laid at in
-    room_left c.take.result c.args.self.now _ c.args.cell c.args.index 0 (drop 1 (kept_rows c.args.self.now c.args.cell c.args.index))
+    room_left c.take.result c.args.self.now _ c.args.cell c.args.index 0
+    (drop 1 (kept_rows c.args.self.now c.args.cell c.args.index))
     (c.take.ensures.row ∙ ap (λ rows. slice_get rows 0) rows)
     (queue_changed _ _ _ _ _ _ _ _ _ _ _ _ _ c.self.view_is at c.take.ensures.rest (ap (drop 1) rows))
     (length-drop 1 (kept_rows c.args.self.now c.args.cell c.args.index))
-    (λ row has. row_within _ _ _ _ _ _ _ _ _ _ _ _ _ row c.self.view_is c.self.invariant.laid at c.take.ensures.within has)
+    (λ row has. row_within _ _ _ _ _ _ _ _ _ _ _ _ _ row c.self.view_is c.self.invariant.laid at c.take.ensures.within
+    has)

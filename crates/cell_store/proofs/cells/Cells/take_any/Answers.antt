@@ -17,7 +17,8 @@ returns-in-Some-clause-rows g c =
     let there = first_there _ _ _ _ c.deref.ensures.value c.in-Some.ensures.some in
     let at = got c.self.inside.slots.items c.in-Some.cell _ there.0 c.index_mut-slot.ensures.value in
     let still = still_slots _ _ _ _ _ _ _ _ _ _ c.self.invariant at c.take.ensures.rest in
-    taken_first _ _ _ _ _ _ _ _ _ _ _ _ _ _ _ c.self.view_is c.self.invariant.laid still.laid at there.1 c.take.ensures.row c.take.ensures.rest refl
+    taken_first _ _ _ _ _ _ _ _ _ _ _ _ _ _ _ c.self.view_is c.self.invariant.laid still.laid at there.1
+    c.take.ensures.row c.take.ensures.rest refl
 
 pub returns-in-Some-clause-none : goal.returns-in-Some-clause-none
 returns-in-Some-clause-none g c =
@@ -29,8 +30,10 @@ pub returns-in-Some-clause-kept : goal.returns-in-Some-clause-kept
 returns-in-Some-clause-kept g c =
     let there = first_there _ _ _ _ c.deref.ensures.value c.in-Some.ensures.some in
     let at = got c.self.inside.slots.items c.in-Some.cell _ there.0 c.index_mut-slot.ensures.value in
-    ap emptied (queue_changed _ _ _ _ _ _ _ _ _ _ _ _ _ c.self.view_is at c.take.ensures.rest refl) ∙ emptied_rows _ _ _ _
+    ap emptied (queue_changed _ _ _ _ _ _ _ _ _ _ _ _ _ c.self.view_is at c.take.ensures.rest refl) ∙
+    emptied_rows _ _ _ _
 
 pub returns-in-None-clause-none : goal.returns-in-None-clause-none
 returns-in-None-clause-none g c =
-    rows_kept _ _ _ _ _ _ _ _ _ c.self.view_is c.self.invariant.laid ∙ ap slot_rows (sym c.deref.ensures.value) ∙ c.in-None.ensures.none
+    rows_kept _ _ _ _ _ _ _ _ _ c.self.view_is c.self.invariant.laid ∙ ap slot_rows (sym c.deref.ensures.value) ∙
+    c.in-None.ensures.none

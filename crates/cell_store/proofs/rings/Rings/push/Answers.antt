@@ -16,4 +16,5 @@ pub returns : goal.returns
 returns g c =
     let below = within_shown _ _ _ _ _ c.self.view_is c.requires.there in
     let rows = rows_read _ _ _ _ _ _ c.self.view_is c.self.invariant below c.index_mut-ring.ensures.value in
-    shown_written _ _ _ _ _ _ _ c.self.view_is (c.push_back_reserved.ensures.items ∙ ap (λ rows. rows ++ c.args.row ∷ []) rows)
+    shown_written _ _ _ _ _ _ _ c.self.view_is
+    (c.push_back_reserved.ensures.items ∙ ap (λ rows. rows ++ c.args.row ∷ []) rows)

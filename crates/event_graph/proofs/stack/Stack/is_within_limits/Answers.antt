@@ -14,9 +14,11 @@ few header = header.fields ≤ 4
 
 layer_few : (layer : Rc TypedLayer Global) → All few (rc_tree layer).headers
 layer_few layer =
-    All-map few header_tree (rc_value layer).headers.items (λ k d below. (slice_index_or (rc_value layer).headers.items k d).few)
+    All-map few header_tree (rc_value layer).headers.items
+    (λ k d below. (slice_index_or (rc_value layer).headers.items k d).few)
 
 pub returns-clause-fields : goal.returns-clause-fields
 returns-clause-fields c =
     let layers = c.args.self.now.typed.layers.items in
-    All-map (λ (layer : LayerTree). All few layer.headers) rc_tree layers (λ k d below. layer_few (slice_index_or layers k d))
+    All-map (λ (layer : LayerTree). All few layer.headers) rc_tree layers
+    (λ k d below. layer_few (slice_index_or layers k d))

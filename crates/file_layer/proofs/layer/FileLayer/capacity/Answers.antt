@@ -8,4 +8,5 @@ use Rattle.file_layer.proofs.layer.FileLayer.capacity.Goals as goal
 pub returns-clause-layer : goal.returns-clause-layer
 unfolding tree_of IsInOrder
 returns-clause-layer c p is =
-    c.capacity.ensures ∙ capacity_for (layer_tree (rc_value c.args.self.now.layer)) c.args.self.now.desk.cells c.args.cell is.forms
+    c.capacity.ensures ∙ capacity_for (layer_tree (rc_value c.args.self.now.layer)) c.args.self.now.desk.cells
+    c.args.cell is.forms

@@ -16,7 +16,8 @@ pub make-requires-clause-made : goal.make-requires-clause-made
 unfolding making
 make-requires-clause-made c =
     made_at c.args.place (stack_tree (rc_value c.args.maker.now.stack)) (layer_tree c.deref-3.result.now)
-    (subst (λ (s : Stack). length (stack_tree s) ≤ 24) c.deref.ensures c.is_within_limits.ensures.places) c.requires.typed c.requires.place
+    (subst (λ (s : Stack). length (stack_tree s) ≤ 24) c.deref.ensures c.is_within_limits.ensures.places)
+    c.requires.typed c.requires.place
     (ap layer_tree (c.deref-3.ensures ∙ c.in_ok-layer.ensures.cases) ∙ c.layer.ensures
     ∙ ap (λ (s : Stack). slice_index_or (stack_tree s) c.args.place no_layer) c.deref-2.ensures)
 
@@ -25,7 +26,8 @@ unfolding place_of tree_of refs_of state_in most_of taken_by IsInOrder making
 returns c =
     let is = ap layer_tree c.in_ok-layer.ensures.cases ∙ c.layer.ensures
     ∙ ap (λ (s : Stack). slice_index_or (stack_tree s) c.args.place no_layer) c.deref-2.ensures in
-    let fresh = subst (λ (layer : TypedLayer). IsFresh (layer_tree layer) c.args.me c.args.count c.args.ltime c.in_ok-desk.desk) c.deref-3.ensures
+    let fresh = subst (λ (layer : TypedLayer). IsFresh (layer_tree layer) c.args.me c.args.count c.args.ltime
+    c.in_ok-desk.desk) c.deref-3.ensures
     c.in_ok-desk.ensures.fresh in
     record {
       maker = refl;
@@ -34,7 +36,8 @@ returns c =
         tree = is;
         order = fresh.rest;
         refs = fresh.refs;
-        state = λ p. fresh.state p ∙ ap (λ (layer : LayerTree). visit.fresh layer c.args.me c.args.count c.args.ltime) is;
+        state = λ p. fresh.state p ∙ ap (λ (layer : LayerTree). visit.fresh layer c.args.me c.args.count c.args.ltime)
+            is;
       };
       most = c.in_ok-desk.ensures.most;
       taken = refl;

@@ -13,7 +13,8 @@ pub keep_if_any-requires-clause-there : goal.keep_if_any-requires-clause-there
 unfolding refs_of
 keep_if_any-requires-clause-there c = record {
   covers = λ j.
-      let among = row_among c.args.self.now.desk.cells c.args.cell c.args.index c.args.row c.in-Some.row.now (sym c.row.ensures ∙ ap option_copied c.in-Some.is) j in
+      let among = row_among c.args.self.now.desk.cells c.args.cell c.args.index c.args.row c.in-Some.row.now
+      (sym c.row.ensures ∙ ap option_copied c.in-Some.is) j in
       let all = c.requires.there.covers j in omega arith;
 }
 
@@ -21,7 +22,8 @@ pub keep_if_any-requires-clause-room : goal.keep_if_any-requires-clause-room
 unfolding refs_of
 keep_if_any-requires-clause-room c = record {
   below = λ j some.
-      let among = row_among c.args.self.now.desk.cells c.args.cell c.args.index c.args.row c.in-Some.row.now (sym c.row.ensures ∙ ap option_copied c.in-Some.is) j in
+      let among = row_among c.args.self.now.desk.cells c.args.cell c.args.index c.args.row c.in-Some.row.now
+      (sym c.row.ensures ∙ ap option_copied c.in-Some.is) j in
       c.requires.room.below j (omega arith);
 }
 
@@ -36,13 +38,15 @@ pub returns-in-Some-clause-own : goal.returns-in-Some-clause-own
 unfolding IsInOrder
 returns-in-Some-clause-own c p is =
     subst (CanBeOwn p) (sym c.keep_if_any.ensures.same)
-    (row_own (layer_tree (rc_value c.args.self.now.layer)) p c.args.self.now.desk is c.args.cell c.args.index c.args.row (Some c.in-Some.row.now)
+    (row_own (layer_tree (rc_value c.args.self.now.layer)) p c.args.self.now.desk is c.args.cell c.args.index c.args.row
+    (Some c.in-Some.row.now)
     (sym (sym c.row.ensures ∙ ap option_copied c.in-Some.is)))
 
 pub returns-in-Some-clause-among : goal.returns-in-Some-clause-among
 unfolding refs_of
 returns-in-Some-clause-among c j =
-    let among = row_among c.args.self.now.desk.cells c.args.cell c.args.index c.args.row c.in-Some.row.now (sym c.row.ensures ∙ ap option_copied c.in-Some.is) j in
+    let among = row_among c.args.self.now.desk.cells c.args.cell c.args.index c.args.row c.in-Some.row.now
+    (sym c.row.ensures ∙ ap option_copied c.in-Some.is) j in
     let same = ap (λ m. times j (refs_if m)) c.keep_if_any.ensures.same in omega arith
 
 pub returns-in-None-clause-same : goal.returns-in-None-clause-same

@@ -18,7 +18,8 @@ put_front-requires c = room_kept c.args.self.now.desk.cells c.args.cell c.args.i
 pub returns-clause-state : goal.returns-clause-state
 unfolding state_in
 returns-clause-state c p =
-    ap (state_of (row_seen p)) c.put_front.ensures ∙ put_seen (row_seen p) c.args.self.now.desk.cells c.args.cell c.args.index c.args.row
+    ap (state_of (row_seen p)) c.put_front.ensures ∙ put_seen (row_seen p) c.args.self.now.desk.cells c.args.cell
+    c.args.index c.args.row
 
 pub returns-clause-refs : goal.returns-clause-refs
 unfolding refs_of state_in capacity_at
@@ -30,9 +31,13 @@ pub returns-clause-order : goal.returns-clause-order
 unfolding IsInOrder state_in capacity_at
 returns-clause-order c p is own =
     let old = c.args.self.now.desk.cells in
-    let room = there_with_room old c.args.cell c.args.index (kept_capacity old c.args.cell) (room_kept old c.args.cell c.args.index c.requires.room) in
-    subst (λ k. IsAtRest (layer_tree (rc_value c.args.self.now.layer)) p (record c.args.self.now.desk { cells = k })) (sym c.put_front.ensures)
-    (first_rest (layer_tree (rc_value c.args.self.now.layer)) p c.args.self.now.desk is c.args.cell c.args.index c.args.row room.1 own)
+    let room = there_with_room old c.args.cell c.args.index (kept_capacity old c.args.cell)
+    (room_kept old c.args.cell c.args.index c.requires.room) in
+    subst (λ k. IsAtRest (layer_tree (rc_value c.args.self.now.layer)) p (record c.args.self.now.desk { cells = k }))
+    (sym c.put_front.ensures)
+    (first_rest (layer_tree (rc_value c.args.self.now.layer)) p c.args.self.now.desk is c.args.cell c.args.index
+    c.args.row room.1 own)
 
 pub returns-clause-others : goal.returns-clause-others
-returns-clause-others c = rows_before c.args.self.now c.args.cell c.args.index _ c.put_front.new.self c.put_front.ensures
+returns-clause-others c = rows_before c.args.self.now c.args.cell c.args.index _ c.put_front.new.self
+    c.put_front.ensures

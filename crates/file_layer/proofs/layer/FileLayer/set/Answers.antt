@@ -12,17 +12,22 @@ use Rattle.file_layer.proofs.layer.FileLayer.set.Goals as goal
 pub returns-clause-state : goal.returns-clause-state
 unfolding state_in
 returns-clause-state c p =
-    ap (state_of (row_seen p)) c.set.ensures ∙ set_seen (row_seen p) c.args.self.now.desk.cells c.args.cell c.args.index c.args.value
+    ap (state_of (row_seen p)) c.set.ensures ∙ set_seen (row_seen p) c.args.self.now.desk.cells c.args.cell c.args.index
+    c.args.value
 
 pub returns-clause-refs : goal.returns-clause-refs
 unfolding refs_of
-returns-clause-refs c = number_refs c.args.self.now.desk.cells c.set.new.self c.args.cell c.args.index c.args.value c.set.ensures
+returns-clause-refs c = number_refs c.args.self.now.desk.cells c.set.new.self c.args.cell c.args.index c.args.value
+    c.set.ensures
 
 pub returns-clause-order : goal.returns-clause-order
 unfolding IsInOrder
 returns-clause-order c p is =
-    subst (λ k. IsAtRest (layer_tree (rc_value c.args.self.now.layer)) p (record c.args.self.now.desk { cells = k })) (sym c.set.ensures)
-    (number_rest (layer_tree (rc_value c.args.self.now.layer)) p c.args.self.now.desk is c.args.cell c.args.index c.args.value)
+    subst (λ k. IsAtRest (layer_tree (rc_value c.args.self.now.layer)) p (record c.args.self.now.desk { cells = k }))
+    (sym c.set.ensures)
+    (number_rest (layer_tree (rc_value c.args.self.now.layer)) p c.args.self.now.desk is c.args.cell c.args.index
+    c.args.value)
 
 pub returns-clause-others : goal.returns-clause-others
-returns-clause-others c = number_before c.args.self.now c.args.cell c.args.index c.args.value c.set.new.self c.set.ensures
+returns-clause-others c = number_before c.args.self.now c.args.cell c.args.index c.args.value c.set.new.self
+    c.set.ensures

@@ -21,11 +21,13 @@ returns-clause-own c p is =
 
 pub returns-clause-state : goal.returns-clause-state
 unfolding state_in
-returns-clause-state c p = back_left (row_seen p) c.args.self.now.desk.cells c.take_back.new.self c.args.cell c.args.index (search rules)
+returns-clause-state c p = back_left (row_seen p) c.args.self.now.desk.cells c.take_back.new.self c.args.cell
+    c.args.index (search rules)
 
 pub returns-clause-refs : goal.returns-clause-refs
 unfolding refs_of
-returns-clause-refs c = back_together c.args.self.now.desk.cells c.take_back.new.self c.args.cell c.args.index _ (search rules) (search rules)
+returns-clause-refs c = back_together c.args.self.now.desk.cells c.take_back.new.self c.args.cell c.args.index _
+    (search rules) (search rules)
 
 pub returns-clause-room : goal.returns-clause-room
 unfolding state_in capacity_at
@@ -34,7 +36,9 @@ returns-clause-room c = room_behind c.take_back.new.self c.args.cell c.args.inde
 pub returns-clause-order : goal.returns-clause-order
 unfolding IsInOrder
 returns-clause-order c p is =
-    without_last_rest (layer_tree (rc_value c.args.self.now.layer)) p c.args.self.now.desk is c.args.cell c.args.index _ (search rules)
+    without_last_rest (layer_tree (rc_value c.args.self.now.layer)) p c.args.self.now.desk is c.args.cell c.args.index _
+    (search rules)
 
 pub returns-clause-others : goal.returns-clause-others
-returns-clause-others c = rows_before c.args.self.now c.args.cell c.args.index _ c.take_back.new.self c.take_back.ensures.rest
+returns-clause-others c = rows_before c.args.self.now c.args.cell c.args.index _ c.take_back.new.self
+    c.take_back.ensures.rest

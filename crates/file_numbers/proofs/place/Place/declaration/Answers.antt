@@ -4,4 +4,5 @@ use Rattle.file_numbers.proofs.place.Place.declaration.Goals as goal
 
 -- src/place.rt:67:5
 pub returns-clause-holds : goal.returns-clause-holds
-returns-clause-holds c = holds_found (placed_of c.args.self.now) c.args.word.now _ c.args.self.now.declarations_hold c.declaration.ensures
+returns-clause-holds c = holds_found (placed_of c.args.self.now) c.args.word.now _ c.args.self.now.declarations_hold
+    c.declaration.ensures

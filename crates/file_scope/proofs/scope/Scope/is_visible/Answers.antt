@@ -4,4 +4,5 @@ use Rattle.file_scope.proofs.scope.Scope.is_visible.Goals as goal
 
 pub returns-in-None : goal.returns-in-None
 returns-in-None c = c.is_some.ensures ∙ (ap is_some c.position-in-None.ensures
-    ∙ visible_local c.args.self.now c.args.word.now c.args.self.now.own.now c.args.self.now.words (search rules) (search rules) (search rules))
+    ∙ visible_local c.args.self.now c.args.word.now c.args.self.now.own.now c.args.self.now.words (search rules)
+    (search rules) (search rules))

@@ -9,7 +9,8 @@ use Rattle.file_scope.proofs.scope.Scope.leave.Goals as goal
 
 pub returns : goal.returns
 returns c =
-    let scope : List names.Local → names.Scope = λ ls. record { layer = layer_tree c.args.self.now.layer.now; locals = ls } in
+    let scope : List names.Local →
+    names.Scope = λ ls. record { layer = layer_tree c.args.self.now.layer.now; locals = ls } in
     ap scope (ap locals_of c.truncate.ensures.items ∙ map_take local_of c.args.outer c.args.self.now.locals.items)
 
 pub invariant_of-self : goal.invariant_of-self

@@ -7,7 +7,8 @@ returns-clause-put_off g c =
     let p = g.D.Desk.shown c.args.pool.now c.args.desk.now in
     record {
       sent = ap (λ event. p.sent ++ event ∷ [])
-          (put_off_event c.args.place c.args.emission.now c.in-Some.content c.in-Local.slot p c.envelope-self-inside.result
+          (put_off_event c.args.place c.args.emission.now c.in-Some.content c.in-Local.slot p
+          c.envelope-self-inside.result
           c.write_header.new.header c.in-Some.is c.in-Local.is c.write_header.ensures c.envelope-self-inside.ensures);
       places = refl;
     }

@@ -9,4 +9,15 @@ push_front-requires c =
     let left = length-drop c.loop-k.k (take c.args.count all) in
     let front = length-take-le c.args.count all (omega (arith, ap (λ hs. length hs) c.slice-all.ensures, c.requires)) in
     let whole = ap (λ hs. length hs) c.slice-all.ensures in
-    omega (arith, kept, left, front, whole, c.len.ensures.few, c.len.ensures.count, c.requires, c.loop-k-test.true, c.if-from-len.false)
+    omega (
+      arith,
+      kept,
+      left,
+      front,
+      whole,
+      c.len.ensures.few,
+      c.len.ensures.count,
+      c.requires,
+      c.loop-k-test.true,
+      c.if-from-len.false,
+    )

@@ -7,11 +7,13 @@ use Rattle.packet_short.proofs.planned.Planned.+chain.Goals as goal
 
 pub returns-then-is_done-clause-read : goal.returns-then-is_done-clause-read
 returns-then-is_done-clause-read t c =
-    none_dealt (stack_tree c.args.stack.now) c.args.place _ _ _ c.is_done.result (omega (arith, c.places.ensures, c.if-place-places.true)) c.is_done.ensures
+    none_dealt (stack_tree c.args.stack.now) c.args.place _ _ _ c.is_done.result
+    (omega (arith, c.places.ensures, c.if-place-places.true)) c.is_done.ensures
     ∙ ap (λ b. if b then Some ([], left c.args.cursor.now) else None) c.if-is_done.true
     ∙ ap (λ hs. Some (hs, left c.args.cursor.now)) (sym c.requires.none)
 
 pub returns-then-place-places-clause-read : goal.returns-then-place-places-clause-read
 returns-then-place-places-clause-read t c =
-    none_dealt (stack_tree c.args.stack.now) c.args.place _ _ _ c.is_done.result (omega (arith, c.places.ensures, c.if-place-places.true)) c.is_done.ensures
+    none_dealt (stack_tree c.args.stack.now) c.args.place _ _ _ c.is_done.result
+    (omega (arith, c.places.ensures, c.if-place-places.true)) c.is_done.ensures
     ∙ ap (λ b. if b then Some ([], left c.args.cursor.now) else None) c.if-is_done.false

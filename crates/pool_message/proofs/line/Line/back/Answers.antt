@@ -6,10 +6,12 @@ use Rattle.pool_message.proofs.line.Line.back.Goals as goal
 pub returns-then-self-lt2 : goal.returns-then-self-lt2
 returns-then-self-lt2 g c =
     let count = many c.self.inside.count c.self.inside.first c.self.inside.others.items c.self.invariant.0 in
-    c.front.ensures ∙ last_first c.args.self.now.items (omega (arith, c.if-self-lt2.true, count, ap (λ b. length b.items) c.self.view_is))
+    c.front.ensures ∙ last_first c.args.self.now.items
+    (omega (arith, c.if-self-lt2.true, count, ap (λ b. length b.items) c.self.view_is))
 
 pub returns : goal.returns
 returns g c =
     c.back.ensures
-    ∙ last_other c.self.inside.count c.self.inside.first c.self.inside.others.items c.self.invariant.0 (omega (arith, c.if-self-lt2.false))
+    ∙ last_other c.self.inside.count c.self.inside.first c.self.inside.others.items c.self.invariant.0
+    (omega (arith, c.if-self-lt2.false))
     ∙ ap (λ b. last_item b.items) c.self.view_is

@@ -4,8 +4,10 @@ use Rattle.pool_message.proofs.line.Line.front.Goals as goal
 
 pub returns-then-self-eq0 : goal.returns-then-self-eq0
 returns-then-self-eq0 g c =
-    first_none c.self.inside.count c.self.inside.first c.self.inside.others.items c.if-self-eq0.true ∙ ap (λ b. slice_get b.items 0) c.self.view_is
+    first_none c.self.inside.count c.self.inside.first c.self.inside.others.items c.if-self-eq0.true ∙
+    ap (λ b. slice_get b.items 0) c.self.view_is
 
 pub returns : goal.returns
 returns g c =
-    first_some c.self.inside.count c.self.inside.first c.self.inside.others.items c.if-self-eq0.false ∙ ap (λ b. slice_get b.items 0) c.self.view_is
+    first_some c.self.inside.count c.self.inside.first c.self.inside.others.items c.if-self-eq0.false ∙
+    ap (λ b. slice_get b.items 0) c.self.view_is

@@ -9,5 +9,6 @@ returns-then-index-eq0 g c =
 pub returns : goal.returns
 returns g c =
     c.get.ensures
-    ∙ got_other c.self.inside.count c.self.inside.first c.self.inside.others.items c.args.index c.self.invariant.0 c.if-index-eq0.false
+    ∙ got_other c.self.inside.count c.self.inside.first c.self.inside.others.items c.args.index c.self.invariant.0
+    c.if-index-eq0.false
     ∙ ap (λ b. slice_get b.items c.args.index) c.self.view_is

@@ -4,7 +4,8 @@ use Rattle.pool_message.proofs.line.Line.len.Goals as goal
 
 pub returns-clause-len : goal.returns-clause-len
 returns-clause-len g c =
-    many c.self.inside.count c.self.inside.first c.self.inside.others.items c.self.invariant.0 ∙ ap (λ b. length b.items) c.self.view_is
+    many c.self.inside.count c.self.inside.first c.self.inside.others.items c.self.invariant.0 ∙
+    ap (λ b. length b.items) c.self.view_is
 
 pub returns-clause-within : goal.returns-clause-within
 returns-clause-within g c =

@@ -5,14 +5,32 @@ use Rattle.pool_message.proofs.Slots.{value_at, back_within, back_is, back_chang
 use Rattle.pool_message.proofs.list.List.push_made.Goals as goal
 
 pub index_mut-requires : goal.index_mut-requires
-index_mut-requires c = omega (arith, back_within c.self.inside.slots.items c.args.self.now.items _ c.self.inside.order.items c.self.inside.free.items c.in-Some.k.now c.self.invariant.0 (sym c.in-Some.ensures) (ap (λ b. b.items) (c.self.view_is ∙ c.push_bare.ensures)), c.self.inside.slots.ok.0)
+index_mut-requires c =
+    omega (
+      arith,
+      back_within c.self.inside.slots.items c.args.self.now.items _ c.self.inside.order.items
+          c.self.inside.free.items c.in-Some.k.now c.self.invariant.0 (sym c.in-Some.ensures)
+          (ap (λ b. b.items) (c.self.view_is ∙ c.push_bare.ensures)),
+      c.self.inside.slots.ok.0,
+    )
 
 pub fill_made-requires : goal.fill_made-requires
-fill_made-requires c = ap (λ e. e.1.message) (value_at c.self.inside.slots.items c.in-Some.k.now c.index_mut.result.now (back_within c.self.inside.slots.items c.args.self.now.items _ c.self.inside.order.items c.self.inside.free.items c.in-Some.k.now c.self.invariant.0 (sym c.in-Some.ensures) (ap (λ b. b.items) (c.self.view_is ∙ c.push_bare.ensures))) c.index_mut.ensures.value ∙ back_is c.self.inside.slots.items c.args.self.now.items _ c.self.inside.order.items c.self.inside.free.items c.in-Some.k.now c.self.invariant.0 (sym c.in-Some.ensures) (ap (λ b. b.items) (c.self.view_is ∙ c.push_bare.ensures)))
+fill_made-requires c =
+    ap (λ e. e.1.message)
+    (value_at c.self.inside.slots.items c.in-Some.k.now c.index_mut.result.now
+    (back_within c.self.inside.slots.items c.args.self.now.items _ c.self.inside.order.items c.self.inside.free.items
+    c.in-Some.k.now c.self.invariant.0 (sym c.in-Some.ensures)
+    (ap (λ b. b.items) (c.self.view_is ∙ c.push_bare.ensures))) c.index_mut.ensures.value ∙
+    back_is c.self.inside.slots.items c.args.self.now.items _ c.self.inside.order.items c.self.inside.free.items
+    c.in-Some.k.now c.self.invariant.0 (sym c.in-Some.ensures)
+    (ap (λ b. b.items) (c.self.view_is ∙ c.push_bare.ensures)))
 
 pub invariant_of-self : goal.invariant_of-self
 invariant_of-self c = (
-  back_changed c.self.inside.slots.items c.args.self.now.items _ c.self.inside.order.items c.self.inside.free.items c.in-Some.k.now c.self.invariant.0 (sym c.in-Some.ensures) (ap (λ b. b.items) (c.self.view_is ∙ c.push_bare.ensures)) c.fill_made.new.sent,
+  back_changed c.self.inside.slots.items c.args.self.now.items _ c.self.inside.order.items c.self.inside.free.items
+      c.in-Some.k.now c.self.invariant.0 (sym c.in-Some.ensures)
+      (ap (λ b. b.items) (c.self.view_is ∙ c.push_bare.ensures))
+      c.fill_made.new.sent,
   c.self.invariant.1,
   c.self.invariant.2,
   c.self.invariant.3,
@@ -22,7 +40,23 @@ invariant_of-self c = (
 
 pub returns : goal.returns
 returns c =
-    ap (λ es. buffer es c.self.inside.order.capacity) (back_stands c.self.inside.slots.items c.args.self.now.items _ c.self.inside.order.items c.self.inside.free.items c.in-Some.k.now c.self.invariant.0 (sym c.in-Some.ensures) (ap (λ b. b.items) (c.self.view_is ∙ c.push_bare.ensures)) c.fill_made.new.sent)
-    ∙ ap (λ n. buffer (c.args.self.now.items ++ c.fill_made.new.sent ∷ []) n) (ap (λ b. b.capacity) (c.self.view_is ∙ c.push_bare.ensures))
+    ap (λ es. buffer es c.self.inside.order.capacity)
+    (back_stands c.self.inside.slots.items c.args.self.now.items _ c.self.inside.order.items c.self.inside.free.items
+    c.in-Some.k.now c.self.invariant.0 (sym c.in-Some.ensures)
+    (ap (λ b. b.items) (c.self.view_is ∙ c.push_bare.ensures)) c.fill_made.new.sent)
+    ∙ ap (λ n. buffer (c.args.self.now.items ++ c.fill_made.new.sent ∷ []) n)
+    (ap (λ b. b.capacity) (c.self.view_is ∙ c.push_bare.ensures))
     ∙ ap (λ e. buffer (c.args.self.now.items ++ e ∷ []) c.args.self.now.capacity)
-    (c.fill_made.ensures ∙ ap (λ e. (e.0, record e.1 { message = Some (record { headers = c.args.headers.now; body = Some c.args.body }) })) (value_at c.self.inside.slots.items c.in-Some.k.now c.index_mut.result.now (back_within c.self.inside.slots.items c.args.self.now.items _ c.self.inside.order.items c.self.inside.free.items c.in-Some.k.now c.self.invariant.0 (sym c.in-Some.ensures) (ap (λ b. b.items) (c.self.view_is ∙ c.push_bare.ensures))) c.index_mut.ensures.value ∙ back_is c.self.inside.slots.items c.args.self.now.items _ c.self.inside.order.items c.self.inside.free.items c.in-Some.k.now c.self.invariant.0 (sym c.in-Some.ensures) (ap (λ b. b.items) (c.self.view_is ∙ c.push_bare.ensures))))
+    (c.fill_made.ensures ∙
+    ap (λ e. (
+      e.0,
+      record e.1
+          { message = Some (record { headers = c.args.headers.now; body = Some c.args.body }) },
+    ))
+    (value_at c.self.inside.slots.items c.in-Some.k.now c.index_mut.result.now
+    (back_within c.self.inside.slots.items c.args.self.now.items _ c.self.inside.order.items
+    c.self.inside.free.items c.in-Some.k.now c.self.invariant.0 (sym c.in-Some.ensures)
+    (ap (λ b. b.items) (c.self.view_is ∙ c.push_bare.ensures))) c.index_mut.ensures.value ∙
+    back_is c.self.inside.slots.items c.args.self.now.items _ c.self.inside.order.items c.self.inside.free.items
+    c.in-Some.k.now c.self.invariant.0 (sym c.in-Some.ensures)
+    (ap (λ b. b.items) (c.self.view_is ∙ c.push_bare.ensures))))

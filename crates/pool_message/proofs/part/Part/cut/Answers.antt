@@ -6,5 +6,6 @@ pub returns : goal.returns
 returns c = record {
   slot = refl;
   within = omega arith;
-  bytes = λ bs. range_cut c.args.self.from c.args.self.len c.args.from c.args.count _ _ bs c.min-skipped.ensures c.min.ensures;
+  bytes = λ bs. range_cut c.args.self.from c.args.self.len c.args.from c.args.count _ _ bs c.min-skipped.ensures
+      c.min.ensures;
 }

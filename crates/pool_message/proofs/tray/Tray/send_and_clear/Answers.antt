@@ -6,7 +6,9 @@ use Rattle.pool_message.proofs.tray.Tray.send_and_clear.Goals as goal
 
 pub returns-clause-returned : goal.returns-clause-returned
 returns-clause-returned c =
-    sent_cleared c.args.pool.now c.send_message.new.pool c.clear_messages.new.pool c.args.self.now.messages.items c.args.k c.requires.some
+    sent_cleared c.args.pool.now c.send_message.new.pool c.clear_messages.new.pool c.args.self.now.messages.items
+    c.args.k c.requires.some
     c.send_message.ensures.kept
-    (subst (λ ms. Returned c.send_message.new.pool c.clear_messages.new.pool (pile_refs ms)) (ap (λ t. t.messages.items) c.send_message.ensures.sent)
+    (subst (λ ms. Returned c.send_message.new.pool c.clear_messages.new.pool (pile_refs ms))
+    (ap (λ t. t.messages.items) c.send_message.ensures.sent)
     c.clear_messages.ensures.returned)

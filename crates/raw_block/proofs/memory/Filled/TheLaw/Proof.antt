@@ -25,13 +25,19 @@ use Rattle.raw_block.specs.contracts.memory.Filled as F
 use Rattle.raw_block.proofs.memory.Filled.TheLaw.Statement.{statement}
 
 pub shares : (R : RattleType) (L : Laws R) → statement R L
-shares R L = of_Lends (F.struct R) (F.the_codes R.Denot R.coded (marker.the_row RawPtr).coded) (F.the_heap R) (F.the_lent R)
-    (λ f p. beside_shr_laws (said (within R f.values f.room)) (lent_at (Array R (length f.values)) f.at f.values) (said_shr_laws (within R f.values f.room) tt)
+shares R L = of_Lends (F.struct R) (F.the_codes R.Denot R.coded (marker.the_row RawPtr).coded) (F.the_heap R)
+    (F.the_lent R)
+    (λ f p. beside_shr_laws (said (within R f.values f.room)) (lent_at (Array R (length f.values)) f.at f.values)
+    (said_shr_laws (within R f.values f.room) tt)
     (lent_at_shr_laws (Array R (length f.values)) (Array-row_laws R L.shr_laws (length f.values)) f.at f.values))
     (copy_shared (marker.the_field RawPtr) (field_copy (marker.the_type RawPtr) tt), tt)
     (λ M 𝓤 𝓛 f p.
     let l = (F.the_row R).lives in let n = length f.values in
-    let lies = lies_at (Array R n) full_share f.at f.values in let room = room_for (array_of R f.room) (f.at +ₚ n * type_size R) in let lent = lent_at (Array R n) f.at f.values in
-    let each = Shares-less 𝓛 R R.lives l (Incl-trans (meet_⊑_left (R.lives ++ []) _) (meet_⊑_left R.lives [])) (L.shares 𝓛) in
-    Lends-both 𝓛 (within R f.values f.room) (fsep lies room) (said (within R f.values f.room)) lent l (Lends-said 𝓛 (within R f.values f.room) tt l)
-    (Lends-first 𝓛 lies room lent l (Lends-lies 𝓛 (Array R n) l f.at f.values (Shares-Array 𝓛 R (subst Single (sym L.one) tt) n l each f.values))))
+    let lies = lies_at (Array R n) full_share f.at f.values in let room =
+    room_for (array_of R f.room) (f.at +ₚ n * type_size R) in let lent = lent_at (Array R n) f.at f.values in
+    let each = Shares-less 𝓛 R R.lives l (Incl-trans (meet_⊑_left (R.lives ++ []) _) (meet_⊑_left R.lives []))
+    (L.shares 𝓛) in
+    Lends-both 𝓛 (within R f.values f.room) (fsep lies room) (said (within R f.values f.room)) lent l
+    (Lends-said 𝓛 (within R f.values f.room) tt l)
+    (Lends-first 𝓛 lies room lent l
+    (Lends-lies 𝓛 (Array R n) l f.at f.values (Shares-Array 𝓛 R (subst Single (sym L.one) tt) n l each f.values))))

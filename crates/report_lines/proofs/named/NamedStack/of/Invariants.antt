@@ -7,5 +7,6 @@ use Rattle.report_lines.proofs.named.NamedStack.of.Given as goal
 
 abbrev pub invariant-loop-place : goal.invariant-loop-place
 invariant-loop-place l =
-    (l.texts.items ≡ first_nones (stack_tree (rc_value l.stack)) l.place) × (l.places.items ≡ ends_of (stack_tree (rc_value l.stack)) l.place)
+    (l.texts.items ≡ first_nones (stack_tree (rc_value l.stack)) l.place) ×
+    (l.places.items ≡ ends_of (stack_tree (rc_value l.stack)) l.place)
     × AreAllFronts (stack_tree (rc_value l.stack)) l.place l.fronts.texts l.fronts.begins.items l.fronts.firsts.items

@@ -7,8 +7,11 @@ pub invariant_of-self : goal.invariant_of-self
 invariant_of-self c =
     let held = c.self.invariant in
     let old = c.self.inside.maker in
-    let is = c.in-Ok.ensures in
-    (one_further c.self.inside.seed c.self.inside.made old c.event.new.self c.in-Ok.event held.0 is.made is.raw is.members is.cursors is.within, held.1)
+    let is = c.in-Ok.ensures in (
+      one_further c.self.inside.seed c.self.inside.made old c.event.new.self c.in-Ok.event held.0 is.made is.raw
+          is.members is.cursors is.within,
+      held.1,
+    )
 
 pub returns-in-Ok : goal.returns-in-Ok
 returns-in-Ok c =
@@ -18,4 +21,5 @@ returns-in-Ok c =
     let is = c.in-Ok.ensures in
     let more : k < events = subst (λ (o : Course). o.made < o.workload.events) (sym c.self.view_is) c.requires.more in
     subst (λ o. IsNext o (course_of seed events (k + 1) c.event.new.self) c.in-Ok.event) c.self.view_is
-    (is_next seed events k c.self.inside.maker c.event.new.self c.in-Ok.event c.self.invariant.0 more is.made is.of_member is.raw is.members)
+    (is_next seed events k c.self.inside.maker c.event.new.self c.in-Ok.event c.self.invariant.0 more is.made
+    is.of_member is.raw is.members)

@@ -7,5 +7,6 @@ at_mut-requires c = there c.self.inside.block.values c.self.inside.long.values _
 
 pub returns : goal.returns
 returns c =
-    changes c.self.inside.block.values c.self.inside.long.values _ _ _ c.self.view_is _ c.requires c.at_mut.ensures.value
+    changes c.self.inside.block.values c.self.inside.long.values _ _ _ c.self.view_is _ c.requires
+    c.at_mut.ensures.value
     (λ s. record s { next = c.args.next }) _ refl

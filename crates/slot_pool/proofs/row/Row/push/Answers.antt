@@ -14,7 +14,8 @@ pub invariant_of-self : goal.invariant_of-self
 invariant_of-self c =
     let count = count_is c.self.inside.block.values c.self.inside.long.values _ 0 _ c.self.view_is in
     let room = ap (λ (r : Run Spot). r.capacity) c.self.view_is in
-    subst (λ (b : Run Place). ArePlaces b.values c.self.inside.long.values b.capacity c.self.inside.long.capacity) (sym c.push.ensures)
+    subst (λ (b : Run Place). ArePlaces b.values c.self.inside.long.values b.capacity c.self.inside.long.capacity)
+    (sym c.push.ensures)
     (push_places _ _ _ _ c.self.invariant c.fresh.result (omega (arith, c.requires.room)) c.fresh.ensures)
 
 pub hold-requires-clause-there : goal.hold-requires-clause-there
@@ -25,5 +26,6 @@ hold-requires-clause-there c =
 
 pub returns : goal.returns
 returns c =
-    adds c.self.inside.block.values c.self.inside.long.values _ _ c.self.view_is c.fresh.result c.push.new.self c.hold.new.self c.len-last.result c.args.body.now
+    adds c.self.inside.block.values c.self.inside.long.values _ _ c.self.view_is c.fresh.result c.push.new.self
+    c.hold.new.self c.len-last.result c.args.body.now
     c.push.ensures c.len-last.ensures c.self.invariant.fewer c.hold.ensures

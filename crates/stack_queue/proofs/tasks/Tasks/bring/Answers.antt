@@ -13,11 +13,13 @@ use Rattle.pool_message.specs.Sent.{first_sent, sent_refs}
 use Rattle.pool_message.specs.declared.event.PoolEvent.{PoolEvent}
 use Rattle.stack_queue.specs.Pending.{tasks_seen, tasks_refs, TasksLie, tasks_at}
 use Rattle.stack_queue.specs.declared.tasks.PoolTask.{PoolTask}
-use Rattle.stack_queue.proofs.Lists.{as_many, first_event, rest_at, same_behind, refs_at, lie_at, events_lie, sent_behind, more_now, placed_all}
+use Rattle.stack_queue.proofs.Lists.{as_many, first_event, rest_at, same_behind, refs_at, lie_at, events_lie}
+use Rattle.stack_queue.proofs.Lists.{sent_behind, more_now, placed_all}
 use Rattle.stack_queue.proofs.tasks.Tasks.bring.Goals as goal
 
 pub take-decided-requires-clause-lie : goal.take-decided-requires-clause-lie
-take-decided-requires-clause-lie g c = events_lie c.args.pool.now c.self.inside.places.items c.self.inside.events.items c.self.invariant.0
+take-decided-requires-clause-lie g c = events_lie c.args.pool.now c.self.inside.places.items c.self.inside.events.items
+    c.self.invariant.0
     (subst (λ (b : Buffer PoolTask). TasksLie c.args.pool.now b.items) (sym c.self.view_is) c.requires.lie)
 
 pub take-decided-requires-clause-covers : goal.take-decided-requires-clause-covers
@@ -36,7 +38,8 @@ take-decided-requires-clause-headers g c = subst
 
 pub take-decided-requires-clause-slots : goal.take-decided-requires-clause-slots
 take-decided-requires-clause-slots g c = subst
-    (λ (x : Dir × PoolEvent). slots_needed (g.S.Stage.layer c.args.stage.now) x.0 (event_seen c.args.pool.now x.1) ≤ spare c.args.pool.now)
+    (λ (x : Dir × PoolEvent). slots_needed (g.S.Stage.layer c.args.stage.now) x.0 (event_seen c.args.pool.now x.1) ≤
+    spare c.args.pool.now)
     (first_event c.self.inside.places.items c.self.inside.events.items c.args.self.now.items c.self.invariant.0
     (ap (λ (b : Buffer PoolTask). b.items) c.self.view_is))
     c.requires.slots
@@ -44,11 +47,14 @@ take-decided-requires-clause-slots g c = subst
 pub take-decided-requires-clause-places : goal.take-decided-requires-clause-places
 take-decided-requires-clause-places g c =
     let view = ap (λ (b : Buffer PoolTask). b.items) c.self.view_is in
-    let first = first_event c.self.inside.places.items c.self.inside.events.items c.args.self.now.items c.self.invariant.0 view in omega (
+    let first = first_event c.self.inside.places.items c.self.inside.events.items c.args.self.now.items
+    c.self.invariant.0 view in omega (
       arith,
       c.requires.places,
-      ap (λ (x : Dir × PoolEvent). places_needed (g.S.Stage.layer c.args.stage.now) x.0 (event_seen c.args.pool.now x.1)) first,
-      ap length (rest_at c.self.inside.places.items c.self.inside.events.items c.args.self.now.items c.self.invariant.0 view),
+      ap (λ (x : Dir × PoolEvent). places_needed (g.S.Stage.layer c.args.stage.now) x.0
+          (event_seen c.args.pool.now x.1)) first,
+      ap length (rest_at c.self.inside.places.items c.self.inside.events.items c.args.self.now.items c.self.invariant.0
+          view),
       as_many (drop 1 c.self.inside.places.items) (drop 1 c.self.inside.events.items)
           (same_behind c.self.inside.places.items c.self.inside.events.items c.self.invariant.0),
       ap (λ (b : Buffer PoolTask). b.capacity) c.self.view_is,
@@ -65,9 +71,12 @@ invariant_of-self g c =
           ∙ placed_all c.args.at (drop 1 c.self.inside.places.items) c.take-decided.new.events.items (omega (
             arith,
             same,
-            more_now c.args.pool.now c.take-decided.new.pool (drop 1 c.self.inside.events.items) c.take-decided.new.events.items
-                (step (g.S.Stage.place c.args.stage.now) (g.S.Stage.layer c.args.stage.now) (g.S.Stage.state c.args.pool.now c.args.stage.now)
-                (first_sent c.self.inside.events.items).0 (event_seen c.args.pool.now (first_sent c.self.inside.events.items).1)).sent
+            more_now c.args.pool.now c.take-decided.new.pool (drop 1 c.self.inside.events.items)
+                c.take-decided.new.events.items
+                (step (g.S.Stage.place c.args.stage.now) (g.S.Stage.layer c.args.stage.now)
+                (g.S.Stage.state c.args.pool.now c.args.stage.now)
+                (first_sent c.self.inside.events.items).0
+                (event_seen c.args.pool.now (first_sent c.self.inside.events.items).1)).sent
                 c.take-decided.ensures.sent,
           )),
       ap (λ b. b.capacity) on ∙ c.self.invariant.1 ∙ sym c.take-decided.ensures.capacity,
@@ -77,20 +86,26 @@ invariant_of-self g c =
 pub returns-clause-tasks : goal.returns-clause-tasks
 returns-clause-tasks g c =
     let view = ap (λ (b : Buffer PoolTask). b.items) c.self.view_is in
-    let first = first_event c.self.inside.places.items c.self.inside.events.items c.args.self.now.items c.self.invariant.0 view in
+    let first = first_event c.self.inside.places.items c.self.inside.events.items c.args.self.now.items
+    c.self.invariant.0 view in
     ap (λ b. tasks_seen c.take-decided.new.pool (tasks_at b.items c.take-decided.new.events.items))
     c.go_on.ensures
-    ∙ sent_behind c.args.pool.now c.take-decided.new.pool c.args.at (drop 1 c.self.inside.places.items) (drop 1 c.self.inside.events.items)
+    ∙ sent_behind c.args.pool.now c.take-decided.new.pool c.args.at (drop 1 c.self.inside.places.items)
+    (drop 1 c.self.inside.events.items)
     c.take-decided.new.events.items
-    (step (g.S.Stage.place c.args.stage.now) (g.S.Stage.layer c.args.stage.now) (g.S.Stage.state c.args.pool.now c.args.stage.now)
-    (first_sent c.self.inside.events.items).0 (event_seen c.args.pool.now (first_sent c.self.inside.events.items).1)).sent
+    (step (g.S.Stage.place c.args.stage.now) (g.S.Stage.layer c.args.stage.now)
+    (g.S.Stage.state c.args.pool.now c.args.stage.now)
+    (first_sent c.self.inside.events.items).0
+    (event_seen c.args.pool.now (first_sent c.self.inside.events.items).1)).sent
     (same_behind c.self.inside.places.items c.self.inside.events.items c.self.invariant.0) c.take-decided.ensures.sent
     ∙ ap (λ ts. tasks_seen c.args.pool.now ts ++ tasks_of c.args.at (step (g.S.Stage.place c.args.stage.now)
-    (g.S.Stage.layer c.args.stage.now) (g.S.Stage.state c.args.pool.now c.args.stage.now) (first_sent c.self.inside.events.items).0
+    (g.S.Stage.layer c.args.stage.now) (g.S.Stage.state c.args.pool.now c.args.stage.now)
+    (first_sent c.self.inside.events.items).0
     (event_seen c.args.pool.now (first_sent c.self.inside.events.items).1)).sent)
     (rest_at c.self.inside.places.items c.self.inside.events.items c.args.self.now.items c.self.invariant.0 view)
     ∙ ap (λ (x : Dir × PoolEvent). tasks_seen c.args.pool.now (drop 1 c.args.self.now.items) ++ tasks_of c.args.at
-    (step (g.S.Stage.place c.args.stage.now) (g.S.Stage.layer c.args.stage.now) (g.S.Stage.state c.args.pool.now c.args.stage.now) x.0
+    (step (g.S.Stage.place c.args.stage.now) (g.S.Stage.layer c.args.stage.now)
+    (g.S.Stage.state c.args.pool.now c.args.stage.now) x.0
     (event_seen c.args.pool.now x.1)).sent) (sym first)
 
 pub returns-clause-moved : goal.returns-clause-moved
@@ -99,9 +114,12 @@ returns-clause-moved g c =
     ∙ ap (λ (b : Buffer PoolTask). tasks_refs b.items) c.self.view_is in
     let behind = sym (refs_at c.go_on.new.places.items c.take-decided.new.events.items (invariant_of-self g c).0) in
     subst (λ rs. Moved c.args.pool.now c.take-decided.new.pool (g.S.Stage.refs c.args.stage.now ++ rs)
-    (g.S.Stage.refs c.take-decided.new.self ++ tasks_refs (tasks_at c.go_on.new.places.items c.take-decided.new.events.items))) before
-    (subst (λ rs. Moved c.args.pool.now c.take-decided.new.pool (g.S.Stage.refs c.args.stage.now ++ sent_refs c.self.inside.events.items)
+    (g.S.Stage.refs c.take-decided.new.self ++
+    tasks_refs (tasks_at c.go_on.new.places.items c.take-decided.new.events.items))) before
+    (subst (λ rs. Moved c.args.pool.now c.take-decided.new.pool
+    (g.S.Stage.refs c.args.stage.now ++ sent_refs c.self.inside.events.items)
     (g.S.Stage.refs c.take-decided.new.self ++ rs)) behind c.take-decided.ensures.moved)
 
 pub returns-clause-lie : goal.returns-clause-lie
-returns-clause-lie g c = lie_at c.take-decided.new.pool c.go_on.new.places.items c.take-decided.new.events.items c.take-decided.ensures.lie
+returns-clause-lie g c = lie_at c.take-decided.new.pool c.go_on.new.places.items c.take-decided.new.events.items
+    c.take-decided.ensures.lie

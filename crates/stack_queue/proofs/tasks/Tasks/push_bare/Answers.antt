@@ -30,8 +30,10 @@ put_place-requires c = omega (
 
 pub returns : goal.returns
 returns c =
-    (λ k. buffer (tasks_at (c.put_place.ensures k).items (c.push_bare.ensures k).items) ((c.put_place.ensures k).capacity - 1))
+    (λ k. buffer (tasks_at (c.put_place.ensures k).items (c.push_bare.ensures k).items)
+    ((c.put_place.ensures k).capacity - 1))
     ∙ ap (λ ts. buffer ts (c.self.inside.places.capacity - 1))
-    (pushed c.self.inside.places.items c.self.inside.events.items c.args.task.at c.args.task.direction (pool_event c.args.task.envelope None)
+    (pushed c.self.inside.places.items c.self.inside.events.items c.args.task.at c.args.task.direction
+    (pool_event c.args.task.envelope None)
     c.self.invariant.0)
     ∙ ap (λ b. buffer (b.items ++ task_with c.args.task None ∷ []) b.capacity) c.self.view_is

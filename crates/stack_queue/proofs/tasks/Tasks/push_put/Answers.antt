@@ -26,4 +26,5 @@ put_place-requires c = omega (
 )
 
 pub returns : goal.returns
-returns c = task_put _ _ _ _ _ _ c.self.inside.places _ _ c.self.invariant.0 c.self.view_is c.if-not-push_put.ensures c.put_place.ensures
+returns c = task_put _ _ _ _ _ _ c.self.inside.places _ _ c.self.invariant.0 c.self.view_is c.if-not-push_put.ensures
+    c.put_place.ensures

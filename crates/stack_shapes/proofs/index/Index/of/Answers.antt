@@ -7,7 +7,10 @@ use Rattle.stack_shapes.proofs.index.Index.of.Goals as goal
 pub loop-number-preserved : goal.loop-number-preserved
 loop-number-preserved c =
     let size = length-map c.args.plans.now plan_tree in
-    let print = c.from-print.ensures ∙ c.print_of.ensures ∙ printed_at c.args.plans.now _ c.index-plans-number.result (omega arith) c.index-plans-number.is in
-    indexed_on _ _ _ _ _ _ _ (omega arith) (omega (arith, size)) print (omega (arith, c.from-print.ensures, c.print_of.type_inv))
-    (get_or_read c.loop-number.first.items _ _ (omega (arith, c.loop-number.invariant.prints, c.from-print.ensures, c.print_of.type_inv)) c.index.ensures None)
+    let print = c.from-print.ensures ∙ c.print_of.ensures ∙ printed_at c.args.plans.now _ c.index-plans-number.result
+    (omega arith) c.index-plans-number.is in
+    indexed_on _ _ _ _ _ _ _ (omega arith) (omega (arith, size)) print
+    (omega (arith, c.from-print.ensures, c.print_of.type_inv))
+    (get_or_read c.loop-number.first.items _ _
+    (omega (arith, c.loop-number.invariant.prints, c.from-print.ensures, c.print_of.type_inv)) c.index.ensures None)
     c.loop-number.invariant

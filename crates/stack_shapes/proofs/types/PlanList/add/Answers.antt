@@ -10,7 +10,8 @@ pub returns-then-not-is_packet : goal.returns-then-not-is_packet
 returns-then-not-is_packet c =
     let size = length-map c.args.self.now.list.items plan_tree in
     none_more (map plan_tree c.args.self.now.list.items) (plan_or_none (out_tree c.args.out.now))
-    (omega (arith, size, c.args.self.now.few, c.args.self.now.list.ok)) (no_packet (out_tree c.args.out.now) (search rules))
+    (omega (arith, size, c.args.self.now.few, c.args.self.now.list.ok))
+    (no_packet (out_tree c.args.out.now) (search rules))
 
 pub returns-else-len-lt-MOST_PLANS : goal.returns-else-len-lt-MOST_PLANS
 returns-else-len-lt-MOST_PLANS c =
@@ -24,5 +25,7 @@ returns-in_ok-push c =
     ap (map plan_tree) c.in_ok-push.ensures.items
     ∙ map-append plan_tree c.args.self.now.list.items (c.in_ok-plan_of.field-0 ∷ [])
     ∙ ap (λ p. map plan_tree c.args.self.now.list.items ++ p ∷ []) c.in_ok-plan_of.ensures
-    ∙ one_more (map plan_tree c.args.self.now.list.items) (plan_or_none (out_tree c.args.out.now)) (plan_of (out_tree c.args.out.now))
-    (omega (arith, size, c.len.ensures, c.if-len-lt-MOST_PLANS.true)) (a_packet (out_tree c.args.out.now) (search rules))
+    ∙ one_more (map plan_tree c.args.self.now.list.items) (plan_or_none (out_tree c.args.out.now))
+    (plan_of (out_tree c.args.out.now))
+    (omega (arith, size, c.len.ensures, c.if-len-lt-MOST_PLANS.true))
+    (a_packet (out_tree c.args.out.now) (search rules))

@@ -11,5 +11,6 @@ loop-out-init c =
 
 pub loop-out-preserved : goal.loop-out-preserved
 loop-out-preserved c =
-    outs_more (list_tree c.args.self.now) (list_tree c.loop-out.self) (list_tree c.add.new.self) c.args.outs.now c.loop-out.out-index c.out-item.result
+    outs_more (list_tree c.args.self.now) (list_tree c.loop-out.self) (list_tree c.add.new.self) c.args.outs.now
+    c.loop-out.out-index c.out-item.result
     c.loop-out-test.true c.out-item.is c.loop-out.invariant c.in_ok-add.ensures

@@ -6,4 +6,5 @@ use Rattle.stack_shapes.proofs.types.PlanList.add_outs.Given as goal
 
 abbrev pub invariant-loop-out : goal.invariant-loop-out
 invariant-loop-out l =
-    list_tree l.self ≡ take 250 (list_tree l.fn.self ++ map plan_of (packets_in (map out_tree (take l.out-index l.outs))))
+    list_tree l.self ≡ take 250
+    (list_tree l.fn.self ++ map plan_of (packets_in (map out_tree (take l.out-index l.outs))))

@@ -7,7 +7,8 @@ use Rattle.step_outputs.proofs.outputs.Outputs.first_announced.Goals as goal
 
 pub returns-in-Some : goal.returns-in-Some
 returns-in-Some c =
-    first_told _ _ _ _ _ _ c.kept-item.result _ (ap (λ (g : Gathered). g.outputs) c.self.view_is) c.slice-kept-items.ensures
+    first_told _ _ _ _ _ _ c.kept-item.result _ (ap (λ (g : Gathered). g.outputs) c.self.view_is)
+    c.slice-kept-items.ensures
     c.loop-kept-test.true c.loop-kept.invariant c.kept-item.is (sym c.announces.ensures ∙ c.in-Some.is)
 
 pub loop-kept-preserved : goal.loop-kept-preserved
@@ -17,5 +18,6 @@ loop-kept-preserved c =
 
 pub returns : goal.returns
 returns c =
-    none_told _ _ _ _ _ _ (ap (λ (g : Gathered). g.outputs) c.self.view_is) c.slice-kept-items.ensures c.loop-kept-test.false
+    none_told _ _ _ _ _ _ (ap (λ (g : Gathered). g.outputs) c.self.view_is) c.slice-kept-items.ensures
+    c.loop-kept-test.false
     c.loop-kept.invariant

@@ -9,7 +9,8 @@ use Rattle.step_outputs.proofs.outputs.Outputs.send_short.Goals as goal
 
 pub invariant_of-self : goal.invariant_of-self
 invariant_of-self c =
-    numbered_kept _ _ _ c.self.inside.bytes.items c.args.count c.args.first c.self.inside.list.items c.number.new.self.items _ c.self.invariant
+    numbered_kept _ _ _ c.self.inside.bytes.items c.args.count c.args.first c.self.inside.list.items
+    c.number.new.self.items _ c.self.invariant
     (ap (λ (b : Buffer Kept). b.items) c.number.ensures) (ap (λ (b : Buffer Kept). b.capacity) c.number.ensures)
 
 pub returns : goal.returns

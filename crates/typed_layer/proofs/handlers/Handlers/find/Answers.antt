@@ -13,15 +13,18 @@ returns-then-tag-ge-TAGS c =
 
 pub index-requires : goal.index-requires
 index-requires c =
-    let all : length c.self.inside.table.items ≡ 192 = ap length c.self.invariant.2 ∙ table_length 0 c.self.inside.items.items in
+    let all : length c.self.inside.table.items ≡ 192 = ap length c.self.invariant.2 ∙
+    table_length 0 c.self.inside.items.items in
     let small = code_small c.args.direction c.args.kind c.args.tag c.if-tag-ge-TAGS.false in
     search (rules, all, small)
 
 pub returns-then-entry-items : goal.returns-then-entry-items
 returns-then-entry-items c =
-    subst (λ hs. Some (handler_tree c.index-items-entry.result) ≡ find (is_for c.args.direction c.args.kind c.args.tag) (map handler_tree hs))
+    subst (λ hs. Some (handler_tree c.index-items-entry.result) ≡ find (is_for c.args.direction c.args.kind c.args.tag)
+    (map handler_tree hs))
     c.self.view_is
-    (finds_named c.self.inside.items.items c.args.direction c.args.kind c.args.tag c.from-entry.result c.index-items-entry.result
+    (finds_named c.self.inside.items.items c.args.direction c.args.kind c.args.tag c.from-entry.result
+    c.index-items-entry.result
     c.if-tag-ge-TAGS.false c.self.invariant.1 c.self.invariant.0 (search rules) (search rules) (search rules))
 
 pub returns-else-entry-items : goal.returns-else-entry-items

@@ -4,6 +4,7 @@ use Rattle.world_core.proofs.Spelled.{spelled_next}
 use Rattle.world_core.proofs.packets.Packets.keep.Goals as goal
 
 pub loop-k-preserved : goal.loop-k-preserved
-loop-k-preserved c = spelled_next c.args.self.now c.loop-k.self c.put_output.new.self c.args.out.now.outputs c.loop-k.k _
+loop-k-preserved c = spelled_next c.args.self.now c.loop-k.self c.put_output.new.self c.args.out.now.outputs c.loop-k.k
+    _
     (c.at.ensures ∙ ap (λ h. Some (output_meant h c.at.result)) (sym c.here-here.ensures))
     c.loop-k.invariant c.in_ok-put_output.ensures

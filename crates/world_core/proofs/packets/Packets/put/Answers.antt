@@ -13,7 +13,8 @@ pub invariant_of-self-2 : goal.invariant_of-self-2
 invariant_of-self-2 c =
     let p = c.args.packet.now in
     let more = full_bytes (sent_packet c.args.here.now p.dest p.headers.now p.body.now) in
-    ends_are c.self.inside.bytes.items more c.put_full_of.new.into.items c.self.inside.ends.items c.push_reserved.new.self.items c.len-end.result
+    ends_are c.self.inside.bytes.items more c.put_full_of.new.into.items c.self.inside.ends.items
+    c.push_reserved.new.self.items c.len-end.result
     (c.put_full_of.ensures.items ∙ ap (λ xs. xs ++ more) c.make_room.ensures.items)
     (c.push_reserved.ensures.items ∙ ap (λ xs. xs ++ c.len-end.result ∷ []) c.reserve.ensures.items)
     (search rules) c.self.invariant
@@ -22,7 +23,8 @@ pub returns : goal.returns
 returns c =
     let p = c.args.packet.now in
     let more = full_bytes (sent_packet c.args.here.now p.dest p.headers.now p.body.now) in
-    put_is c.self.inside.bytes.items more c.put_full_of.new.into.items c.self.inside.ends.items c.push_reserved.new.self.items c.len-end.result
+    put_is c.self.inside.bytes.items more c.put_full_of.new.into.items c.self.inside.ends.items
+    c.push_reserved.new.self.items c.len-end.result
     c.args.self.now c.self.view_is
     (c.put_full_of.ensures.items ∙ ap (λ xs. xs ++ more) c.make_room.ensures.items)
     (c.push_reserved.ensures.items ∙ ap (λ xs. xs ++ c.len-end.result ∷ []) c.reserve.ensures.items)

@@ -10,19 +10,22 @@ use Rattle.world_core.proofs.world.World.probe.Goals as goal
 pub probe-probed-requires-clause-mode : goal.probe-probed-requires-clause-mode
 probe-probed-requires-clause-mode c =
     let its = subst (λ k. k < length c.args.self.now.members) (sym c.in-Step.ensures.member) c.requires.member in
-    mode_at _ _ _ _ _ _ c.self.inside.members.items _ c.self.view_is _ c.from.result _ c.self.invariant c.from.ensures its
+    mode_at _ _ _ _ _ _ c.self.inside.members.items _ c.self.view_is _ c.from.result _ c.self.invariant c.from.ensures
+    its
     c.index_mut.ensures.value ∙ c.requires.mode
 
 pub probe-probed-requires-clause-sound : goal.probe-probed-requires-clause-sound
 probe-probed-requires-clause-sound c =
     let its = subst (λ k. k < length c.args.self.now.members) (sym c.in-Step.ensures.member) c.requires.member in
-    subst IsSound (sym (stack_at _ _ _ _ _ _ c.self.inside.members.items _ c.self.view_is _ c.from.result _ c.self.invariant c.from.ensures its
+    subst IsSound (sym (stack_at _ _ _ _ _ _ c.self.inside.members.items _ c.self.view_is _ c.from.result _
+    c.self.invariant c.from.ensures its
     c.index_mut.ensures.value)) c.requires.examined.sound
 
 pub probe-probed-requires-clause-checks : goal.probe-probed-requires-clause-checks
 probe-probed-requires-clause-checks c =
     let its = subst (λ k. k < length c.args.self.now.members) (sym c.in-Step.ensures.member) c.requires.member in
-    subst (λ stack. AreChecksOf stack c.args.checks.now) (sym (stack_at _ _ _ _ _ _ c.self.inside.members.items _ c.self.view_is _ c.from.result _
+    subst (λ stack. AreChecksOf stack c.args.checks.now)
+    (sym (stack_at _ _ _ _ _ _ c.self.inside.members.items _ c.self.view_is _ c.from.result _
     c.self.invariant c.from.ensures its c.index_mut.ensures.value)) c.requires.examined.checks
 
 pub probe-probed-requires-clause-out : goal.probe-probed-requires-clause-out
@@ -39,8 +42,11 @@ pub returns-clause-probed : goal.returns-clause-probed
 returns-clause-probed c =
     let its = subst (λ k. k < length c.args.self.now.members) (sym c.in-Step.ensures.member) c.requires.member in
     elim c.match-keep.branch [
-      | in-Ok w ↦ rw w.result-is (λ world stands. probed_so _ _ _ _ _ _ c.self.inside.members.items _ c.self.view_is _ c.from.result _
-          c.self.invariant c.from.ensures its c.index_mut.ensures.value _ _ _ _ w.in-Ok.ensures _ c.probe-probed.ensures.probed world stands _
+      | in-Ok w ↦ rw w.result-is
+          (λ world stands. probed_so _ _ _ _ _ _ c.self.inside.members.items _ c.self.view_is _ c.from.result _
+          c.self.invariant c.from.ensures its c.index_mut.ensures.value _ _ _ _ w.in-Ok.ensures _
+          c.probe-probed.ensures.probed world stands _
           (c.in-Step.ensures.asks c.args.self.now.stack c.args.self.now.plans world))
-      | in-Err w ↦ rw w.result-is (λ world stands. stays_behind _ _ _ _ _ _ c.self.inside.members.items _ c.self.view_is _ c.from.result _)
+      | in-Err w ↦ rw w.result-is
+          (λ world stands. stays_behind _ _ _ _ _ _ c.self.inside.members.items _ c.self.view_is _ c.from.result _)
     ]

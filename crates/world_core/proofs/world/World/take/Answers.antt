@@ -19,10 +19,13 @@ pub returns-clause-fed : goal.returns-clause-fed
 returns-clause-fed c =
     let its = subst (λ k. k < length c.args.self.now.members) (sym c.in-Step.ensures.member) c.requires.member in
     elim c.match-keep.branch [
-      | in-Ok w ↦ rw w.result-is (λ world stands. step_fed _ _ _ _ _ _ c.self.inside.members.items _ c.self.view_is _ c.from.result _
-          c.self.invariant c.from.ensures its c.index_mut.ensures.value _ _ _ _ _ _ _ c.step-stepped.ensures.step w.in-Ok.ensures world stands _
+      | in-Ok w ↦ rw w.result-is
+          (λ world stands. step_fed _ _ _ _ _ _ c.self.inside.members.items _ c.self.view_is _ c.from.result _
+          c.self.invariant c.from.ensures its c.index_mut.ensures.value _ _ _ _ _ _ _ c.step-stepped.ensures.step
+          w.in-Ok.ensures world stands _
           (c.in-Step.ensures.asks c.args.self.now.stack c.args.self.now.plans world))
-      | in-Err w ↦ rw w.result-is (λ world stands. stays_behind _ _ _ _ _ _ c.self.inside.members.items _ c.self.view_is _ c.from.result _)
+      | in-Err w ↦ rw w.result-is
+          (λ world stands. stays_behind _ _ _ _ _ _ c.self.inside.members.items _ c.self.view_is _ c.from.result _)
     ]
 
 pub returns-clause-few : goal.returns-clause-few
