@@ -113,7 +113,7 @@ fn section(rt: &HostRuntime, input: &mut Input<'_>) -> io::Result<()> {
     let Ok(stack) = judge(rt.alloc(), text) else {
         return println!(rt; "the stack is refused");
     };
-    let Ok(StackShapes { plans, entries: _ }) = StackShapes::of(rt.alloc(), &stack) else {
+    let Ok(StackShapes { plans, starts: _, entries: _ }) = StackShapes::of(rt.alloc(), &stack) else {
         return println!(rt; "no memory");
     };
     let mut scan = Scan::none();
