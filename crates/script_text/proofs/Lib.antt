@@ -6,5 +6,7 @@ pub mod Draws
 pub mod Faults
 pub mod Hex
 pub mod Made
+pub mod Near
 pub mod Plans
 pub mod Requests
+pub mod Whole

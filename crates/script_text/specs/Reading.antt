@@ -1,10 +1,12 @@
 -- What the readers of lines and words answer.
-use Rattle.std.specs.Prelude.{◌≡◌, ◌≤◌, ◌<◌, ℕ, true, List, Option, Some, None, option_map, Result, Ok, Err, IsSomeAnd}
+use Rattle.std.specs.Prelude.{◌≡◌, ◌≤◌, ◌<◌, ℕ, true, List, [], Option, Some, None, option_map, Result, Ok, Err}
+use Rattle.std.specs.Prelude.{IsSomeAnd}
 use Rattle.std.specs.Char.{is_ascii_digit}
 use Rattle.std.specs.List.{enumerate_from, list_all}
 use Rattle.std.specs.Str.Parse.{digits_value}
 use Rattle.script_mean.specs.Lines.{said}
-use Rattle.script_mean.specs.Words.{Word}
+use Rattle.script_mean.specs.Words.{Word, words_of}
+use Rattle.script_mean.specs.Form.{a_body}
 use Rattle.script_mean.specs.Event.{member_of}
 use Rattle.script_mean.specs.declared.event.ScriptEvent.{ScriptEvent}
 use Rattle.script_text.specs.Parts.{parts_behind}
@@ -48,6 +50,11 @@ Spells spelled (Ok value) = spelled ≡ Some value
 Spells spelled (Err Form) = spelled ≡ None
 Spells spelled (Err NoMember) = ⊥
 Spells spelled (Err Memory) = Unit {0}
+
+-- a text is one word, which spells these bytes
+abbrev pub IsWholeBody : List ℕ → Option (List ℕ) → Type 0
+IsWholeBody text None = Unit {0}
+IsWholeBody text (Some bytes) = a_body (words_of text) ≡ Some (bytes, [])
 
 -- what a form took from the words and the words behind it, or memory was wanted
 abbrev pub Takes : {A : Type 0} → Option (A × List Word) → Result A LineError → List Word → Type 0

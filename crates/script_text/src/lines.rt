@@ -5,7 +5,7 @@ ghost use Rattle.script_mean.specs.Lines as spec;
 ghost use Rattle.script_text.specs.Parts.{parts_behind};
 
 use crate::reading::MOST_LINES;
-use crate::splits::cut;
+use crate::splits::cut_in_front;
 
 /// How many bytes are counted at once.
 const BLOCK: usize = 192;
@@ -43,7 +43,7 @@ impl<'a> Lines<'a> {
     fn next_line(&mut self) -> Option<Line<'a>>
         ensures { YieldsFirstBy numbered all_left self.old result self.new }
     {
-        let (text, behind) = cut(b'\n', self.rest?);
+        let (text, behind) = cut_in_front(b'\n', self.rest?);
         let number = self.number;
         *self = Lines {
             rest: behind,

@@ -1,13 +1,17 @@
 //! Cuts a text at a byte.
 ghost use Rattle.std.specs.Prelude.{◌≡◌, ◌≤◌, ◌==◌, ◌∷◌, IfSome, length, take};
 ghost use Rattle.std.specs.List.{slice_split};
-ghost use Rattle.memchr.specs.Find.{IsFirstByte, Nowhere, Passes, is_byte};
+ghost use Rattle.memchr.specs.Find.{IsFirst, IsFirstByte, Nowhere, Passes, is_byte};
 ghost use Rattle.script_text.specs.Parts.{parts_behind};
 
 use memchr::memchr;
+use std::simd::prelude::*;
 
 /// How many bytes are looked at one by one where a byte stands near.
 const NEAR: usize = 6;
+
+/// How many bytes are compared at once where a byte may stand near.
+const LANES: usize = 16;
 
 /// The text in front of the first such byte, and what stands behind it where there is one.
 pub fn cut(at: u8, text: &[u8]) -> (&[u8], Option<&[u8]>)
@@ -21,6 +25,14 @@ pub(crate) fn cut_near(at: u8, text: &[u8]) -> (&[u8], Option<&[u8]>)
     ensures { slice_split (λ byte. byte == at) text.now ≡ result.0.now ∷ parts_behind at result.1 }
 {
     parted(at, text, first_near(at, text))
+}
+
+/// The same, faster where often such a byte stands among the first 16.
+#[inline(always)]
+pub(crate) fn cut_in_front(at: u8, text: &[u8]) -> (&[u8], Option<&[u8]>)
+    ensures { slice_split (λ byte. byte == at) text.now ≡ result.0.now ∷ parts_behind at result.1 }
+{
+    parted(at, text, first_in_front(at, text))
 }
 
 /// The text in front of the first such byte, which stands at that place, and what stands behind it.
@@ -68,5 +80,34 @@ fn first_near(at: u8, text: &[u8]) -> Option<usize>
     match memchr(at, &text[near..]) {
         Some(end) => Some(near + end),
         None => None,
+    }
+}
+
+/// Where the first such byte stands, by one comparison if that is among the first 16.
+#[inline(always)]
+fn first_in_front(at: u8, text: &[u8]) -> Option<usize>
+    ensures { IsFirstByte (is_byte at) text.now result }
+{
+    if text.len() >= LANES {
+        if let Some(place) = first_in_lanes(at, text) {
+            return Some(place);
+        }
+    }
+    memchr(at, text)
+}
+
+/// Where the first such byte stands among the first 16.
+#[inline(always)]
+fn first_in_lanes(at: u8, text: &[u8]) -> Option<usize>
+    requires { 16 ≤ length text.now }
+    ensures { IsFirst (Passes (is_byte at) text.now) 0 16 result }
+{
+    let equal = u8x16::from_slice(text)
+        .simd_eq(u8x16::splat(at))
+        .to_bitmask();
+    if equal == 0 {
+        None
+    } else {
+        Some(equal.trailing_zeros() as usize)
     }
 }

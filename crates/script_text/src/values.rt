@@ -1,20 +1,24 @@
 //! What a word spells.
-ghost use Rattle.std.specs.Prelude.{◌≡◌, ◌*◌, ◌≤◌, ◌&&◌, ◌++◌, length, take, drop, option_map, IfSome, if◌then◌else◌};
+ghost use Rattle.std.specs.Prelude.{◌≡◌, ◌*◌, ◌≤◌, ◌&&◌, ◌++◌, length, take, drop, option_map, IfOk, IfSome};
+ghost use Rattle.std.specs.Prelude.{if◌then◌else◌};
 ghost use Rattle.std.specs.Prelude.{Some, None};
 ghost use Rattle.std.specs.Char.{is_ascii_digit};
 ghost use Rattle.std.specs.List.{list_all};
 ghost use Rattle.std.specs.Option.{unwrap_or};
 ghost use Rattle.std.specs.Str.Parse.{digits_value};
 ghost use Rattle.script_mean.specs.Words as spec;
-ghost use Rattle.script_text.specs.Reading.{IsAllDigits, Spells};
+ghost use Rattle.script_text.specs.Reading.{IsAllDigits, IsWholeBody, Spells};
 
 use crate::blocks::{BLOCK, write_block};
 use crate::error::LineError;
 use script_mean::Bytes;
-use std::alloc::Global;
+use std::alloc::{AllocError, Global};
 
 /// The most digits of a body: two for each of 65,507 bytes.
 const MOST_DIGITS: usize = 131_014;
+
+/// The most digits whose value has 32 bits, whatever they are.
+const MOST_PLACES: usize = 9;
 
 /// More than the value of any digit.
 const NO_DIGIT: u8 = 16;
@@ -63,23 +67,20 @@ fn value_within(low: u32, high: u32, word: &[u8]) -> Option<u32>
     Some(value as u32)
 }
 
-/// How many digits stand in front of a text, and their value, as far as it has 32 bits.
+/// How many digits stand in front of a text, of at most nine, and their value.
 #[inline(always)]
 pub(crate) fn digits_in_front(text: &[u8]) -> (usize, u32)
     ensures { IsAllDigits (take result.0 text.now) result.1 × (result.0 ≤ length text.now) }
 {
+    let most = text.len().min(MOST_PLACES);
     let mut value: u32 = 0;
-    for place in 0..text.len() {
+    for place in 0..most {
         if !text[place].is_ascii_digit() {
             return (place, value);
         }
-        let more = u64::from(value) * 10 + u64::from(text[place] - b'0');
-        if more > u64::from(u32::MAX) {
-            return (place, value);
-        }
-        value = more as u32;
+        value = value * 10 + u32::from(text[place] - b'0');
     }
-    (text.len(), value)
+    (most, value)
 }
 
 /// The number of a word that is all digits, which have this value, within bounds.
@@ -109,6 +110,21 @@ pub(crate) fn body(alloc: Global, word: &[u8]) -> Result<Bytes, LineError>
         return Err(LineError::Form);
     }
     hex_body(alloc, word)
+}
+
+/// The bytes that a text spells that is all digits of a body, if it is.
+pub(crate) fn whole_body(alloc: Global, text: &[u8]) -> Result<Option<Bytes>, AllocError>
+    ensures { IfOk result (IsWholeBody text.now) }
+{
+    if text.len() == 0 || text.len() > MOST_DIGITS || text.len() % 2 != 0 {
+        return Ok(None);
+    }
+    let mut bytes = vec![in alloc; 0; text.len() / 2]?;
+    if write_bytes(text, bytes.as_mut_slice()) {
+        Ok(Some(Bytes::of(bytes)))
+    } else {
+        Ok(None)
+    }
 }
 
 fn hex_body(alloc: Global, word: &[u8]) -> Result<Bytes, LineError>

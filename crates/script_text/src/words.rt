@@ -4,6 +4,7 @@ ghost use Rattle.std.specs.Iterator.{YieldsFirstRef, item_count};
 ghost use Rattle.script_mean.specs.Words.{words_of};
 ghost use Rattle.script_mean.specs.Address.{peer_of};
 ghost use Rattle.script_mean.specs.Form as form;
+ghost use Rattle.script_text.specs.Parts.{parts_behind};
 ghost use Rattle.script_text.specs.Reading.{Takes, words_left};
 
 use crate::error::LineError;
@@ -17,6 +18,18 @@ use std::alloc::Global;
 #[derive(Clone, Copy)]
 pub(crate) struct Words<'a> {
     rest: Option<&'a [u8]>,
+}
+
+/// The number of the first word of a text, if it is one within bounds, and what stands behind the word.
+#[inline(never)]
+fn any_number_within(low: u32, high: u32, text: &[u8]) -> (Result<u32, LineError>, Option<&[u8]>)
+    ensures { Takes (form.a_number_within low high (words_of text.now)) result.0 (parts_behind 32 result.1) }
+{
+    let (word, behind) = cut_near(b' ', text);
+    match values::number_within(low, high, word) {
+        Some(number) => (Ok(number), behind),
+        None => (Err(LineError::Form), behind),
+    }
 }
 
 impl<'a> Words<'a> {
@@ -42,19 +55,12 @@ impl<'a> Words<'a> {
         let text = self.rest.ok_or(LineError::Form)?;
         let (count, value) = values::digits_in_front(text);
         let Some((word, behind)) = cut_at(b' ', text, count) else {
-            return self.any_number_within(low, high);
+            let (number, behind) = any_number_within(low, high, text);
+            self.rest = behind;
+            return number;
         };
         self.rest = behind;
         values::valued_within(low, high, word, value).ok_or(LineError::Form)
-    }
-
-    /// The same, for any word.
-    #[inline(never)]
-    fn any_number_within(&mut self, low: u32, high: u32) -> Result<u32, LineError>
-        ensures { Takes (form.a_number_within low high (words_left self.old)) result (words_left self.new) }
-    {
-        let word = self.next().ok_or(LineError::Form)?;
-        values::number_within(low, high, word).ok_or(LineError::Form)
     }
 
     pub(crate) fn number(&mut self) -> Result<u32, LineError>
@@ -66,7 +72,12 @@ impl<'a> Words<'a> {
     pub(crate) fn body(&mut self, alloc: Global) -> Result<Bytes, LineError>
         ensures { Takes (form.a_body (words_left self.old)) result (words_left self.new) }
     {
-        let (word, behind) = cut(b' ', self.rest.ok_or(LineError::Form)?);
+        let text = self.rest.ok_or(LineError::Form)?;
+        if let Some(bytes) = values::whole_body(alloc, text)? {
+            self.rest = None;
+            return Ok(bytes);
+        }
+        let (word, behind) = cut(b' ', text);
         self.rest = behind;
         values::body(alloc, word)
     }
@@ -78,11 +89,12 @@ impl<'a> Words<'a> {
         address::peer_of(word).ok_or(LineError::Form)
     }
 
+    #[inline(always)]
     pub(crate) fn end(&mut self) -> Result<(), LineError>
         ensures { Takes (form.ends tt (words_left self.old)) result (words_left self.new) }
     {
-        match self.next() {
-            Some(_) => Err(LineError::Form),
+        match self.rest {
+            Some(_text) => Err(LineError::Form),
             None => Ok(()),
         }
     }

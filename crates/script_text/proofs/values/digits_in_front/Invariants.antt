@@ -3,4 +3,4 @@ use Rattle.script_text.specs.Reading.{IsAllDigits}
 use Rattle.script_text.proofs.values.digits_in_front.Given as goal
 
 abbrev pub invariant-loop-place : goal.invariant-loop-place
-invariant-loop-place l = IsAllDigits (take l.place l.text) l.value × (l.value < 2 ^ 32)
+invariant-loop-place l = IsAllDigits (take l.place l.text) l.value × (l.value < 10 ^ l.place)
