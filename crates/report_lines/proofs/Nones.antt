@@ -1,14 +1,14 @@
 -- Headers with the separator behind them, and the headers `none` of adjacent places.
 use Rattle.std.proofs.Common.{◌≡◌, ◌≢◌, ◌++◌, ◌∷◌, ◌+◌, ◌-◌, ◌<◌, ◌≤◌, ℕ, zero, suc, Bool, true, false, List, [], arith}
-use Rattle.std.proofs.Common.{Some, length, get_or, take, drop, refl, sym, ap, ◌∙◌, append_assoc, append-nil}
-use Rattle.std.specs.Prelude.{slice_get, OnOk, Result, Ok, Err, nat_lt}
+use Rattle.std.proofs.Common.{length, get_or, take, drop, refl, sym, ap, subst, ◌∙◌, append_assoc, append-nil}
+use Rattle.std.specs.Prelude.{OnOk, Result, Ok, Err, nat_lt}
 use Rattle.std.proofs.lemmas.Bool.{ltb-true, ltb-false}
 use Rattle.std.proofs.lemmas.Grind.{flat_map-append}
 use Rattle.std.proofs.lemmas.List.{get_or_append_left, length-append}
-use Rattle.std.proofs.lemmas.Option.{get_or_from_slice_get, slice_get_within}
 use Rattle.std.proofs.Math.Seq.{drop-append_seam, drop-cons, get_or-append_seam, take-append_seam}
 use Rattle.std.proofs.Math.ListN.{drop_of_length-le}
-use Rattle.std.specs.List.{flat_map}
+use Rattle.std.specs.Fmt.{decimal}
+use Rattle.std.specs.List.{flat_map, join_by}
 use Rattle.msg_core.specs.declared.message.Header.{Header}
 use Rattle.layer_mean.specs.Tree.{LayerTree}
 use Rattle.run_mean.specs.Text.{chain_text, header_text}
@@ -142,20 +142,20 @@ cut s stack texts places first n from to same laid le begin is_to =
     }
 
 -- what is left begins with the next header
-first_dropped : (hs : List Header) (k : ℕ) (h : Header) → Some h ≡ slice_get hs k → drop k hs ≡ h ∷ drop (k + 1) hs
-first_dropped hs k h is =
-    drop-cons hs k h (slice_get_within hs k h (sym is)) ∙
-    ap (λ x. x ∷ drop (suc k) hs) (get_or_from_slice_get hs k h h (sym is)) ∙ ap (λ i. h ∷ drop i hs) (suc_is k)
+first_dropped : (hs : List Header) (k : ℕ) (h : Header) → k < length hs → h ≡ get_or hs k h →
+    drop k hs ≡ h ∷ drop (k + 1) hs
+first_dropped hs k h within is =
+    drop-cons hs k h within ∙ ap (λ x. x ∷ drop (suc k) hs) (sym is) ∙ ap (λ i. h ∷ drop i hs) (suc_is k)
 
 -- a header with tag 0 and without numbers is that of its place
 pub none_is : (h : Header) → h.tag ≡ 0 → length h.fields ≡ 0 → h ≡ none_of h.layer
 none_is h tagged empty = λ i. record { layer = h.layer; tag = tagged i; fields = sym (no_fields h.fields empty) i }
 
-pub none_at : (hs : List Header) (k place : ℕ) (h : Header) → Some h ≡ slice_get hs k → h.layer ≡ place →
+pub none_at : (hs : List Header) (k place : ℕ) (h : Header) → k < length hs → h ≡ get_or hs k h → h.layer ≡ place →
     h ≡ none_of h.layer →
     drop k hs ≡ none_of place ∷ drop (k + 1) hs
-none_at hs k place h is placed none =
-    first_dropped hs k h is ∙ ap (λ x. x ∷ drop (k + 1) hs) (none ∙ ap none_of placed)
+none_at hs k place h within is placed none =
+    first_dropped hs k h within is ∙ ap (λ x. x ∷ drop (k + 1) hs) (none ∙ ap none_of placed)
 
 -- one more of them
 pub nones_next : (hs : List Header) (k first n : ℕ) → drop k hs ≡ nones first n ++ drop (k + n) hs →
@@ -202,35 +202,50 @@ without_last xs x =
 some_headers : (hs : List Header) → length hs ≢ 0 → hs ≢ []
 some_headers hs some is = some (ap length is)
 
--- once all headers are put, the last separator goes
-pub all_put : (stack : List LayerTree) (hs : List Header) (k n : ℕ) (line now new : List ℕ) →
-    now ++ chained stack (drop k hs) ≡ line ++ chained stack hs → n ≡ length hs → n ≤ k → n ≢ 0 →
-    new ≡ take (length now - 1) now →
-    new ≡ line ++ chain_text stack hs
-all_put stack hs k n line now new put all past some last =
-    let none = drop_of_length-le hs (omega (arith, all, past)) in
-    let whole : now ≡ (line ++ chain_text stack hs) ++ 47 ∷ [] =
+-- behind the last header none is left
+pub none_left : (stack : List LayerTree) (hs : List Header) (k : ℕ) (line now : List ℕ) →
+    now ++ chained stack (drop k hs) ≡ line ++ chained stack hs → length hs ≤ k → now ≡ line ++ chained stack hs
+none_left stack hs k line now put past =
+    let none = drop_of_length-le hs past in
     sym (append-nil now) ∙ ap (λ rest. now ++ chained stack rest) (sym none) ∙ put
-    ∙ ap (λ text. line ++ text) (joined stack hs (some_headers hs (λ is. some (all ∙ is))))
+
+-- once all headers are put, the last separator goes
+pub all_put : (stack : List LayerTree) (hs : List Header) (line now new : List ℕ) → now ≡ line ++ chained stack hs →
+    length hs ≢ 0 → new ≡ take (length now - 1) now → new ≡ line ++ chain_text stack hs
+all_put stack hs line now new put some last =
+    let whole : now ≡ (line ++ chain_text stack hs) ++ 47 ∷ [] =
+    put ∙ ap (λ text. line ++ text) (joined stack hs (some_headers hs some))
     ∙ sym (append_assoc line (chain_text stack hs) (47 ∷ [])) in
     last ∙ ap (λ xs. take (length xs - 1) xs) whole ∙ without_last (line ++ chain_text stack hs) 47
 
 -- a header that was put with its separator
 pub one_put : (stack : List LayerTree) (hs : List Header) (k : ℕ) (h : Header) (line new : List ℕ) →
-    Some h ≡ slice_get hs k → new ≡ line ++ slashed stack h → new ++ chained stack (drop (k + 1) hs) ≡ line ++
+    k < length hs → h ≡ get_or hs k h → new ≡ line ++ slashed stack h → new ++ chained stack (drop (k + 1) hs) ≡ line ++
     chained stack (drop k hs)
-one_put stack hs k h line new is put =
+one_put stack hs k h line new within is put =
     put_front stack (drop k hs) (h ∷ []) (drop (k + 1) hs) line new
     (put ∙ ap (λ text. line ++ text) (sym (append-nil (slashed stack h))))
-    (first_dropped hs k h is)
+    (first_dropped hs k h within is)
 
 -- a text whose last byte is put together with the separator
-pub closed : {E : Type 0} (r : Result (Unit {0}) E) (line front numbers a b new : List ℕ) → a ≡ line ++ front →
-    b ≡ a ++ numbers →
-    OnOk r (new ≡ b ++ 41 ∷ 47 ∷ []) → OnOk r (new ≡ line ++ ((front ++ numbers ++ 41 ∷ []) ++ 47 ∷ []))
-closed (Ok done) line front numbers a b new is_a is_b put =
-    put ∙ sym (append_assoc b (41 ∷ []) (47 ∷ []))
-    ∙ ap (λ xs. xs ++ 41 ∷ [] ++ 47 ∷ []) (is_b ∙ ap (λ xs. xs ++ numbers) is_a ∙ append_assoc line front numbers)
+pub closed : {E : Type 0} (r : Result (Unit {0}) E) (line front numbers now new : List ℕ) → now ≡ line ++ front →
+    OnOk r (new ≡ now ++ numbers ++ 41 ∷ 47 ∷ []) → OnOk r (new ≡ line ++ ((front ++ numbers ++ 41 ∷ []) ++ 47 ∷ []))
+closed (Ok done) line front numbers now new is put =
+    put ∙ sym (append_assoc (now ++ numbers) (41 ∷ []) (47 ∷ []))
+    ∙ ap (λ xs. xs ++ 41 ∷ [] ++ 47 ∷ []) (ap (λ xs. xs ++ numbers) is ∙ append_assoc line front numbers)
     ∙ ap (λ xs. xs ++ 47 ∷ []) (append_assoc line (front ++ numbers) (41 ∷ []))
     ∙ append_assoc line (front ++ numbers ++ 41 ∷ []) (47 ∷ [])
-closed (Err e) line front numbers a b new is_a is_b put = put
+closed (Err e) line front numbers now new is put = put
+
+one_field : (fields : List ℕ) (number : ℕ) → length fields ≡ 1 → number ≡ get_or fields 0 0 →
+    decimal number ≡ join_by decimal (44 ∷ []) fields
+one_field [] number one is = absurd (omega (arith, one))
+one_field (field ∷ []) number one is = ap decimal is ∙ sym (append-nil (decimal field))
+one_field (field ∷ next ∷ fields) number one is = absurd (omega (arith, one))
+
+-- one number with what stands behind it
+pub one_closed : {E : Type 0} (r : Result (Unit {0}) E) (line fields new : List ℕ) (number : ℕ) → length fields ≡ 1 →
+    number ≡ get_or fields 0 0 → OnOk r (new ≡ line ++ decimal number ++ 41 ∷ 47 ∷ []) →
+    OnOk r (new ≡ line ++ join_by decimal (44 ∷ []) fields ++ 41 ∷ 47 ∷ [])
+one_closed r line fields new number one is put =
+    subst (λ text. OnOk r (new ≡ line ++ text ++ 41 ∷ 47 ∷ [])) (one_field fields number one is) put

@@ -19,9 +19,13 @@ abbrev pub delivery_front : ℕ → (word : List ℕ) → ℕ → List ℕ
 delivery_front id word peer = codes "deliver " ++ decimal id ++ codes " " ++ word ++ codes " " ++ decimal peer ++
     codes " "
 
+-- What stands behind a packet's number: the member whose it is, and whom it is for.
+abbrev pub address_text : ℕ → (dest : List ℕ) → List ℕ
+address_text id dest = codes " " ++ decimal id ++ codes " " ++ dest ++ codes " "
+
 -- What a packet's line ends with.
 abbrev pub contents_text : List LayerTree → List Header → List ℕ → List ℕ
-contents_text stack headers body = codes " " ++ chain_text stack headers ++ codes " " ++ hex_text body ++ codes "\n"
+contents_text stack headers body = chain_text stack headers ++ codes " " ++ hex_text body ++ codes "\n"
 
 -- The line of a packet of which these parts are told.
 abbrev pub packet_text : List LayerTree → ℕ → ℕ → Dest → List Header → List ℕ → List ℕ

@@ -1,7 +1,7 @@
 //! Headers by name.
 
-ghost use Rattle.std.specs.Prelude.{◌≡◌, ◌+◌, ◌^◌, ◌++◌, ◌<◌, ◌≤◌, true, IfOk, OnOk, ◌∷◌, [], Some, drop, length};
-ghost use Rattle.std.specs.Prelude.{slice_get};
+ghost use Rattle.std.specs.Prelude.{◌≡◌, ◌+◌, ◌^◌, ◌++◌, ◌<◌, ◌≤◌, true, IfOk, OnOk, ◌∷◌, [], drop, length};
+ghost use Rattle.std.specs.Prelude.{slice_index_or};
 ghost use Rattle.msg_core.specs.Headers.{most_headers};
 ghost use Rattle.std.specs.List.{join_by};
 ghost use Rattle.std.specs.Fmt.{decimal};
@@ -45,28 +45,29 @@ fn is_none(header: &Header) -> bool
 }
 
 /// Whether the header number `k` is the header `none` of this place.
-fn is_none_of(headers: &Headers, k: u32, place: u8) -> bool
+fn is_none_of(headers: &[Header], k: usize, place: u8) -> bool
     ensures { result ≡ true → drop k headers.now ≡ none_of place ∷ drop (k + 1) headers.now }
 {
-    let Some(header) = headers.at(k) else {
+    if k >= headers.len() {
         return false;
-    };
+    }
+    let header = &headers[k];
     if header.layer != place {
         return false;
     }
-    is_none(&header)
+    is_none(header)
 }
 
 /// How many headers from number `k` on are `none`, of one place behind the other from `first` on: that one, and at most
 /// so many.
-fn count_nones(headers: &Headers, k: u32, first: u8, most: u8) -> u8
+fn count_nones(headers: &[Header], k: usize, first: u8, most: u8) -> u8
     requires few { (k ≤ most_headers) × (0 < most) × (first + most < 2 ^ 8) }
     requires first { drop k headers.now ≡ none_of first ∷ drop (k + 1) headers.now }
     ensures nones { drop k headers.now ≡ nones first result ++ drop (k + result) headers.now }
     ensures few { (0 < result) × (result ≤ most) }
 {
     for count in 1..most {
-        if !is_none_of(headers, k + u32::from(count), first + count) {
+        if !is_none_of(headers, k + usize::from(count), first + count) {
             return count;
         }
     }
@@ -83,13 +84,23 @@ fn push_front(line: &mut Line, stack: &NamedStack, header: &Header) -> Result<()
     }
 }
 
+/// `F,F)/`
+fn push_closed(line: &mut Line, fields: &Fields) -> Result<(), Memory>
+    ensures { OnOk result (line.new ≡ line.old ++ join_by decimal (44 ∷ []) fields.now ++ 41 ∷ 47 ∷ []) }
+{
+    if fields.len() == 1 {
+        return line.closed_number(fields.at(0));
+    }
+    push_fields(line, fields)?;
+    line.text(b")/")
+}
+
 /// `LAYER.HEADER(F,F)/`
 fn push_header(line: &mut Line, stack: &NamedStack, header: &Header) -> Result<(), Memory>
     ensures { OnOk result (line.new ≡ line.old ++ slashed (stack_tree stack.now) header.now) }
 {
     push_front(line, stack, header)?;
-    push_fields(line, &header.fields)?;
-    line.text(b")/")
+    push_closed(line, &header.fields)
 }
 
 /// Appends the headers `none` of adjacent places from number `k` on, each with `/` behind it, and answers how many
@@ -97,8 +108,8 @@ fn push_header(line: &mut Line, stack: &NamedStack, header: &Header) -> Result<(
 fn push_nones(
     line: &mut Line,
     stack: &NamedStack,
-    headers: &Headers,
-    k: u32,
+    headers: &[Header],
+    k: usize,
     first: u8,
 ) -> Result<u8, Memory>
     requires few { (k ≤ most_headers) × (first < length (stack_tree stack.now)) }
@@ -112,16 +123,17 @@ fn push_nones(
     Ok(count)
 }
 
-/// Appends the header number `k`, and those behind it that go in one piece with it.
+/// Appends the header number `k`, and those behind it that go in one piece with it, each with `/` behind it, and
+/// answers how many these are: those that are `none` of adjacent places, or else one.
 fn push_from(
     line: &mut Line,
     stack: &NamedStack,
-    headers: &Headers,
-    k: u32,
+    headers: &[Header],
+    k: usize,
     header: &Header,
 ) -> Result<u8, Memory>
     requires few { k ≤ most_headers }
-    requires header { Some header.now ≡ slice_get headers.now k }
+    requires header { (k < length headers.now) × (header.now ≡ slice_index_or headers.now k header.now) }
     ensures { IfOk result
         (λ count. (0 < count) × (line.new ++ chained (stack_tree stack.now) (drop (k + count) headers.now)
         ≡ line.old ++ chained (stack_tree stack.now) (drop k headers.now))) }
@@ -135,32 +147,26 @@ fn push_from(
     Ok(1)
 }
 
-/// Appends the headers from number `k` on that go in one piece, each with `/` behind it, and answers how many these
-/// are: those that are `none` of adjacent places, or else one.
-fn push_next(line: &mut Line, stack: &NamedStack, headers: &Headers, k: u32) -> Result<u8, Memory>
-    requires { (k < length headers.now) × (k ≤ most_headers) }
-    ensures { IfOk result
-        (λ count. (0 < count) × (line.new ++ chained (stack_tree stack.now) (drop (k + count) headers.now)
-        ≡ line.old ++ chained (stack_tree stack.now) (drop k headers.now))) }
+/// Appends all of some headers, each with `/` behind it.
+fn push_all(line: &mut Line, stack: &NamedStack, headers: &[Header]) -> Result<(), Memory>
+    requires { length headers.now ≤ most_headers }
+    ensures { OnOk result (line.new ≡ line.old ++ chained (stack_tree stack.now) headers.now) }
 {
-    match headers.at(k) {
-        Some(header) => push_from(line, stack, headers, k, &header),
-        None => unreachable!(),
+    let mut k = 0;
+    while k < headers.len() {
+        k += usize::from(push_from(line, stack, headers, k, &headers[k])?);
     }
+    Ok(())
 }
 
 /// Headers, lowest first, with `/` between, or `-` for none.
 pub fn push_chain(line: &mut Line, stack: &NamedStack, headers: &Headers) -> Result<(), Memory>
     ensures { OnOk result (line.new ≡ line.old ++ chain_text (stack_tree stack.now) headers.now) }
 {
-    let count = headers.len();
-    if count == 0 {
+    if headers.len() == 0 {
         return line.text(b"-");
     }
-    let mut k = 0;
-    while k < count {
-        k += u32::from(push_next(line, stack, headers, k)?);
-    }
+    push_all(line, stack, headers.slice())?;
     line.drop_last();
     Ok(())
 }

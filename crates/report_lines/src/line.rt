@@ -39,7 +39,9 @@ fn digit(number: u32) -> u8
 fn push_short(bytes: &mut Vec<u8>, number: u32)
     requires short { number < 10000 }
     requires room { vec_len bytes.old + 4 ≤ vec_capacity bytes.old }
-    ensures { bytes.new.items ≡ bytes.old.items ++ decimal number }
+    ensures items { bytes.new.items ≡ bytes.old.items ++ decimal number }
+    ensures len { vec_len bytes.new ≤ vec_len bytes.old + 4 }
+    ensures capacity { vec_capacity bytes.new ≡ vec_capacity bytes.old }
 {
     let tens = number / 10;
     let hundreds = tens / 10;
@@ -92,6 +94,15 @@ impl Line {
         Ok(())
     }
 
+    /// Appends a byte.
+    #[inline(always)]
+    pub(crate) fn byte(&mut self, byte: u8) -> Result<(), Memory>
+        ensures { OnOk result (self.new ≡ self.old ++ byte ∷ []) }
+    {
+        self.bytes.push(byte)?;
+        Ok(())
+    }
+
     /// Takes the last byte off, if there is one.
     pub(crate) fn drop_last(&mut self)
         ensures { self.new ≡ take (length self.old - 1) self.old }
@@ -108,6 +119,20 @@ impl Line {
             return Ok(());
         }
         self.any_number(number)
+    }
+
+    /// Appends a number in decimal, and `)/`.
+    pub(crate) fn closed_number(&mut self, number: u32) -> Result<(), Memory>
+        ensures { OnOk result (self.new ≡ self.old ++ decimal number ++ 41 ∷ 47 ∷ []) }
+    {
+        if number < 10_000 && self.bytes.capacity() - self.bytes.len() >= 6 {
+            push_short(&mut self.bytes, number);
+            self.bytes.push_reserved(b')');
+            self.bytes.push_reserved(b'/');
+            return Ok(());
+        }
+        self.any_number(u64::from(number))?;
+        self.text(b")/")
     }
 
     /// Appends a number of any size.

@@ -6,7 +6,8 @@ ghost use Rattle.event_graph.specs.Answer.{stack_tree};
 ghost use Rattle.run_mean.specs.Lines as report;
 ghost use Rattle.run_mean.specs.Report as whole;
 ghost use Rattle.view_core.specs.Refusals.{refusal_meant};
-ghost use Rattle.report_lines.specs.Deliveries.{contents_text, delivery_front, delivery_text, packet_text};
+ghost use Rattle.report_lines.specs.Deliveries.{address_text, contents_text, delivery_front, delivery_text};
+ghost use Rattle.report_lines.specs.Deliveries.{packet_text};
 
 use crate::chain::push_chain;
 use crate::line::Line;
@@ -75,7 +76,7 @@ pub fn deliver_line(
 {
     push_delivery(line, id, delivery, peer)?;
     line.hex(body)?;
-    line.text(b"\n")
+    line.byte(b'\n')
 }
 
 /// `WORD M A`
@@ -108,17 +109,48 @@ pub fn timer_line(line: &mut Line, id: u8, moment: u32) -> Result<(), Memory>
     number_line(line, b"timer", id, moment)
 }
 
-/// Whom a packet is for: `all`, or a rank.
-fn push_dest(line: &mut Line, dest: Dest) -> Result<(), Memory>
-    ensures { OnOk result (line.new ≡ line.old ++ report.dest_text dest) }
+/// Appends ` M all `: the member whose packet is for all.
+fn push_to_all(line: &mut Line, id: u8) -> Result<(), Memory>
+    ensures { OnOk result (line.new ≡ line.old ++ address_text id (codes "all")) }
+{
+    if id < 10 {
+        return line.text(&[b' ', b'0' + id, b' ', b'a', b'l', b'l', b' ']);
+    }
+    line.spaced(u32::from(id))?;
+    line.text(b" all ")
+}
+
+/// Appends ` M R `, where both numbers have one digit, in one piece.
+fn push_address_digits(line: &mut Line, id: u8, rank: u8) -> Result<(), Memory>
+    requires { (id < 10) × (rank < 10) }
+    ensures { OnOk result (line.new ≡ line.old ++ address_text id (decimal rank)) }
+{
+    line.text(&[b' ', b'0' + id, b' ', b'0' + rank, b' '])
+}
+
+/// Appends ` M R `: the member whose packet is for a rank.
+fn push_to_rank(line: &mut Line, id: u8, rank: u8) -> Result<(), Memory>
+    ensures { OnOk result (line.new ≡ line.old ++ address_text id (decimal rank)) }
+{
+    if id < 10 && rank < 10 {
+        return push_address_digits(line, id, rank);
+    }
+    line.spaced(u32::from(id))?;
+    line.spaced(u32::from(rank))?;
+    line.text(b" ")
+}
+
+/// Appends ` M all ` or ` M R `: the member whose packet it is, and whom it is for.
+fn push_address(line: &mut Line, id: u8, dest: Dest) -> Result<(), Memory>
+    ensures { OnOk result (line.new ≡ line.old ++ address_text id (report.dest_text dest)) }
 {
     match dest {
-        Dest::All => line.text(b"all"),
-        Dest::Rank(rank) => line.number(u64::from(rank)),
+        Dest::All => push_to_all(line, id),
+        Dest::Rank(rank) => push_to_rank(line, id, rank),
     }
 }
 
-/// Appends ` CHAIN HEX` and a line feed.
+/// Appends `CHAIN HEX` and a line feed.
 fn push_contents(
     line: &mut Line,
     stack: &NamedStack,
@@ -127,11 +159,10 @@ fn push_contents(
 ) -> Result<(), Memory>
     ensures { OnOk result (line.new ≡ line.old ++ contents_text (stack_tree stack.now) headers.now body.now) }
 {
-    line.text(b" ")?;
     push_chain(line, stack, headers)?;
-    line.text(b" ")?;
+    line.byte(b' ')?;
     line.hex(body)?;
-    line.text(b"\n")
+    line.byte(b'\n')
 }
 
 /// `packet K M D CHAIN HEX`: packet K of member M, with its headers by name.
@@ -149,9 +180,7 @@ pub fn packet_line(
 {
     line.text(b"packet ")?;
     line.number(number)?;
-    line.spaced(u32::from(id))?;
-    line.text(b" ")?;
-    push_dest(line, dest)?;
+    push_address(line, id, dest)?;
     push_contents(line, stack, headers, body)
 }
 

@@ -1,9 +1,16 @@
+use Rattle.std.proofs.Common.{◌++◌, ◌∙◌, length, ap, arith}
 use Rattle.event_graph.specs.Answer.{stack_tree}
+use Rattle.report_lines.specs.Nones.{chained}
 use Rattle.report_lines.proofs.Nones.{all_put}
 use Rattle.report_lines.proofs.chain.push_chain.Goals as goal
 
+pub push_all-requires : goal.push_all-requires
+push_all-requires c = omega (arith, ap length c.slice.ensures, c.len.ensures.count, c.len.ensures.few)
+
 pub returns : goal.returns
 returns c =
-    all_put (stack_tree c.args.stack.now) c.args.headers.now c.loop-k.k _ _ _ _ c.loop-k.invariant
-    c.len-count.ensures.count c.loop-k-test.false
-    c.if-count-eq0.false c.drop_last.ensures
+    all_put (stack_tree c.args.stack.now) c.args.headers.now _ _ _
+    (c.in_ok-push_all.ensures
+    ∙ ap (λ headers. c.args.line.now ++ chained (stack_tree c.args.stack.now) headers) c.slice.ensures)
+    (λ none. c.if-len-eq0.false (c.len.ensures.count ∙ none))
+    c.drop_last.ensures

@@ -10,4 +10,4 @@ pub returns : goal.returns
 returns c =
     closed _ c.args.line.now (header_front (stack_tree c.args.stack.now) c.args.header.now)
     (join_by decimal (44 ∷ []) c.args.header.now.fields)
-    _ _ _ c.in_ok-push_front.ensures c.in_ok-push_fields.ensures c.text.ensures
+    _ _ c.in_ok-push_front.ensures c.push_closed.ensures
