@@ -55,6 +55,11 @@ abbrev pub message_left : tree.Carried → Option PoolMessage → PoolMessage
 message_left carried None = bodiless (missing carried).headers
 message_left carried (Some m) = m
 
+-- A row's message has no bytes, or there is none.
+abbrev pub IsSpent : Option PoolMessage → Type 0
+IsSpent None = Unit {0}
+IsSpent (Some m) = m.body ≡ None
+
 -- Numbers of a scope, with those of a row in these slots.
 abbrev pub numbers_filled : List ℕ → List ℕ → List ℕ → List ℕ
 numbers_filled slots values numbers = (with_slots slots values (record { numbers = numbers; messages = [] })).numbers

@@ -11,17 +11,17 @@ ghost use Rattle.layer_desk.specs.Laid.{lifted, is_found, taken_row};
 ghost use Rattle.layer_desk.specs.Need.{held_need, taken_need};
 ghost use Rattle.layer_desk.specs.Spent.{Spent, Lifted};
 ghost use Rattle.pool_message.specs.Moves.{Returned};
-ghost use Rattle.pool_message.specs.Seen.{refs};
+ghost use Rattle.pool_message.specs.Seen.{refs, refs_if};
 ghost use Rattle.file_layer.specs.Stock.{laid};
 ghost use Rattle.file_layer.specs.Ready.{stock_of, room_of, IsReady};
 ghost use Rattle.file_layer.specs.Taken.{message_of, CanStandIn, JudgesBlank, JudgesWidth, JudgesTaken, StandsIn};
-ghost use Rattle.file_layer.specs.Taken.{message_left, numbers_filled};
+ghost use Rattle.file_layer.specs.Taken.{message_left, numbers_filled, IsSpent};
 
 use crate::desk::{FileDesk, MOST_ABOVE};
 use cell_store::Cells;
 use layer_desk::{NoRoom, Start};
 use msg_core::Fields;
-use pool_message::{PoolMessage, PoolRow, Tray, give_back_if_any};
+use pool_message::{PoolMessage, PoolRow, Tray};
 use slot_pool::Pool;
 use typed_layer::{Blank, Carried, Taken};
 
@@ -104,32 +104,54 @@ pub(crate) fn lift_row<K: Start>(
 }
 
 /// The message of a taken row, or the one that stands in for it, takes the place of one of the scope, whose reference
-/// goes back.
+/// goes back. The row's message is then without headers and bytes.
 fn put_message(
     tray: &mut Tray,
     slot: u8,
-    message: Option<PoolMessage>,
+    message: &mut Option<PoolMessage>,
     carried: Carried,
     pool: &mut Pool,
 )
     requires blank { CanStandIn carried }
     requires there { Covers pool.old
-        (refs (slice_index_or tray.old.messages.items slot (message_left (carried_tree carried) message))) }
+        (refs (slice_index_or tray.old.messages.items slot (message_left (carried_tree carried) message.old))) }
     ensures set { tray.new ≡
         record tray.old {
           messages =
-              buffer (slice_set tray.old.messages.items slot (message_left (carried_tree carried) message))
+              buffer (slice_set tray.old.messages.items slot (message_left (carried_tree carried) message.old))
               tray.old.messages.capacity;
         } }
+    ensures left { IsSpent message.new }
     ensures returned { Returned pool.old pool.new
-        (refs (slice_index_or tray.old.messages.items slot (message_left (carried_tree carried) message))) }
+        (refs (slice_index_or tray.old.messages.items slot (message_left (carried_tree carried) message.old))) }
 {
     match message {
-        Some(mut message) => {
-            tray.replace_from(slot as usize, &mut message, pool);
-            message.close();
-        }
+        Some(message) => tray.replace_from(slot as usize, message, pool),
         None => tray.replace(slot as usize, stand_in(carried), pool),
+    }
+}
+
+/// The reference of a row's message goes back, if there is one.
+fn let_go_if_any(message: &mut Option<PoolMessage>, pool: &mut Pool)
+    requires { Covers pool.old (refs_if message.old) }
+    ensures left { IsSpent message.new }
+    ensures returned { Returned pool.old pool.new (refs_if message.old) }
+{
+    if let Some(message) = message {
+        message.let_go(pool);
+    }
+}
+
+/// Ends a row whose message has no bytes left.
+fn close_row(row: PoolRow)
+    requires { IsSpent row.message }
+{
+    let PoolRow {
+        numbers: _,
+        message,
+    } = row;
+    if let Some(message) = message {
+        message.close();
     }
 }
 
@@ -181,18 +203,25 @@ pub(crate) fn take<K: Start>(
     if desk.cells.len(cell, index) == 0 {
         return Ok(false);
     }
-    let Some(row) = desk.cells.take(cell, index) else {
+    let Some(mut row) = desk.cells.take(cell, index) else {
         unreachable!();
     };
-    let PoolRow { numbers, message } = row;
-    set_numbers(&mut desk.numbers, &taken.numbers, &numbers);
+    set_numbers(&mut desk.numbers, &taken.numbers, &row.numbers);
     match taken.message {
         Some(slot) => {
-            put_message(&mut desk.tray, slot.slot, message, slot.carried, pool);
+            put_message(
+                &mut desk.tray,
+                slot.slot,
+                &mut row.message,
+                slot.carried,
+                pool,
+            );
+            close_row(row);
             Ok(true)
         }
         None => {
-            give_back_if_any(message, pool);
+            let_go_if_any(&mut row.message, pool);
+            close_row(row);
             Ok(true)
         }
     }

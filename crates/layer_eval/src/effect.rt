@@ -123,7 +123,7 @@ fn finds_nothing<K: Start, D: Desk>(statement: &Statement, desk: &D, pool: &Pool
     }
 }
 
-/// Whether a queue at a local has no row. Where its index is something else, it isn't said.
+/// Whether a queue at a number or at a local has no row. Where its index is something else, it isn't said.
 #[inline(always)]
 fn has_no_row<K: Start, D: Desk>(cell: u8, index: &Expression, desk: &D, pool: &Pool) -> bool
     requires { D.ready K.begun pool.now desk.now }
@@ -131,7 +131,7 @@ fn has_no_row<K: Start, D: Desk>(cell: u8, index: &Expression, desk: &D, pool: &
         rows_at (D.shown pool.now desk.now).state cell
         (number_of (expression_tree index.now) (D.shown pool.now desk.now)) ≡ [] }
 {
-    if !matches!(index, Expression::Local(_)) {
+    if !matches!(index, Expression::Number(_) | Expression::Local(_)) {
         return false;
     }
     let index = number::<K, D>(index, desk, pool);

@@ -72,14 +72,14 @@ returns-in-Some-message-clause-shown g c =
 
 pub returns-in-None-clause-ready : goal.returns-in-None-clause-ready
 returns-in-None-clause-ready g c =
-    let step = let_go_step g.K.Start.begun c.args.pool.now c.give_back_if_any.new.pool (stock_of c.args.desk.now)
+    let step = let_go_step g.K.Start.begun c.args.pool.now c.let_go_if_any.new.pool (stock_of c.args.desk.now)
     c.requires.pool c.requires.fits c.args.cell c.args.index
     c.in-Some.row (sym c.take.ensures.row ∙ c.in-Some.is) (taken_tree c.args.taken.now) c.take.new.self
     c.set_numbers.new.numbers.items
     (ap (option_map (λ (m : TakenMessage). (m.slot, carried_tree m.carried))) c.in-None.is) c.take.ensures.rest
     (c.set_numbers.ensures.numbers ∙
     ap (λ slots. numbers_filled slots c.in-Some.row.numbers c.args.desk.now.numbers.items) c.deref.ensures.value)
-    c.give_back_if_any.ensures in
+    c.let_go_if_any.ensures.returned in
     record {
       pool = step.0;
       layout = layout_kept (record (layout_of c.args.desk.now)
@@ -100,11 +100,11 @@ returns-in-None-clause-found g c =
 
 pub returns-in-None-clause-shown : goal.returns-in-None-clause-shown
 returns-in-None-clause-shown g c =
-    (let_go_step g.K.Start.begun c.args.pool.now c.give_back_if_any.new.pool (stock_of c.args.desk.now) c.requires.pool
+    (let_go_step g.K.Start.begun c.args.pool.now c.let_go_if_any.new.pool (stock_of c.args.desk.now) c.requires.pool
     c.requires.fits c.args.cell c.args.index
     c.in-Some.row (sym c.take.ensures.row ∙ c.in-Some.is) (taken_tree c.args.taken.now) c.take.new.self
     c.set_numbers.new.numbers.items
     (ap (option_map (λ (m : TakenMessage). (m.slot, carried_tree m.carried))) c.in-None.is) c.take.ensures.rest
     (c.set_numbers.ensures.numbers ∙
     ap (λ slots. numbers_filled slots c.in-Some.row.numbers c.args.desk.now.numbers.items) c.deref.ensures.value)
-    c.give_back_if_any.ensures).2
+    c.let_go_if_any.ensures.returned).2
