@@ -68,8 +68,12 @@ fn put_header(header: &Header, into: &mut Vec<u8>)
     ensures capacity { vec_capacity into.new ≡ vec_capacity into.old }
 {
     into.push_reserved(header.tag);
-    for k in 0..header.fields.len() {
-        put_number(header.fields.at(k), into);
+    if header.fields.len() == 0 {
+        return;
+    }
+    let fields = header.fields.copy();
+    for k in 0..fields.len() {
+        put_number(fields.at(k), into);
     }
 }
 

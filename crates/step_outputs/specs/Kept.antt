@@ -21,6 +21,10 @@ use Rattle.step_outputs.specs.declared.kept.What.TheVariants.{Quiet}
 abbrev pub bytes_in : List ℕ → Span → List ℕ
 bytes_in bytes span = range span.from span.len bytes
 
+-- Where a body stands that is put behind bytes.
+abbrev pub span_of : (bytes body : List ℕ) → Span
+span_of bytes body = record { from = length bytes; len = length body }
+
 -- A range lies within these bytes.
 abbrev pub LiesWithin : List ℕ → Span → Type 0
 LiesWithin bytes span = span.from + span.len ≤ length bytes

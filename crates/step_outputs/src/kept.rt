@@ -17,7 +17,7 @@ ghost use Rattle.pool_message.specs.Seen.{event_seen, EventLies};
 ghost use Rattle.run_mean.specs.Member.{content};
 ghost use Rattle.stack_mean.specs.Plans.{plans_limit};
 ghost use Rattle.step_outputs.specs.Kept.{announced_by, bytes_in, number_below, number_behind, under, LiesWithin};
-ghost use Rattle.step_outputs.specs.Kept.{output_with, IsFor};
+ghost use Rattle.step_outputs.specs.Kept.{output_with, span_of, IsFor};
 ghost use Rattle.step_outputs.specs.Views.{output_meant, signal_meant};
 
 use crate::list::KeptList;
@@ -75,22 +75,31 @@ pub(crate) fn body_of<'p>(event: &'p PoolEvent, pool: &'p Pool) -> &'p [u8]
     }
 }
 
-/// Puts the bytes of a body behind those of the others, and tells where they are.
-pub(crate) fn keep_bytes(body: &[u8], bytes: &mut Vec<u8>) -> Span
-    requires { vec_len bytes.old + length body.now ≤ vec_capacity bytes.old }
-    ensures items { bytes.new.items ≡ bytes.old.items ++ body.now }
-    ensures kept { bytes_in bytes.new.items result ≡ body.now }
-    ensures within { LiesWithin bytes.new.items result }
-    ensures capacity { vec_capacity bytes.old ≤ vec_capacity bytes.new }
+/// Where a body is to stand, behind those of the others.
+pub(crate) fn span_behind(body: &[u8], bytes: &Vec<u8>) -> Span
+    ensures { result ≡ span_of bytes.now.items body.now }
 {
     let from = bytes.len();
-    if !body.is_empty() {
-        put_body(body, bytes);
-    }
     Span {
         from,
         len: body.len(),
     }
+}
+
+/// Puts the bytes of a body behind those of the others, and tells where they are.
+pub(crate) fn keep_bytes(body: &[u8], bytes: &mut Vec<u8>) -> Span
+    requires { vec_len bytes.old + length body.now ≤ vec_capacity bytes.old }
+    ensures items { bytes.new.items ≡ bytes.old.items ++ body.now }
+    ensures place { result ≡ span_of bytes.old.items body.now }
+    ensures kept { bytes_in bytes.new.items result ≡ body.now }
+    ensures within { LiesWithin bytes.new.items result }
+    ensures capacity { vec_capacity bytes.old ≤ vec_capacity bytes.new }
+{
+    let span = span_behind(body, bytes);
+    if !body.is_empty() {
+        put_body(body, bytes);
+    }
+    span
 }
 
 /// The numbers of an event.

@@ -73,6 +73,9 @@ impl KeptList {
             self.old.capacity }
     {
         self.push_bare(what, body);
+        if headers.len() == 0 {
+            return;
+        }
         let last = self.count - 1;
         self.places[last].headers.copy_from(headers);
     }

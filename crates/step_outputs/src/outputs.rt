@@ -16,7 +16,9 @@ ghost use Rattle.run_mean.specs.Member.{announced, output_of, Output};
 ghost use Rattle.step_outputs.specs.Gathered.{full_output};
 ghost use Rattle.step_outputs.specs.Views.{output_meant};
 
-use crate::kept::{announces, body_of, keep, keep_bytes, shown, what_bare, what_carried, what_of};
+use crate::kept::{
+    announces, body_of, keep, keep_bytes, shown, span_behind, what_bare, what_carried, what_of,
+};
 use crate::list::KeptList;
 use crate::view::OutputView;
 use event_graph::Stack;
@@ -126,9 +128,10 @@ impl Outputs {
               (direction, event_in envelope (Some (record { headers = headers.now; body = body.now }))) ∷ [];
         } }
     {
-        let body = keep_bytes(body, &mut self.bytes);
         let what = what_carried(&self.here, direction, envelope);
-        self.list.push(what, headers, body);
+        let span = span_behind(body, &self.bytes);
+        self.list.push(what, headers, span);
+        keep_bytes(body, &mut self.bytes);
     }
 
     /// Puts what an event is that leaves the stack without a message behind the others.
