@@ -1,18 +1,20 @@
 -- Neither hoisting nor simplifying nor the code adds a join or an output.
-use Rattle.std.proofs.Common.{◌≡◌, ℕ, ◌+◌, List, [], ◌∷◌, ◌++◌, map, Option, Some, None, fold, refl, sym, ap, ap₂, ◌∙◌}
+use Rattle.std.proofs.Common.{◌≡◌, ℕ, ◌+◌, Bool, true, false, List, [], ◌∷◌, ◌++◌, map, Option, Some, None, fold, refl}
+use Rattle.std.proofs.Common.{sym, ap, ap₂, ◌∙◌}
 use Rattle.std.proofs.Common.{arith, zero-add}
+use Rattle.std.specs.Prelude.{if◌then◌else◌}
 use Rattle.std.specs.List.{sum_by}
 use Rattle.std.proofs.lemmas.List.Sums.{sum_by-cons, sum_by-append}
 use Rattle.trace_mean.specs.Trace.{Core, body, noted, taken_message, nothing, TraceNumber, TraceMessage, core, held}
 use Rattle.trace_mean.specs.Trace.{cut, tail, join, Chained, Operation, bind, note, check, set, set_square, push, take}
-use Rattle.trace_mean.specs.Trace.{output}
+use Rattle.trace_mean.specs.Trace.{output, Guarded}
 use Rattle.trace_mean.specs.Follow.{unchecked}
 use Rattle.trace_mean.specs.Counts.{message_joins, note_joins, an_output}
 use Rattle.guard_mean.specs.Simplify.{reduced_message, reduced_operation, keeps, guarded_by}
 use Rattle.guard_mean.specs.Code as code
 use Rattle.guard_mean.specs.Code.{Reading, Making, Step, make, keep, Code}
 use Rattle.guard_mean.specs.Straight.{straight, all_straight, Sheet, sheet_line, makes, placed_core, placed, sending}
-use Rattle.guard_mean.specs.Straight.{writes, guarding, first_sheet}
+use Rattle.guard_mean.specs.Straight.{writes, guarding, first_sheet, code_of}
 use Rattle.guard_laws.specs.Counts.{a_join, a_put, HoistedAddsNothing, SimplifiedAddsNothing, CodeAddsNothing}
 
 -- joins and outputs
@@ -205,46 +207,54 @@ simplified_adds_nothing g = record {
       ∙ sum_reduced an_output (λ e. refl) operation_outputs g.operations;
 }
 
+both_same : (b : Bool) (n : ℕ) → (if b then n else n) ≡ n
+both_same true n = refl
+both_same false n = refl
+
+-- joins, or else outputs
+module _ (joins : Bool) where
+  abbrev counted : ℕ → ℕ → ℕ
+  counted m n = if joins then m else n
+
+  abbrev step_count : Step → ℕ
+  step_count s = counted (a_join s) (a_put s)
+
+  abbrev message_count : TraceMessage → ℕ
+  message_count m = counted (message_joins m) 0
+
+  abbrev operation_count : Operation → ℕ
+  operation_count o = counted (note_joins o) (an_output o)
+
+  counts : Counts step_count message_count operation_count
+  counts = record {
+    makes_none = λ r. both_same joins 0;
+    takes_none = λ r c. both_same joins 0;
+    holds_none = λ p c i r k. both_same joins 0;
+    cuts_none = λ m a b. both_same joins 0;
+    tails_none = λ m a. both_same joins 0;
+    joins_one = λ p m a b. joined joins (message_joins p) (message_joins m);
+    core_none = λ c. both_same joins 0;
+    held_none = λ p c e r k. both_same joins 0;
+    cut_same = λ m e n. refl;
+    tail_same = λ m e. refl;
+    bind_none = λ e. both_same joins 0;
+    check_none = λ e. both_same joins 0;
+    note_same = λ m. refl;
+    set_same = λ p c e v i x. refl;
+    square_same = λ p c r k v i j x. refl;
+    push_same = λ p c e ns m i xs s. refl;
+    take_same = λ p c e i. refl;
+    output_same = λ d k ns m xs s. refl;
+  } where
+    joined : (b : Bool) (m n : ℕ) →
+        (if b then 1 else 0) + (if b then m else 0) + (if b then n else 0) ≡ (if b then 1 + m + n else 0)
+    joined true m n = refl
+    joined false m n = refl
+
+  code_count : (g : Guarded) → sum_by step_count (code_of g).steps ≡ sum_by operation_count g.operations
+  code_count g = writes_all_sum step_count message_count operation_count counts g.operations (first_sheet (guarding g))
+      ∙
+      zero-add (sum_by operation_count g.operations)
+
 pub code_adds_nothing : CodeAddsNothing
-code_adds_nothing g = record {
-  joins = writes_all_sum a_join message_joins note_joins (record {
-    makes_none = λ r. refl;
-    takes_none = λ r c. refl;
-    holds_none = λ p c i r k. refl;
-    cuts_none = λ m a b. refl;
-    tails_none = λ m a. refl;
-    joins_one = λ p m a b. refl;
-    core_none = λ c. refl;
-    held_none = λ p c e r k. refl;
-    cut_same = λ m e n. refl;
-    tail_same = λ m e. refl;
-    bind_none = λ e. refl;
-    check_none = λ e. refl;
-    note_same = λ m. refl;
-    set_same = λ p c e v i x. refl;
-    square_same = λ p c r k v i j x. refl;
-    push_same = λ p c e ns m i xs s. refl;
-    take_same = λ p c e i. refl;
-    output_same = λ d k ns m xs s. refl;
-  }) g.operations (first_sheet (guarding g)) ∙ zero-add (sum_by note_joins g.operations);
-  outputs = writes_all_sum a_put (λ m. 0) an_output (record {
-    makes_none = λ r. refl;
-    takes_none = λ r c. refl;
-    holds_none = λ p c i r k. refl;
-    cuts_none = λ m a b. refl;
-    tails_none = λ m a. refl;
-    joins_one = λ p m a b. refl;
-    core_none = λ c. refl;
-    held_none = λ p c e r k. refl;
-    cut_same = λ m e n. refl;
-    tail_same = λ m e. refl;
-    bind_none = λ e. refl;
-    check_none = λ e. refl;
-    note_same = λ m. refl;
-    set_same = λ p c e v i x. refl;
-    square_same = λ p c r k v i j x. refl;
-    push_same = λ p c e ns m i xs s. refl;
-    take_same = λ p c e i. refl;
-    output_same = λ d k ns m xs s. refl;
-  }) g.operations (first_sheet (guarding g)) ∙ zero-add (sum_by an_output g.operations);
-}
+code_adds_nothing g = record { joins = code_count true g; outputs = code_count false g }

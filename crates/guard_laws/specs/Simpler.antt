@@ -14,5 +14,6 @@ SimplifiedIsSame = (g : Guarded) (i : Input) (states : List State) →
     (holds i (simplified g) states ≡ holds i g states) ×
     (perform i (simplified g).operations states ≡ perform i g.operations states)
 
+-- What was simplified can't be made simpler.
 abbrev pub SimplifiedIsReduced : Type 0
 SimplifiedIsReduced = (g : Guarded) → is_reduced (simplified g) ≡ true

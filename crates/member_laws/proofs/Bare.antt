@@ -59,15 +59,15 @@ Going P layer place sorts steps = (s : State) (l : Scope) (sent : List (Dir × E
     IsScope P sorts l →
     BareSteps place steps (record { state = s; scope = l; sent = sent })
 
-if_bare : (b : Bool) (P : Here → Type 0) (h : Here) → (b ≡ true → P h) → BareBeyond P (if b then Some h else None)
+pub if_bare : (b : Bool) (P : Here → Type 0) (h : Here) → (b ≡ true → P h) → BareBeyond P (if b then Some h else None)
 if_bare true P h is = is refl
 if_bare false P h is = tt
 
-unless_bare : (b : Bool) (P : Here → Type 0) (h : Here) → P h → BareBeyond P (if b then None else Some h)
+pub unless_bare : (b : Bool) (P : Here → Type 0) (h : Here) → P h → BareBeyond P (if b then None else Some h)
 unless_bare true P h is = tt
 unless_bare false P h is = is
 
-took_bare : (row : Option Row) (P : Here → Type 0) (c i : ℕ) (taken : TakenTree) (h : Here) →
+pub took_bare : (row : Option Row) (P : Here → Type 0) (c i : ℕ) (taken : TakenTree) (h : Here) →
     ((r : Row) → row ≡ Some r → P (record h { state = without_front h.state c i; scope = with_taken taken r h.scope }))
     →
     BareBeyond P (took c i taken h row)
@@ -93,7 +93,7 @@ module _ (P Q : List Header → Type 0) (layer : LayerTree) (place : ℕ) (blank
   message_bare (tail m from) sorts sort s l h state = message_bare m sorts sort s l h state
   message_bare (join p m) sorts sort s l h state = message_bare m sorts sort s l h state
 
-  content_bare : (sorts : List Sort) (b : Bool) (dir : Dir) (c : Option ContentTree) (s : State) (l : Scope) →
+  pub content_bare : (sorts : List Sort) (b : Bool) (dir : Dir) (c : Option ContentTree) (s : State) (l : Scope) →
       Sends layer blank sorts b dir c → IsState P layer s → BareContent c s l
   content_bare sorts b dir None s l h state = tt
   content_bare sorts true Up (Some c) s l h state = message_bare c.message sorts Msg s l h state
@@ -101,7 +101,7 @@ module _ (P Q : List Header → Type 0) (layer : LayerTree) (place : ℕ) (blank
       (λ d listed is. message_bare c.message sorts _ s l is.1 state)
   content_bare sorts false dir (Some c) s l h state = absurd h
 
-  taken_bare : (c i : ℕ) (item : Option (ℕ × Carried)) (sorts : List Sort) (s : State) →
+  pub taken_bare : (c i : ℕ) (item : Option (ℕ × Carried)) (sorts : List Sort) (s : State) →
       Takes layer blank sorts c item → IsState P layer s →
       BareTaken item (row_at s c i 0)
   taken_bare c i None sorts s h state = tt

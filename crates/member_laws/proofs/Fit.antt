@@ -4,6 +4,7 @@ use Rattle.std.proofs.Common.{List, [], ◌∷◌, ◌++◌, map, length, Option
 use Rattle.std.specs.Prelude.{slice_get, if◌then◌else◌, IsSomeAnd, Result, Ok, Err, take, option_map}
 use Rattle.std.specs.List.{All, filter, flat_map, sum_by}
 use Rattle.std.specs.Option.{option_and_then, option_map_or}
+use Rattle.std.proofs.lemmas.Bool.{and_parts}
 use Rattle.std.proofs.lemmas.List.Elements.{All-cons, All-nil}
 use Rattle.std.proofs.lemmas.Option.{slice_get-map}
 use Rattle.layer_ast.specs.declared.tokens.Dir.{Dir}
@@ -167,11 +168,6 @@ group_fits stack here states task before g rest s made are begins bare predicted
     let told = (logs_tell_runs stack states task weight_limit).outs in
     outputs_fit here (plans_of stack) _ s.outs _ (subst (Pairwise Sent s.outs) told (sent_of s.outs log.outs has.outs))
     (group_plans stack before g rest s made are)
-
-and_parts : (x y : Bool) → (x && y) ≡ true → (x ≡ true) × (y ≡ true)
-and_parts true true e = (refl, refl)
-and_parts true false e = absurd (cc e)
-and_parts false y e = absurd (cc e)
 
 pub was_made : (r : Result Shape NoShape) → is_short r ≡ true → (s : Shape) × (r ≡ Ok s)
 was_made (Ok s) e = (s, refl)

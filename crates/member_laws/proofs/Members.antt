@@ -42,7 +42,7 @@ use Rattle.packet_mean.specs.declared.here.Here.{Here}
 use Rattle.packet_laws.proofs.Once.{one_full_spelling}
 use Rattle.packet_laws.proofs.Strays.{received_as_meant, taken_as_spelled}
 use Rattle.chain_laws.specs.Runs.{TypedStack, AreChainedStates, IsChainedOut}
-use Rattle.chain_laws.proofs.Lists.{Where, each_where, each_append, each_map, each_or, each_set}
+use Rattle.chain_laws.proofs.Lists.{Where, each_where, each_append, each_map, each_or, each_set, each_so}
 use Rattle.chain_laws.proofs.Runs.{run_from_a_task, stands_typed}
 use Rattle.chain_laws.proofs.Small.{zero_small}
 use Rattle.chain_laws.proofs.Statements.{event_is}
@@ -71,11 +71,6 @@ all_of P [] h k d below = absurd (omega arith)
 all_of P (x ∷ xs) h zero d below = h.0
 all_of P (x ∷ xs) h (suc k) d below = all_of P xs h.1 k d (omega arith)
 
-each_same_so : {A : Type 0} (P Q : A → Type 0) → ((x : A) → P x → Q x) → (xs : List A) → AllByRecursion P xs →
-    AllByRecursion Q xs
-each_same_so P Q f [] h = tt
-each_same_so P Q f (x ∷ xs) h = (f x h.0, each_same_so P Q f xs h.1)
-
 pub each_unit : {A : Type 0} (xs : List A) → AllByRecursion (λ _. Unit {0}) xs
 each_unit [] = tt
 each_unit (x ∷ xs) = (tt, each_unit xs)
@@ -89,7 +84,7 @@ pub spellable_message : (stack : List LayerTree) (p : Packet) → IsSpellable st
 spellable_message stack p h = record {
   headers = record {
     chain = h.chained.chain;
-    fields = each_same_so _ _ (λ (x : Header) is. each_of IsNumber x.fields is) p.message.headers
+    fields = each_so _ _ (λ (x : Header) is. each_of IsNumber x.fields is) p.message.headers
         (each_of (λ (x : Header). AreNumbers x.fields) p.message.headers h.fields);
   };
   body = record { within = h.chained.body; bytes = each_of (λ b. b < 256) p.message.body h.body };
@@ -114,7 +109,7 @@ sent_spellable stack here to m e is destined same h = subst (λ (m : Content). I
   destination = destined;
   chained = record { chain = h.headers.chain; body = h.body.within };
   fields = all_of (λ (x : Header). AreNumbers x.fields) m.headers
-      (each_same_so _ _ (λ (x : Header) is. all_of IsNumber x.fields is) m.headers h.headers.fields);
+      (each_so _ _ (λ (x : Header) is. all_of IsNumber x.fields is) m.headers h.headers.fields);
   body = all_of (λ b. b < 256) m.body h.body.bytes;
 }
 
@@ -366,13 +361,32 @@ steps_keep_chains stack here id states what typed is h fits =
 
 -- worlds
 
-here_is : (stack : List LayerTree) (w : World) (view : View) (id : ℕ) → IsChainedWorld stack w → IsView view →
+pub here_is : (stack : List LayerTree) (w : World) (view : View) (id : ℕ) → IsChainedWorld stack w → IsView view →
     IsHere (here_of w view id)
 here_is stack w view id h is = record { group = h.group; stamp = h.stamp; view = is; rank = go (rank view id) refl }
   where
     go : (o : Option ℕ) → rank view id ≡ o → option_map_or (λ r. r) o 0 < 32
     go None at = omega arith
     go (Some me) at = omega (arith, rank_below view id me at, members_few view)
+
+meant_same : (r : Result (Unit {0}) Stray) (p q : Packet) → (r >>= λ _. Ok p) ≡ Ok q → p ≡ q
+meant_same (Ok x) p q e = cc e
+meant_same (Err cause) p q e = absurd (cc e)
+
+-- a packet that can be spelled, as its full spelling, is this packet or stray
+pub given_enters : (stack : List LayerTree) (plans : List Plan) (p : Packet) → IsSpellable stack p →
+    (here : Here) (what : Entered) →
+    entered stack plans here (datagram (full_bytes p)) ≡ Ok what → IsEntered stack what
+given_enters stack plans p h here what is = packet_entered stack (received stack plans here (full_bytes p)) what is
+    (λ q taken.
+    let as_meant = received_as_meant stack plans here (full_bytes p) p (one_full_spelling stack plans p h).0 in
+    subst (IsSpellable stack) (meant_same (meant_for here (preamble_of full_form p)) p q (sym as_meant ∙ taken)) h)
+
+-- the packet of a number, if it was sent, can be spelled
+pub numbered : (stack : List LayerTree) (w : World) (k : ℕ) → IsChainedWorld stack w →
+    Where (IsSpellable stack) (packet_number w k)
+numbered stack w zero world = tt
+numbered stack w (suc k) world = each_where (IsSpellable stack) w.packets k world.packets
 
 module _ (stack : List LayerTree) (plans : List Plan) (w : World) (typed : TypedStack stack)
     (world : IsChainedWorld stack w) where
@@ -407,25 +421,10 @@ module _ (stack : List LayerTree) (plans : List Plan) (w : World) (typed : Typed
   stepped_keeps id input enters = member_keeps id input (member_at w id)
       (each_or (IsChainedMember stack) w.members id out world.members tt) enters
 
-  -- a packet that can be spelled, as its full spelling, is this packet or stray
-  meant_same : (r : Result (Unit {0}) Stray) (p q : Packet) → (r >>= λ _. Ok p) ≡ Ok q → p ≡ q
-  meant_same (Ok x) p q e = cc e
-  meant_same (Err cause) p q e = absurd (cc e)
-
-  given_enters : (p : Packet) → IsSpellable stack p → (here : Here) (what : Entered) →
-      entered stack plans here (datagram (full_bytes p)) ≡ Ok what → IsEntered stack what
-  given_enters p h here what is = packet_entered stack (received stack plans here (full_bytes p)) what is (λ q taken.
-      let as_meant = received_as_meant stack plans here (full_bytes p) p (one_full_spelling stack plans p h).0 in
-      subst (IsSpellable stack) (meant_same (meant_for here (preamble_of full_form p)) p q (sym as_meant ∙ taken)) h)
-
   given_keeps : (id : ℕ) (p : Option Packet) → Where (IsSpellable stack) p →
       IsChainedWorld stack (given stack plans w id p).world
   given_keeps id None h = world
-  given_keeps id (Some p) h = stepped_keeps id (datagram (full_bytes p)) (given_enters p h)
-
-  numbered : (k : ℕ) → Where (IsSpellable stack) (packet_number w k)
-  numbered zero = tt
-  numbered (suc k) = each_where (IsSpellable stack) w.packets k world.packets
+  given_keeps id (Some p) h = stepped_keeps id (datagram (full_bytes p)) (given_enters stack plans p h)
 
 pub events_keep_chains : EventsKeepChains
 unfolding happens
@@ -441,7 +440,7 @@ events_keep_chains stack plans w (script.Tick id moment) typed are h world =
     stepped_keeps stack plans w typed world id (tick moment)
     (λ here what. enters_in_range stack plans here (tick moment) what are h)
 events_keep_chains stack plans w (script.Give k id) typed are h world =
-    given_keeps stack plans w typed world id (packet_number w k) (numbered stack plans w typed world k)
+    given_keeps stack plans w typed world id (packet_number w k) (numbered stack w k world)
 events_keep_chains stack plans w (script.Raw id bytes) typed are h world =
     stepped_keeps stack plans w typed world id (datagram bytes)
     (λ here what. enters_in_range stack plans here (datagram bytes) what are h)

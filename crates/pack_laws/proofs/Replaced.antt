@@ -47,7 +47,7 @@ zip_both P Q [] (y ∷ ys) h k = absurd h
 zip_both P Q (x ∷ xs) [] h k = absurd h
 zip_both P Q (x ∷ xs) (y ∷ ys) h k = ((h.0, k.0), zip_both P Q xs ys h.1 k.1)
 
-abbrev due_with : ℕ → Entry → Case → List Operation → Due
+abbrev pub due_with : ℕ → Entry → Case → List Operation → Due
 due_with n e case own =
     record { entry = n; case = case; fields = count_by (λ field. not (is_some field)) e.fields; own = own }
 
@@ -222,7 +222,7 @@ chosen_own trace = go (nat_le (trace_joins trace) (trace_joins trace)) where
   go true = refl
   go false = refl
 
-abbrev owns : List Due → List (List Operation)
+abbrev pub owns : List Due → List (List Operation)
 owns due = map (λ d. d.own) due
 
 refilled : (n : ℕ) (e : Entry) (case : Case) (s : Result Shape NoShape) (r : Result (List Operation) NoShape)

@@ -84,7 +84,7 @@ pub place_written : (name : List ℕ) (names : List (List ℕ)) (k : ℕ) → pl
 place_written name names k is =
     (bytes_eq-Decides name (get_or names k [])).0 (position-Some (bytes_eq name) names k [] is).1
 
-shown_at : {A : Type 0} (f : A → List ℕ) (xs : List A) (c : ℕ) →
+pub shown_at : {A : Type 0} (f : A → List ℕ) (xs : List A) (c : ℕ) →
     get_or (map f xs) c [] ≡ option_map_or f (slice_get xs c) []
 shown_at f [] c = refl
 shown_at f (x ∷ xs) zero = refl

@@ -5,7 +5,7 @@ use Rattle.std.proofs.Common.{length, Option, Some, None, refl, sym, ap, subst, 
 use Rattle.std.specs.Prelude.{cond, filter, if◌then◌else◌, nat_lt, ◌==◌, Result, Ok, Err}
 use Rattle.std.specs.List.{fold, list_all, prefix_len}
 use Rattle.std.specs.Option.{option_and_then, option_map_or}
-use Rattle.std.proofs.lemmas.Bool.{ltb-true}
+use Rattle.std.proofs.lemmas.Bool.{and_parts, ltb-true}
 use Rattle.std.proofs.lemmas.List.{length-append}
 use Rattle.std.proofs.lemmas.List.Elements.{filter-append}
 use Rattle.std.proofs.lemmas.List.Sums.{length-filter}
@@ -71,11 +71,6 @@ counts_one case x ds n h = (
 )
 
 -- all, and the first that doesn't go as predicted
-
-and_parts : (x y : Bool) → (x && y) ≡ true → (x ≡ true) × (y ≡ true)
-and_parts true true e = (refl, refl)
-and_parts true false e = absurd (cc e)
-and_parts false y e = absurd (cc e)
 
 pub counts_all : (case : Case) (ds : List Decision) (d : ℕ) → Counts case ds d → AllAs case ds → length ds ≡ d
 counts_all case [] d h all = sym h

@@ -12,6 +12,7 @@ use Rattle.layer_mean.specs.Tree.{LayerTree}
 use Rattle.layer_mean.specs.State.{State}
 use Rattle.packet_mean.specs.Spelling.{full_bytes}
 use Rattle.stack_mean.specs.Plan.{Plan}
+use Rattle.chain_laws.proofs.Lists.{each_append}
 use Rattle.script_mean.specs.Event.{member_of}
 use Rattle.script_mean.specs.declared.event.ScriptEvent.{ScriptEvent}
 use Rattle.script_mean.specs.declared.event.ScriptEvent.TheVariants as script
@@ -193,11 +194,6 @@ datagrams_are_numbered mode stack plans w events =
     }
 
 -- lines
-
-each_append : {A : Type 0} (P : A → Type 0) (xs ys : List A) → AllByRecursion P xs → AllByRecursion P ys →
-    AllByRecursion P (xs ++ ys)
-each_append P [] ys h i = i
-each_append P (x ∷ xs) ys h i = (h.0, each_append P xs ys h.1 i)
 
 woven_both : (stack : List LayerTree) (r s v w : List (List ℕ)) (ds es : List Datagram) → AreWoven stack r v ds →
     AreWoven stack s w es →

@@ -4,6 +4,7 @@ use Rattle.std.proofs.Common.{◌∷◌, ◌++◌, map, length, Option, Some, No
 use Rattle.std.specs.Prelude.{◌↔◌, ◌⊎◌, filter, slice_get, if◌then◌else◌, take, option_map}
 use Rattle.std.specs.List.{AllByRecursion, flat_map, sum_by}
 use Rattle.std.specs.Option.{option_and_then, option_map_or}
+use Rattle.std.proofs.lemmas.Bool.{and_parts}
 use Rattle.std.proofs.lemmas.Option.{slice_get-map}
 use Rattle.msg_core.specs.declared.packet.Packet.{Packet}
 use Rattle.layer_ast.specs.declared.tokens.Dir.{Dir}
@@ -22,7 +23,7 @@ use Rattle.stack_mean.specs.Plan.{Plan}
 use Rattle.stack_mean.specs.Plans.{plans_limit, is_packet, plan_of, outs_of, Group, groups, packets_of, plans_before}
 use Rattle.stack_mean.specs.Plans.{plans_of}
 use Rattle.stack_mean.specs.Acceptance.{weight_limit}
-use Rattle.stack_mean.specs.Shape.{Known, ShapeOut, Shape, entry_task, shape}
+use Rattle.stack_mean.specs.Shape.{ShapeOut, entry_task, shape}
 use Rattle.stack_mean.specs.Shape as entry
 use Rattle.run_mean.specs.Mode.{layered, bypass}
 use Rattle.run_mean.specs.Common.{is_short, is_common_in, case_of, is_planned, first_plan, with_plans, as_sent, wire}
@@ -286,11 +287,6 @@ one_number g n at = sym (number_coded n) ∙ ap (λ o. coded o n) at
 
 -- a step of an application that is common in a case
 
-and_both : (x y : Bool) → (x && y) ≡ true → (x ≡ true) × (y ≡ true)
-and_both true true e = (refl, refl)
-and_both true false e = absurd (cc e)
-and_both false y e = absurd (cc e)
-
 abbrev first_of : List LayerTree → List Group → ℕ
 first_of stack before = sum_by (λ x. length (packets_of stack x)) before
 
@@ -307,7 +303,7 @@ group_where : (stack : List LayerTree) (here : Here) (states : List State) (what
     (plan ≡ Some k) ↔ Planned (plans_of stack) (group_outs stack g) (first_of stack before) position k
 group_where stack here states what h before g rest are begins common position k o plan at =
     let task = first_task stack here.rank what in
-    let parts = and_both (is_short (shape stack g.entry g.case)) _ common in
+    let parts = and_parts (is_short (shape stack g.entry g.case)) _ common in
     let made = was_made (shape stack g.entry g.case) parts.0 in
     let log = (marked_run stack states task).world in
     let bare = typed_runs_are_bare g.case stack states task h.typed h.states_are (first_is stack here states what h) in

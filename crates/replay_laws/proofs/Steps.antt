@@ -1,15 +1,7 @@
 -- Each moment of a replay is a step of the definition.
-use Rattle.std.proofs.Common.{◌≡◌, ◌∙◌, ℕ, zero, suc, ◌<◌, ◌≤◌, Bool, true, false, List, [], ◌∷◌, length, Option, Some}
-use Rattle.std.proofs.Common.{None, refl, sym, subst, arith}
-use Rattle.std.specs.Prelude.{◌==◌, cond, if◌then◌else◌, nat_lt, Result, Ok, Err}
-use Rattle.std.specs.Int.{bit_at}
-use Rattle.std.specs.List.{filter, position, position_or_len, range_with_len}
-use Rattle.std.specs.Option.{option_map_or}
-use Rattle.std.proofs.lemmas.Bool.{ltb-true}
-use Rattle.std.proofs.lemmas.List.FromFn.{length-range_with_len}
-use Rattle.msg_core.specs.View.{ids, member_count, rank}
+use Rattle.std.proofs.Common.{◌≡◌, ℕ, Bool, true, false, List, [], ◌∷◌, Option, Some, None, refl, subst}
+use Rattle.std.specs.Prelude.{if◌then◌else◌, nat_lt, Result, Ok, Err}
 use Rattle.msg_core.specs.declared.packet.Packet.{Packet}
-use Rattle.msg_core.specs.declared.packet.Stray.{Stray}
 use Rattle.msg_core.specs.declared.packet.View.{View}
 use Rattle.layer_ast.specs.Tree.{FileTree}
 use Rattle.layer_mean.specs.Tree.{LayerTree}
@@ -17,92 +9,31 @@ use Rattle.layer_mean.specs.State.{State}
 use Rattle.fault_mean.specs.Faults as faults
 use Rattle.fault_mean.specs.FileFault.{file_fault}
 use Rattle.file_mean.specs.Stack.{stack_of}
-use Rattle.packet_mean.specs.Reading.{preamble_of}
-use Rattle.packet_mean.specs.Received.{◌>>=◌, meant_for, received}
-use Rattle.packet_mean.specs.Spelling.{full_form, full_bytes, IsSpellable}
+use Rattle.packet_mean.specs.Spelling.{full_bytes, IsSpellable}
 use Rattle.packet_mean.specs.declared.here.Here.{Here}
 use Rattle.stack_mean.specs.Acceptance.{accepted, too_many, too_many_joins, held_at_most, without_cycle, largest_weight}
 use Rattle.stack_mean.specs.Acceptance.{largest_joins, weight_limit, joins_limit}
 use Rattle.stack_mean.specs.Graph.{Node, first_on_cycle}
-use Rattle.stack_mean.specs.Plan.{Plan}
 use Rattle.stack_mean.specs.Plans.{plans_of}
-use Rattle.packet_laws.proofs.Once.{one_full_spelling}
-use Rattle.packet_laws.proofs.Strays.{received_as_meant}
 use Rattle.chain_laws.specs.Runs.{TypedStack}
-use Rattle.chain_laws.proofs.Lists.{Where, each_or, each_where}
+use Rattle.chain_laws.proofs.Lists.{Where, each_or}
 use Rattle.file_laws.proofs.Texts.{texts_are_typed}
 use Rattle.script_mean.specs.Event.{member_of}
 use Rattle.script_mean.specs.declared.event.ScriptEvent.{ScriptEvent}
 use Rattle.script_mean.specs.declared.event.ScriptEvent.TheVariants as script
 use Rattle.run_mean.specs.Member.{Member, inside, out, Input, cast, send, leave, tick, datagram, Refusal, Entered}
-use Rattle.run_mean.specs.Member.{from_peer, from_datagram, entered}
+use Rattle.run_mean.specs.Member.{entered}
 use Rattle.run_mean.specs.World.{World, Happening, first_world, member_at, packet_number, here_of, stepped_inside}
 use Rattle.run_mean.specs.World.{stepped_of, stepped, given, happens}
 use Rattle.run_mean.specs.Report.{Moment}
 use Rattle.output_mean.specs.Judged.{Means, judged_by, said_accepted}
-use Rattle.member_laws.specs.Members.{IsView, IsHere, IsChainedMember, IsInput, IsEntered, IsGivenEvent, IsChainedWorld}
-use Rattle.member_laws.proofs.Members.{first_world_is_chained, events_keep_chains}
+use Rattle.member_laws.specs.Members.{IsChainedMember, IsInput, IsEntered, IsGivenEvent, IsChainedWorld}
+use Rattle.member_laws.proofs.Members.{first_world_is_chained, events_keep_chains, given_enters, here_is, numbered}
 use Rattle.member_laws.proofs.Numbered.{plans_are_numbered, inputs_are_in_range, worlds_are_chained}
 use Rattle.replay_laws.specs.Standing.{IsStanding, IsStandingWorld}
 use Rattle.replay_laws.specs.Steps.{IsMoment, MomentsAreSteps, ReplaysArePlayed}
 use Rattle.replay_laws.proofs.Scripts.{scripts_are_given}
 use Rattle.replay_laws.proofs.Standing.{first_world_is_standing, events_keep_standing, moments_are_standing}
-
--- where a member stands
-
-position_below : {A : Type 0} (p : A → Bool) (xs : List A) (k : ℕ) → position p xs ≡ Some k → k < length xs
-position_below p xs k is = go (nat_lt (position_or_len p xs) (length xs)) refl is where
-  go : (b : Bool) → nat_lt (position_or_len p xs) (length xs) ≡ b → cond b (Some (position_or_len p xs)) None ≡ Some k →
-      k < length xs
-  go true below is =
-      let e : position_or_len p xs ≡ k = cc is in
-      omega (arith, e, ltb-true (position_or_len p xs) (length xs) below)
-  go false below is = absurd (cc is)
-
-filter_le : {A : Type 0} (p : A → Bool) (xs : List A) → length (filter p xs) ≤ length xs
-filter_le p [] = omega arith
-filter_le p (x ∷ xs) = go (p x) (filter_le p xs) where
-  go : (b : Bool) → length (filter p xs) ≤ length xs →
-      length (if b then x ∷ filter p xs else filter p xs) ≤ suc (length xs)
-  go true h = omega (arith, h)
-  go false h = omega (arith, h)
-
-members_few : (view : View) → member_count view ≤ 32
-members_few view = omega (
-  arith,
-  filter_le (λ id. bit_at view.mask id == 1) (range_with_len 0 32),
-  length-range_with_len 0 32,
-)
-
-here_is : (stack : List LayerTree) (w : World) (view : View) (id : ℕ) → IsChainedWorld stack w → IsView view →
-    IsHere (here_of w view id)
-here_is stack w view id h is = record { group = h.group; stamp = h.stamp; view = is; rank = go (rank view id) refl }
-  where
-    go : (o : Option ℕ) → rank view id ≡ o → option_map_or (λ r. r) o 0 < 32
-    go None at = omega arith
-    go (Some me) at = omega (arith, position_below (λ other. other == id) (ids view) me at, members_few view)
-
--- a packet that is given, as its full spelling, is this packet or stray
-
-ok_same : {A E : Type 0} (x y : A) → ◌≡◌ {A = Result A E} (Ok x) (Ok y) → x ≡ y
-ok_same x y e = cc e
-
-packet_entered : (stack : List LayerTree) (r : Result Packet Stray) (what : Entered) → from_datagram r ≡ Ok what →
-    ((p : Packet) → r ≡ Ok p → IsSpellable stack p) → IsEntered stack what
-packet_entered stack (Ok p) what is h = subst (IsEntered stack) (ok_same {E = Refusal} (from_peer p) what is) (h p refl)
-packet_entered stack (Err cause) what is h = absurd (cc is)
-
-meant_same : (r : Result (Unit {0}) Stray) (p q : Packet) → (r >>= λ _. Ok p) ≡ Ok q → p ≡ q
-meant_same (Ok x) p q e = cc e
-meant_same (Err cause) p q e = absurd (cc e)
-
-given_enters : (stack : List LayerTree) (plans : List Plan) (p : Packet) → IsSpellable stack p →
-    (here : Here) (what : Entered) →
-    entered stack plans here (datagram (full_bytes p)) ≡ Ok what → IsEntered stack what
-given_enters stack plans p h here what is = packet_entered stack (received stack plans here (full_bytes p)) what is
-    (λ q taken.
-    let as_meant = received_as_meant stack plans here (full_bytes p) p (one_full_spelling stack plans p h).0 in
-    subst (IsSpellable stack) (meant_same (meant_for here (preamble_of full_form p)) p q (sym as_meant ∙ taken)) h)
 
 -- a moment
 
@@ -157,11 +88,6 @@ module _ (stack : List LayerTree) (w : World) (typed : TypedStack stack) (world 
   given_is None h = refl
   given_is (Some p) h = stepped_is (datagram (full_bytes p)) (given_enters stack (plans_of stack) p h)
 
-numbered : (stack : List LayerTree) (w : World) (k : ℕ) → IsChainedWorld stack w →
-    Where (IsSpellable stack) (packet_number w k)
-numbered stack w zero world = tt
-numbered stack w (suc k) world = each_where (IsSpellable stack) w.packets k world.packets
-
 event_is : (stack : List LayerTree) (w : World) (e : ScriptEvent) → TypedStack stack → IsGivenEvent e →
     IsChainedWorld stack w → IsStandingWorld w →
     IsMoment stack (record { before = w; event = e; happening = happens stack (plans_of stack) w e })
@@ -208,12 +134,12 @@ accepted_same s t None is = heavy (nat_lt weight_limit (largest_weight s)) (nat_
     heavy false false is = (refl, cc is)
 
 -- the stack of a file without faults
-record IsOwn (file : FileTree) (t : List LayerTree) : Type 0 where
-  faultless : file_fault file ≡ None
-  accepts : accepted (stack_of file) ≡ Ok (stack_of file)
-  is : stack_of file ≡ t
+pub record IsOwn (file : FileTree) (t : List LayerTree) : Type 0 where
+  pub faultless : file_fault file ≡ None
+  pub accepts : accepted (stack_of file) ≡ Ok (stack_of file)
+  pub is : stack_of file ≡ t
 
-own_stack : (file : FileTree) (t : List LayerTree) (fault : Option faults.FileFault) → file_fault file ≡ fault →
+pub own_stack : (file : FileTree) (t : List LayerTree) (fault : Option faults.FileFault) → file_fault file ≡ fault →
     judged_by file fault ≡ Ok t →
     IsOwn file t
 own_stack file t (Some fault) found is = absurd (cc is)

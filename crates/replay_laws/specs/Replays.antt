@@ -62,14 +62,16 @@ RunsExpand = (mode : Mode) (stack : List LayerTree) (w : World) (events : List S
     AllByRecursion IsGivenEvent events →
     IsChainedWorld stack w → IsStandingWorld w → RunExpands mode stack w (moments stack (plans_of stack) w events)
 
--- And so in a replay.
+-- The world in which a script begins.
 abbrev pub script_world : List LayerTree → Script → World
 script_world stack script = first_world stack script.group script.stamp script.members
 
+-- So it is in the run of a script.
 abbrev pub ScriptExpands : Mode → List LayerTree → Script → Type 0
 ScriptExpands mode stack script =
     RunExpands mode stack (script_world stack script) (run_of stack (plans_of stack) script)
 
+-- And so in each replay.
 abbrev pub PacketsExpand : Type 0
 PacketsExpand = (file script_text : List ℕ) (stack : List LayerTree) (script : Script) (mode : Mode) →
     IsReplay file script_text stack script →
@@ -99,6 +101,7 @@ pub record WritesDatagrams (file script_text : List ℕ) (mode : Mode) (count : 
       (datagrams mode stack (plans_of stack) (run_of stack (plans_of stack) script))
   pub expand : ScriptExpands mode stack script
 
+-- What a replay writes with its packets' bytes is so.
 abbrev pub ReplaysWriteDatagrams : Type 0
 ReplaysWriteDatagrams = (file script_text out : List ℕ) (mode : Mode) (count : Bool) →
     Replays file script_text mode true count out →
@@ -112,6 +115,7 @@ MissesOnTheWay stack (taken s) = (case : Case) (known : Known) (shape_is : Shape
     shape stack known case ≡ Ok shape_is → first_missed case s ≡ Some n → n < shape_decisions case stack shape_is
 MissesOnTheWay stack _ = Unit {0}
 
+-- It is so at each moment of a replay.
 abbrev pub ReplaysMissOnTheWay : Type 0
 ReplaysMissOnTheWay = (file script_text : List ℕ) (stack : List LayerTree) (script : Script) →
     IsReplay file script_text stack script →

@@ -1,6 +1,6 @@
 -- What holds at each typed step in a typed state and scope holds along the predicted ways of typed layers.
-use Rattle.std.proofs.Common.{◌≡◌, ℕ, Bool, true, false, List, [], ◌++◌, Option, Some, None, refl, sym, ap, subst}
-use Rattle.std.specs.Prelude.{◌==◌, ◌&&◌, if◌then◌else◌}
+use Rattle.std.proofs.Common.{◌≡◌, ℕ, true, false, List, [], ◌++◌, Option, Some, None, sym, ap, subst}
+use Rattle.std.specs.Prelude.{◌==◌, ◌&&◌}
 use Rattle.std.specs.List.{AllByRecursion}
 use Rattle.std.proofs.lemmas.Bool.{and_parts, eqb-true}
 use Rattle.std.proofs.lemmas.List.{append_assoc}
@@ -14,9 +14,8 @@ use Rattle.layer_ast.specs.declared.tokens.Dir.{Dir}
 use Rattle.layer_mean.specs.declared.run.Case.{Case}
 use Rattle.layer_mean.specs.declared.run.Case.TheVariants.{First, Second}
 use Rattle.layer_mean.specs.declared.run.Event.{Event}
-use Rattle.layer_mean.specs.declared.run.Row.{Row}
 use Rattle.layer_mean.specs.Event.{carries}
-use Rattle.layer_mean.specs.Tree.{TakenTree, StatementTree, bind, assign, assign_square, push, take, branch, each, emit}
+use Rattle.layer_mean.specs.Tree.{StatementTree, bind, assign, assign_square, push, take, branch, each, emit}
 use Rattle.layer_mean.specs.Tree.{StatementTrees, none, more, Expected, always, common, rare, HandlerTree, LayerTree}
 use Rattle.layer_mean.specs.State.{State, flat_index, row_at, has_room, with_number, with_row, without_front}
 use Rattle.layer_mean.specs.Value.{Scope, is_true, val}
@@ -25,8 +24,7 @@ use Rattle.layer_mean.specs.Visit.{Met, met, is_for, handler_for, entered}
 use Rattle.layer_mean.specs.Way.{Step, test, fork, set_slot, set_number, set_square, put, get, send, loop, way, ways}
 use Rattle.layer_mean.specs.Way.{expected_way}
 use Rattle.packet_mean.specs.ChainedState.{IsState, IsEvent}
-use Rattle.shape_laws.specs.Bare.{BareBeyond}
-use Rattle.shape_laws.specs.Walk.{Here, took}
+use Rattle.shape_laws.specs.Walk.{Here}
 use Rattle.chain_laws.specs.Typed.{Small, Sends, Pushes, Takes, with_taken_sort, Typed, TypedAll, sorts_of}
 use Rattle.chain_laws.specs.Typed.{TypedHandler, TypedLayer}
 use Rattle.chain_laws.proofs.Lists.{Where}
@@ -34,22 +32,8 @@ use Rattle.chain_laws.proofs.Sorts.{IsScope, kept, number_keeps, front_keeps, ro
 use Rattle.chain_laws.proofs.Values.{val_small}
 use Rattle.chain_laws.proofs.Statements.{Stands, slot_keeps, taken_keeps, taken_back, row_is, row_numbers}
 use Rattle.chain_laws.proofs.Visits.{come_headers, IsMet, arguments_small, found, met_is, entered_is}
+use Rattle.member_laws.proofs.Bare.{if_bare, unless_bare, took_bare}
 use Rattle.trace_laws.specs.Along.{Along, AlongWay, AlongHandled, AlongVisit}
-
-beyond_if : (b : Bool) (P : Here → Type 0) (h : Here) → (b ≡ true → P h) → BareBeyond P (if b then Some h else None)
-beyond_if true P h is = is refl
-beyond_if false P h is = tt
-
-beyond_unless : (b : Bool) (P : Here → Type 0) (h : Here) → P h → BareBeyond P (if b then None else Some h)
-beyond_unless true P h is = tt
-beyond_unless false P h is = is
-
-beyond_took : (row : Option Row) (P : Here → Type 0) (c i : ℕ) (taken : TakenTree) (h : Here) →
-    ((r : Row) → row ≡ Some r → P (record h { state = without_front h.state c i; scope = with_taken taken r h.scope }))
-    →
-    BareBeyond P (took c i taken h row)
-beyond_took None P c i taken h is = tt
-beyond_took (Some r) P c i taken h is = is r refl
 
 -- what the typing of a statement says of its step
 abbrev pub TypedStep : LayerTree → List Header → List Sort → Step → Type 0
@@ -95,7 +79,7 @@ module _ (P Q : List Header → Type 0) (layer : LayerTree) (place : ℕ) (blank
         )
     statement_goes case (push c i capacity row otherwise) sorts rest h go s l sent state scope = (
       fact (put c i capacity row) sorts s l sent h.0 state scope,
-      beyond_if (has_room s c (val i s l) capacity) (Along At place rest) _
+      if_bare (has_room s c (val i s l) capacity) (Along At place rest) _
           (λ room. go (with_row s c (val i s l) (row_of row s l)) l sent
           (row_keeps P layer s c (val i s l) capacity h.0.rows (row_of row s l) state h.0.listed h.0.room room
           (row_is P Q layer place blank laws sorts c capacity row s l h.0 state scope)) scope),
@@ -103,7 +87,7 @@ module _ (P Q : List Header → Type 0) (layer : LayerTree) (place : ℕ) (blank
     statement_goes case (take c i taken block otherwise) sorts rest h go s l sent state scope =
         let typed = with_taken_sort sorts taken.message in (
           fact (get c i taken) sorts s l sent h.0 state scope,
-          beyond_took (row_at s c (val i s l) 0) (Along At place (ways case block ++ rest)) c (val i s l) taken _
+          took_bare (row_at s c (val i s l) 0) (Along At place (ways case block ++ rest)) c (val i s l) taken _
               (λ row is. block_goes case block typed rest h.1
               (λ t m sent state scope.
               go t m sent state (taken_back P Q layer place blank laws sorts taken.message c m h.0 scope))
@@ -115,22 +99,22 @@ module _ (P Q : List Header → Type 0) (layer : LayerTree) (place : ℕ) (blank
         )
     statement_goes case (branch likely.First e block otherwise) sorts rest h go s l sent state scope = (
       fact (test true e) sorts s l sent tt state scope,
-      beyond_if (is_true (val e s l)) (Along At place (ways case block ++ rest)) _
+      if_bare (is_true (val e s l)) (Along At place (ways case block ++ rest)) _
           (λ chosen. block_goes case block sorts rest h.0 go s l sent state scope),
     )
     statement_goes case (branch likely.Else e block otherwise) sorts rest h go s l sent state scope = (
       fact (test false e) sorts s l sent tt state scope,
-      beyond_unless (is_true (val e s l)) (Along At place (ways case otherwise ++ rest)) _
+      unless_bare (is_true (val e s l)) (Along At place (ways case otherwise ++ rest)) _
           (block_goes case otherwise sorts rest h.1 go s l sent state scope),
     )
     statement_goes First (branch likely.Two e block otherwise) sorts rest h go s l sent state scope = (
       fact (fork First e) sorts s l sent tt state scope,
-      beyond_if (is_true (val e s l)) (Along At place (ways First block ++ rest)) _
+      if_bare (is_true (val e s l)) (Along At place (ways First block ++ rest)) _
           (λ chosen. block_goes First block sorts rest h.0 go s l sent state scope),
     )
     statement_goes Second (branch likely.Two e block otherwise) sorts rest h go s l sent state scope = (
       fact (fork Second e) sorts s l sent tt state scope,
-      beyond_unless (is_true (val e s l)) (Along At place (ways Second otherwise ++ rest)) _
+      unless_bare (is_true (val e s l)) (Along At place (ways Second otherwise ++ rest)) _
           (block_goes Second otherwise sorts rest h.1 go s l sent state scope),
     )
     statement_goes case (each k below most block) sorts rest h go s l sent state scope =
@@ -159,7 +143,7 @@ module _ (P Q : List Header → Type 0) (layer : LayerTree) (place : ℕ) (blank
   expected_goes always steps sorts s l go state scope = go s l [] state scope
   expected_goes (common e) steps sorts s l go state scope = (
     fact (test true e) sorts s l [] tt state scope,
-    beyond_if (is_true (val e s l)) (Along At place steps) _ (λ holds. go s l [] state scope),
+    if_bare (is_true (val e s l)) (Along At place steps) _ (λ holds. go s l [] state scope),
   )
   expected_goes rare steps sorts s l go state scope = tt
 

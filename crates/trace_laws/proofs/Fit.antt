@@ -1,38 +1,33 @@
 -- Runs of typed layers from chained states are as traces rely on.
-use Rattle.std.proofs.Common.{◌≡◌, ℕ, zero, suc, ◌-◌, ◌<◌, ◌≤◌, Bool, true, false, List, [], ◌∷◌, length, Option, Some}
-use Rattle.std.proofs.Common.{None, option_map, refl, sym, ap, ◌∙◌, arith}
+use Rattle.std.proofs.Common.{◌≡◌, ℕ, zero, suc, ◌-◌, ◌<◌, ◌≤◌, true, List, [], ◌∷◌, length, Some}
+use Rattle.std.proofs.Common.{option_map, refl, sym, ap, ◌∙◌, arith}
 use Rattle.std.specs.Prelude.{nat_le, slice_get, slice_index_or}
 use Rattle.std.specs.List.{AllByRecursion, AllZip}
 use Rattle.std.proofs.lemmas.Bool.{and_parts, leb-true}
 use Rattle.std.proofs.lemmas.Option.{slice_get-get_or}
 use Rattle.msg_core.specs.declared.message.Header.{Header}
 use Rattle.layer_ast.specs.declared.syntax.Sort.{Sort}
-use Rattle.layer_ast.specs.declared.syntax.Sort.TheVariants.{Msg}
 use Rattle.layer_ast.specs.declared.tokens.Dir.{Dir}
-use Rattle.layer_ast.specs.declared.tokens.Dir.TheVariants.{Up, Down}
 use Rattle.layer_mean.specs.declared.run.Case.{Case}
 use Rattle.layer_mean.specs.declared.run.Event.{Event}
 use Rattle.layer_mean.specs.Event.{carries}
 use Rattle.layer_mean.specs.declared.run.Row.{Row}
-use Rattle.layer_mean.specs.Headers.{declared}
-use Rattle.layer_mean.specs.Tree.{Carried, part, whole, MessageTree, message, nothing, held, cut, tail, join}
-use Rattle.layer_mean.specs.Tree.{ContentTree, ItemsTree, Form, numbers, queue, queues, CellTree, LayerTree, no_layer}
+use Rattle.layer_mean.specs.Tree.{message, held}
+use Rattle.layer_mean.specs.Tree.{ItemsTree, Form, numbers, queue, queues, CellTree, LayerTree, no_layer}
 use Rattle.layer_mean.specs.State as state
-use Rattle.layer_mean.specs.State.{State, Contents, no_cell, queues_in, cell_at, rows_at, row_at}
+use Rattle.layer_mean.specs.State.{State, Contents, no_cell, queues_in}
 use Rattle.layer_mean.specs.Value.{Scope, val}
 use Rattle.layer_mean.specs.Queue.{Task, Line, Work, is_place, layer_at, state_at, run_for, layers, run, unstarted}
 use Rattle.layer_mean.specs.Queue.{starting}
 use Rattle.layer_mean.specs.Way.{Step, put, get, send}
 use Rattle.packet_mean.specs.ChainedState.{IsFrom, IsRow, IsState, HoldsForm, IsQueue}
-use Rattle.shape_laws.specs.Bare.{BareRow, BareMessage, BareTaken, BareContent}
-use Rattle.chain_laws.specs.Typed.{queue_at, Carries, Sorted, Sends, Takes}
+use Rattle.chain_laws.specs.Typed.{queue_at}
 use Rattle.chain_laws.specs.Runs.{TypedStack, AreChainedStates, IsChainedTask}
-use Rattle.chain_laws.proofs.Lists.{there, each_where}
-use Rattle.chain_laws.proofs.Sorts.{IsScope, rows_hold}
-use Rattle.chain_laws.proofs.Values.{message_in_is}
+use Rattle.chain_laws.proofs.Sorts.{IsScope}
 use Rattle.chain_laws.proofs.Statements.{Stands, row_is}
 use Rattle.chain_laws.proofs.Visits.{come_is, stands}
 use Rattle.chain_laws.proofs.Runs.{comes, stands_typed, run_from_a_task}
+use Rattle.member_laws.proofs.Bare.{content_bare, taken_bare}
 use Rattle.trace_mean.specs.Fuse.{items_of}
 use Rattle.trace_laws.specs.Along.{AlongVisit}
 use Rattle.trace_laws.specs.Fit.{how_many, HasItems, FitStep, FitNext, TypedRunsFit}
@@ -91,39 +86,6 @@ rows_have P n [] (y ∷ ys) c i k h = absurd h
 rows_have P n (x ∷ xs) [] c i k h = absurd h
 rows_have P n (x ∷ xs) (y ∷ ys) zero i k h = form_has P n x.form y i k h.0
 rows_have P n (x ∷ xs) (y ∷ ys) (suc c) i k h = rows_have P n xs ys c i k h.1
-
-module _ (P Q : List Header → Type 0) (layer : LayerTree) (place : ℕ) (blank : List Header)
-    (laws : Stands P Q layer place blank) where
-  row_bare : (c i k : ℕ) (carried : Carried) (s : State) → Carries layer blank c carried → IsState P layer s →
-      BareRow carried (row_at s c i k)
-  row_bare c i k part s h state =
-      (message_in_is P blank part h.rows.items (row_at s c i k) laws.blank_is h.blanks h.sort
-      (each_where (IsRow P h.rows.items) (rows_at s c i) k (rows_hold P layer s c i h.rows state h.listed))).headers
-  row_bare c i k (whole headers) s h state = tt
-
-  message_bare : (m : MessageTree) (sorts : List Sort) (sort : Sort) (s : State) (l : Scope) →
-      Sorted layer blank sorts sort m →
-      IsState P layer s → BareMessage m s l
-  message_bare (message k) sorts sort s l h state = tt
-  message_bare nothing sorts sort s l h state = tt
-  message_bare (held c i row carried) sorts sort s l h state = row_bare c (val i s l) (val row s l) carried s h.0 state
-  message_bare (cut m from n) sorts sort s l h state = tt
-  message_bare (tail m from) sorts sort s l h state = message_bare m sorts sort s l h state
-  message_bare (join p m) sorts sort s l h state = message_bare m sorts sort s l h state
-
-  content_bare : (sorts : List Sort) (b : Bool) (dir : Dir) (c : Option ContentTree) (s : State) (l : Scope) →
-      Sends layer blank sorts b dir c → IsState P layer s → BareContent c s l
-  content_bare sorts b dir None s l h state = tt
-  content_bare sorts true Up (Some c) s l h state = message_bare c.message sorts Msg s l h state
-  content_bare sorts true Down (Some c) s l h state = there (declared layer c.tag) _ h.declares
-      (λ d listed is. message_bare c.message sorts _ s l is.1 state)
-  content_bare sorts false dir (Some c) s l h state = absurd h
-
-  pub taken_bare : (c i : ℕ) (item : Option (ℕ × Carried)) (sorts : List Sort) (s : State) →
-      Takes layer blank sorts c item → IsState P layer s →
-      BareTaken item (row_at s c i 0)
-  taken_bare c i None sorts s h state = tt
-  taken_bare c i (Some slot) sorts s h state = row_bare c i 0 slot.1 s h.0 state
 
 module _ (stack : List LayerTree) (layer : LayerTree) (place : ℕ) (blank : List Header)
     (laws : Stands (IsFrom stack (suc place)) (IsFrom stack place) layer place blank)

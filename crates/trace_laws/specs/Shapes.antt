@@ -20,22 +20,27 @@ pub record Outlet : Type 0 where
   pub kind : Kind
   pub tags : List ℕ
 
+-- The tags of the headers that a shape draws, and of the links of a trace.
 abbrev pub tags_of_headers : List DrawnHeader → List ℕ
 tags_of_headers headers = map (λ h. h.tag) headers
 
 abbrev pub tags_of_links : List Link → List ℕ
 tags_of_links links = map (λ l. l.tag) links
 
+-- An output of a shape, told so.
 abbrev pub shape_outlet : ShapeOut → Outlet
 shape_outlet out = record { dir = out.dir; kind = out.kind; tags = tags_of_headers out.headers }
 
+-- The tags of the headers of a message that a trace puts out; where there is none, none.
 abbrev pub tags_of_message : Option Chained → List ℕ
 tags_of_message message = option_map_or (λ m. tags_of_links m.chain) message []
 
+-- The output of an operation that puts out, told so; other operations have none.
 abbrev pub outlets_of : Operation → List Outlet
 outlets_of (output dir kind numbers message) = record { dir = dir; kind = kind; tags = tags_of_message message } ∷ []
 outlets_of _ = []
 
+-- The outputs of operations in order.
 abbrev pub trace_outlets : List Operation → List Outlet
 trace_outlets operations = flat_map outlets_of operations
 
@@ -44,9 +49,11 @@ pub record Told : Type 0 where
   pub length : ℕ
   pub outlets : List Outlet
 
+-- What a shape tells.
 abbrev pub told_by_shape : Shape → Told
 told_by_shape s = record { length = s.length; outlets = map shape_outlet s.outs }
 
+-- What a trace tells.
 abbrev pub told_by_trace : List Operation → Told
 told_by_trace operations = record { length = trace_length operations; outlets = trace_outlets operations }
 
