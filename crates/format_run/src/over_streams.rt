@@ -1,18 +1,16 @@
 //! The program over streams, which are handed what was put, and over the system's arguments, files and streams.
 ghost use Rattle.std.specs.Prelude.{◌≡◌, map};
 ghost use Rattle.std.specs.String.{string_bytes};
-ghost use Rattle.outside.specs.Stream.{stream_of};
-ghost use Rattle.outside.specs.Tells.{tells};
 ghost use Rattle.format_run.specs.Ends.{name_of};
 ghost use Rattle.format_run.specs.Through.{RunsThrough, Delivers, closed};
-ghost use Rattle.program_streams.specs.Streams.{stream};
+ghost use Rattle.program_streams.specs.Streams.{over};
 
 use crate::ending::{Ending, NO_MEMORY, say};
 use crate::over_sinks::perform;
 use outside::{FileShelf, Shelf, Sink, StdSink};
-use program_streams::{command_words, hand_on};
+use program_streams::{begin, hand_on};
 use std::alloc::Global;
-use std::io::{self, Write};
+use std::io::Write;
 use std::rt::{Env, Files};
 
 /// Lays out the file that the words name, hands on what was put to both streams, and answers the program's status.
@@ -29,23 +27,11 @@ pub fn run_through<S: Shelf, O: Write + Drop, E: Write + Drop>(
 ) -> u8
     ensures through { RunsThrough (name_of (map string_bytes words.now)) (S.told shelf.old) (S.faults shelf.old)
         (S.faults shelf.new)
-        (stream (tells (⟦<StdSink<O> as Sink>⟧.contents out.old) (⟦<StdSink<O> as Sink>⟧.failures out.old)
-        (⟦<StdSink<O> as Sink>⟧.faults out.old))
-        (tells (⟦<StdSink<O> as Sink>⟧.contents out.new) (⟦<StdSink<O> as Sink>⟧.failures out.new)
-        (⟦<StdSink<O> as Sink>⟧.faults out.new))
-        (O.contents (stream_of out.new)))
-        (stream (tells (⟦<StdSink<E> as Sink>⟧.contents err.old) (⟦<StdSink<E> as Sink>⟧.failures err.old)
-        (⟦<StdSink<E> as Sink>⟧.faults err.old))
-        (tells (⟦<StdSink<E> as Sink>⟧.contents err.new) (⟦<StdSink<E> as Sink>⟧.failures err.new)
-        (⟦<StdSink<E> as Sink>⟧.faults err.new))
-        (E.contents (stream_of err.new))) result }
+        (over O.Write ⟦<StdSink<O> as Sink>⟧ out.old out.new) (over E.Write ⟦<StdSink<E> as Sink>⟧ err.old err.new)
+        result }
     ensures delivered { result ≡ 0 →
         Delivers (name_of (map string_bytes words.now)) (S.told shelf.old) (S.faults shelf.old) (S.faults shelf.new)
-        (stream (tells (⟦<StdSink<O> as Sink>⟧.contents out.old) (⟦<StdSink<O> as Sink>⟧.failures out.old)
-        (⟦<StdSink<O> as Sink>⟧.faults out.old))
-        (tells (⟦<StdSink<O> as Sink>⟧.contents out.new) (⟦<StdSink<O> as Sink>⟧.failures out.new)
-        (⟦<StdSink<O> as Sink>⟧.faults out.new))
-        (O.contents (stream_of out.new))) }
+        (over O.Write ⟦<StdSink<O> as Sink>⟧ out.old out.new) }
 {
     let ending = perform(alloc, words, shelf, out);
     let whole = hand_on(out);
@@ -71,18 +57,9 @@ pub fn program<R: AllocGlobal + Env + Files, O: Write + Drop, E: Write + Drop>(
     out: O,
     err: E,
 ) -> u8 {
-    begun(system, out, err).unwrap_or(NO_MEMORY)
-}
-
-fn begun<R: AllocGlobal + Env + Files, O: Write + Drop, E: Write + Drop>(
-    system: &R,
-    out: O,
-    err: E,
-) -> io::Result<u8> {
-    let alloc = system.alloc();
-    let words = command_words(system)?;
+    let Ok((words, mut out, mut err)) = begin(system, out, err) else {
+        return NO_MEMORY;
+    };
     let mut shelf = FileShelf::of(system);
-    let mut out = StdSink::of(alloc, out)?;
-    let mut err = StdSink::of(alloc, err)?;
-    Ok(run_through(alloc, &words, &mut shelf, &mut out, &mut err))
+    run_through(system.alloc(), &words, &mut shelf, &mut out, &mut err)
 }

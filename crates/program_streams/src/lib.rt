@@ -3,7 +3,9 @@
 #![tactic(auto)]
 
 mod streams;
+mod system;
 mod words;
 
 pub use streams::hand_on;
+pub use system::begin;
 pub use words::command_words;

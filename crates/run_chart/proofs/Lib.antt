@@ -2,6 +2,5 @@ pub mod Joined
 pub mod Loops
 pub mod Marked
 pub mod Stays
-pub mod Read
 pub mod Ran
 pub mod Through

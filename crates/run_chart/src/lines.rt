@@ -52,7 +52,8 @@ pub(crate) fn placed<'a>(
     texts: &[&'a [u8]],
 ) -> Result<Vec<Line<'a>>, AllocError>
     requires { length texts.now ≤ 67108865 }
-    ensures lines { IfOk result (λ lines. map line_shown lines.items ≡ spec.lines_from first 0 (texts_shown texts.now)) }
+    ensures lines { IfOk result
+        (λ lines. map line_shown lines.items ≡ spec.lines_from first 0 (texts_shown texts.now)) }
     ensures few { IfOk result (λ lines. length lines.items ≤ 67108865) }
 {
     let mut lines = Vec::with_capacity(alloc, texts.len())?;

@@ -72,7 +72,8 @@ fn draw_report<S: Shelf, O: Sink>(
 
 /// Reads a report and draws its picture, or finds how the program ends.
 fn fetch<S: Shelf>(alloc: Global, request: Request<'_>, shelf: &mut S) -> Result<Vec<u8>, Ending>
-    ensures { Fetches (request_shown request.entry) (S.told shelf.old) (S.faults shelf.old) (S.faults shelf.new) result }
+    ensures { Fetches (request_shown request.entry) (S.told shelf.old) (S.faults shelf.old) (S.faults shelf.new)
+        result }
 {
     match fetch_text(alloc, request, shelf) {
         Ok(text) => chart(alloc, &text, request.range),

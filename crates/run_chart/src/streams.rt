@@ -1,10 +1,8 @@
 //! A run over streams, which are handed what was put.
 ghost use Rattle.std.specs.Prelude.{◌≡◌, map};
 ghost use Rattle.std.specs.String.{string_bytes};
-ghost use Rattle.outside.specs.Stream.{stream_of};
-ghost use Rattle.outside.specs.Tells.{tells};
 ghost use Rattle.chart_mean.specs.Through.{Delivers, RunsThrough, closed};
-ghost use Rattle.program_streams.specs.Streams.{stream};
+ghost use Rattle.program_streams.specs.Streams.{over};
 ghost use Rattle.chart_mean.specs.Words.{request_of};
 
 use crate::over_sinks::perform;
@@ -29,23 +27,11 @@ pub fn run_through<S: Shelf, O: Write + Drop, E: Write + Drop>(
 ) -> u8
     ensures through { RunsThrough (map string_bytes words.now) (S.told shelf.old) (S.faults shelf.old)
         (S.faults shelf.new)
-        (stream (tells (⟦<StdSink<O> as Sink>⟧.contents out.old) (⟦<StdSink<O> as Sink>⟧.failures out.old)
-        (⟦<StdSink<O> as Sink>⟧.faults out.old))
-        (tells (⟦<StdSink<O> as Sink>⟧.contents out.new) (⟦<StdSink<O> as Sink>⟧.failures out.new)
-        (⟦<StdSink<O> as Sink>⟧.faults out.new))
-        (O.contents (stream_of out.new)))
-        (stream (tells (⟦<StdSink<E> as Sink>⟧.contents err.old) (⟦<StdSink<E> as Sink>⟧.failures err.old)
-        (⟦<StdSink<E> as Sink>⟧.faults err.old))
-        (tells (⟦<StdSink<E> as Sink>⟧.contents err.new) (⟦<StdSink<E> as Sink>⟧.failures err.new)
-        (⟦<StdSink<E> as Sink>⟧.faults err.new))
-        (E.contents (stream_of err.new))) result }
+        (over O.Write ⟦<StdSink<O> as Sink>⟧ out.old out.new) (over E.Write ⟦<StdSink<E> as Sink>⟧ err.old err.new)
+        result }
     ensures delivered { result ≡ 0 →
         Delivers (request_of (map string_bytes words.now)) (S.told shelf.old) (S.faults shelf.old) (S.faults shelf.new)
-        (stream (tells (⟦<StdSink<O> as Sink>⟧.contents out.old) (⟦<StdSink<O> as Sink>⟧.failures out.old)
-        (⟦<StdSink<O> as Sink>⟧.faults out.old))
-        (tells (⟦<StdSink<O> as Sink>⟧.contents out.new) (⟦<StdSink<O> as Sink>⟧.failures out.new)
-        (⟦<StdSink<O> as Sink>⟧.faults out.new))
-        (O.contents (stream_of out.new))) }
+        (over O.Write ⟦<StdSink<O> as Sink>⟧ out.old out.new) }
 {
     let ending = perform(alloc, words, shelf, out);
     let whole = hand_on(out);

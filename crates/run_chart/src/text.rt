@@ -72,7 +72,8 @@ impl Text {
 
     /// Appends what begins an element, and the place where that stands.
     pub(crate) fn put_at(&mut self, opening: &[u8], x: u64, y: u64) -> Result<(), AllocError>
-        ensures { OnOk result (self.new ≡ self.old ++ (opening.now ++ numbered (codes "x") x ++ numbered (codes "y") y)) }
+        ensures { OnOk result
+            (self.new ≡ self.old ++ (opening.now ++ numbered (codes "x") x ++ numbered (codes "y") y)) }
     {
         self.put(opening)?;
         self.attribute(b"x", x)?;

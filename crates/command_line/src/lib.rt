@@ -1,0 +1,9 @@
+//! What programs of one command share that read their words by `clap`: how a command is told to it, and what it finds
+//! in words.
+#![tactic(auto)]
+
+mod rules;
+mod words;
+
+pub use rules::{bare, option, positional, required, with};
+pub use words::{taken, text};
