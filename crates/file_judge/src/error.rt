@@ -1,10 +1,13 @@
 //! Why a file is refused.
 
 ghost use Rattle.std.specs.Prelude.{◌≡◌};
-ghost use Rattle.file_judge.specs.declared.error.FileError.TheVariants.{Memory};
+ghost use Rattle.file_judge.specs.Refusals.{names_refused, stack_refused, text_refused, types_refused};
 
+use event_graph::StackError;
+use file_names::NameError;
+use file_parse::ParseError;
+use file_types::TypeError;
 use layer_ast::{At, Kind};
-use std::alloc::AllocError;
 use thiserror::Error;
 
 /// Why a file is refused: the first cause, in the order in which they stand here but that those at places in the text
@@ -57,10 +60,56 @@ pub enum FileError {
     Memory,
 }
 
-impl From<AllocError> for FileError {
-    ghost from_gives = { λ _ e. e ≡ Memory };
+impl From<ParseError> for FileError {
+    ghost from_gives = { λ refused e. e ≡ text_refused refused };
 
-    fn from(_: AllocError) -> FileError {
-        FileError::Memory
+    fn from(refused: ParseError) -> FileError {
+        match refused {
+            ParseError::TooLarge => FileError::TooLarge,
+            ParseError::BadToken(at) => FileError::BadToken(at),
+            ParseError::Unexpected(at) => FileError::Unexpected(at),
+            ParseError::Memory => FileError::Memory,
+        }
+    }
+}
+
+impl From<NameError> for FileError {
+    ghost from_gives = { λ refused e. e ≡ names_refused refused };
+
+    fn from(refused: NameError) -> FileError {
+        match refused {
+            NameError::Unknown(at) => FileError::Unknown(at),
+            NameError::Twice(at) => FileError::Twice(at),
+            NameError::TooMany(at) => FileError::OverLimit(at),
+            NameError::Memory => FileError::Memory,
+        }
+    }
+}
+
+impl From<TypeError> for FileError {
+    ghost from_gives = { λ refused e. e ≡ types_refused refused };
+
+    fn from(refused: TypeError) -> FileError {
+        match refused {
+            TypeError::Kind(at) => FileError::Kind(at),
+            TypeError::Arity(at) => FileError::Arity(at),
+            TypeError::Direction(at) => FileError::Direction(at),
+            TypeError::Header(at) => FileError::Header(at),
+            TypeError::Initial(at) => FileError::Initial(at),
+            TypeError::Memory => FileError::Memory,
+        }
+    }
+}
+
+impl From<StackError> for FileError {
+    ghost from_gives = { λ refused e. e ≡ stack_refused refused };
+
+    fn from(refused: StackError) -> FileError {
+        match refused {
+            StackError::Cycle(place, kind) => FileError::Cycle(place, kind),
+            StackError::TooMany(weight) => FileError::TooMany(weight),
+            StackError::TooManyJoins => FileError::TooManyJoins,
+            StackError::Memory => FileError::Memory,
+        }
     }
 }

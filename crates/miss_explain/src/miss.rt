@@ -96,8 +96,6 @@ pub fn write_miss<O: Sink>(
         (miss_meant miss.now) ∷ []) (tells_of O.Sink out.old) (tells_of O.Sink out.new) result }
 {
     line.clear();
-    match build_miss(line, texts, event, member, miss) {
-        Ok(()) => put_line(line.slice(), out),
-        Err(Memory) => Err(SinkError::Memory),
-    }
+    build_miss(line, texts, event, member, miss)?;
+    put_line(line.slice(), out)
 }

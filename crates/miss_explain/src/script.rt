@@ -39,10 +39,8 @@ fn feed<P: Probe>(probe: &mut P, event: &ScriptEvent, outputs: &mut Outputs) -> 
     ensures places { outputs.new.places ≡ outputs.old.places }
 {
     let mut visits = 0;
-    match probe.feed(event, outputs, &mut visits) {
-        Ok(_) => Ok(()),
-        Err(Memory) => Err(Memory),
-    }
+    probe.feed(event, outputs, &mut visits)?;
+    Ok(())
 }
 
 /// Feeds an event that was probed, unless it was made as a common step.
@@ -154,10 +152,8 @@ fn write_end<O: Sink>(line: &mut Line, events: u64, out: &mut O) -> Result<(), S
         (tells_of O.Sink out.old) (tells_of O.Sink out.new) result }
 {
     line.clear();
-    match end_line(line, events) {
-        Ok(()) => put_line(line.slice(), out),
-        Err(Memory) => Err(SinkError::Memory),
-    }
+    end_line(line, events)?;
+    put_line(line.slice(), out)
 }
 
 /// Explains a script with a group that begins, runs by bypasses and tells of an event why it is no common step: of each

@@ -35,10 +35,8 @@ fn write_journal<O: Sink>(
     ensures { Wrote (losses.journal_line event.now ∷ []) (tells_of O.Sink out.old) (tells_of O.Sink out.new) result }
 {
     line.clear();
-    match journal_line(line, event) {
-        Ok(()) => put_line(line.slice(), out),
-        Err(Memory) => Err(SinkError::Memory),
-    }
+    journal_line(line, event)?;
+    put_line(line.slice(), out)
 }
 
 /// The bytes of a slice are bytes.

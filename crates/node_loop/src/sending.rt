@@ -16,7 +16,7 @@ ghost use Rattle.stack_shapes.specs.Trees.{plans_tree};
 use crate::receivers::{has, member_at};
 use crate::source::Source;
 use crate::tools::Tools;
-use msg_core::{Dest, MOST_MEMBERS, Memory, View};
+use msg_core::{Dest, MOST_MEMBERS, View};
 use outside::{LONGEST_DATAGRAM, LinkError, Links, Sink, SinkError, put_line};
 use packet_mean::Here;
 use report_lines::{Line, lost_line};
@@ -36,10 +36,8 @@ fn write_lost<O: Sink>(line: &mut Line, number: u64, out: &mut O) -> Result<(), 
     ensures { Wrote (losses.lost_line number ∷ []) (tells_of O.Sink out.old) (tells_of O.Sink out.new) result }
 {
     line.clear();
-    match lost_line(line, number) {
-        Ok(()) => put_line(line.slice(), out),
-        Err(Memory) => Err(SinkError::Memory),
-    }
+    lost_line(line, number)?;
+    put_line(line.slice(), out)
 }
 
 /// Hands a datagram on to a member; where that fails, a line says so.
@@ -132,16 +130,12 @@ pub(crate) fn hand_on<O: Sink, N: Links>(
         (around O.Sink N.Links out.old links.old) (around O.Sink N.Links out.new links.new) result }
     ensures listening { (m : ℕ) → N.listening links.new m ≡ N.listening links.old m }
 {
-    match spell(&mut tools.bytes, source.plans, here, packet) {
-        Ok(()) => {
-            let sending = Sending {
-                from: source.id,
-                number: source.number,
-                bytes: &tools.bytes,
-            };
-            let line = &mut tools.line;
-            send_to_all_of(line, here.view, packet.dest, sending, out, links)
-        }
-        Err(Memory) => Err(SinkError::Memory),
-    }
+    spell(&mut tools.bytes, source.plans, here, packet)?;
+    let sending = Sending {
+        from: source.id,
+        number: source.number,
+        bytes: &tools.bytes,
+    };
+    let line = &mut tools.line;
+    send_to_all_of(line, here.view, packet.dest, sending, out, links)
 }

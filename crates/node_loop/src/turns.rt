@@ -24,7 +24,6 @@ use crate::desk::Desk;
 use crate::error::{NodeError, cut};
 use crate::feeding::feed_on;
 use group_feed::Feed;
-use msg_core::Memory;
 use outside::{Clock, LONGEST_DATAGRAM, LinkError, Links, Sink, SinkError, put_line};
 use report_lines::{Line, deaf_line};
 use script_mean::{Bytes, ScriptEvent, member_of};
@@ -67,10 +66,8 @@ fn write_deaf<O: Sink>(line: &mut Line, id: u8, out: &mut O) -> Result<(), SinkE
     ensures { Wrote (losses.deaf_line id ∷ []) (tells_of O.Sink out.old) (tells_of O.Sink out.new) result }
 {
     line.clear();
-    match deaf_line(line, id) {
-        Ok(()) => put_line(line.slice(), out),
-        Err(Memory) => Err(SinkError::Memory),
-    }
+    deaf_line(line, id)?;
+    put_line(line.slice(), out)
 }
 
 /// Bears a failed receive, and puts a line that says so; where no more may be borne, that is the end.

@@ -4,6 +4,7 @@ ghost use Rattle.std.specs.Option.{option_map};
 ghost use Rattle.outside.specs.declared.sink.SinkError.TheVariants.{Memory};
 ghost use Rattle.outside.specs.Sink.{Puts, faults_after_put};
 
+use msg_core::Memory as NoMemory;
 use std::alloc::AllocError;
 
 /// Why a put didn't append all its bytes.
@@ -19,6 +20,14 @@ impl From<AllocError> for SinkError {
     ghost from_gives = { λ _ e. e ≡ Memory };
 
     fn from(_: AllocError) -> Self {
+        SinkError::Memory
+    }
+}
+
+impl From<NoMemory> for SinkError {
+    ghost from_gives = { λ _ e. e ≡ Memory };
+
+    fn from(_: NoMemory) -> Self {
         SinkError::Memory
     }
 }

@@ -55,10 +55,8 @@ pub fn write_change<O: Sink>(
 {
     let Some(change) = change else { return Ok(()) };
     pen.line.clear();
-    match build_change(&mut pen.line, id, change) {
-        Ok(()) => put_line(pen.line.slice(), out),
-        Err(Memory) => Err(SinkError::Memory),
-    }
+    build_change(&mut pen.line, id, change)?;
+    put_line(pen.line.slice(), out)
 }
 
 /// Puts the lines of a step that was taken.
@@ -90,10 +88,8 @@ pub fn write_refusal<O: Sink>(
         (tells_of O.Sink out.old) (tells_of O.Sink out.new) result }
 {
     pen.line.clear();
-    match refused_line(&mut pen.line, id, refusal) {
-        Ok(()) => put_line(pen.line.slice(), out),
-        Err(Memory) => Err(SinkError::Memory),
-    }
+    refused_line(&mut pen.line, id, refusal)?;
+    put_line(pen.line.slice(), out)
 }
 
 /// Puts the lines of a step.
@@ -122,10 +118,8 @@ fn write_absent<O: Sink>(pen: &mut Pen, id: u8, number: u32, out: &mut O) -> Res
         (tells_of O.Sink out.old) (tells_of O.Sink out.new) result }
 {
     pen.line.clear();
-    match absent_line(&mut pen.line, id, number) {
-        Ok(()) => put_line(pen.line.slice(), out),
-        Err(Memory) => Err(SinkError::Memory),
-    }
+    absent_line(&mut pen.line, id, number)?;
+    put_line(pen.line.slice(), out)
 }
 
 /// Puts the lines of what an event came to, one by one: those of a step's outputs, and of where the member is then; a
@@ -166,10 +160,8 @@ pub fn write_end<O: Sink>(pen: &mut Pen, events: u64, out: &mut O) -> Result<(),
         (tells_of O.Sink out.old) (tells_of O.Sink out.new) result }
 {
     pen.line.clear();
-    match report_lines::end_line(&mut pen.line, events) {
-        Ok(()) => put_line(pen.line.slice(), out),
-        Err(Memory) => Err(SinkError::Memory),
-    }
+    report_lines::end_line(&mut pen.line, events)?;
+    put_line(pen.line.slice(), out)
 }
 
 /// Puts the line of how many visits were counted.
@@ -178,8 +170,6 @@ pub fn write_visits<O: Sink>(pen: &mut Pen, visits: u64, out: &mut O) -> Result<
         (tells_of O.Sink out.old) (tells_of O.Sink out.new) result }
 {
     pen.line.clear();
-    match report_lines::visits_line(&mut pen.line, visits) {
-        Ok(()) => put_line(pen.line.slice(), out),
-        Err(Memory) => Err(SinkError::Memory),
-    }
+    report_lines::visits_line(&mut pen.line, visits)?;
+    put_line(pen.line.slice(), out)
 }

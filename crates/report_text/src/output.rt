@@ -75,10 +75,10 @@ pub fn put_output<O: Sink>(
         (tells_of O.Sink out.old) (tells_of O.Sink out.new) result }
 {
     pen.line.clear();
-    match build_output(&mut pen.line, stack, here, id, number, output) {
-        Ok(true) => put_line(pen.line.slice(), out),
-        Ok(false) => Ok(()),
-        Err(Memory) => Err(SinkError::Memory),
+    if build_output(&mut pen.line, stack, here, id, number, output)? {
+        put_line(pen.line.slice(), out)
+    } else {
+        Ok(())
     }
 }
 
@@ -115,10 +115,8 @@ fn put_wire<O: Sink>(
         return Ok(())
     };
     pen.line.clear();
-    match build_wire(&mut pen.line, &mut pen.bytes, plans, here, number, packet) {
-        Ok(()) => put_line(pen.line.slice(), out),
-        Err(Memory) => Err(SinkError::Memory),
-    }
+    build_wire(&mut pen.line, &mut pen.bytes, plans, here, number, packet)?;
+    put_line(pen.line.slice(), out)
 }
 
 /// Puts the lines of an output: its own, and where it is wanted that of its bytes.

@@ -15,7 +15,7 @@ use crate::cells::{Queues, build_numbers, build_queue};
 use crate::pen::Pen;
 use group_feed::{Shows, Spot};
 use layer_ast::Word;
-use msg_core::{Memory, View};
+use msg_core::View;
 use outside::{Sink, SinkError, put_line};
 use report_lines::{NamedStack, state_line, state_out_line};
 use typed_layer::{Cell, Form, TypedLayer};
@@ -37,10 +37,8 @@ fn write_numbers<S: Shows, O: Sink>(
         (tells_of O.Sink out.old) (tells_of O.Sink out.new) result }
 {
     pen.line.clear();
-    match build_numbers(&mut pen.line, group, layer, name, spot) {
-        Ok(()) => put_line(pen.line.slice(), out),
-        Err(Memory) => Err(SinkError::Memory),
-    }
+    build_numbers(&mut pen.line, group, layer, name, spot)?;
+    put_line(pen.line.slice(), out)
 }
 
 /// Puts the line of a queue.
@@ -59,10 +57,8 @@ fn write_queue<S: Shows, O: Sink>(
         (tells_of O.Sink out.old) (tells_of O.Sink out.new) result }
 {
     pen.line.clear();
-    match build_queue(&mut pen.line, stack, group, queues, spot, queue) {
-        Ok(()) => put_line(pen.line.slice(), out),
-        Err(Memory) => Err(SinkError::Memory),
-    }
+    build_queue(&mut pen.line, stack, group, queues, spot, queue)?;
+    put_line(pen.line.slice(), out)
 }
 
 /// Puts the lines of the queues of a cell.
@@ -180,10 +176,8 @@ fn write_view<O: Sink>(pen: &mut Pen, id: u8, view: View, out: &mut O) -> Result
         (tells_of O.Sink out.old) (tells_of O.Sink out.new) result }
 {
     pen.line.clear();
-    match state_line(&mut pen.line, id, view) {
-        Ok(()) => put_line(pen.line.slice(), out),
-        Err(Memory) => Err(SinkError::Memory),
-    }
+    state_line(&mut pen.line, id, view)?;
+    put_line(pen.line.slice(), out)
 }
 
 /// Puts the line of a member that is in no view.
@@ -192,10 +186,8 @@ fn write_out<O: Sink>(pen: &mut Pen, id: u8, out: &mut O) -> Result<(), SinkErro
         (tells_of O.Sink out.old) (tells_of O.Sink out.new) result }
 {
     pen.line.clear();
-    match state_out_line(&mut pen.line, id) {
-        Ok(()) => put_line(pen.line.slice(), out),
-        Err(Memory) => Err(SinkError::Memory),
-    }
+    state_out_line(&mut pen.line, id)?;
+    put_line(pen.line.slice(), out)
 }
 
 /// Puts the lines of a member that is shown: where it is, and what its layers' cells hold.

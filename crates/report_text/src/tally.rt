@@ -207,10 +207,8 @@ fn write_kinds<O: Sink>(pen: &mut Pen, tally: &Tally, out: &mut O) -> Result<(),
         (tells_of O.Sink out.old) (tells_of O.Sink out.new) result }
 {
     pen.line.clear();
-    match build_kinds(&mut pen.line, tally) {
-        Ok(()) => put_line(pen.line.slice(), out),
-        Err(Memory) => Err(SinkError::Memory),
-    }
+    build_kinds(&mut pen.line, tally)?;
+    put_line(pen.line.slice(), out)
 }
 
 /// Builds the line of the packets that are sent short.
@@ -229,10 +227,8 @@ fn write_short<O: Sink>(pen: &mut Pen, tally: &Tally, out: &mut O) -> Result<(),
         (tells_of O.Sink out.old) (tells_of O.Sink out.new) result }
 {
     pen.line.clear();
-    match build_short(&mut pen.line, tally) {
-        Ok(()) => put_line(pen.line.slice(), out),
-        Err(Memory) => Err(SinkError::Memory),
-    }
+    build_short(&mut pen.line, tally)?;
+    put_line(pen.line.slice(), out)
 }
 
 /// Puts the two lines of a tally: the lines of each kind with the events, and the packets that are sent short.

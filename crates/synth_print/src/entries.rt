@@ -94,10 +94,8 @@ fn write_absent<O: Sink>(
         (tells_of O.Sink out.old) (tells_of O.Sink out.new) result }
 {
     line.clear();
-    match build_absent(line, name, second, reason) {
-        Ok(()) => put_line(line.slice(), out),
-        Err(Memory) => Err(SinkError::Memory),
-    }
+    build_absent(line, name, second, reason)?;
+    put_line(line.slice(), out)
 }
 
 /// Builds the first line of a case with a trace.
@@ -119,10 +117,8 @@ fn write_heading<O: Sink>(
         (tells_of O.Sink out.old) (tells_of O.Sink out.new) result }
 {
     line.clear();
-    match build_fused(line, name, second) {
-        Ok(()) => put_line(line.slice(), out),
-        Err(Memory) => Err(SinkError::Memory),
-    }
+    build_fused(line, name, second)?;
+    put_line(line.slice(), out)
 }
 
 /// Puts the lines of a case with a trace.

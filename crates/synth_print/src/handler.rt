@@ -55,10 +55,8 @@ fn write_value<O: Sink>(
         (tells_of O.Sink out.old) (tells_of O.Sink out.new) result }
 {
     line.clear();
-    match build_value(line, scope, number, value) {
-        Ok(()) => put_line(line.slice(), out),
-        Err(Memory) => Err(SinkError::Memory),
-    }
+    build_value(line, scope, number, value)?;
+    put_line(line.slice(), out)
 }
 
 /// A node of a list.
@@ -111,10 +109,8 @@ fn write_conjunct<O: Sink>(
         (tells_of O.Sink out.old) (tells_of O.Sink out.new) result }
 {
     line.clear();
-    match build_conjunct(line, scope, conjunct) {
-        Ok(()) => put_line(line.slice(), out),
-        Err(Memory) => Err(SinkError::Memory),
-    }
+    build_conjunct(line, scope, conjunct)?;
+    put_line(line.slice(), out)
 }
 
 /// Puts the lines of the conjuncts.
@@ -183,10 +179,10 @@ fn write_operation<O: Sink>(
     ensures few { OnOk result (written.new.binds ≤ written.old.binds + 1) }
 {
     line.clear();
-    match build_operation(line, stack, written, source, operation) {
-        Ok(true) => put_line(line.slice(), out),
-        Ok(false) => Ok(()),
-        Err(Memory) => Err(SinkError::Memory),
+    if build_operation(line, stack, written, source, operation)? {
+        put_line(line.slice(), out)
+    } else {
+        Ok(())
     }
 }
 

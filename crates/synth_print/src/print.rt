@@ -36,10 +36,8 @@ fn write_plan<O: Sink>(
         (tells_of O.Sink out.old) (tells_of O.Sink out.new) result }
 {
     line.clear();
-    match build_plan(line, stack, number, plan) {
-        Ok(()) => put_line(line.slice(), out),
-        Err(Memory) => Err(SinkError::Memory),
-    }
+    build_plan(line, stack, number, plan)?;
+    put_line(line.slice(), out)
 }
 
 /// Puts the lines of what is made of an entry, if there is any.
@@ -138,10 +136,8 @@ fn write_end<O: Sink>(line: &mut Line, bypasses: &Bypasses, out: &mut O) -> Resu
         (tells_of O.Sink out.old) (tells_of O.Sink out.new) result }
 {
     line.clear();
-    match build_end(line, bypasses) {
-        Ok(()) => put_line(line.slice(), out),
-        Err(Memory) => Err(SinkError::Memory),
-    }
+    build_end(line, bypasses)?;
+    put_line(line.slice(), out)
 }
 
 /// Puts the lines of the application's own entries.

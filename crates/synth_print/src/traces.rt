@@ -53,10 +53,8 @@ fn write_heading<O: Sink>(
         result }
 {
     line.clear();
-    match build_heading(line, name, second) {
-        Ok(()) => put_line(line.slice(), out),
-        Err(Memory) => Err(SinkError::Memory),
-    }
+    build_heading(line, name, second)?;
+    put_line(line.slice(), out)
 }
 
 /// Puts the trace of a case of an entry behind its heading.
