@@ -23,9 +23,9 @@ use file_layer::{FileLayer, Maker};
 use msg_core::View;
 use packet_full::member_count;
 use pool_message::Events;
-use slot_pool::{Memory, Pool};
+use slot_pool::Pool;
 use stack_queue::{Tasks, events_for};
-use std::alloc::Global;
+use std::alloc::{AllocError, Global};
 use view_core::rank;
 
 /// How many slots a member's pool has beyond one for each row with a message: one for the body of the event that begins
@@ -39,7 +39,7 @@ struct Lists {
 }
 
 impl Lists {
-    fn fresh(alloc: Global, stack: &Stack) -> Result<Lists, Memory>
+    fn fresh(alloc: Global, stack: &Stack) -> Result<Lists, AllocError>
         ensures tasks { IfOk result (λ l. l.tasks ≡ buffer [] (largest_weight (stack_tree stack.now))) }
         ensures outs { IfOk result (λ l. l.outs ≡ buffer [] (largest_weight (stack_tree stack.now))) }
     {
@@ -82,7 +82,7 @@ fn make_layers(
     me: u32,
     count: u32,
     ltime: u32,
-) -> Result<Vec<FileLayer>, Memory>
+) -> Result<Vec<FileLayer>, AllocError>
     requires places { places ≡ length (making maker.old).stack }
     requires typed { TypedStack (making maker.old).stack }
     requires made { (making maker.old).made ≤ 2 ^ 62 }
@@ -111,7 +111,7 @@ pub(crate) fn open_works(
     view: View,
     id: u8,
     rows: u32,
-) -> Result<Works, Memory>
+) -> Result<Works, AllocError>
     requires same { (making maker.old).stack ≡ stack_tree stack.now }
     requires typed { TypedStack (stack_tree stack.now) }
     requires made { (making maker.old).made ≤ 2 ^ 62 }
@@ -166,7 +166,7 @@ pub(crate) fn open_kit(
     view: View,
     id: u8,
     rows: u32,
-) -> Result<Kit, Memory>
+) -> Result<Kit, AllocError>
     requires opening { CanOpen (2 ^ 62) (making maker.old) opening }
     requires member { is_some (members.rank view id) ≡ true }
     requires rows { rows ≡ rows_of (stack_in opening) (members.member_count view) }

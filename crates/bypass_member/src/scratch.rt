@@ -9,9 +9,8 @@ ghost use Rattle.packet_short.specs.Keeping.{HasAtMost};
 ghost use Rattle.bypass_member.specs.Serving.{IsSpare, Serves};
 
 use bypass_codes::Codes;
-use slot_pool::Memory;
 use stack_shapes::Plans;
-use std::alloc::Global;
+use std::alloc::{AllocError, Global};
 use std::rc::Rc;
 use trace_reads::{Needs, Values};
 
@@ -34,7 +33,7 @@ fn most_fields(plans: &Plans) -> usize
 }
 
 /// What runs of these codes keep at most; where there are none, nothing.
-fn values_for(alloc: Global, codes: Option<&Rc<Codes>>) -> Result<Values, Memory>
+fn values_for(alloc: Global, codes: Option<&Rc<Codes>>) -> Result<Values, AllocError>
     ensures { IfOk result (Serves (option_map (λ c. rc_value c.now) codes.entry)) }
 {
     match codes {
@@ -48,7 +47,7 @@ pub(crate) fn open_scratch(
     alloc: Global,
     codes: Option<&Rc<Codes>>,
     plans: &Plans,
-) -> Result<Scratch, Memory>
+) -> Result<Scratch, AllocError>
     ensures { IfOk result (IsSpare (option_map (λ c. rc_value c.now) codes.entry) (plans_tree plans.now)) }
 {
     let fields = Vec::with_capacity(alloc, most_fields(plans))?;
@@ -57,7 +56,7 @@ pub(crate) fn open_scratch(
 }
 
 /// The same code once more, if there is some.
-pub(crate) fn share(codes: Option<&Rc<Codes>>) -> Result<Option<Rc<Codes>>, Memory>
+pub(crate) fn share(codes: Option<&Rc<Codes>>) -> Result<Option<Rc<Codes>>, AllocError>
     ensures { IfOk result (λ shared. option_map rc_value shared ≡ option_map (λ c. rc_value c.now) codes.entry) }
 {
     match codes {

@@ -15,7 +15,7 @@ use Rattle.layer_mean.specs.Tree.{CellTree}
 use Rattle.layer_mean.specs.State.{size_of}
 use Rattle.cell_store.specs.declared.slot.Frame.{Frame}
 use Rattle.cell_store.specs.declared.slot.Frame.TheVariants.{Numbers, Queues}
-use Rattle.cell_store.specs.declared.slot.Slot.{Slot}
+use Rattle.cell_store.specs.declared.slot.StoredCell.{StoredCell}
 use Rattle.typed_layer.specs.declared.tree.Cell.{Cell}
 use Rattle.typed_layer.specs.View.{cell_tree, form_tree}
 use Rattle.cell_store.specs.Kept.{numbers, queues, rows_of}
@@ -100,18 +100,19 @@ room_here n most capacity i cells cell few room within read =
     )
 
 module _ {R : Type 0} where
-  laid_more : (most at end end' : ℕ) (slots : List (Slot R)) (s : Slot R) → AreLaid most at end slots → end ≤ s.at →
+  laid_more : (most at end end' : ℕ) (slots : List (StoredCell R)) (s : StoredCell R) → AreLaid most at end slots →
+      end ≤ s.at →
       FitsFrame most s.frame s.count s.rings → s.at + s.count ≤ end' → AreLaid most at end' (slots ++ s ∷ [])
   laid_more most at end end' [] s laid behind fits before = (omega (arith, laid, behind), (fits, before))
   laid_more most at end end' (t ∷ rest) s laid behind fits before =
       (laid.0, (laid.1.0, laid_more most (t.at + t.count) end end' rest s laid.1.1 behind fits before))
 
-  laid_bound : (most at end : ℕ) (slots : List (Slot R)) → AreLaid most at end slots → at ≤ end
+  laid_bound : (most at end : ℕ) (slots : List (StoredCell R)) → AreLaid most at end slots → at ≤ end
   laid_bound most at end [] laid = laid
   laid_bound most at end (s ∷ rest) laid = let rest = laid_bound most (s.at + s.count) end rest laid.1.1 in
       omega (arith, rest, laid.0)
 
-  kept_more : (most at : ℕ) (block more : List ℕ) (slots : List (Slot R)) → AreLaid most at (length block) slots →
+  kept_more : (most at : ℕ) (block more : List ℕ) (slots : List (StoredCell R)) → AreLaid most at (length block) slots →
       map (slot_kept (block ++ more)) slots ≡ map (slot_kept block) slots
   kept_more most at block more [] laid = refl
   kept_more most at block more (s ∷ rest) laid =
@@ -123,16 +124,17 @@ module _ {R : Type 0} where
       (kept_more most (s.at + s.count) block more rest laid.1.1)
 
   -- a cell that begins behind a block
-  pub record Begins (me n ltime most at : ℕ) (form : tree.Form) (s : Slot R) : Type 0 where
+  pub record Begins (me n ltime most at : ℕ) (form : tree.Form) (s : StoredCell R) : Type 0 where
     pub place : s.at ≡ at
     pub count : s.count ≡ length (first_numbers me n ltime form)
     pub frame : s.frame ≡ frame_in form
     pub fits : FitsFrame most s.frame s.count s.rings
     pub kept : framed s.frame (first_numbers me n ltime form) s.rings ≡ kept_first me n ltime form
 
-  pub first_more : (me n ltime most : ℕ) (cells : List CellTree) (block block' : List ℕ) (slots : List (Slot R))
+  pub first_more : (me n ltime most : ℕ) (cells : List CellTree) (block block' : List ℕ) (slots : List (StoredCell R))
       (cell : CellTree)
-      (s : Slot R) → AreFirst me n ltime most cells block slots → block' ≡ block ++ first_numbers me n ltime cell.form →
+      (s : StoredCell R) → AreFirst me n ltime most cells block slots →
+      block' ≡ block ++ first_numbers me n ltime cell.form →
       Begins me n ltime most (length block) cell.form s →
       AreFirst me n ltime most (cells ++ cell ∷ []) block' (slots ++ s ∷ [])
   first_more me n ltime most cells block block' slots cell s first new begins =
@@ -144,13 +146,13 @@ module _ {R : Type 0} where
             ∙ ap₂ (λ xs x. xs ++ x ∷ []) (kept_more most 0 block more slots first.laid ∙ first.kept)
             (here ∙ begins.kept)
             ∙ sym (map-append (λ (c : CellTree). kept_first me n ltime c.form) cells (cell ∷ []));
-        frames = map-append (λ (s : Slot R). s.frame) slots (s ∷ []) ∙
+        frames = map-append (λ (s : StoredCell R). s.frame) slots (s ∷ []) ∙
             ap₂ (λ xs x. xs ++ x ∷ []) first.frames begins.frame
             ∙ sym (map-append (λ (c : CellTree). frame_in c.form) cells (cell ∷ []));
         size = length-append block more ∙
             ap₂ (λ a b. a + b) first.size (first_size me n ltime cell.form ∙ ap (numbers_for n) (sym begins.frame))
             ∙ sym (sum_by_push (numbers_for n) (frames_of slots) s.frame)
-            ∙ ap (sum_by (numbers_for n)) (sym (map-append (λ (s : Slot R). s.frame) slots (s ∷ [])));
+            ∙ ap (sum_by (numbers_for n)) (sym (map-append (λ (s : StoredCell R). s.frame) slots (s ∷ [])));
       }
     where
       more : List ℕ
@@ -176,7 +178,7 @@ module _ {R : Type 0} where
 
   -- one cell more is made
   pub begun_one : (me n ltime i : ℕ) (cells : List Cell) (cell : Cell) (block block' : List ℕ)
-      (slots slots' : List (Slot R)) (s : Slot R) →
+      (slots slots' : List (StoredCell R)) (s : StoredCell R) →
       AreFirst me n ltime n (map cell_tree (take i cells)) block slots → slot_rows slots ≡ [] → i < length cells →
       cell ≡ slice_index_or cells i cell → block' ≡ block ++ first_numbers me n ltime (form_tree cell.form) →
       s ≡ slot_first n n (length block) (form_tree cell.form) → slots' ≡ slots ++ s ∷ [] →
@@ -190,7 +192,7 @@ module _ {R : Type 0} where
             (sym (one_more i cells cell within read))
             (first_more me n ltime n (map cell_tree (take i cells)) block block' slots (cell_tree cell) _ first new
             (begins_first me n ltime (length block) (form_tree cell.form)))),
-        ap slot_rows all ∙ flat_map-append (λ (s : Slot R). rows_of s.rings.rows) slots _
+        ap slot_rows all ∙ flat_map-append (λ (s : StoredCell R). rows_of s.rings.rows) slots _
             ∙ ap₂ (λ xs ys. xs ++ (ys ++ [])) none (none_in (queues_for n (frame_in (form_tree cell.form)))),
       )
 
@@ -235,13 +237,13 @@ module _ {R : Type 0} where
         kept = λ k. queues (shapes k) (capacities k) (replicate (size_of n (shapes k)) []);
       }
 
-  pub begins_again : (me n ltime most at : ℕ) → n ≤ most → (s : Slot R) (form : tree.Form) →
+  pub begins_again : (me n ltime most at : ℕ) → n ≤ most → (s : StoredCell R) (form : tree.Form) →
       slot_form s ≡ tree_form form →
       FitsFrame most s.frame s.count s.rings → Begins me n ltime most at form (slot_again n at s)
   begins_again me n ltime most at few s form same fits = begins_again_of me n ltime most at s.at s.count few s.frame
       s.rings form same fits
 
-  pub frames_of_forms : (slots : List (Slot R)) (cells : List CellTree) →
+  pub frames_of_forms : (slots : List (StoredCell R)) (cells : List CellTree) →
       map slot_form slots ≡ map (λ c. tree_form c.form) cells →
       frames_of slots ≡ map (λ c. frame_in c.form) cells
   frames_of_forms [] [] same = refl
@@ -253,7 +255,7 @@ module _ {R : Type 0} where
       ap₂ (λ x xs. x ∷ xs) (frame_of_form s.frame s.rings.capacity cell.form head) (frames_of_forms slots cells rest)
 
   -- one cell more begins again
-  same_behind : (xs ys : List (Slot R)) (i : ℕ) (d : Slot R) → drop i xs ≡ drop i ys →
+  same_behind : (xs ys : List (StoredCell R)) (i : ℕ) (d : StoredCell R) → drop i xs ≡ drop i ys →
       slice_index_or xs i d ≡ slice_index_or ys i d
   same_behind xs ys i d same =
       let place : i + 0 ≡ i = omega arith in
@@ -262,12 +264,13 @@ module _ {R : Type 0} where
       ∙ ap (λ k. slice_index_or ys k d) place
 
   -- what is known of the cell before
-  pub record Before (most i : ℕ) (cell : Cell) (olds : List (Slot R)) (s : Slot R) : Type 0 where
+  pub record Before (most i : ℕ) (cell : Cell) (olds : List (StoredCell R)) (s : StoredCell R) : Type 0 where
     pub form : slot_form s ≡ tree_form (form_tree cell.form)
     pub fits : FitsFrame most s.frame s.count s.rings
     pub empty : rows_of s.rings.rows ≡ []
 
-  pub before : (most end i : ℕ) (cells : List Cell) (cell : Cell) (slots olds : List (Slot R)) (s : Slot R) →
+  pub before : (most end i : ℕ) (cells : List Cell) (cell : Cell) (slots olds : List (StoredCell R))
+      (s : StoredCell R) →
       AreLaid most 0 end olds →
       map slot_form olds ≡ map (λ c. tree_form c.form) (map cell_tree cells) → slot_rows olds ≡ [] →
       drop i slots ≡ drop i olds →
@@ -286,7 +289,7 @@ module _ {R : Type 0} where
       }
 
   pub restarted_one : (me n ltime most i : ℕ) → n ≤ most →
-      (cells : List Cell) (cell : Cell) (block block' : List ℕ) (slots : List (Slot R)) (s new : Slot R) →
+      (cells : List Cell) (cell : Cell) (block block' : List ℕ) (slots : List (StoredCell R)) (s new : StoredCell R) →
       AreFirst me n ltime most (map cell_tree (take i cells)) block (take i slots) → i < length cells →
       cell ≡ slice_index_or cells i cell →
       block' ≡ block ++ first_numbers me n ltime (form_tree cell.form) → i < length slots →
@@ -303,12 +306,12 @@ module _ {R : Type 0} where
       filled
       (begins_again me n ltime most (length block) few s (form_tree cell.form) form fits)))
 
-  pub left_behind : (i : ℕ) (slots olds : List (Slot R)) (new : Slot R) → drop i slots ≡ drop i olds →
+  pub left_behind : (i : ℕ) (slots olds : List (StoredCell R)) (new : StoredCell R) → drop i slots ≡ drop i olds →
       drop (i + 1) (slice_set slots i new) ≡ drop (i + 1) olds
   left_behind i slots olds new left =
       drop-set-lt (i + 1) slots i new (omega arith) ∙ sym (drop-drop 1 i slots) ∙ ap (drop 1) left ∙ drop-drop 1 i olds
 
-  pub all_first : (me n ltime most i : ℕ) (cells : List Cell) (block : List ℕ) (slots : List (Slot R)) →
+  pub all_first : (me n ltime most i : ℕ) (cells : List Cell) (block : List ℕ) (slots : List (StoredCell R)) →
       AreFirst me n ltime most (map cell_tree (take i cells)) block (take i slots) → length cells ≤ i →
       length slots ≤ i →
       AreFirst me n ltime most (map cell_tree cells) block slots
@@ -324,18 +327,18 @@ module _ {R : Type 0} where
   queues_again n most (Queues shape) count qs few fits = let sizes = more_numbers n most few (Numbers shape) in
       omega (arith, sizes, fits.1)
 
-  pub queues_fit : (n most : ℕ) (s : Slot R) → n ≤ most → FitsFrame most s.frame s.count s.rings →
+  pub queues_fit : (n most : ℕ) (s : StoredCell R) → n ≤ most → FitsFrame most s.frame s.count s.rings →
       queues_for n s.frame ≤ s.rings.most
   queues_fit n most s few fits = queues_again n most s.frame s.count s.rings few fits
 
-  pub same_count : (slots : List (Slot R)) (cells : List Cell) →
+  pub same_count : (slots : List (StoredCell R)) (cells : List Cell) →
       map slot_form slots ≡ map (λ c. tree_form c.form) (map cell_tree cells) →
       length slots ≡ length cells
   same_count slots cells forms =
       sym (length-map slots slot_form) ∙ ap length forms ∙ length-map (map cell_tree cells) (λ c. tree_form c.form) ∙
       length-map cells cell_tree
 
-  pub room_in_forms : (most capacity : ℕ) (slots : List (Slot R)) (cells : List CellTree) →
+  pub room_in_forms : (most capacity : ℕ) (slots : List (StoredCell R)) (cells : List CellTree) →
       map slot_form slots ≡ map (λ c. tree_form c.form) cells →
       sum_by (numbers_for most) (frames_of slots) ≤ capacity →
       sum_by (numbers_for most) (map (λ c. frame_in c.form) cells) ≤ capacity
@@ -348,14 +351,14 @@ module _ {R : Type 0} where
   kept_framed (Numbers shape) ns qs = refl
   kept_framed (Queues shape) ns qs = refl
 
-  pub forms_kept : (block : List ℕ) (slots : List (Slot R)) →
+  pub forms_kept : (block : List ℕ) (slots : List (StoredCell R)) →
       map slot_form slots ≡ map kept_form (map (slot_kept block) slots)
   forms_kept block [] = refl
   forms_kept block (s ∷ rest) = ap₂ (λ x xs. x ∷ xs) (kept_framed s.frame (take s.count (drop s.at block)) s.rings)
       (forms_kept block rest)
 
   pub again_slots : (me n ltime most capacity capacity' : ℕ) (cells : List CellTree) (block block' : List ℕ)
-      (slots slots' : List (Slot R)) →
+      (slots slots' : List (StoredCell R)) →
       n ≤ most → most ≤ most_members → AreFirst me n ltime most cells block' slots' →
       map slot_form slots ≡ map (λ c. tree_form c.form) cells →
       sum_by (numbers_for most) (frames_of slots) ≤ capacity → capacity ≤ capacity' →

@@ -4,7 +4,7 @@ use Rattle.std.proofs.Common.{slice_index_or, slice_set, Option, Some, None, ref
 use Rattle.std.specs.List.{sum_by}
 use Rattle.cell_store.specs.declared.slot.Frame.{Frame}
 use Rattle.cell_store.specs.declared.slot.Frame.TheVariants.{Numbers, Queues}
-use Rattle.cell_store.specs.declared.slot.Slot.{Slot}
+use Rattle.cell_store.specs.declared.slot.StoredCell.{StoredCell}
 use Rattle.cell_store.specs.Kept.{KeptCell, Kept, nothing_kept, queues_kept, capacity_of, kept_at, kept_rows}
 use Rattle.cell_store.specs.Kept.{kept_capacity, keeps_room, rows_set, with_kept, with_kept_rows}
 use Rattle.cell_store.specs.Frames.{numbers_for}
@@ -32,15 +32,16 @@ module _ {R : Type 0} where
   unchanged me n ltime most c f cells p view is = sym view ∙ changed me n ltime most c f cells cells p view is
 
   -- rows of a queue
-  pub queue_read : (most end : ℕ) (block : List ℕ) (slots : List (Slot R)) (p : Kept R) (me n ltime most' c i : ℕ)
-      (s : Slot R) →
+  pub queue_read : (most end : ℕ) (block : List ℕ) (slots : List (StoredCell R)) (p : Kept R) (me n ltime most' c i : ℕ)
+      (s : StoredCell R) →
       whole me n ltime most' (map (slot_kept block) slots) ≡ p → AreLaid most 0 end slots → slice_get slots c ≡ Some s →
       slice_index_or s.rings.rows i [] ≡ kept_rows p c i
   queue_read most end block slots p me n ltime most' c i s view laid is =
       ap (λ qs. slice_index_or qs i [])
       (queues_read most end block slots p.cells c s (ap (λ (k : Kept R). k.cells) view) laid is)
 
-  pub queue_changed : (block : List ℕ) (slots : List (Slot R)) (p : Kept R) (me n ltime most' c i : ℕ) (s : Slot R)
+  pub queue_changed : (block : List ℕ) (slots : List (StoredCell R)) (p : Kept R) (me n ltime most' c i : ℕ)
+      (s : StoredCell R)
       (rings : CellQueues R) (rows rows' : List R) → whole me n ltime most' (map (slot_kept block) slots) ≡ p →
       slice_get slots c ≡ Some s → rings ≡ record s.rings { rows = slice_set s.rings.rows i rows } → rows ≡ rows' →
       whole me n ltime most' (map (slot_kept block) (slice_set slots c (record s { rings = rings }))) ≡
@@ -51,7 +52,7 @@ module _ {R : Type 0} where
       ∙ ap (λ rows. map (slot_kept block) (slice_set slots c (with_rows i rows s))) same
       ∙ rows_written block slots c i rows' s is)
 
-  pub still_slots : (n most capacity : ℕ) (block : List ℕ) (slots : List (Slot R)) (c i : ℕ) (s : Slot R)
+  pub still_slots : (n most capacity : ℕ) (block : List ℕ) (slots : List (StoredCell R)) (c i : ℕ) (s : StoredCell R)
       (rings : CellQueues R)
       (rows : List R) → AreSlots n most capacity block slots → slice_get slots c ≡ Some s →
       rings ≡ record s.rings { rows = slice_set s.rings.rows i rows } →
@@ -66,12 +67,12 @@ module _ {R : Type 0} where
       }
 
   -- a queue with room is there
-  pub room_there : (block : List ℕ) (slots : List (Slot R)) (p : Kept R) (me n ltime most' c i : ℕ) →
+  pub room_there : (block : List ℕ) (slots : List (StoredCell R)) (p : Kept R) (me n ltime most' c i : ℕ) →
       whole me n ltime most' (map (slot_kept block) slots) ≡ p → keeps_room p c i (kept_capacity p c) ≡ true →
       c < length slots
   room_there block slots p me n ltime most' c i view room = go (slice_get slots c) refl
     where
-      go : (o : Option (Slot R)) → slice_get slots c ≡ o → c < length slots
+      go : (o : Option (StoredCell R)) → slice_get slots c ≡ o → c < length slots
       go None is =
           let none = nothing_read block slots p.cells c (ap (λ (k : Kept R). k.cells) view) is in
           let room_none = ap (λ (cell : KeptCell R). nat_lt i (length (queues_kept cell))
@@ -87,8 +88,9 @@ module _ {R : Type 0} where
   row_framed most count i j row (Queues shape) ns qs fits is = refl
 
   -- a queue that has a row has no more than its capacity
-  pub row_within : (most end : ℕ) (block : List ℕ) (slots : List (Slot R)) (p : Kept R) (me n ltime most' c i j : ℕ)
-      (s : Slot R) (row : R) →
+  pub row_within : (most end : ℕ) (block : List ℕ) (slots : List (StoredCell R)) (p : Kept R)
+      (me n ltime most' c i j : ℕ)
+      (s : StoredCell R) (row : R) →
       whole me n ltime most' (map (slot_kept block) slots) ≡ p → AreLaid most 0 end slots → slice_get slots c ≡ Some s →
       length (slice_index_or s.rings.rows i []) ≤ s.rings.capacity → slice_get (kept_rows p c i) j ≡ Some row →
       length (kept_rows p c i) ≤ kept_capacity p c

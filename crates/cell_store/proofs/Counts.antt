@@ -8,7 +8,7 @@ use Rattle.layer_ast.specs.declared.syntax.Shape.TheVariants.{One, Array, Square
 use Rattle.layer_mean.specs.State.{size_of}
 use Rattle.cell_store.specs.declared.slot.Frame.{Frame}
 use Rattle.cell_store.specs.declared.slot.Frame.TheVariants.{Numbers, Queues}
-use Rattle.cell_store.specs.declared.slot.Slot.{Slot}
+use Rattle.cell_store.specs.declared.slot.StoredCell.{StoredCell}
 use Rattle.cell_store.specs.Kept.{KeptCell, nothing_kept, numbers_kept}
 use Rattle.cell_store.specs.Rings.{CellQueues}
 use Rattle.cell_store.specs.Slots.{slot_kept, FitsFrame, AreLaid}
@@ -34,20 +34,20 @@ module _ {R : Type 0} where
   queues_few most count (Queues shape) qs few fits within = let most = few_of most shape few in let here = fits.1 in
       omega arith
 
-  pub few_numbers : (most at end c : ℕ) (slots : List (Slot R)) (s : Slot R) → most ≤ most_members →
+  pub few_numbers : (most at end c : ℕ) (slots : List (StoredCell R)) (s : StoredCell R) → most ≤ most_members →
       AreLaid most at end slots → slice_get slots c ≡ Some s →
       s.count ≤ 1024
   few_numbers most at end c slots s few laid is =
       numbers_few most s.count s.frame s.rings few (lies most at end slots c s laid is).fits
 
-  pub few_queues : (most at end c : ℕ) (slots : List (Slot R)) (s : Slot R) → most ≤ most_members →
+  pub few_queues : (most at end c : ℕ) (slots : List (StoredCell R)) (s : StoredCell R) → most ≤ most_members →
       AreLaid most at end slots → slice_get slots c ≡ Some s →
       length s.rings.rows ≤ s.rings.most → length s.rings.rows ≤ 1024
   few_queues most at end c slots s few laid is within =
       queues_few most s.count s.frame s.rings few (lies most at end slots c s laid is).fits within
 
-  pub numbers_counted : (most : ℕ) (block : List ℕ) (slots : List (Slot R)) (cells : List (KeptCell R)) (c : ℕ)
-      (s : Slot R) →
+  pub numbers_counted : (most : ℕ) (block : List ℕ) (slots : List (StoredCell R)) (cells : List (KeptCell R)) (c : ℕ)
+      (s : StoredCell R) →
       map (slot_kept block) slots ≡ cells → AreLaid most 0 (length block) slots → slice_get slots c ≡ Some s →
       s.count ≡ length (numbers_kept (slice_index_or cells c nothing_kept))
   numbers_counted most block slots cells c s view laid is =

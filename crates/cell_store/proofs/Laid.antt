@@ -7,7 +7,7 @@ use Rattle.std.proofs.lemmas.List.{map-set, length-map, length-take, drop-set-lt
 use Rattle.std.proofs.lemmas.List.{get_or-take, get_or-drop, get_or_past, set_past, set-get_or}
 use Rattle.cell_store.specs.declared.slot.Frame.{Frame}
 use Rattle.cell_store.specs.declared.slot.Frame.TheVariants.{Numbers, Queues}
-use Rattle.cell_store.specs.declared.slot.Slot.{Slot}
+use Rattle.cell_store.specs.declared.slot.StoredCell.{StoredCell}
 use Rattle.cell_store.specs.Kept.{KeptCell, numbers, nothing_kept, numbers_kept, queues_kept, number_set, rows_set}
 use Rattle.cell_store.specs.Rings.{CellQueues}
 use Rattle.cell_store.specs.Slots.{framed, slot_kept, FitsFrame, AreLaid, frames_of}
@@ -54,18 +54,18 @@ part_untouched at count block j v past =
     ∙ take-set-le count (drop at block) (j - at) v (omega (arith, past))
 
 module _ {R : Type 0} where
-  pub laid_within : (most at end : ℕ) (slots : List (Slot R)) → AreLaid most at end slots → at ≤ end
+  pub laid_within : (most at end : ℕ) (slots : List (StoredCell R)) → AreLaid most at end slots → at ≤ end
   laid_within most at end [] laid = laid
   laid_within most at end (s ∷ rest) laid =
       let behind = laid_within most (s.at + s.count) end rest laid.1.1 in omega (arith, behind, laid.0)
 
   -- a cell of them
-  pub record Lies (most at end : ℕ) (s : Slot R) : Type 0 where
+  pub record Lies (most at end : ℕ) (s : StoredCell R) : Type 0 where
     pub behind : at ≤ s.at
     pub fits : FitsFrame most s.frame s.count s.rings
     pub before : s.at + s.count ≤ end
 
-  pub lies : (most at end : ℕ) (slots : List (Slot R)) (c : ℕ) (s : Slot R) → AreLaid most at end slots →
+  pub lies : (most at end : ℕ) (slots : List (StoredCell R)) (c : ℕ) (s : StoredCell R) → AreLaid most at end slots →
       slice_get slots c ≡ Some s →
       Lies most at end s
   lies most at end [] c s laid is = absurd (cc is)
@@ -88,7 +88,7 @@ module _ {R : Type 0} where
   queues_framed most count (Queues shape) ns qs fits = refl
 
   -- the numbers of a cell
-  pub numbers_lie : (most end : ℕ) (block : List ℕ) (slots : List (Slot R)) (c : ℕ) (s : Slot R) →
+  pub numbers_lie : (most end : ℕ) (block : List ℕ) (slots : List (StoredCell R)) (c : ℕ) (s : StoredCell R) →
       AreLaid most 0 end slots →
       slice_get slots c ≡ Some s →
       numbers_kept (slice_index_or (map (slot_kept block) slots) c nothing_kept) ≡ take s.count (drop s.at block)
@@ -96,8 +96,8 @@ module _ {R : Type 0} where
       ap numbers_kept (map_some (slot_kept block) slots c s nothing_kept is)
       ∙ numbers_framed most s.count s.frame (drop s.at block) s.rings (lies most 0 end slots c s laid is).fits
 
-  pub number_read : (most end : ℕ) (block : List ℕ) (slots : List (Slot R)) (cells : List (KeptCell R)) (c i : ℕ)
-      (s : Slot R) →
+  pub number_read : (most end : ℕ) (block : List ℕ) (slots : List (StoredCell R)) (cells : List (KeptCell R)) (c i : ℕ)
+      (s : StoredCell R) →
       map (slot_kept block) slots ≡ cells → AreLaid most 0 end slots → slice_get slots c ≡ Some s → i < s.count →
       slice_index block (s.at + i) ≡ slice_index (numbers_kept (slice_index_or cells c nothing_kept)) i
   number_read most end block slots cells c i s view laid is below =
@@ -105,8 +105,9 @@ module _ {R : Type 0} where
       ∙ ap (λ ns. slice_index ns i) (sym (numbers_lie most end block slots c s laid is))
       ∙ ap (λ cells. slice_index (numbers_kept (slice_index_or cells c nothing_kept)) i) view
 
-  pub number_outside : (most end : ℕ) (block : List ℕ) (slots : List (Slot R)) (cells : List (KeptCell R)) (c i : ℕ)
-      (s : Slot R) →
+  pub number_outside : (most end : ℕ) (block : List ℕ) (slots : List (StoredCell R)) (cells : List (KeptCell R))
+      (c i : ℕ)
+      (s : StoredCell R) →
       map (slot_kept block) slots ≡ cells → AreLaid most 0 end slots → slice_get slots c ≡ Some s → s.count ≤ i →
       0 ≡ slice_index (numbers_kept (slice_index_or cells c nothing_kept)) i
   number_outside most end block slots cells c i s view laid is past =
@@ -115,8 +116,8 @@ module _ {R : Type 0} where
       ∙ ap (λ ns. slice_index ns i) (sym (numbers_lie most end block slots c s laid is))
       ∙ ap (λ cells. slice_index (numbers_kept (slice_index_or cells c nothing_kept)) i) view
 
-  pub queues_read : (most end : ℕ) (block : List ℕ) (slots : List (Slot R)) (cells : List (KeptCell R)) (c : ℕ)
-      (s : Slot R) →
+  pub queues_read : (most end : ℕ) (block : List ℕ) (slots : List (StoredCell R)) (cells : List (KeptCell R)) (c : ℕ)
+      (s : StoredCell R) →
       map (slot_kept block) slots ≡ cells → AreLaid most 0 end slots → slice_get slots c ≡ Some s →
       s.rings.rows ≡ queues_kept (slice_index_or cells c nothing_kept)
   queues_read most end block slots cells c s view laid is =
@@ -126,7 +127,7 @@ module _ {R : Type 0} where
       ∙ ap (λ cells. queues_kept (slice_index_or cells c nothing_kept)) view
 
   -- where there is no cell
-  pub nothing_read : (block : List ℕ) (slots : List (Slot R)) (cells : List (KeptCell R)) (c : ℕ) →
+  pub nothing_read : (block : List ℕ) (slots : List (StoredCell R)) (cells : List (KeptCell R)) (c : ℕ) →
       map (slot_kept block) slots ≡ cells →
       slice_get slots c ≡ None → nothing_kept ≡ slice_index_or cells c nothing_kept
   nothing_read block slots cells c view is =
@@ -135,7 +136,7 @@ module _ {R : Type 0} where
       ∙ ap (λ cells. slice_index_or cells c nothing_kept) view
 
   -- writing a number
-  untouched : (most at end : ℕ) (block : List ℕ) (slots : List (Slot R)) (j v : ℕ) → AreLaid most at end slots →
+  untouched : (most at end : ℕ) (block : List ℕ) (slots : List (StoredCell R)) (j v : ℕ) → AreLaid most at end slots →
       j < at →
       map (slot_kept (slice_set block j v)) slots ≡ map (slot_kept block) slots
   untouched most at end block [] j v laid front = refl
@@ -143,7 +144,8 @@ module _ {R : Type 0} where
       (ap (λ ns. framed s.frame (take s.count ns) s.rings) (drop-set-lt s.at block j v (omega (arith, front, laid.0))))
       (untouched most (s.at + s.count) end block rest j v laid.1.1 (omega (arith, front, laid.0)))
 
-  number_framed : (most i v : ℕ) (block : List ℕ) (s : Slot R) → FitsFrame most s.frame s.count s.rings → i < s.count →
+  number_framed : (most i v : ℕ) (block : List ℕ) (s : StoredCell R) → FitsFrame most s.frame s.count s.rings →
+      i < s.count →
       slot_kept (slice_set block (s.at + i) v) s ≡ number_set i v (slot_kept block s)
   number_framed most i v block s fits below = go s.frame s.rings fits
     where
@@ -156,7 +158,7 @@ module _ {R : Type 0} where
       go (Numbers shape) qs fits = ap (numbers shape) part
       go (Queues shape) qs fits = absurd (omega (arith, fits.0, below))
 
-  pub number_written : (most at end : ℕ) (block : List ℕ) (slots : List (Slot R)) (c i v : ℕ) (s : Slot R) →
+  pub number_written : (most at end : ℕ) (block : List ℕ) (slots : List (StoredCell R)) (c i v : ℕ) (s : StoredCell R) →
       AreLaid most at end slots →
       slice_get slots c ≡ Some s → i < s.count →
       map (slot_kept (slice_set block (s.at + i) v)) slots
@@ -168,9 +170,9 @@ module _ {R : Type 0} where
       subst (λ s. map (slot_kept (slice_set block (s.at + i) v)) (t ∷ rest) ≡ number_set i v (slot_kept block t) ∷
       map (slot_kept block) rest) same
       (ap₂ (λ x xs. x ∷ xs)
-      (number_framed most i v block t laid.1.0 (subst (λ (s : Slot R). i < s.count) (sym same) below))
+      (number_framed most i v block t laid.1.0 (subst (λ (s : StoredCell R). i < s.count) (sym same) below))
       (untouched most (t.at + t.count) end block rest (t.at + i) v laid.1.1
-      (omega (arith, subst (λ (s : Slot R). i < s.count) (sym same) below))))
+      (omega (arith, subst (λ (s : StoredCell R). i < s.count) (sym same) below))))
   number_written most at end block (t ∷ rest) (suc c) i v s laid is below =
       let next = lies most (t.at + t.count) end rest c s laid.1.1 is in
       ap₂ (λ x xs. x ∷ xs)
@@ -178,7 +180,7 @@ module _ {R : Type 0} where
       (part_untouched t.at t.count block (s.at + i) v (omega (arith, next.behind))))
       (number_written most (t.at + t.count) end block rest c i v s laid.1.1 is below)
 
-  number_set_past : (most i v : ℕ) (block : List ℕ) (s : Slot R) → FitsFrame most s.frame s.count s.rings →
+  number_set_past : (most i v : ℕ) (block : List ℕ) (s : StoredCell R) → FitsFrame most s.frame s.count s.rings →
       s.count ≤ i →
       number_set i v (slot_kept block s) ≡ slot_kept block s
   number_set_past most i v block s fits past = go s.frame
@@ -193,7 +195,7 @@ module _ {R : Type 0} where
       go (Queues shape) = refl
 
   -- outside of a cell nothing is written
-  pub number_past : (most end : ℕ) (block : List ℕ) (slots : List (Slot R)) (c i v : ℕ) (s : Slot R) →
+  pub number_past : (most end : ℕ) (block : List ℕ) (slots : List (StoredCell R)) (c i v : ℕ) (s : StoredCell R) →
       AreLaid most 0 end slots →
       slice_get slots c ≡ Some s → s.count ≤ i →
       map (slot_kept block) slots
@@ -207,13 +209,13 @@ module _ {R : Type 0} where
       ap (number_set i v) (sym read))
 
   -- where there is no cell nothing is written
-  pub cell_past : (block : List ℕ) (slots : List (Slot R)) (c : ℕ) (cell : KeptCell R) → length slots ≤ c →
+  pub cell_past : (block : List ℕ) (slots : List (StoredCell R)) (c : ℕ) (cell : KeptCell R) → length slots ≤ c →
       map (slot_kept block) slots ≡ slice_set (map (slot_kept block) slots) c cell
   cell_past block slots c cell past =
       sym (set_past (map (slot_kept block) slots) c cell (omega (arith, length-map slots (slot_kept block), past)))
 
   -- writing rows
-  abbrev pub with_rows : ℕ → List R → Slot R → Slot R
+  abbrev pub with_rows : ℕ → List R → StoredCell R → StoredCell R
   with_rows i rows s = record s { rings = record s.rings { rows = slice_set s.rings.rows i rows } }
 
   rows_framed : (i : ℕ) (rows : List R) (frame : Frame) (ns : List ℕ) (qs : CellQueues R) →
@@ -221,7 +223,7 @@ module _ {R : Type 0} where
   rows_framed i rows (Numbers shape) ns qs = refl
   rows_framed i rows (Queues shape) ns qs = refl
 
-  pub rows_written : (block : List ℕ) (slots : List (Slot R)) (c i : ℕ) (rows : List R) (s : Slot R) →
+  pub rows_written : (block : List ℕ) (slots : List (StoredCell R)) (c i : ℕ) (rows : List R) (s : StoredCell R) →
       slice_get slots c ≡ Some s →
       map (slot_kept block) (slice_set slots c (with_rows i rows s))
       ≡ slice_set (map (slot_kept block) slots) c
@@ -238,7 +240,7 @@ module _ {R : Type 0} where
   fits_written most i rows (Numbers shape) count qs fits = (fits.0, ap (λ q. slice_set q i rows) fits.1)
   fits_written most i rows (Queues shape) count qs fits = fits
 
-  pub laid_written : (most at end : ℕ) (slots : List (Slot R)) (c i : ℕ) (rows : List R) (s : Slot R) →
+  pub laid_written : (most at end : ℕ) (slots : List (StoredCell R)) (c i : ℕ) (rows : List R) (s : StoredCell R) →
       AreLaid most at end slots →
       slice_get slots c ≡ Some s → AreLaid most at end (slice_set slots c (with_rows i rows s))
   laid_written most at end [] c i rows s laid is = laid
@@ -249,9 +251,10 @@ module _ {R : Type 0} where
   laid_written most at end (t ∷ rest) (suc c) i rows s laid is =
       (laid.0, (laid.1.0, laid_written most (t.at + t.count) end rest c i rows s laid.1.1 is))
 
-  pub frames_written : (slots : List (Slot R)) (c i : ℕ) (rows : List R) (s : Slot R) → slice_get slots c ≡ Some s →
+  pub frames_written : (slots : List (StoredCell R)) (c i : ℕ) (rows : List R) (s : StoredCell R) →
+      slice_get slots c ≡ Some s →
       frames_of (slice_set slots c (with_rows i rows s)) ≡ frames_of slots
   frames_written slots c i rows s is =
       map-set (λ s. s.frame) slots c (with_rows i rows s)
-      ∙ ap (slice_set (frames_of slots) c) (sym (map_some (λ (s : Slot R). s.frame) slots c s s.frame is))
+      ∙ ap (slice_set (frames_of slots) c) (sym (map_some (λ (s : StoredCell R). s.frame) slots c s s.frame is))
       ∙ set-get_or (frames_of slots) c s.frame

@@ -12,7 +12,7 @@ use Rattle.cell_store.specs.Frames.{numbers_for, queues_for, frame_in, capacity_
 use Rattle.cell_store.specs.Rings.{CellQueues}
 use Rattle.cell_store.specs.declared.slot.Frame.{Frame}
 use Rattle.cell_store.specs.declared.slot.Frame.TheVariants.{Numbers, Queues}
-use Rattle.cell_store.specs.declared.slot.Slot.{Slot}
+use Rattle.cell_store.specs.declared.slot.StoredCell.{StoredCell}
 use Rattle.msg_core.specs.View.{most_members}
 
 -- The shape of a cell, and the capacity where it has queues; that or 0.
@@ -30,13 +30,13 @@ module _ {R : Type 0} where
   framed (Queues shape) ns qs = queues shape qs.capacity qs.rows
 
   -- What a cell keeps: the numbers of its part of the block, or its queues.
-  abbrev pub slot_kept : List ℕ → Slot R → KeptCell R
+  abbrev pub slot_kept : List ℕ → StoredCell R → KeptCell R
   slot_kept block s = framed s.frame (take s.count (drop s.at block)) s.rings
 
-  abbrev pub slot_form : Slot R → Shape × Option ℕ
+  abbrev pub slot_form : StoredCell R → Shape × Option ℕ
   slot_form s = form_framed s.frame s.rings.capacity
 
-  abbrev pub slot_capacity : Slot R → ℕ
+  abbrev pub slot_capacity : StoredCell R → ℕ
   slot_capacity s = capacity_framed s.frame s.rings.capacity
 
   -- A cell of numbers has no queue, and no more numbers than there are for so many members; one of queues has no
@@ -46,23 +46,23 @@ module _ {R : Type 0} where
   FitsFrame most (Queues shape) count qs = (count ≡ 0) × (qs.most ≡ size_of most shape)
 
   -- The cells' parts lie one behind the other between two places.
-  abbrev pub AreLaid : ℕ → ℕ → ℕ → List (Slot R) → Type 0
+  abbrev pub AreLaid : ℕ → ℕ → ℕ → List (StoredCell R) → Type 0
   AreLaid most at end [] = at ≤ end
   AreLaid most at end (s ∷ rest) =
       (at ≤ s.at) × (FitsFrame most s.frame s.count s.rings × AreLaid most (s.at + s.count) end rest)
 
-  abbrev pub frames_of : List (Slot R) → List Frame
+  abbrev pub frames_of : List (StoredCell R) → List Frame
   frames_of slots = map (λ s. s.frame) slots
 
   -- The cells lie in a block, whose memory holds the numbers of the most members.
-  pub record AreSlots (n most capacity : ℕ) (block : List ℕ) (slots : List (Slot R)) : Type 0 where
+  pub record AreSlots (n most capacity : ℕ) (block : List ℕ) (slots : List (StoredCell R)) : Type 0 where
     pub few : n ≤ most
     pub most_few : most ≤ most_members
     pub laid : AreLaid most 0 (length block) slots
     pub room : sum_by (numbers_for most) (frames_of slots) ≤ capacity
 
   -- A cell of a form at a place of the block, with empty queues.
-  abbrev pub slot_first : ℕ → ℕ → ℕ → tree.Form → Slot R
+  abbrev pub slot_first : ℕ → ℕ → ℕ → tree.Form → StoredCell R
   slot_first n most at form = record {
     frame = frame_in form;
     at = at;
@@ -75,7 +75,7 @@ module _ {R : Type 0} where
   }
 
   -- A cell at another place, with the empty queues of so many members.
-  abbrev pub slot_again : ℕ → ℕ → Slot R → Slot R
+  abbrev pub slot_again : ℕ → ℕ → StoredCell R → StoredCell R
   slot_again n at s = record s {
     at = at;
     count = numbers_for n s.frame;
@@ -83,19 +83,20 @@ module _ {R : Type 0} where
   }
 
   -- The rows of some cells.
-  abbrev pub slot_rows : List (Slot R) → List R
+  abbrev pub slot_rows : List (StoredCell R) → List R
   slot_rows slots = flat_map (λ s. rows_of s.rings.rows) slots
 
   -- Queue i of cell c has a row, and none in front of it has.
-  abbrev pub HasFirstIn : ℕ → Option (Slot R) → Type 0
+  abbrev pub HasFirstIn : ℕ → Option (StoredCell R) → Type 0
   HasFirstIn i None = ⊥
   HasFirstIn i (Some s) = (0 < length (slice_index_or s.rings.rows i [])) × (rows_of (take i s.rings.rows) ≡ [])
 
-  abbrev pub HasFirst : List (Slot R) → ℕ → ℕ → Type 0
+  abbrev pub HasFirst : List (StoredCell R) → ℕ → ℕ → Type 0
   HasFirst slots c i = (slot_rows (take c slots) ≡ []) × HasFirstIn i (slice_get slots c)
 
   -- Cells and their block before the first event.
-  pub record AreFirst (me n ltime most : ℕ) (cells : List CellTree) (block : List ℕ) (slots : List (Slot R)) : Type 0
+  pub record AreFirst (me n ltime most : ℕ) (cells : List CellTree) (block : List ℕ) (slots : List (StoredCell R)) :
+      Type 0
     where
       pub laid : AreLaid most 0 (length block) slots
       pub kept : map (slot_kept block) slots ≡ map (λ c. kept_first me n ltime c.form) cells

@@ -11,7 +11,7 @@ ghost use Rattle.cell_store.specs.Kept.{without_first, without_last, first_row, 
 ghost use Rattle.cell_store.specs.Fresh.{kept_first, kept_fresh, IsFor};
 ghost use Rattle.msg_core.specs.View.{most_members};
 
-use crate::slot::{self, Slot, slot_at};
+use crate::slot::{self, StoredCell, slot_at};
 use std::alloc::{AllocError, Global};
 use std::marker::Model;
 use typed_layer::TypedLayer;
@@ -25,7 +25,7 @@ pub struct Cells<R> {
     /// The most members that there is room for.
     most: u32,
     block: Vec<u32>,
-    slots: Vec<Slot<R>>,
+    slots: Vec<StoredCell<R>>,
 }
 
 impl<R> Model for Cells<R> {

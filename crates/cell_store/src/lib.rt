@@ -13,4 +13,4 @@ pub use laws::{changes_are_seen, changes_are_undone, layers_stay, reads_are_seen
 #[doc(hidden)]
 pub use rings::Rings;
 #[doc(hidden)]
-pub use slot::{Frame, Slot};
+pub use slot::{Frame, StoredCell};

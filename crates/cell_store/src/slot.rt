@@ -27,7 +27,7 @@ pub enum Frame {
 }
 
 /// A cell: its part of the block of numbers, and its queues.
-pub struct Slot<R> {
+pub struct StoredCell<R> {
     pub frame: Frame,
     /// Where its numbers begin in the block, and how many there are.
     pub at: usize,
@@ -35,15 +35,15 @@ pub struct Slot<R> {
     pub rings: Rings<R>,
 }
 
-impl<R> Slot<R> {
+impl<R> StoredCell<R> {
     /// A cell of a form at a place of the block, with all its queues.
-    fn begin(alloc: Global, form: &Form, at: usize, count: u32) -> Result<Slot<R>, AllocError>
+    fn begin(alloc: Global, form: &Form, at: usize, count: u32) -> Result<StoredCell<R>, AllocError>
         requires { count ≤ most_members }
         ensures { IfOk result (λ s. s ≡ slot_first count count at (form_tree form.now)) }
     {
         let frame = frame_of(form);
         let rings = Rings::of(alloc, queues_in(frame, count), capacity_of(form))?;
-        Ok(Slot {
+        Ok(StoredCell {
             frame,
             at,
             count: numbers_in(frame, count),
@@ -135,7 +135,7 @@ fn queues_in(frame: Frame, count: u32) -> usize
 }
 
 /// A cell, if there is such a one.
-pub fn slot_at<R>(slots: &[Slot<R>], cell: u8) -> Option<&Slot<R>>
+pub fn slot_at<R>(slots: &[StoredCell<R>], cell: u8) -> Option<&StoredCell<R>>
     ensures { option_copied result ≡ slice_get slots.now cell }
 {
     slots.get(usize::from(cell))
@@ -172,7 +172,7 @@ fn fill_and_begin<R>(
     me: u32,
     count: u32,
     ltime: u32,
-) -> Result<Slot<R>, AllocError>
+) -> Result<StoredCell<R>, AllocError>
     requires { count ≤ most_members }
     ensures numbers { OnOk result
         (block.new.items ≡ block.old.items ++ first_numbers me count ltime (form_tree form.now)) }
@@ -180,7 +180,7 @@ fn fill_and_begin<R>(
 {
     let at = block.len();
     fill(block, form, me, count, ltime)?;
-    Slot::begin(alloc, form, at, count)
+    StoredCell::begin(alloc, form, at, count)
 }
 
 /// The first numbers of some cells in a block, and the cells.
@@ -190,7 +190,7 @@ pub fn begin_all<R>(
     me: u32,
     count: u32,
     ltime: u32,
-) -> Result<(Vec<u32>, Vec<Slot<R>>), AllocError>
+) -> Result<(Vec<u32>, Vec<StoredCell<R>>), AllocError>
     requires { count ≤ most_members }
     ensures { IfOk result (λ made. AreFirst me count ltime count (map cell_tree cells.now) made.0.items made.1.items) }
 {
@@ -211,7 +211,7 @@ pub fn begin_all<R>(
 /// Begins again with cells that have no rows and room for `_most` members, within the memory that there is.
 pub fn restart_all<R>(
     block: &mut Vec<u32>,
-    slots: &mut Vec<Slot<R>>,
+    slots: &mut Vec<StoredCell<R>>,
     cells: &[Cell],
     me: u32,
     count: u32,
@@ -240,7 +240,7 @@ pub fn restart_all<R>(
 }
 
 /// The first cell that has a row, and the first queue of it that has one.
-pub fn first_filled<R>(slots: &[Slot<R>]) -> Option<(usize, usize)>
+pub fn first_filled<R>(slots: &[StoredCell<R>]) -> Option<(usize, usize)>
     ensures some { IfSome result (λ found. HasFirst slots.now found.0 found.1) }
     ensures none { IfNone result (slot_rows slots.now ≡ []) }
 {
@@ -253,11 +253,11 @@ pub fn first_filled<R>(slots: &[Slot<R>]) -> Option<(usize, usize)>
 }
 
 /// Gives the memory of cells without rows back.
-pub fn destroy_all<R>(mut slots: Vec<Slot<R>>)
+pub fn destroy_all<R>(mut slots: Vec<StoredCell<R>>)
     requires { slot_rows slots.items ≡ [] }
 {
     while let Some(slot) = slots.pop() {
-        let Slot {
+        let StoredCell {
             frame: _,
             at: _,
             count: _,

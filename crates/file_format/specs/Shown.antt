@@ -2,9 +2,9 @@
 use Rattle.std.specs.Prelude.{ℕ, List}
 use Rattle.format_mean.specs.Layout.{Begun}
 use Rattle.format_mean.specs.Pieces.{Piece}
-use Rattle.file_format.specs.declared.line.Line.{Line}
+use Rattle.file_format.specs.declared.line.LineCursor.{LineCursor}
 
-abbrev pub begun_of : Line → Begun
+abbrev pub begun_of : LineCursor → Begun
 begun_of line = record { stand = line.stand; line = line.bytes.items }
 
 abbrev pub piece_of : ℕ → List ℕ → Piece

@@ -12,17 +12,17 @@ use std::alloc::{AllocError, Global};
 
 /// A line that has begun, and where the next token or comment stands.
 #[derive(Drop)]
-pub(crate) struct Line {
+pub(crate) struct LineCursor {
     stand: Stand,
     bytes: Vec<u8>,
 }
 
-impl Line {
+impl LineCursor {
     /// The line with which a file begins.
-    pub(crate) fn first(alloc: Global) -> Line
+    pub(crate) fn first(alloc: Global) -> LineCursor
         ensures { begun_of result ≡ spec.beginning }
     {
-        Line {
+        LineCursor {
             stand: Stand {
                 depth: 0,
                 in_layer: false,
@@ -59,7 +59,8 @@ impl Line {
     /// Puts the last line.
     #[tactic(auto, using(crate::proofs::Lines::last_ended, crate::proofs::Lines::last_none))]
     pub(crate) fn finish<O: Sink>(&mut self, out: &mut O) -> Result<(), SinkError>
-        ensures { Wrote (spec.last_line self.old.bytes.items) (tells_of O.Sink out.old) (tells_of O.Sink out.new) result }
+        ensures { Wrote (spec.last_line self.old.bytes.items) (tells_of O.Sink out.old) (tells_of O.Sink out.new)
+            result }
     {
         if is_bare(&self.bytes) {
             return Ok(());

@@ -5,7 +5,7 @@ ghost use Rattle.format_mean.specs.Pieces as spec;
 ghost use Rattle.outside.specs.Lines.{Wrote};
 ghost use Rattle.outside.specs.Tells.{tells_of};
 
-use crate::line::Line;
+use crate::line::LineCursor;
 use crate::marks::{is_blank, is_feed, length_behind};
 use outside::{Sink, SinkError};
 use std::alloc::Global;
@@ -14,7 +14,7 @@ use std::alloc::Global;
 pub fn lay_out<O: Sink>(alloc: Global, text: &[u8], out: &mut O) -> Result<(), SinkError>
     ensures { Wrote (formatted_lines text.now) (tells_of O.Sink out.old) (tells_of O.Sink out.new) result }
 {
-    let mut line = Line::first(alloc);
+    let mut line = LineCursor::first(alloc);
     let mut feeds = 0;
     let mut rest = text;
     while let Some((first, behind)) = rest.split_first() {

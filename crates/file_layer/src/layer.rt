@@ -13,8 +13,8 @@ use layer_ast::Dir;
 use layer_eval::Predicted;
 use layer_stage::Stage;
 use pool_message::{Events, PoolEvent, PoolRow, pass_message};
-use slot_pool::{Memory, Pool};
-use std::alloc::Global;
+use slot_pool::Pool;
+use std::alloc::{AllocError, Global};
 use std::rc::Rc;
 use typed_layer::TypedLayer;
 
@@ -48,7 +48,7 @@ impl FileLayer {
         me: u32,
         count: u32,
         ltime: u32,
-    ) -> Result<FileLayer, Memory>
+    ) -> Result<FileLayer, AllocError>
         requires place { place < length (making maker.old).stack }
         requires members { (me < count) × (count ≤ most_members) }
         requires typed { TypedStack (making maker.old).stack }

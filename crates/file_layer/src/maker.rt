@@ -1,8 +1,7 @@
 //! What makes the layers of a stack.
 
 use event_graph::Stack;
-use slot_pool::Memory;
-use std::alloc::Global;
+use std::alloc::{AllocError, Global};
 use std::rc::Rc;
 
 /// The stack whose layers are made, and how many were: all that members have for layers is made here.
@@ -20,7 +19,7 @@ impl Maker {
 
     /// The maker of a stack's layers, of which none is made yet, and the stack for others to share.
     #[tactic(auto, unfolding(crate::specs::Making::making))]
-    pub fn of(alloc: Global, stack: Stack) -> Result<(Maker, Rc<Stack>), Memory>
+    pub fn of(alloc: Global, stack: Stack) -> Result<(Maker, Rc<Stack>), AllocError>
         ensures maker { IfOk result (λ made. making made.0 ≡ record { stack = stack_tree stack; made = 0 }) }
         ensures stack { IfOk result (λ made. stack_tree (rc_value made.1) ≡ stack_tree stack) }
     {

@@ -20,7 +20,7 @@ use cell_store::Cells;
 use desk_needs::{Reserve, reserve_for};
 use msg_core::MOST_MEMBERS;
 use pool_message::{Messages, PoolRow, Tray};
-use slot_pool::{Memory, Pool};
+use slot_pool::Pool;
 use std::alloc::{AllocError, Global};
 use typed_layer::{Cell, Form, TypedLayer};
 
@@ -31,7 +31,7 @@ struct Lists {
 }
 
 impl Lists {
-    fn fresh(alloc: Global, messages: usize, hand: usize) -> Result<Lists, Memory>
+    fn fresh(alloc: Global, messages: usize, hand: usize) -> Result<Lists, AllocError>
         ensures { IfOk result
             (λ l. (l.tray ≡ record { arrived = None; messages = buffer [] messages; sent = buffer [] 0 }) ×
             (l.hand ≡ buffer [] hand)) }
@@ -82,7 +82,7 @@ fn rows_at_most(cells: &[Cell]) -> Option<u32>
 }
 
 /// What a desk of a layer is made for, where that is no more than a desk may have; there is no memory for more.
-fn reserve_few(layer: &TypedLayer) -> Result<Reserve, Memory>
+fn reserve_few(layer: &TypedLayer) -> Result<Reserve, AllocError>
     ensures { IfOk result (IsReserved (layer_tree layer.now)) }
 {
     let reserve = reserve_for(layer);
@@ -103,7 +103,7 @@ pub(crate) fn make(
     me: u32,
     count: u32,
     ltime: u32,
-) -> Result<FileDesk, Memory>
+) -> Result<FileDesk, AllocError>
     requires members { count ≤ most_members }
     requires made { IsMadeFor (layer_tree layer.now) (room.layout_of (layer_tree layer.now) 0) }
     ensures fresh { IfOk result (IsFresh (layer_tree layer.now) me count ltime) }

@@ -10,7 +10,7 @@ ghost use Rattle.typed_layer.specs.View.{layer_tree};
 
 use layer_ast::Dir;
 use msg_core::{Fields, Header};
-use pool_message::{Place, PoolEvent};
+use pool_message::{MessagePlace, PoolEvent};
 use typed_layer::TypedLayer;
 
 /// Whether an event passes a layer as it is but for its header: the layer has no handler for it, and it goes down, or
@@ -24,7 +24,7 @@ pub(crate) fn lets_pass(layer: &TypedLayer, direction: Dir, event: &PoolEvent) -
 }
 
 /// The tag of the header that a layer pops off a message; 0 where it pops none.
-fn tag_met(direction: Dir, message: &Place) -> u8
+fn tag_met(direction: Dir, message: &MessagePlace) -> u8
     ensures { (p : List Held) → result ≡ (spec.met direction (seen_if p message.now)).tag }
 {
     match direction {
@@ -34,7 +34,7 @@ fn tag_met(direction: Dir, message: &Place) -> u8
 }
 
 /// The tag of a message's first header; 0 where it has none.
-fn first_tag(message: &Place) -> u8
+fn first_tag(message: &MessagePlace) -> u8
     ensures { (p : List Held) → result ≡ (spec.met Up (seen_if p message.now)).tag }
 {
     match message.get() {

@@ -25,7 +25,7 @@ use layer_ast::Dir;
 use layer_desk::{NoRoom, Start};
 use layer_mean::Envelope;
 use msg_core::{Fields, Header};
-use pool_message::{Messages, Place, PoolMessage, Tray};
+use pool_message::{MessagePlace, Messages, PoolMessage, Tray};
 use slot_pool::Pool;
 
 /// The newest message in hand becomes as it is sent, where it lies: going down it gets a header.
@@ -81,7 +81,8 @@ pub(crate) fn send_first<K: Start>(
     requires { IsReady K.begun pool.now desk.old }
     ensures ready { IsReady K.begun pool.now desk.new }
     ensures shown { OnOk result
-        (laid pool.now (stock_of desk.new) ≡ sends_first direction envelope header (laid pool.now (stock_of desk.old))) }
+        (laid pool.now (stock_of desk.new) ≡
+        sends_first direction envelope header (laid pool.now (stock_of desk.old))) }
     ensures spent { Spent (room_of pool.now desk.old) (room_of pool.now desk.new) one_place result }
 {
     if desk.tray.len() >= desk.places {
@@ -114,7 +115,7 @@ fn send_nothing(tray: &mut Tray, direction: Dir, envelope: Envelope, header: Hea
     ensures { tray.new ≡ also_sent direction envelope (Some (sent_behind direction header (bodiless []))) tray.old }
 {
     let mut message = nothing_behind(direction, header);
-    let mut place = Place::empty();
+    let mut place = MessagePlace::empty();
     place.fill(&mut message);
     message.close();
     tray.send_from(direction, envelope, &mut place);

@@ -16,7 +16,7 @@ ghost use Rattle.file_laws.specs.Bounds.{HoldsDeclaration};
 ghost use Rattle.file_numbers.specs.Place.{placed_of};
 ghost use Rattle.msg_core.specs.Headers.{most_fields};
 
-use file_numbers::{Names, Place, field_count, number, numbers_of};
+use file_numbers::{Names, PlacedLayer, field_count, number, numbers_of};
 use file_scope::items;
 use layer_ast as ast;
 use layer_ast::{Declaration, Ending, Word};
@@ -60,7 +60,7 @@ fn item_message(row: &ast::Items, carried: Option<Carried>) -> Option<ItemMessag
 }
 
 /// The items of a queue's rows.
-fn row_items(alloc: Global, place: &Place, row: &ast::Items) -> Result<Items, AllocError>
+fn row_items(alloc: Global, place: &PlacedLayer, row: &ast::Items) -> Result<Items, AllocError>
     ensures { IfOk result
         (λ x. items_tree x ≡ spec.row_items (placed_of place.now) (items_in (written.items_tree row.now))) }
 {
@@ -77,7 +77,7 @@ fn row_items(alloc: Global, place: &Place, row: &ast::Items) -> Result<Items, Al
 /// The initial value of a cell of numbers: one that isn't written is 0.
 fn initial_value(
     alloc: Global,
-    place: &Place,
+    place: &PlacedLayer,
     initial: &Option<ast::Expression>,
 ) -> Result<Expression, AllocError>
     ensures { IfOk result (λ x. expression_tree x
@@ -96,7 +96,11 @@ fn initial_value(
 }
 
 /// The cell that a declaration declares, if it does.
-fn cell(alloc: Global, place: &Place, declaration: &Declaration) -> Result<Option<Cell>, AllocError>
+fn cell(
+    alloc: Global,
+    place: &PlacedLayer,
+    declaration: &Declaration,
+) -> Result<Option<Cell>, AllocError>
     requires { HoldsDeclaration (placed_of place.now) (written.declaration_tree declaration.now) }
     ensures { IfOk result
         (λ c. option_map cell_tree c ≡ spec.cell_in (placed_of place.now) (written.declaration_tree declaration.now)) }
@@ -160,7 +164,7 @@ fn push_some<T: Drop>(all: &mut Vec<T>, item: Option<T>) -> Result<(), AllocErro
 /// The cells among declarations, in order.
 pub fn cells(
     alloc: Global,
-    place: &Place,
+    place: &PlacedLayer,
     declarations: &[Declaration],
 ) -> Result<Vec<Cell>, AllocError>
     requires { AllByRecursion (HoldsDeclaration (placed_of place.now)) (map written.declaration_tree declarations.now) }
@@ -199,10 +203,11 @@ fn header(declaration: &Declaration) -> Option<HeaderForm>
 /// The headers among declarations, in order.
 pub fn headers(
     alloc: Global,
-    _place: &Place,
+    _place: &PlacedLayer,
     declarations: &[Declaration],
 ) -> Result<Vec<HeaderForm>, AllocError>
-    requires { AllByRecursion (HoldsDeclaration (placed_of _place.now)) (map written.declaration_tree declarations.now) }
+    requires { AllByRecursion (HoldsDeclaration (placed_of _place.now))
+        (map written.declaration_tree declarations.now) }
     ensures { IfOk result
         (λ all. map header_tree all.items ≡ filter_map spec.header_in (map written.declaration_tree declarations.now)) }
 {

@@ -20,7 +20,7 @@ ghost use Rattle.msg_core.specs.Headers.{most_declared};
 
 use crate::made::made;
 use crate::statement::block;
-use file_numbers::{Names, Place, carries, number, numbers_of};
+use file_numbers::{Names, PlacedLayer, carries, number, numbers_of};
 use file_scope::{listed, written};
 use layer_ast as ast;
 use layer_ast::{Name, Popped};
@@ -28,7 +28,7 @@ use std::alloc::{AllocError, Global};
 use typed_layer::{Block, Expected, Handler};
 
 /// The header that a handler takes off, by its tag; without one it is 0.
-fn popped_tag(place: &Place, popped: &Option<Popped>) -> u8
+fn popped_tag(place: &PlacedLayer, popped: &Option<Popped>) -> u8
     ensures is { result ≡ spec.popped_tag (placed_of place.now) (option_map written.popped_tree popped.now) }
     ensures few { result ≤ most_declared }
 {
@@ -66,7 +66,11 @@ fn with_fields(
 
 /// The names that a handler brings, in a layer at its place.
 #[tactic(auto, using(crate::proofs::Rows::numbers_are, crate::proofs::Rows::message_is))]
-fn enter<'a>(alloc: Global, place: &'a Place<'a>, h: &ast::Handler) -> Result<Names<'a>, AllocError>
+fn enter<'a>(
+    alloc: Global,
+    place: &'a PlacedLayer<'a>,
+    h: &ast::Handler,
+) -> Result<Names<'a>, AllocError>
     requires { length (scope.head_names (written.handler_tree h.now)) ≤ most_names }
     ensures { IfOk result
         (λ names. names_of names ≡ spec.handler_names (placed_of place.now) (written.handler_tree h.now)) }
@@ -131,9 +135,10 @@ fn whole_block(alloc: Global, names: &mut Names, b: &ast::Block) -> Result<Enter
 
 /// A handler.
 #[tactic(auto, unfolding(file_mean::specs::Layers::handler_of))]
-fn handler(alloc: Global, place: &Place, h: &ast::Handler) -> Result<Handler, AllocError>
+fn handler(alloc: Global, place: &PlacedLayer, h: &ast::Handler) -> Result<Handler, AllocError>
     requires { HoldsHandler (placed_of place.now) (written.handler_tree h.now) }
-    ensures is { IfOk result (λ x. handler_tree x ≡ spec.handler_of (placed_of place.now) (written.handler_tree h.now)) }
+    ensures is { IfOk result
+        (λ x. handler_tree x ≡ spec.handler_of (placed_of place.now) (written.handler_tree h.now)) }
     ensures tagged { IfOk result (λ x. IsTagged x) }
 {
     let mut names = enter(alloc, place, h)?;
@@ -155,7 +160,7 @@ fn handler(alloc: Global, place: &Place, h: &ast::Handler) -> Result<Handler, Al
 /// The handlers of a layer at its place, in order.
 pub fn handlers(
     alloc: Global,
-    place: &Place,
+    place: &PlacedLayer,
     all: &[ast::Handler],
 ) -> Result<Vec<Handler>, AllocError>
     requires { AllByRecursion (HoldsHandler (placed_of place.now)) (map written.handler_tree all.now) }

@@ -10,7 +10,7 @@ ghost use Rattle.file_numbers.specs.Placed.{placed, words_of};
 
 use crate::cell::{cells, headers};
 use crate::handler::handlers;
-use file_numbers::Place;
+use file_numbers::PlacedLayer;
 use file_scope::{Words, declared_name};
 use layer_ast::{Declaration, Given, Layer};
 use std::alloc::{AllocError, Global};
@@ -29,7 +29,7 @@ fn own_words(alloc: Global, declarations: &[Declaration]) -> Result<Words, Alloc
 
 /// The layer that a layer of a file is at its place.
 #[tactic(auto, unfolding(file_mean::specs::Layers::layer_of))]
-fn layer_of(alloc: Global, place: &Place, layer: &Layer) -> Result<TypedLayer, AllocError>
+fn layer_of(alloc: Global, place: &PlacedLayer, layer: &Layer) -> Result<TypedLayer, AllocError>
     requires layer { (placed_of place.now).layer ≡ written.layer_tree layer.now }
     requires holds { HoldsLayer (placed_of place.now) }
     ensures { IfOk result (λ x. layer_tree x ≡ spec.layer_of (placed_of place.now)) }
@@ -56,6 +56,6 @@ pub fn layer(
     ensures { IfOk result (λ x. layer_tree x ≡ spec.layer_of (placed (written.layer_tree layer.now) given.now blank)) }
 {
     let own = own_words(alloc, &layer.declarations)?;
-    let place = Place::of(alloc, layer, &own, given, blank)?;
+    let place = PlacedLayer::of(alloc, layer, &own, given, blank)?;
     layer_of(alloc, &place, layer)
 }

@@ -9,35 +9,37 @@ use Rattle.layer_ast.specs.declared.names.Name.{Name}
 use Rattle.layer_ast.specs.declared.names.Word.{Word}
 use Rattle.file_mean.specs.Names.{in_slots}
 use Rattle.file_numbers.specs.Visible.{entry, entries}
-use Rattle.file_numbers.specs.declared.visible.Slot.{Slot}
+use Rattle.file_numbers.specs.declared.visible.VisibleName.{VisibleName}
 
-lookup_is : (word : List ℕ) (slots : List Slot) →
+lookup_is : (word : List ℕ) (slots : List VisibleName) →
     lookup (bytes_eq word) (map entry slots) ≡
-    option_map (λ (s : Slot). s.slot) (find (λ s. bytes_eq word s.word) slots)
+    option_map (λ (s : VisibleName). s.slot) (find (λ s. bytes_eq word s.word) slots)
 lookup_is word [] = refl
 lookup_is word (s ∷ slots) = go (bytes_eq word s.word) (lookup_is word slots) where
   go : (b : Bool) → lookup (bytes_eq word) (map entry slots) ≡
-      option_map (λ (x : Slot). x.slot) (find (λ x. bytes_eq word x.word) slots) →
+      option_map (λ (x : VisibleName). x.slot) (find (λ x. bytes_eq word x.word) slots) →
       cond b (Some s.slot) (lookup (bytes_eq word) (map entry slots)) ≡
-      option_map (λ (x : Slot). x.slot) (cond b (Some s) (find (λ x. bytes_eq word x.word) slots))
+      option_map (λ (x : VisibleName). x.slot) (cond b (Some s) (find (λ x. bytes_eq word x.word) slots))
   go true e = refl
   go false e = e
 
 -- the slot of a name, and of one that isn't visible
-pub slot_found : (slots : List Slot) (names : List (Word × ℕ)) (word : List ℕ) (s : Slot) → entries slots ≡ names →
-    Some s ≡ find (λ (x : Slot). bytes_eq word x.word) (reverse slots) → Some s.slot ≡ lookup (bytes_eq word) names
+pub slot_found : (slots : List VisibleName) (names : List (Word × ℕ)) (word : List ℕ) (s : VisibleName) →
+    entries slots ≡ names →
+    Some s ≡ find (λ (x : VisibleName). bytes_eq word x.word) (reverse slots) →
+    Some s.slot ≡ lookup (bytes_eq word) names
 slot_found slots names word s is found =
-    ap (option_map (λ (x : Slot). x.slot)) found ∙
+    ap (option_map (λ (x : VisibleName). x.slot)) found ∙
     (sym (lookup_is word (reverse slots)) ∙ ap (lookup (bytes_eq word)) is)
 
-pub slot_nowhere : (slots : List Slot) (names : List (Word × ℕ)) (word : List ℕ) → entries slots ≡ names →
-    None ≡ find (λ (x : Slot). bytes_eq word x.word) (reverse slots) → None ≡ lookup (bytes_eq word) names
+pub slot_nowhere : (slots : List VisibleName) (names : List (Word × ℕ)) (word : List ℕ) → entries slots ≡ names →
+    None ≡ find (λ (x : VisibleName). bytes_eq word x.word) (reverse slots) → None ≡ lookup (bytes_eq word) names
 slot_nowhere slots names word is found =
-    ap (option_map (λ (x : Slot). x.slot)) found ∙
+    ap (option_map (λ (x : VisibleName). x.slot)) found ∙
     (sym (lookup_is word (reverse slots)) ∙ ap (lookup (bytes_eq word)) is)
 
 -- the first slots are the last entries
-pub entries_take : (n : ℕ) (slots : List Slot) →
+pub entries_take : (n : ℕ) (slots : List VisibleName) →
     entries (take n slots) ≡ drop (length (entries slots) - n) (entries slots)
 entries_take n slots =
     let front = entries (drop n slots) in
@@ -52,7 +54,7 @@ entries_take n slots =
     sym (ap (λ k. drop k (entries slots)) count ∙ (ap (drop (length front)) parts ∙ drop-append_seam front back))
 
 -- one slot more
-entries_push : (slots : List Slot) (s : Slot) → entries (slots ++ s ∷ []) ≡ entry s ∷ entries slots
+entries_push : (slots : List VisibleName) (s : VisibleName) → entries (slots ++ s ∷ []) ≡ entry s ∷ entries slots
 entries_push slots s = ap (map entry) (reverse-append slots (s ∷ []))
 
 drop_step : (names : List Name) (k : ℕ) (n : Name) → k < length names → n ≡ get_or names k n →
@@ -61,7 +63,8 @@ drop_step [] k n less is = absurd (omega (arith, less))
 drop_step (m ∷ rest) zero n less is = ap (λ x. x ∷ rest) (sym is)
 drop_step (m ∷ rest) (suc k) n less is = drop_step rest k n (omega (arith, less)) is
 
-pub slots_step : (slots pushed : List Slot) (first left : ℕ) (new : List Name) (names : List (Word × ℕ)) (n : Name) →
+pub slots_step : (slots pushed : List VisibleName) (first left : ℕ) (new : List Name) (names : List (Word × ℕ))
+    (n : Name) →
     0 < left → left ≤ length new → n ≡ get_or new (left - 1) n →
     pushed ≡ slots ++ record { word = n.word; slot = first + (left - 1) } ∷ [] →
     entries slots ≡ in_slots (first + left) (drop left new) ++ names →

@@ -2,7 +2,7 @@
 use Rattle.file_mean.specs.Names.{Placed}
 use Rattle.file_scope.specs.Scope.{scope_of}
 use Rattle.file_numbers.specs.Placed.{placed}
-use Rattle.file_numbers.specs.declared.place.Place.{Place}
+use Rattle.file_numbers.specs.declared.placed_layer.PlacedLayer.{PlacedLayer}
 
-abbrev pub placed_of : Place → Placed
+abbrev pub placed_of : PlacedLayer → Placed
 placed_of p = placed (scope_of p.scope).layer p.given.now p.blank

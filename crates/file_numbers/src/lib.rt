@@ -4,14 +4,14 @@
 
 mod argument;
 mod declared;
-mod place;
+mod placed_layer;
 mod scope;
 mod value;
 mod visible;
 
 pub use argument::{carries, few, fields, last, numbers, numbers_of};
 pub use declared::field_count;
-pub use place::Place;
+pub use placed_layer::PlacedLayer;
 pub use scope::{Names, Outer};
 pub use value::{argument_message, number, queue_index};
 pub use visible::Visible;

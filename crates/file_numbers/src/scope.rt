@@ -4,7 +4,7 @@ ghost use Rattle.std.specs.Prelude.{◌≡◌, ◌≤◌, ◌+◌, ◌-◌, drop
 ghost use Rattle.file_mean.specs.Names as spec;
 ghost use Rattle.file_numbers.specs.Place.{placed_of};
 
-use crate::place::Place;
+use crate::placed_layer::PlacedLayer;
 use crate::visible::Visible;
 use layer_ast::Name;
 use std::alloc::{AllocError, Global};
@@ -12,7 +12,7 @@ use std::alloc::{AllocError, Global};
 /// The names that are visible at a statement: those of a layer at its place, numbers and messages.
 #[derive(Drop)]
 pub struct Names<'a> {
-    pub place: &'a Place<'a>,
+    pub place: &'a PlacedLayer<'a>,
     pub numbers: Visible,
     pub messages: Visible,
 }
@@ -28,7 +28,7 @@ impl<'a> Names<'a> {
     ghost use Rattle.file_numbers.specs.Scope.{names_of};
 
     /// A layer's own names alone.
-    pub fn own(alloc: Global, place: &'a Place<'a>) -> Names<'a>
+    pub fn own(alloc: Global, place: &'a PlacedLayer<'a>) -> Names<'a>
         ensures { names_of result ≡ spec.own_names (placed_of place.now) }
     {
         Names {

@@ -12,7 +12,7 @@ use std::marker::Model;
 
 /// A visible name, and its slot.
 #[derive(Clone, Copy)]
-pub struct Slot {
+pub struct VisibleName {
     pub word: Word,
     pub slot: u8,
 }
@@ -20,7 +20,7 @@ pub struct Slot {
 /// Visible names, the newest last, and how many slots are taken, of which there are 256 at most.
 #[derive(Drop)]
 pub struct Visible {
-    slots: Vec<Slot>,
+    slots: Vec<VisibleName>,
     taken: u16,
 }
 
@@ -36,7 +36,7 @@ impl Model for Visible {
 }
 
 /// The newest of some names that has this word.
-fn newest<'a>(slots: &'a Vec<Slot>, word: &Word) -> Option<&'a Slot>
+fn newest<'a>(slots: &'a Vec<VisibleName>, word: &Word) -> Option<&'a VisibleName>
     ensures { option_map (λ s. s.now) result ≡ find (λ s. bytes_eq word.now s.word) (reverse slots.now.items) }
 {
     slots.iter().rev().find(|s| is_same(word, &s.word))
@@ -95,7 +95,7 @@ impl Visible {
         let mut left = new.len();
         while left > 0 {
             left -= 1;
-            self.slots.push(Slot {
+            self.slots.push(VisibleName {
                 word: new[left].word,
                 slot: (first + left) as u8,
             })?;

@@ -8,13 +8,13 @@
 mod error;
 mod habits;
 mod judge;
+mod ledger;
 mod network;
 mod notes;
 mod random;
 mod reduce;
 mod schedule;
 mod search;
-mod stage;
 mod text;
 mod wander;
 

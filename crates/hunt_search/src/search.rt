@@ -5,9 +5,9 @@ ghost use Rattle.event_graph.specs.Answer.{stack_tree};
 
 use crate::error::{SearchError, unopened};
 use crate::judge::is_broken;
+use crate::ledger::Ledger;
 use crate::reduce::reduce;
 use crate::schedule::{Schedule, Step};
-use crate::stage::Stage;
 use crate::text::Text;
 use crate::wander::Wander;
 use audit_mean::Law;
@@ -33,7 +33,7 @@ pub struct Search {
     alloc: Global,
     aim: Aim,
     ground: Ground,
-    stage: Stage,
+    ledger: Ledger,
 }
 
 impl Search {
@@ -44,7 +44,7 @@ impl Search {
             alloc,
             aim,
             ground: Ground::of(alloc, stack)?,
-            stage: Stage::new(alloc),
+            ledger: Ledger::new(alloc),
         })
     }
 
@@ -65,7 +65,7 @@ impl Search {
 
     /// Whether the run that was made last breaks the law.
     fn is_broken(&self, members: u8) -> Result<bool, SearchError> {
-        is_broken(self.alloc, self.aim.law, members, self.stage.notes())
+        is_broken(self.alloc, self.aim.law, members, self.ledger.notes())
     }
 
     /// Whether a schedule breaks the law.
@@ -98,11 +98,11 @@ impl Search {
         let members = self.aim.members;
         let mut steps = Vec::with_capacity(self.alloc, events as usize)?;
         let mut wander = Wander::of(self.alloc, members, number)?;
-        self.stage.clear(events)?;
+        self.ledger.clear(events)?;
         let mut group = self.open(members)?;
         let made = wander_on(
             self.alloc,
-            &mut self.stage,
+            &mut self.ledger,
             &mut group,
             &mut wander,
             events,
@@ -120,11 +120,11 @@ impl Search {
     /// Makes the run of the steps of a schedule in front of a place.
     fn perform(&mut self, schedule: &Schedule, place: usize) -> Result<(), SearchError> {
         let count = place.min(schedule.steps.len());
-        self.stage.clear(schedule.names)?;
+        self.ledger.clear(schedule.names)?;
         let mut group = self.open(schedule.members)?;
         let played = play_all(
             self.alloc,
-            &mut self.stage,
+            &mut self.ledger,
             &mut group,
             &schedule.steps[..count],
         );
@@ -135,11 +135,11 @@ impl Search {
     /// The script of a schedule that was made of the run of a number.
     fn script_of(&mut self, number: u64, schedule: &Schedule) -> Result<Vec<u8>, SearchError> {
         let mut text = Text::of(self.alloc, number, schedule.names, schedule.members)?;
-        self.stage.clear(schedule.names)?;
+        self.ledger.clear(schedule.names)?;
         let mut group = self.open(schedule.members)?;
         let written = write_all(
             self.alloc,
-            &mut self.stage,
+            &mut self.ledger,
             &mut group,
             schedule.steps.as_slice(),
             &mut text,
@@ -153,7 +153,7 @@ impl Search {
 /// Draws the steps of a run and plays each: first unquiet ones, then quiet ones.
 fn wander_on(
     alloc: Global,
-    stage: &mut Stage,
+    ledger: &mut Ledger,
     group: &mut Group,
     wander: &mut Wander,
     events: u32,
@@ -166,8 +166,8 @@ fn wander_on(
         }
         let step = wander.next(name)?;
         steps.push(step)?;
-        if let Some(stepped) = stage.play(alloc, group, step)? {
-            wander.follow(group, stage.dests(), step, stepped)?;
+        if let Some(stepped) = ledger.play(alloc, group, step)? {
+            wander.follow(group, ledger.dests(), step, stepped)?;
         }
     }
     Ok(())
@@ -176,12 +176,12 @@ fn wander_on(
 /// Plays steps.
 fn play_all(
     alloc: Global,
-    stage: &mut Stage,
+    ledger: &mut Ledger,
     group: &mut Group,
     steps: &[Step],
 ) -> Result<(), SearchError> {
     for step in steps {
-        stage.play(alloc, group, *step)?;
+        ledger.play(alloc, group, *step)?;
     }
     Ok(())
 }
@@ -189,17 +189,17 @@ fn play_all(
 /// Plays steps, and writes the line of each that can happen.
 fn write_all(
     alloc: Global,
-    stage: &mut Stage,
+    ledger: &mut Ledger,
     group: &mut Group,
     steps: &[Step],
     text: &mut Text,
 ) -> Result<(), SearchError> {
     for step in steps {
-        if let Some(event) = stage.event_of(alloc, *step)? {
+        if let Some(event) = ledger.event_of(alloc, *step)? {
             let put = text.put(&event);
             drop(event);
             put?;
-            stage.play(alloc, group, *step)?;
+            ledger.play(alloc, group, *step)?;
         }
     }
     Ok(())

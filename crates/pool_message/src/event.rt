@@ -1,6 +1,6 @@
 //! Events between layers.
 
-use crate::place::Place;
+use crate::message_place::MessagePlace;
 use layer_ast::Kind;
 use layer_mean::Envelope;
 
@@ -12,7 +12,7 @@ pub struct PoolEvent {
     pub peer: u32,
     pub a: u32,
     pub b: u32,
-    pub message: Place,
+    pub message: MessagePlace,
 }
 
 impl PoolEvent {
@@ -20,7 +20,7 @@ impl PoolEvent {
     ghost use Rattle.pool_message.specs.Sent.{envelope_of, pool_event};
 
     /// The event of this envelope that carries what lies in a place.
-    pub(crate) fn of(envelope: Envelope, message: Place) -> PoolEvent
+    pub(crate) fn of(envelope: Envelope, message: MessagePlace) -> PoolEvent
         ensures { result ≡ pool_event envelope message }
     {
         let Envelope { kind, peer, a, b } = envelope;

@@ -15,13 +15,13 @@ ghost use Rattle.pool_message.specs.Sent.{CanPass};
 use crate::event::PoolEvent;
 use crate::list::List;
 use crate::message::PoolMessage;
+use crate::message_place::MessagePlace;
 use crate::messages::Messages;
-use crate::place::Place;
 use layer_ast::Dir;
 use layer_mean::Envelope;
 use msg_core::{Fields, Header, Headers};
-use slot_pool::{Memory, Pool};
-use std::alloc::Global;
+use slot_pool::Pool;
+use std::alloc::{AllocError, Global};
 use std::marker::Model;
 
 /// The most places for events.
@@ -49,7 +49,7 @@ impl Events {
     ghost use Rattle.pool_message.specs.Lends.{lends_first};
 
     /// Room for so many events.
-    pub fn fresh(alloc: Global, places: usize) -> Result<Events, Memory>
+    pub fn fresh(alloc: Global, places: usize) -> Result<Events, AllocError>
         requires { places ≤ most_sent }
         ensures { IfOk result (λ e. e ≡ buffer [] places) }
     {
@@ -58,7 +58,7 @@ impl Events {
             Ok(list) => Ok(Events { list }),
             Err(error) => {
                 error.value.close();
-                Err(Memory)
+                Err(AllocError)
             }
         }
     }
@@ -113,7 +113,7 @@ impl Events {
 
     /// Puts an event with this envelope and with what lies in a place, behind the others. The place is empty then.
     #[inline(always)]
-    pub fn push_from(&mut self, direction: Dir, envelope: Envelope, message: &mut Place)
+    pub fn push_from(&mut self, direction: Dir, envelope: Envelope, message: &mut MessagePlace)
         requires { length self.old.items < self.old.capacity }
         ensures pushed { self.new ≡ buffer (self.old.items ++ (direction, pool_event envelope message.old) ∷ [])
             self.old.capacity }
@@ -244,7 +244,7 @@ impl Events {
 
 /// A message passes a layer, if there is one: going down it gets this header in front, and going up it loses its first
 /// one.
-pub fn pass_message(direction: Dir, header: Header, message: &mut Place)
+pub fn pass_message(direction: Dir, header: Header, message: &mut MessagePlace)
     requires { CanPass direction message.old }
     ensures { message.new ≡ option_map (message_passed direction header) message.old }
 {

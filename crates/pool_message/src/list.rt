@@ -13,16 +13,16 @@ ghost use Rattle.pool_message.specs.Sent.{sent_refs, most_sent, first_sent, sent
 ghost use Rattle.pool_message.specs.Slots.{first_number};
 
 use crate::event::PoolEvent;
-use crate::line::Line;
 use crate::message::PoolMessage;
+use crate::message_place::MessagePlace;
 use crate::messages::Messages;
 use crate::part::Part;
-use crate::place::Place;
+use crate::short_queue::ShortQueue;
 use layer_ast::Dir;
 use layer_mean::Envelope;
 use msg_core::{Header, Headers};
-use slot_pool::{Memory, Pool};
-use std::alloc::Global;
+use slot_pool::Pool;
+use std::alloc::{AllocError, Global};
 use std::marker::Model;
 
 /// The events that were sent, in order, each with its direction. There is a number of places for them, at most
@@ -31,7 +31,7 @@ use std::marker::Model;
 pub(crate) struct List {
     slots: Vec<(Dir, PoolEvent)>,
     /// The numbers of the slots in which events stand.
-    order: Line<u32>,
+    order: ShortQueue<u32>,
     /// The numbers of the others.
     free: Vec<u32>,
     /// The number of the slot of the first event, if there is one: it is looked up far more often than it changes.
@@ -60,11 +60,11 @@ impl List {
     ghost use Rattle.pool_message.specs.Lends.{lends_listed};
 
     /// Room for so many events.
-    pub fn fresh(alloc: Global, places: usize) -> Result<List, Memory>
+    pub fn fresh(alloc: Global, places: usize) -> Result<List, AllocError>
         requires { places ≤ most_sent }
         ensures { IfOk result (λ e. e ≡ buffer [] places) }
     {
-        let order = Line::with_capacity(alloc, places, 0)?;
+        let order = ShortQueue::with_capacity(alloc, places, 0)?;
         let free = Vec::with_capacity(alloc, places)?;
         let slots = Vec::with_capacity(alloc, places)?;
         Ok(List {
@@ -130,7 +130,7 @@ impl List {
 
     /// Puts an event with this envelope and with what lies in a place, behind the others. The place is empty then.
     #[inline(always)]
-    pub fn push_from(&mut self, direction: Dir, envelope: Envelope, message: &mut Place)
+    pub fn push_from(&mut self, direction: Dir, envelope: Envelope, message: &mut MessagePlace)
         requires { length self.old.items < self.old.capacity }
         ensures pushed { self.new ≡ buffer (self.old.items ++ (direction, pool_event envelope message.old) ∷ [])
             self.old.capacity }
@@ -155,7 +155,7 @@ impl List {
             }
             None => {
                 let k = self.slots.len() as u32;
-                let message = Place::empty();
+                let message = MessagePlace::empty();
                 let event = PoolEvent::of(envelope, message);
                 self.slots.push_reserved((direction, event));
                 k
@@ -341,7 +341,7 @@ impl List {
 }
 
 /// The first number of some; 0 where there is none.
-fn first_of(order: &Line<u32>) -> u32
+fn first_of(order: &ShortQueue<u32>) -> u32
     ensures { result ≡ first_number order.now.items }
 {
     match order.front() {
@@ -359,7 +359,7 @@ pub(crate) fn begin_event(sent: &mut (Dir, PoolEvent), direction: Dir, envelope:
 }
 
 /// An event without a message takes what lies in a place.
-fn fill_from(sent: &mut (Dir, PoolEvent), message: &mut Place)
+fn fill_from(sent: &mut (Dir, PoolEvent), message: &mut MessagePlace)
     requires { sent.old.1.message ≡ None }
     ensures filled { sent.new ≡ (sent.old.0, record sent.old.1 { message = message.old }) }
     ensures left { message.new ≡ None }

@@ -3,11 +3,11 @@
 ghost use Rattle.std.specs.Prelude.{◌≡◌};
 
 use crate::message::PoolMessage;
+use crate::message_place::MessagePlace;
 use crate::part::Part;
-use crate::place::Place;
 use msg_core::Header;
-use slot_pool::{Memory, Pool};
-use std::alloc::Global;
+use slot_pool::Pool;
+use std::alloc::{AllocError, Global};
 use std::marker::Model;
 
 /// Messages in order, the newest last, in as many places as are chosen once. Their places stay when they go, so that a
@@ -45,7 +45,7 @@ impl Messages {
     ghost use Rattle.pool_message.specs.PutBody.{PutsBody};
 
     /// No message, with so many places.
-    pub fn fresh(alloc: Global, places: usize) -> Result<Messages, Memory>
+    pub fn fresh(alloc: Global, places: usize) -> Result<Messages, AllocError>
         ensures { IfOk result (λ m. m ≡ buffer [] places) }
     {
         Ok(Messages {
@@ -145,7 +145,8 @@ impl Messages {
     /// Puts a message without headers and with this body behind the others.
     fn push_part(&mut self, part: Part)
         requires { length self.old.items < self.old.capacity }
-        ensures { self.new ≡ buffer (self.old.items ++ record { headers = []; body = Some part } ∷ []) self.old.capacity }
+        ensures { self.new ≡ buffer (self.old.items ++ record { headers = []; body = Some part } ∷ [])
+            self.old.capacity }
     {
         self.push_bare();
         let last = self.count - 1;
@@ -176,7 +177,7 @@ impl Messages {
     }
 
     /// Moves the last message to an empty place, if there is one.
-    pub fn pop_to(&mut self, place: &mut Place)
+    pub fn pop_to(&mut self, place: &mut MessagePlace)
         requires { place.old ≡ None }
         ensures last { place.new ≡ last_item self.old.items }
         ensures rest { self.new ≡ buffer (without_last self.old.items) self.old.capacity }

@@ -13,13 +13,13 @@ use crate::event::PoolEvent;
 use crate::events::Events;
 use crate::list::begin_event;
 use crate::message::PoolMessage;
+use crate::message_place::MessagePlace;
 use crate::messages::Messages;
-use crate::place::Place;
 use layer_ast::Dir;
 use layer_mean::Envelope;
 use msg_core::{Fields, Header};
-use slot_pool::{Memory, Pool};
-use std::alloc::Global;
+use slot_pool::Pool;
+use std::alloc::{AllocError, Global};
 use std::marker::Model;
 use std::mem;
 
@@ -76,7 +76,7 @@ impl Tray {
     ghost use Rattle.pool_message.specs.Tray.{also_sent, message_at};
 
     /// No event, and no message in a scope with so many places.
-    pub fn fresh(alloc: Global, messages: usize) -> Result<Tray, Memory>
+    pub fn fresh(alloc: Global, messages: usize) -> Result<Tray, AllocError>
         ensures { IfOk result (λ t. t ≡ record { arrived = None; messages = buffer [] messages; sent = buffer [] 0 }) }
     {
         let events = Events::fresh(alloc, 1)?;
@@ -302,7 +302,7 @@ impl Tray {
     }
 
     /// Sends an event with this envelope and with what lies in a place. The place is empty then.
-    pub fn send_from(&mut self, direction: Dir, envelope: Envelope, message: &mut Place)
+    pub fn send_from(&mut self, direction: Dir, envelope: Envelope, message: &mut MessagePlace)
         requires { length self.old.sent.items < self.old.sent.capacity }
         ensures sent { self.new ≡ also_sent direction envelope message.old self.old }
         ensures left { message.new ≡ None }
@@ -480,7 +480,10 @@ fn send_first_behind(events: &mut Events, direction: Dir, envelope: Envelope, he
 /// An event gets this direction and this envelope, and its message, if it has one, goes down behind a header.
 fn begin_behind(sent: &mut (Dir, PoolEvent), direction: Dir, envelope: Envelope, header: Header)
     requires { CanPass direction sent.old.1.message }
-    ensures { sent.new ≡ (direction, pool_event envelope (option_map (sent_behind direction header) sent.old.1.message)) }
+    ensures { sent.new ≡ (
+      direction,
+      pool_event envelope (option_map (sent_behind direction header) sent.old.1.message),
+    ) }
 {
     begin_event(sent, direction, envelope);
     match direction {

@@ -10,7 +10,7 @@ use Rattle.std.proofs.lemmas.List.Sums.{fold-append}
 use Rattle.audit_mean.specs.Segment.{Numbered, first_segment, segment_next, entry_behind, entries_behind, entries_of}
 use Rattle.run_audit.specs.Reading.{shown}
 use Rattle.run_audit.specs.Entries.{Stands, numbered, segment_shown, standing, entry_shown}
-use Rattle.run_audit.specs.declared.line.Line.{Line}
+use Rattle.run_audit.specs.declared.line.LineMeaning.{LineMeaning}
 use Rattle.run_audit.specs.declared.segments.Segment.{Segment}
 use Rattle.run_audit.specs.declared.segments.Segments.{Segments}
 use Rattle.run_audit.specs.declared.segments.Entry.{Entry}
@@ -37,7 +37,8 @@ one_more before (first ∷ lines) line =
     (option_to_list (entry_behind (before ++ first ∷ lines) line))))
 
 -- one more of the lines with their numbers
-pub numbered_more : (lines : List Line) (i : ℕ) (line d : Line) → i < length lines → line ≡ get_or lines i d →
+pub numbered_more : (lines : List LineMeaning) (i : ℕ) (line d : LineMeaning) → i < length lines →
+    line ≡ get_or lines i d →
     take (i + 1) (numbered lines) ≡ take i (numbered lines) ++ (i + 1, shown line) ∷ []
 numbered_more lines i line d inside is =
     let all = length-enumerate_from 1 (map shown lines) in
@@ -59,8 +60,8 @@ option_listed None = refl
 option_listed (Some entry) = refl
 
 -- one more line is read
-pub reads_on : (old new : Segments) (read : List Entry) (entry : Option Entry) (lines : List Line) (i : ℕ)
-    (line d : Line) → i < length lines → line ≡ get_or lines i d → Follows old read (take i (numbered lines)) →
+pub reads_on : (old new : Segments) (read : List Entry) (entry : Option Entry) (lines : List LineMeaning) (i : ℕ)
+    (line d : LineMeaning) → i < length lines → line ≡ get_or lines i d → Follows old read (take i (numbered lines)) →
     ((before : List Numbered) → Stands old before → option_map entry_shown entry ≡
     entry_behind before (i + 1, shown line)) →
     ((m : ℕ) → standing new m ≡ segment_next m (standing old m) (i + 1, shown line)) →
@@ -75,7 +76,7 @@ reads_on old new read entry lines i line d inside is follows entered advanced =
     }
 
 -- all lines are read
-pub all_read : (segments : Segments) (read : List Entry) (lines : List Line) (i : ℕ) → length lines ≤ i →
+pub all_read : (segments : Segments) (read : List Entry) (lines : List LineMeaning) (i : ℕ) → length lines ≤ i →
     Follows segments read (take i (numbered lines)) → map entry_shown read ≡ entries_of (numbered lines)
 all_read segments read lines i past follows =
     let all = length-enumerate_from 1 (map shown lines) in

@@ -19,7 +19,7 @@ use Rattle.audit_mean.specs.Lack.{ended_by, ended_behind, is_in}
 use Rattle.run_audit.specs.Reading.{shown}
 use Rattle.run_audit.specs.Entries.{Stands, numbered, standing, entry_shown}
 use Rattle.run_audit.specs.Lacks.{Holds, ended_shown, held_behind, is_left, known, listed}
-use Rattle.run_audit.specs.declared.line.Line.{Line}
+use Rattle.run_audit.specs.declared.line.LineMeaning.{LineMeaning}
 use Rattle.run_audit.specs.declared.segments.Segments.{Segments}
 use Rattle.run_audit.specs.declared.segments.Entry.{Entry}
 use Rattle.run_audit.specs.declared.ended.Ended.{Ended}
@@ -243,7 +243,8 @@ none_led segments held all stands none empty = record {
 
 -- one more line
 pub leads_on : (old new : Segments) (f g : ℕ → Option (Vec Entry Global)) (all : List Ended) (ended : Option Ended)
-    (entry : Option Entry) (lines : List Line) (i : ℕ) (line d : Line) → i < length lines → line ≡ get_or lines i d →
+    (entry : Option Entry) (lines : List LineMeaning) (i : ℕ) (line d : LineMeaning) → i < length lines →
+    line ≡ get_or lines i d →
     Leads (i + 1) old f all (take i (numbered lines)) →
     ((before : List Numbered) → Stands old before → Holds f before → option_map ended_shown ended ≡
     option_map known (ended_by before (i + 1, shown line))) →
@@ -270,7 +271,7 @@ leads_on old new f g all ended entry lines i line d inside is leads ends entered
 
 -- all lines are read
 pub all_led : (number : ℕ) (segments : Segments) (held : ℕ → Option (Vec Entry Global)) (all : List Ended)
-    (lines : List Line) (i : ℕ) → length lines ≤ i → Leads number segments held all (take i (numbered lines)) →
+    (lines : List LineMeaning) (i : ℕ) → length lines ≤ i → Leads number segments held all (take i (numbered lines)) →
     map ended_shown all ≡ map known (ended_behind [] (numbered lines))
 all_led number segments held all lines i past leads =
     let numbers = length-enumerate_from 1 (map shown lines) in

@@ -4,13 +4,13 @@ use Rattle.std.specs.List.{enumerate_from}
 use Rattle.audit_mean.specs.Segment as spec
 use Rattle.audit_mean.specs.Segment.{Name, start, in_view, Numbered, segment_behind}
 use Rattle.run_audit.specs.Reading.{shown}
-use Rattle.run_audit.specs.declared.line.Line.{Line}
+use Rattle.run_audit.specs.declared.line.LineMeaning.{LineMeaning}
 use Rattle.run_audit.specs.declared.segments.Segment.{Segment}
 use Rattle.run_audit.specs.declared.segments.Segments.{Segments}
 use Rattle.run_audit.specs.declared.segments.Entry.{Entry}
 
 -- lines with their numbers
-abbrev pub numbered : List Line → List Numbered
+abbrev pub numbered : List LineMeaning → List Numbered
 numbered lines = enumerate_from 1 (map shown lines)
 
 abbrev pub name_shown : Option (ℕ × ℕ) → Name

@@ -5,11 +5,11 @@ use Rattle.script_mean.specs.Words.{Word}
 use Rattle.script_text.specs.Parts.{parts_behind}
 use Rattle.audit_mean.specs.Line as spec
 use Rattle.audit_mean.specs.Line.{ReportLine}
-use Rattle.run_audit.specs.declared.line.Line.{Line}
-use Rattle.run_audit.specs.declared.line.Line.TheVariants.{Deliver, View, Out, End, Visits, Silent}
+use Rattle.run_audit.specs.declared.line.LineMeaning.{LineMeaning}
+use Rattle.run_audit.specs.declared.line.LineMeaning.TheVariants.{Deliver, View, Out, End, Visits, Silent}
 use Rattle.run_audit.specs.declared.parts.Parts.{Parts}
-use Rattle.run_audit.specs.declared.report.Stage.{Stage}
-use Rattle.run_audit.specs.declared.report.Stage.TheVariants.{Running, Ended, Closed}
+use Rattle.run_audit.specs.declared.report.ReportPart.{ReportPart}
+use Rattle.run_audit.specs.declared.report.ReportPart.TheVariants.{Running, Ended, Closed}
 use Rattle.run_audit.specs.declared.error.AuditError.{AuditError}
 use Rattle.run_audit.specs.declared.error.AuditError.TheVariants as error
 use Rattle.audit_mean.specs.Report as report
@@ -25,7 +25,7 @@ abbrev pub parts_left : Parts → List Word
 parts_left parts = parts_behind parts.at parts.rest
 
 -- a line as the definitions see it
-abbrev pub shown : Line → ReportLine
+abbrev pub shown : LineMeaning → ReportLine
 shown (Deliver member peer body) = spec.deliver member peer body.now
 shown (View member ltime mask) = spec.view member ltime mask
 shown (Out member) = spec.out member
@@ -44,22 +44,22 @@ TakesWord taken (Some word) behind = taken ≡ Some (word.now, behind)
 TakesWord taken None behind = taken ≡ None
 
 -- what a form said of a whole line
-abbrev pub Says : Option (ReportLine × List Word) → Option Line → Type 0
+abbrev pub Says : Option (ReportLine × List Word) → Option LineMeaning → Type 0
 Says taken (Some line) = option_map (λ t. t.0) taken ≡ Some (shown line)
 Says taken None = taken ≡ None
 
 -- a stage as the definitions see it
-abbrev pub stage_shown : Stage → report.Stage
+abbrev pub stage_shown : ReportPart → report.Stage
 stage_shown Running = report.running
 stage_shown Ended = report.ended
 stage_shown Closed = report.closed
 
 -- the stage behind a line
-abbrev pub NextStage : Stage → Line → Option Stage → Type 0
+abbrev pub NextStage : ReportPart → LineMeaning → Option ReportPart → Type 0
 NextStage stage line next = option_map stage_shown next ≡ report.stage_behind (stage_shown stage) (shown line)
 
 -- the lines of a report, or the first out of form; want of memory says nothing
-abbrev pub Reads : Result (List ReportLine) ℕ → Result (Vec Line Global) AuditError → Type 0
+abbrev pub Reads : Result (List ReportLine) ℕ → Result (Vec LineMeaning Global) AuditError → Type 0
 Reads read (Ok lines) = read ≡ Ok (map shown lines.items)
 Reads read (Err (error.Line number)) = read ≡ Err number
 Reads read (Err error.TooLarge) = ⊥

@@ -10,7 +10,7 @@ ghost use Rattle.run_audit.specs.Reading.{shown};
 ghost use Rattle.run_audit.specs.Lacks.{Holds, ended_shown, held_behind, known, listed, ranked_behind, ranked_shown};
 
 use crate::contents::{Ranked, rank};
-use crate::line::Line;
+use crate::line::LineMeaning;
 use crate::segments::{Entry, Segments};
 use std::alloc::{AllocError, Global};
 use std::collections::HashMap;
@@ -35,10 +35,11 @@ pub(crate) struct Ended<'a> {
 /// The segments that the members of a report ended by `view` lines, in the order of these.
 pub(crate) fn ended_segments<'a>(
     alloc: Global,
-    lines: &[Line<'a>],
+    lines: &[LineMeaning<'a>],
 ) -> Result<Vec<Ended<'a>>, AllocError>
     requires { length lines.now < 2 ^ 32 }
-    ensures { IfOk result (λ ended. map ended_shown ended.items ≡ map known (spec.ended_behind [] (numbered lines.now))) }
+    ensures { IfOk result
+        (λ ended. map ended_shown ended.items ≡ map known (spec.ended_behind [] (numbered lines.now))) }
 {
     let mut segments = Segments::first();
     let mut held = HashMap::new(alloc);
@@ -59,13 +60,13 @@ fn ended_by<'a>(
     segments: &Segments,
     held: &HashMap<u8, Vec<Entry<'a>>>,
     number: u32,
-    line: &Line<'a>,
+    line: &LineMeaning<'a>,
 ) -> Result<Option<Ended<'a>>, AllocError>
     ensures { IfOk result (λ ended. (before : List Numbered) → Stands segments.now before →
         Holds (hash.get nat_eq held.now) before → option_map ended_shown ended ≡
         option_map known (spec.ended_by before (number, shown line.now))) }
 {
-    let Line::View(member, ltime, mask) = line else {
+    let LineMeaning::View(member, ltime, mask) = line else {
         return Ok(None);
     };
     let Some(segment) = segments.of(*member) else {
@@ -113,7 +114,7 @@ fn follow<'a>(
     alloc: Global,
     held: &mut HashMap<u8, Vec<Entry<'a>>>,
     entry: Option<Entry<'a>>,
-    line: &Line<'_>,
+    line: &LineMeaning<'_>,
 ) -> Result<(), AllocError>
     ensures { IfOk result (λ done. (member : ℕ) → listed (hash.get nat_eq held.new member) ≡
         held_behind entry.entry (shown line.now) member (listed (hash.get nat_eq held.old member))) }
@@ -146,12 +147,12 @@ fn add<'a>(
 }
 
 /// A segment that a line ends, its deliveries with it.
-fn drop_ended<'a>(held: &mut HashMap<u8, Vec<Entry<'a>>>, line: &Line<'_>)
+fn drop_ended<'a>(held: &mut HashMap<u8, Vec<Entry<'a>>>, line: &LineMeaning<'_>)
     ensures { (member : ℕ) → listed (hash.get nat_eq held.new member) ≡
         held_behind None (shown line.now) member (listed (hash.get nat_eq held.old member)) }
 {
     match line {
-        Line::View(member, _, _) | Line::Out(member) => {
+        LineMeaning::View(member, _, _) | LineMeaning::Out(member) => {
             let _ended = held.remove(member);
         }
         _ => {}

@@ -12,7 +12,7 @@ use crate::clashes::least_clash;
 use crate::ended::ended_segments;
 use crate::error::AuditError;
 use crate::lacks::least_lack;
-use crate::line::Line;
+use crate::line::LineMeaning;
 use crate::places::{Lists, place};
 use crate::report::read_lines;
 use crate::segments::entries;
@@ -38,7 +38,7 @@ pub fn audit(alloc: Global, text: &[u8], law: Law) -> Result<Finding, AuditError
 fn least_breach(
     alloc: Global,
     law: Law,
-    lines: &[Line<'_>],
+    lines: &[LineMeaning<'_>],
 ) -> Result<Option<(u32, u32)>, AllocError>
     requires { length lines.now < 2 ^ 32 }
     ensures { IfOk result (λ breach. breach ≡ least (breaches law (numbered lines.now))) }
@@ -54,10 +54,11 @@ fn least_breach(
 fn disorder(
     alloc: Global,
     lists: Lists,
-    lines: &[Line<'_>],
+    lines: &[LineMeaning<'_>],
 ) -> Result<Option<(u32, u32)>, AllocError>
     requires { length lines.now < 2 ^ 32 }
-    ensures { IfOk result (λ breach. breach ≡ least (clashes_of (lists_shown lists) (entries_of (numbered lines.now)))) }
+    ensures { IfOk result
+        (λ breach. breach ≡ least (clashes_of (lists_shown lists) (entries_of (numbered lines.now)))) }
 {
     let entries = entries(alloc, lines)?;
     let placed = place(alloc, lists, entries.as_slice())?;
@@ -65,7 +66,7 @@ fn disorder(
 }
 
 /// The least lack of what others delivered.
-fn difference(alloc: Global, lines: &[Line<'_>]) -> Result<Option<(u32, u32)>, AllocError>
+fn difference(alloc: Global, lines: &[LineMeaning<'_>]) -> Result<Option<(u32, u32)>, AllocError>
     requires { length lines.now < 2 ^ 32 }
     ensures { IfOk result (λ breach. breach ≡ least (lacks_of (numbered lines.now))) }
 {

@@ -32,7 +32,7 @@ static SKIPPED: [&[u8]; 12] = [
 
 /// What a line says, as far as the laws of a group look at it.
 #[derive(Clone, Copy)]
-pub(crate) enum Line<'a> {
+pub(crate) enum LineMeaning<'a> {
     /// The member delivers a cast of the peer with this body, which is kept as it is spelled.
     Deliver(u8, u32, &'a [u8]),
     /// The member is in the view of this logical time and mask.
@@ -45,7 +45,7 @@ pub(crate) enum Line<'a> {
 }
 
 /// What a line says, if it is in form.
-pub(crate) fn line_said(line: &[u8]) -> Option<Line<'_>>
+pub(crate) fn line_said(line: &[u8]) -> Option<LineMeaning<'_>>
     ensures { Says (spec.any_line (words_of line.now)) result }
 {
     let mut words = Parts::words(line);
@@ -53,7 +53,7 @@ pub(crate) fn line_said(line: &[u8]) -> Option<Line<'_>>
     behind_first(verb, words)
 }
 
-fn behind_first<'a>(verb: &[u8], words: Parts<'a>) -> Option<Line<'a>>
+fn behind_first<'a>(verb: &[u8], words: Parts<'a>) -> Option<LineMeaning<'a>>
     ensures { Says (spec.behind_first verb.now (parts_left words.entry)) result }
 {
     if verb == b"deliver".as_slice() {
@@ -67,13 +67,13 @@ fn behind_first<'a>(verb: &[u8], words: Parts<'a>) -> Option<Line<'a>>
     } else if verb == b"visits".as_slice() {
         visits(words)
     } else if is_skipped(verb) {
-        Some(Line::Silent)
+        Some(LineMeaning::Silent)
     } else {
         None
     }
 }
 
-fn deliver(mut words: Parts<'_>) -> Option<Line<'_>>
+fn deliver(mut words: Parts<'_>) -> Option<LineMeaning<'_>>
     ensures { Says (spec.deliver_line (parts_left words.entry)) result }
 {
     let member = words.number(u64::from(LAST_MEMBER))? as u8;
@@ -87,56 +87,56 @@ fn deliver(mut words: Parts<'_>) -> Option<Line<'_>>
     }
 }
 
-fn delivered_cast(member: u8, mut words: Parts<'_>) -> Option<Line<'_>>
+fn delivered_cast(member: u8, mut words: Parts<'_>) -> Option<LineMeaning<'_>>
     ensures { Says (spec.delivered_cast member (parts_left words.entry)) result }
 {
     let peer = words.number(HIGHEST)? as u32;
     let body = words.body()?;
     words.end()?;
-    Some(Line::Deliver(member, peer, body))
+    Some(LineMeaning::Deliver(member, peer, body))
 }
 
-fn delivered_send(mut words: Parts<'_>) -> Option<Line<'_>>
+fn delivered_send(mut words: Parts<'_>) -> Option<LineMeaning<'_>>
     ensures { Says (spec.delivered_send (parts_left words.entry)) result }
 {
     let _peer = words.number(HIGHEST)?;
     let _body = words.body()?;
     words.end()?;
-    Some(Line::Silent)
+    Some(LineMeaning::Silent)
 }
 
-fn view(mut words: Parts<'_>) -> Option<Line<'_>>
+fn view(mut words: Parts<'_>) -> Option<LineMeaning<'_>>
     ensures { Says (spec.view_line (parts_left words.entry)) result }
 {
     let member = words.number(u64::from(LAST_MEMBER))? as u8;
     let ltime = words.number(HIGHEST)? as u32;
     let mask = words.number(HIGHEST)? as u32;
     words.end()?;
-    Some(Line::View(member, ltime, mask))
+    Some(LineMeaning::View(member, ltime, mask))
 }
 
-fn out(mut words: Parts<'_>) -> Option<Line<'_>>
+fn out(mut words: Parts<'_>) -> Option<LineMeaning<'_>>
     ensures { Says (spec.out_line (parts_left words.entry)) result }
 {
     let member = words.number(u64::from(LAST_MEMBER))? as u8;
     words.end()?;
-    Some(Line::Out(member))
+    Some(LineMeaning::Out(member))
 }
 
-fn end(mut words: Parts<'_>) -> Option<Line<'_>>
+fn end(mut words: Parts<'_>) -> Option<LineMeaning<'_>>
     ensures { Says (spec.count_line spec.end (parts_left words.entry)) result }
 {
     let _count = words.number(HIGHEST_COUNT)?;
     words.end()?;
-    Some(Line::End)
+    Some(LineMeaning::End)
 }
 
-fn visits(mut words: Parts<'_>) -> Option<Line<'_>>
+fn visits(mut words: Parts<'_>) -> Option<LineMeaning<'_>>
     ensures { Says (spec.count_line spec.visits (parts_left words.entry)) result }
 {
     let _count = words.number(HIGHEST_COUNT)?;
     words.end()?;
-    Some(Line::Visits)
+    Some(LineMeaning::Visits)
 }
 
 fn is_skipped(verb: &[u8]) -> bool

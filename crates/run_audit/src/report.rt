@@ -5,40 +5,43 @@ ghost use Rattle.audit_mean.specs.Text.{lines_of};
 ghost use Rattle.run_audit.specs.Reading.{Reads, NextStage};
 
 use crate::error::AuditError;
-use crate::line::{Line, line_said};
+use crate::line::{LineMeaning, line_said};
 use crate::parts::Parts;
 use std::alloc::Global;
 
 /// Where in a report a line stands: in front of `end`, behind it, or behind `visits`.
 #[derive(Clone, Copy, PartialEq, Eq)]
-pub(crate) enum Stage {
+pub(crate) enum ReportPart {
     Running,
     Ended,
     Closed,
 }
 
-impl Stage {
+impl ReportPart {
     /// The stage behind a line, if the line may stand there.
-    fn behind(self, line: &Line<'_>) -> Option<Stage>
+    fn behind(self, line: &LineMeaning<'_>) -> Option<ReportPart>
         ensures { NextStage self line.now result }
     {
         match (self, line) {
-            (Stage::Running, Line::End) => Some(Stage::Ended),
-            (Stage::Running, Line::Visits) => None,
-            (Stage::Running, _) => Some(Stage::Running),
-            (Stage::Ended, Line::Visits) => Some(Stage::Closed),
+            (ReportPart::Running, LineMeaning::End) => Some(ReportPart::Ended),
+            (ReportPart::Running, LineMeaning::Visits) => None,
+            (ReportPart::Running, _) => Some(ReportPart::Running),
+            (ReportPart::Ended, LineMeaning::Visits) => Some(ReportPart::Closed),
             (_, _) => None,
         }
     }
 }
 
 /// What the lines of a report say, in order.
-pub(crate) fn read_lines<'a>(alloc: Global, text: &'a [u8]) -> Result<Vec<Line<'a>>, AuditError>
+pub(crate) fn read_lines<'a>(
+    alloc: Global,
+    text: &'a [u8],
+) -> Result<Vec<LineMeaning<'a>>, AuditError>
     requires { length text.now ≤ 67108864 }
     ensures read { Reads (report_from running 1 (lines_of text.now)) result }
     ensures few { IfOk result (λ lines. length lines.items ≤ 67108865) }
 {
-    let mut stage = Stage::Running;
+    let mut stage = ReportPart::Running;
     let mut lines = Vec::new(alloc);
     for line in Parts::lines(text) {
         let number = lines.len() as u32 + 1;
@@ -51,7 +54,7 @@ pub(crate) fn read_lines<'a>(alloc: Global, text: &'a [u8]) -> Result<Vec<Line<'
         stage = next;
         lines.push(said)?;
     }
-    if stage == Stage::Running {
+    if stage == ReportPart::Running {
         return Err(AuditError::Line(lines.len() as u32 + 1));
     }
     Ok(lines)

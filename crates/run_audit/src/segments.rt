@@ -6,7 +6,7 @@ ghost use Rattle.audit_mean.specs.Segment as spec;
 ghost use Rattle.run_audit.specs.Reading.{shown};
 ghost use Rattle.run_audit.specs.Entries.{Stands, entry_shown, numbered, segment_shown, standing};
 
-use crate::line::Line;
+use crate::line::LineMeaning;
 use std::alloc::{AllocError, Global};
 
 /// A segment of a member: the logical time and the mask of the view that it is in, or none for the
@@ -60,30 +60,30 @@ impl Segments {
     }
 
     /// The segments behind a line.
-    pub(crate) fn advance(&mut self, number: u32, line: &Line<'_>)
+    pub(crate) fn advance(&mut self, number: u32, line: &LineMeaning<'_>)
         ensures this { (m : ℕ) →
             standing self.new m ≡ spec.segment_next m (standing self.old m) (number, shown line.now) }
     {
         match line {
-            Line::View(member, ltime, mask) => {
+            LineMeaning::View(member, ltime, mask) => {
                 let segment = Segment {
                     view: Some((*ltime, *mask)),
                     began: number,
                 };
                 self.set(*member, Some(segment));
             }
-            Line::Out(member) => self.set(*member, None),
+            LineMeaning::Out(member) => self.set(*member, None),
             _ => {}
         }
     }
 
     /// The delivery of a line in a segment, if it is one.
-    pub(crate) fn entry<'a>(&self, number: u32, line: &Line<'a>) -> Option<Entry<'a>>
+    pub(crate) fn entry<'a>(&self, number: u32, line: &LineMeaning<'a>) -> Option<Entry<'a>>
         ensures { (before : List spec.Numbered) → Stands self.now before → option_map entry_shown result ≡
             spec.entry_behind before (number, shown line.now) }
     {
         match line {
-            Line::Deliver(member, peer, body) => {
+            LineMeaning::Deliver(member, peer, body) => {
                 let segment = self.of(*member)?;
                 Some(Entry {
                     line: number,
@@ -99,7 +99,10 @@ impl Segments {
 }
 
 /// The deliveries of a report.
-pub(crate) fn entries<'a>(alloc: Global, lines: &[Line<'a>]) -> Result<Vec<Entry<'a>>, AllocError>
+pub(crate) fn entries<'a>(
+    alloc: Global,
+    lines: &[LineMeaning<'a>],
+) -> Result<Vec<Entry<'a>>, AllocError>
     requires { length lines.now < 2 ^ 32 }
     ensures { IfOk result (λ entries. map entry_shown entries.items ≡ spec.entries_of (numbered lines.now)) }
 {

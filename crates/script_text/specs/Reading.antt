@@ -14,12 +14,12 @@ use Rattle.script_text.specs.declared.error.LineError.{LineError}
 use Rattle.script_text.specs.declared.error.LineError.TheVariants.{Form, NoMember, Memory}
 use Rattle.script_text.specs.declared.error.ScriptError.{ScriptError}
 use Rattle.script_text.specs.declared.error.ScriptError.TheVariants as script
-use Rattle.script_text.specs.declared.lines.Line.{Line}
+use Rattle.script_text.specs.declared.lines.NumberedLine.{NumberedLine}
 use Rattle.script_text.specs.declared.lines.Lines.{Lines}
 use Rattle.script_text.specs.declared.words.Words.{Words}
 
 -- a line as the definitions see it
-abbrev pub numbered : Line → ℕ × List ℕ
+abbrev pub numbered : NumberedLine → ℕ × List ℕ
 numbered line = (line.number, line.text.now)
 
 -- the lines that are left

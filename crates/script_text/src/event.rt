@@ -8,14 +8,14 @@ ghost use Rattle.script_text.specs.Reading.{IsBelow, IsEvent, Says, numbered, wo
 ghost use Rattle.msg_core.specs.View.{most_members};
 
 use crate::error::{LineError, ScriptError};
-use crate::lines::Line;
+use crate::lines::NumberedLine;
 use crate::words::Words;
 use msg_core::{LAST_MEMBER, MOST_MEMBERS};
 use script_mean::{GroupLine, ScriptEvent};
 use std::alloc::Global;
 
 /// What the first line of a script says.
-pub(crate) fn group_line(line: Line<'_>) -> Result<GroupLine, ScriptError>
+pub(crate) fn group_line(line: NumberedLine<'_>) -> Result<GroupLine, ScriptError>
     ensures said { Answers (in_form line.entry.number (spec.said_by spec.group_line line.entry.text.now)) result }
     ensures bounds { IfOk result (λ said. (1 ≤ said.members) × (said.members ≤ most_members)) }
 {
@@ -47,7 +47,7 @@ fn group(mut words: Words<'_>) -> Result<GroupLine, LineError>
 pub(crate) fn event_on(
     alloc: Global,
     members: u8,
-    line: Line<'_>,
+    line: NumberedLine<'_>,
 ) -> Result<ScriptEvent, ScriptError>
     ensures said { Answers (event_of members (numbered line.entry)) result }
     ensures of_member { IfOk result (λ event. spec.member_of event < members) }

@@ -12,7 +12,7 @@ const BLOCK: usize = 192;
 
 /// A line, and its number, from 1.
 #[derive(Clone, Copy)]
-pub(crate) struct Line<'a> {
+pub(crate) struct NumberedLine<'a> {
     pub number: u32,
     pub text: &'a [u8],
 }
@@ -40,7 +40,7 @@ impl<'a> Lines<'a> {
         }
     }
 
-    fn next_line(&mut self) -> Option<Line<'a>>
+    fn next_line(&mut self) -> Option<NumberedLine<'a>>
         ensures { YieldsFirstBy numbered all_left self.old result self.new }
     {
         let (text, behind) = cut_in_front(b'\n', self.rest?);
@@ -49,7 +49,7 @@ impl<'a> Lines<'a> {
             rest: behind,
             number: number + 1,
         };
-        Some(Line { number, text })
+        Some(NumberedLine { number, text })
     }
 }
 
@@ -57,14 +57,14 @@ impl<'a> Iterator for Lines<'a> {
     ghost use Rattle.std.specs.Iterator.{YieldsFirstBy, item_count};
     ghost use Rattle.script_text.specs.Reading.{lines_left, numbered};
 
-    type Item = Line<'a>;
+    type Item = NumberedLine<'a>;
 
     ghost next_gives = { YieldsFirstBy numbered lines_left };
 
     ghost remaining = { item_count lines_left };
 
     /// The next line that says something.
-    fn next(&mut self) -> Option<Line<'a>> {
+    fn next(&mut self) -> Option<NumberedLine<'a>> {
         while let Some(line) = self.next_line() {
             if !says_nothing(line.text) {
                 return Some(line);

@@ -9,14 +9,14 @@ ghost use Rattle.script_text.specs.Reading.{IsEvent, IsTurn, Says, numbered, wor
 
 use crate::error::{LineError, ScriptError};
 use crate::event::{cast, leave, send};
-use crate::lines::Line;
+use crate::lines::NumberedLine;
 use crate::words::Words;
 use outside::Peer;
 use script_mean::ScriptEvent;
 use std::alloc::Global;
 
 /// Where this member is reached, if that is what the line says.
-pub(crate) fn peer_on(member: u8, line: Line<'_>) -> Result<Peer, ScriptError>
+pub(crate) fn peer_on(member: u8, line: NumberedLine<'_>) -> Result<Peer, ScriptError>
     ensures { Answers (in_form line.entry.number (event.said_by (spec.peer_line member) line.entry.text.now)) result }
 {
     match peer(member, Words::on(line.text)) {
@@ -40,7 +40,7 @@ pub(crate) fn turn_on(
     alloc: Global,
     members: u8,
     earliest: u32,
-    line: Line<'_>,
+    line: NumberedLine<'_>,
 ) -> Result<(u32, ScriptEvent), ScriptError>
     ensures said { Answers (turn_of members earliest (numbered line.entry)) result }
     ensures of_member { IfOk result (λ turn. event.member_of turn.1 < members) }

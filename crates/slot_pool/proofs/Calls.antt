@@ -11,7 +11,7 @@ use Rattle.slot_pool.specs.Spots.{Spot, no_spot, spot_at, Sets, Adds}
 use Rattle.slot_pool.proofs.Held.{held_if_used}
 use Rattle.slot_pool.proofs.Places.{in_use, held_at-shown, held_at-shown_past, length-shown, shown-set, shown-push}
 use Rattle.slot_pool.proofs.Places.{all_used, all_in_use, stays, freed, taken, pushed}
-use Rattle.slot_pool.specs.declared.place.TheConstants.{LONGEST}
+use Rattle.slot_pool.specs.declared.slot_record.TheConstants.{LONGEST}
 
 pub sized_at : (ps : List Spot) (n first i : ℕ) → IsPool ps n first → i < length ps → (spot_at ps i).len ≤ LONGEST
 sized_at ps n first i is lt = All-get_or (λ (p : Spot). p.len ≤ LONGEST) ps i no_spot lt is.sized

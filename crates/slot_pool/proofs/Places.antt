@@ -14,7 +14,7 @@ use Rattle.slot_pool.specs.Places.{shown_place, shown, Linked, IsPool}
 use Rattle.slot_pool.specs.Spots.{Spot, no_spot, spot_at}
 use Rattle.slot_pool.proofs.Held.{below_or_not, count-held_if, free_by_used, used_of_free_by}
 use Rattle.slot_pool.proofs.Times.{hit_or_not, hit_same, hit_other}
-use Rattle.slot_pool.specs.declared.place.TheConstants.{LONGEST}
+use Rattle.slot_pool.specs.declared.slot_record.TheConstants.{LONGEST}
 
 pub length-shown : (ps : List Spot) (n : ℕ) → length ps ≤ n → length (shown ps n) ≡ n
 length-shown ps n le =

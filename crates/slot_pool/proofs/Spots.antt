@@ -10,16 +10,16 @@ use Rattle.std.proofs.lemmas.Bool.Decides.{eqb_tells}
 use Rattle.raw_block.specs.Run.{Run, run}
 use Rattle.slot_pool.specs.Spots.{Spot, no_spot, spot_at, spot, joined, no_place, place_at, ArePlaces, HoldsOne, Sets}
 use Rattle.slot_pool.specs.Spots.{Adds, Reaches, Grows}
-use Rattle.slot_pool.specs.declared.place.TheConstants.{SHORT}
-use Rattle.slot_pool.specs.declared.place.Place.{Place}
+use Rattle.slot_pool.specs.declared.slot_record.TheConstants.{SHORT}
+use Rattle.slot_pool.specs.declared.slot_record.SlotRecord.{SlotRecord}
 use Rattle.slot_pool.proofs.Held.{below_or_not}
 
-pub length_joined : (ps : List Place) (ls : List (List ℕ)) → length (joined ps ls) ≡ length ps
+pub length_joined : (ps : List SlotRecord) (ls : List (List ℕ)) → length (joined ps ls) ≡ length ps
 length_joined [] ls = refl
 length_joined (p ∷ ps) [] = ap suc (length_joined ps [])
 length_joined (p ∷ ps) (l ∷ ls) = ap suc (length_joined ps ls)
 
-pub spot_at_joined : (ps : List Place) (ls : List (List ℕ)) (i : ℕ) → i < length ps →
+pub spot_at_joined : (ps : List SlotRecord) (ls : List (List ℕ)) (i : ℕ) → i < length ps →
     spot_at (joined ps ls) i ≡ spot (place_at ps i) (get_or ls i [])
 spot_at_joined [] ls i lt = absurd (omega arith)
 spot_at_joined (p ∷ ps) [] zero lt = refl
@@ -27,7 +27,7 @@ spot_at_joined (p ∷ ps) [] (suc i) lt = spot_at_joined ps [] i (omega arith)
 spot_at_joined (p ∷ ps) (l ∷ ls) zero lt = refl
 spot_at_joined (p ∷ ps) (l ∷ ls) (suc i) lt = spot_at_joined ps ls i (omega arith)
 
-pub joined_set : (ps : List Place) (ls : List (List ℕ)) (i : ℕ) (v : Place) →
+pub joined_set : (ps : List SlotRecord) (ls : List (List ℕ)) (i : ℕ) (v : SlotRecord) →
     joined (set ps i v) ls ≡ set (joined ps ls) i (spot v (get_or ls i []))
 joined_set [] ls i v = refl
 joined_set (p ∷ ps) [] zero v = refl
@@ -36,14 +36,14 @@ joined_set (p ∷ ps) (l ∷ ls) zero v = refl
 joined_set (p ∷ ps) (l ∷ ls) (suc i) v = ap (λ ss. spot p l ∷ ss) (joined_set ps ls i v)
 
 -- a place and its long body are written
-pub joined_both : (ps : List Place) (ls : List (List ℕ)) (i : ℕ) (v : Place) (b : List ℕ) → i < length ls →
+pub joined_both : (ps : List SlotRecord) (ls : List (List ℕ)) (i : ℕ) (v : SlotRecord) (b : List ℕ) → i < length ls →
     joined (set ps i v) (set ls i b) ≡ set (joined ps ls) i (spot v b)
 joined_both [] ls i v b lt = refl
 joined_both (p ∷ ps) [] i v b lt = absurd (omega arith)
 joined_both (p ∷ ps) (l ∷ ls) zero v b lt = refl
 joined_both (p ∷ ps) (l ∷ ls) (suc i) v b lt = ap (λ ss. spot p l ∷ ss) (joined_both ps ls i v b (omega arith))
 
-pub joined_push : (ps : List Place) (ls : List (List ℕ)) (v : Place) → length ls ≤ length ps →
+pub joined_push : (ps : List SlotRecord) (ls : List (List ℕ)) (v : SlotRecord) → length ls ≤ length ps →
     joined (ps ++ v ∷ []) ls ≡ joined ps ls ++ spot v [] ∷ []
 joined_push [] [] v le = refl
 joined_push [] (l ∷ ls) v le = absurd (omega arith)
@@ -51,15 +51,15 @@ joined_push (p ∷ ps) [] v le = ap (λ ss. spot p [] ∷ ss) (joined_push ps []
 joined_push (p ∷ ps) (l ∷ ls) v le = ap (λ ss. spot p l ∷ ss) (joined_push ps ls v (omega arith))
 
 -- the bytes of a short body are those of its place
-pub spot_short : (p : Place) (long : List ℕ) → p.len ≤ SHORT → (spot p long).bytes ≡ p.bytes
+pub spot_short : (p : SlotRecord) (long : List ℕ) → p.len ≤ SHORT → (spot p long).bytes ≡ p.bytes
 spot_short p long le = ap (λ b. if b then long else p.bytes) (le-ltb SHORT p.len (omega arith))
 
 -- and those of a long one are elsewhere
-spot_long : (p : Place) (long : List ℕ) → SHORT < p.len → (spot p long).bytes ≡ long
+spot_long : (p : SlotRecord) (long : List ℕ) → SHORT < p.len → (spot p long).bytes ≡ long
 spot_long p long lt = ap (λ b. if b then long else p.bytes) (lt-ltb SHORT p.len lt)
 
 -- more places for long bodies show none
-pub joined_more : (ps : List Place) (ls zs : List (List ℕ)) →
+pub joined_more : (ps : List SlotRecord) (ls zs : List (List ℕ)) →
     ((i : ℕ) → i < length ps → SHORT < (place_at ps i).len → i < length ls) → joined ps (ls ++ zs) ≡ joined ps ls
 joined_more [] ls zs long = refl
 joined_more (p ∷ ps) [] [] long = refl
@@ -76,8 +76,9 @@ joined_more (p ∷ ps) (l ∷ ls) zs long =
     (joined_more ps ls zs (λ j lt far. let within : suc j < suc (length ls) = long (suc j) (omega arith) far in
     omega arith))
 
-module _ (ps : List Place) (ls : List (List ℕ)) (n m : ℕ) (are : ArePlaces ps ls n m) where
-  pub set_places : (i : ℕ) (v : Place) → i < length ps → (SHORT < v.len → i < length ls) → ArePlaces (set ps i v) ls n m
+module _ (ps : List SlotRecord) (ls : List (List ℕ)) (n m : ℕ) (are : ArePlaces ps ls n m) where
+  pub set_places : (i : ℕ) (v : SlotRecord) → i < length ps → (SHORT < v.len → i < length ls) →
+      ArePlaces (set ps i v) ls n m
   set_places i v lt far = let count = length-set ps i v in record {
     few = are.few;
     same = are.same;
@@ -85,10 +86,10 @@ module _ (ps : List Place) (ls : List (List ℕ)) (n m : ℕ) (are : ArePlaces p
     fewer = omega (arith, are.fewer);
     long = λ j within is. let inside : j < length ps = omega arith in elim (eqb_tells j i) [
       | inl same ↦ subst (λ k. k < length ls) (sym same.1)
-          (far (subst (λ (p : Place). SHORT < p.len)
+          (far (subst (λ (p : SlotRecord). SHORT < p.len)
           (ap (place_at (set ps i v)) same.1 ∙ get_or-set_same ps i v no_place lt) is))
       | inr other ↦ are.long j inside
-          (subst (λ (p : Place). SHORT < p.len) (get_or-set_other ps i j v no_place other.1) is)
+          (subst (λ (p : SlotRecord). SHORT < p.len) (get_or-set_other ps i j v no_place other.1) is)
     ];
   }
 
@@ -101,7 +102,7 @@ module _ (ps : List Place) (ls : List (List ℕ)) (n m : ℕ) (are : ArePlaces p
     long = λ j within is. let there : j < length ls = are.long j within is in omega arith;
   }
 
-  pub push_places : (v : Place) → length ps < n → v.len ≡ 0 → ArePlaces (ps ++ v ∷ []) ls n m
+  pub push_places : (v : SlotRecord) → length ps < n → v.len ≡ 0 → ArePlaces (ps ++ v ∷ []) ls n m
   push_places v lt none = let count = length-append ps (v ∷ []) in record {
     few = are.few;
     same = are.same;
@@ -109,10 +110,10 @@ module _ (ps : List Place) (ls : List (List ℕ)) (n m : ℕ) (are : ArePlaces p
     fewer = omega (arith, are.fewer);
     long = λ j within is. elim (below_or_not j (length ps)) [
       | inl inside ↦ are.long j inside
-          (subst (λ (p : Place). SHORT < p.len) (get_or_append_left ps (v ∷ []) no_place j inside) is)
+          (subst (λ (p : SlotRecord). SHORT < p.len) (get_or_append_left ps (v ∷ []) no_place j inside) is)
       | inr last ↦ let same : j ≡ length ps + 0 = omega arith in
           let long : SHORT < v.len =
-          subst (λ (p : Place). SHORT < p.len)
+          subst (λ (p : SlotRecord). SHORT < p.len)
           (ap (place_at (ps ++ v ∷ [])) same ∙ get_or-append-add ps (v ∷ []) 0 no_place) is in absurd (omega arith)
     ];
   }
@@ -138,7 +139,7 @@ sets old new i s bs lt is holds =
 
 -- ---- what calls of a row leave
 
-module _ (ps : List Place) (ls : List (List ℕ)) (n i : ℕ) (q : Run Spot) (view : run (joined ps ls) n ≡ q) where
+module _ (ps : List SlotRecord) (ls : List (List ℕ)) (n i : ℕ) (q : Run Spot) (view : run (joined ps ls) n ≡ q) where
   pub count_is : length ps ≡ length q.values
   count_is = sym (length_joined ps ls) ∙ ap (λ (r : Run Spot). length r.values) view
 
@@ -148,24 +149,25 @@ module _ (ps : List Place) (ls : List (List ℕ)) (n i : ℕ) (q : Run Spot) (vi
   pub seen : i < length ps → spot_at q.values i ≡ spot (place_at ps i) (get_or ls i [])
   seen lt = ap (λ (r : Run Spot). spot_at r.values i) (sym view) ∙ spot_at_joined ps ls i lt
 
-  module _ (w : Place) (lt : i < length q.values) (read : w ≡ get_or ps i w) where
+  module _ (w : SlotRecord) (lt : i < length q.values) (read : w ≡ get_or ps i w) where
     pub seen_read : spot_at q.values i ≡ spot w (get_or ls i [])
     seen_read = seen (there lt) ∙
         ap (λ p. spot p (get_or ls i [])) (sym (read ∙ get_or_default ps i w no_place (there lt)))
 
     -- a place is changed
-    pub changes : (f : Spot → Spot) (v : Place) → spot v (get_or ls i []) ≡ f (spot w (get_or ls i [])) →
+    pub changes : (f : Spot → Spot) (v : SlotRecord) → spot v (get_or ls i []) ≡ f (spot w (get_or ls i [])) →
         run (joined (set ps i v) ls) n ≡ run (set q.values i (f (spot_at q.values i))) q.capacity
     changes f v is = (λ j. run (joined_set ps ls i v j) n) ∙
         (λ j. run (set (view j).values i ((is ∙ ap f (sym seen_read)) j)) (view j).capacity)
     -- a place is written
 
-  pub written : (v : Place) → run (joined (set ps i v) ls) n ≡ run (set q.values i (spot v (get_or ls i []))) q.capacity
+  pub written : (v : SlotRecord) → run (joined (set ps i v) ls) n ≡
+      run (set q.values i (spot v (get_or ls i []))) q.capacity
   written v = (λ j. run (joined_set ps ls i v j) n) ∙
       (λ j. run (set (view j).values i (spot v (get_or ls i []))) (view j).capacity)
 
   -- its one reference is to a short body
-  pub sets_short : (v : Place) (bs : List ℕ) → i < length q.values → v.count ≡ 1 → v.len ≡ length bs →
+  pub sets_short : (v : SlotRecord) (bs : List ℕ) → i < length q.values → v.count ≡ 1 → v.len ≡ length bs →
       take (length bs) v.bytes ≡ bs → length bs ≤ SHORT
       → Sets q (run (joined (set ps i v) ls) n) i bs
   sets_short v bs lt one long same few = sets q _ i (spot v (get_or ls i [])) bs lt (written v) (record {
@@ -184,7 +186,7 @@ reaches old new i at g lt = record {
   capacity = ap (λ (r : Run (List ℕ)). r.capacity) g.is;
 }
 
-module _ (ps : List Place) (long longer : Run (List ℕ)) (n i : ℕ) (reach : Reaches long longer i)
+module _ (ps : List SlotRecord) (long longer : Run (List ℕ)) (n i : ℕ) (reach : Reaches long longer i)
     (are : ArePlaces ps long.values n long.capacity) (lt : i < length ps) where
   still : ArePlaces ps longer.values n longer.capacity
   still =
@@ -194,12 +196,12 @@ module _ (ps : List Place) (long longer : Run (List ℕ)) (n i : ℕ) (reach : R
       (more_places ps long.values n long.capacity are reach.more
       (subst (λ (ls : List (List ℕ)). length ls ≤ length ps) reach.values few)))
 
-  pub are_long : (v : Place) (b : List ℕ) → ArePlaces (set ps i v) (set longer.values i b) n longer.capacity
+  pub are_long : (v : SlotRecord) (b : List ℕ) → ArePlaces (set ps i v) (set longer.values i b) n longer.capacity
   are_long v b = long_places (set ps i v) longer.values n longer.capacity
       (set_places ps longer.values n longer.capacity still i v lt (λ _. reach.reached)) i b
 
   -- the one reference of a place is to a long body
-  pub sets_long : (q : Run Spot) → run (joined ps long.values) n ≡ q → (v : Place) (b bs : List ℕ) → v.count ≡ 1 →
+  pub sets_long : (q : Run Spot) → run (joined ps long.values) n ≡ q → (v : SlotRecord) (b bs : List ℕ) → v.count ≡ 1 →
       v.len ≡ length bs → take (length bs) b ≡ bs → SHORT < length bs
       → Sets q (run (joined (set ps i v) (set longer.values i b)) n) i bs
   sets_long q view v b bs one sized same far =
@@ -212,8 +214,8 @@ module _ (ps : List Place) (long longer : Run (List ℕ)) (n i : ℕ) (reach : R
       (record { one = one; sized = sized; body = ap (take (length bs)) (spot_long v b (omega arith)) ∙ same })
 
 -- a place is put behind the others, and written
-pub adds : (ps : List Place) (ls : List (List ℕ)) (n : ℕ) (q : Run Spot) → run (joined ps ls) n ≡ q →
-    (f : Place) (block : Run Place) (new : Run Spot) (last : ℕ) (bs : List ℕ)
+pub adds : (ps : List SlotRecord) (ls : List (List ℕ)) (n : ℕ) (q : Run Spot) → run (joined ps ls) n ≡ q →
+    (f : SlotRecord) (block : Run SlotRecord) (new : Run Spot) (last : ℕ) (bs : List ℕ)
     → block ≡ run (ps ++ f ∷ []) n → last ≡ length ps → length ls ≤ length ps →
     Sets (run (joined block.values ls) block.capacity) new last bs → Adds q new bs
 adds ps ls n q view f block new last bs is last_is fewer s =

@@ -3,7 +3,7 @@ use Rattle.std.specs.Prelude.{◌≡◌, ℕ, ◌-◌, ◌^◌, ◌<◌, ◌≤�
 use Rattle.slot_pool.specs.Held.{Held, held_if, unused, free_by}
 use Rattle.slot_pool.specs.Times.{times}
 use Rattle.slot_pool.specs.Spots.{Spot, spot_at}
-use Rattle.slot_pool.specs.declared.place.TheConstants.{LONGEST}
+use Rattle.slot_pool.specs.declared.slot_record.TheConstants.{LONGEST}
 
 -- what the slot of a place holds
 abbrev pub shown_place : Spot → Held

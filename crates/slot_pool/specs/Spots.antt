@@ -3,8 +3,8 @@ use Rattle.std.specs.Prelude.{◌≡◌, ℕ, ◌^◌, ◌<◌, ◌≤◌, List,
 use Rattle.std.specs.Prelude.{nat_lt, if◌then◌else◌, refl}
 use Rattle.std.specs.Coded.{Coded, code_by, coded×, coded_list, coded_ℕ}
 use Rattle.raw_block.specs.Run.{Run, run}
-use Rattle.slot_pool.specs.declared.place.TheConstants.{SHORT}
-use Rattle.slot_pool.specs.declared.place.Place.{Place}
+use Rattle.slot_pool.specs.declared.slot_record.TheConstants.{SHORT}
+use Rattle.slot_pool.specs.declared.slot_record.SlotRecord.{SlotRecord}
 
 -- a place with its bytes: a free one with the free one behind it, or a count and a body of len bytes
 pub record Spot : Type 0 where
@@ -22,7 +22,7 @@ abbrev pub spot_at : List Spot → ℕ → Spot
 spot_at ps i = slice_index_or ps i no_spot
 
 -- a place, with the bytes that are there for a long body
-abbrev pub spot : Place → List ℕ → Spot
+abbrev pub spot : SlotRecord → List ℕ → Spot
 spot p long = record {
   count = p.count;
   next = p.next;
@@ -32,19 +32,19 @@ spot p long = record {
 }
 
 -- the places, with those for long bodies, which are as many or fewer
-abbrev pub joined : List Place → List (List ℕ) → List Spot
+abbrev pub joined : List SlotRecord → List (List ℕ) → List Spot
 joined [] ls = []
 joined (p ∷ ps) [] = spot p [] ∷ joined ps []
 joined (p ∷ ps) (l ∷ ls) = spot p l ∷ joined ps ls
 
-abbrev pub no_place : Place
+abbrev pub no_place : SlotRecord
 no_place = record { count = 0; next = 0; len = 0; bytes = [] }
 
-abbrev pub place_at : List Place → ℕ → Place
+abbrev pub place_at : List SlotRecord → ℕ → SlotRecord
 place_at ps i = slice_index_or ps i no_place
 
 -- in blocks for n places and m long bodies, where a body is long there is room for it
-pub record ArePlaces (ps : List Place) (ls : List (List ℕ)) (n m : ℕ) : Type 0 where
+pub record ArePlaces (ps : List SlotRecord) (ls : List (List ℕ)) (n m : ℕ) : Type 0 where
   pub few : n < 2 ^ 32
   pub same : m ≡ n
   pub within : length ps ≤ n

@@ -2,18 +2,18 @@
 #![tactic(auto)]
 
 mod laws;
-mod place;
 mod pool;
 mod row;
+mod slot_record;
 
 // A crate can name a pool in a contract only if the types of its fields are exported.
 pub use laws::{
     a_map_is_of_one_pool, a_pool_is_a_finite_map, calls_move_references, counts_stay_exact,
     moves_compose, slots_suffice,
 };
-pub use place::LONGEST;
-#[doc(hidden)]
-pub use place::Place;
-pub use pool::{Memory, Pool, Slot};
+pub use pool::{Pool, Slot};
 #[doc(hidden)]
 pub use row::Row;
+pub use slot_record::LONGEST;
+#[doc(hidden)]
+pub use slot_record::SlotRecord;

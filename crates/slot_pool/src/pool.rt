@@ -3,13 +3,10 @@ ghost use Rattle.std.specs.Prelude.{◌≡◌, ℕ, ◌+◌, ◌<◌, ◌≤◌,
 ghost use Rattle.std.specs.Prelude.{IfSome, IfNone, IsNone, IsTrue};
 ghost use Rattle.slot_pool.specs.Held.{held, unused, held_at, count_at, bytes_at, one_less, range, IsFull, Puts};
 
-use crate::place::LONGEST;
 use crate::row::Row;
-use std::alloc::Global;
+use crate::slot_record::LONGEST;
+use std::alloc::{AllocError, Global};
 use std::marker::Model;
-
-/// The one refusal of a call that takes memory: there is no more.
-pub use std::alloc::AllocError as Memory;
 
 /// A reference to a body of a pool, by the number of its slot. It can't be copied or let go: it goes back to its pool.
 pub struct Slot {
@@ -48,7 +45,7 @@ impl Model for Pool {
 
 impl Pool {
     /// A pool of `slots` slots, all unused.
-    pub fn with_slots(alloc: Global, slots: u32) -> Result<Pool, Memory>
+    pub fn with_slots(alloc: Global, slots: u32) -> Result<Pool, AllocError>
         ensures { IfOk result (λ p. p ≡ replicate slots unused) }
     {
         let places = Row::of_places(alloc, slots)?;

@@ -5,7 +5,7 @@ ghost use Rattle.std.specs.Prelude.{slice_index_or, IfOk, IsTrue};
 ghost use Rattle.raw_block.specs.Run.{run};
 ghost use Rattle.slot_pool.specs.Spots.{spot_at, Sets, Adds, Reaches};
 
-use crate::place::{LONGEST, Place, SHORT};
+use crate::slot_record::{LONGEST, SHORT, SlotRecord};
 use raw_block::Block;
 use std::alloc::{AllocError, Global};
 use std::marker::Model;
@@ -14,7 +14,7 @@ use std::marker::Model;
 /// first used, or, where it is for a long body, when that place or one behind it has one.
 #[derive(Drop)]
 pub struct Row {
-    block: Block<Place, Global>,
+    block: Block<SlotRecord, Global>,
     long: Block<[u8; LONGEST], Global>,
 }
 
@@ -110,7 +110,8 @@ impl Row {
     pub(crate) fn link(&mut self, index: usize, next: u32)
         requires { index < length self.old.values }
         ensures { self.new ≡ run
-            (slice_set self.old.values index (record (spot_at self.old.values index) { next = next })) self.old.capacity }
+            (slice_set self.old.values index (record (spot_at self.old.values index) { next = next }))
+            self.old.capacity }
     {
         self.block.at_mut(index).next = next;
     }
@@ -137,7 +138,7 @@ impl Row {
         ensures { Adds self.old self.new body.now }
     {
         let last = self.block.len();
-        self.block.push(Place::fresh());
+        self.block.push(SlotRecord::fresh());
         self.hold(last, body);
     }
 }

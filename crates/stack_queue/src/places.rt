@@ -7,10 +7,10 @@ ghost use Rattle.pool_message.specs.Sent.{first_sent};
 ghost use Rattle.stack_queue.specs.Pending.{places_on};
 
 use layer_ast::Dir;
-use pool_message::{Events, Line};
+use pool_message::{Events, ShortQueue};
 
 /// A place becomes the last.
-pub(crate) fn put_place(places: &mut Line<u16>, at: u16)
+pub(crate) fn put_place(places: &mut ShortQueue<u16>, at: u16)
     requires { length places.old.items < places.old.capacity }
     ensures { places.new ≡ buffer (places.old.items ++ at ∷ []) places.old.capacity }
 {
@@ -21,7 +21,7 @@ pub(crate) fn put_place(places: &mut Line<u16>, at: u16)
 }
 
 /// The first place goes.
-pub(crate) fn end_first(places: &mut Line<u16>)
+pub(crate) fn end_first(places: &mut ShortQueue<u16>)
     requires { 0 < length places.old.items }
     ensures { places.new ≡ buffer (drop 1 places.old.items) places.old.capacity }
 {
@@ -31,7 +31,7 @@ pub(crate) fn end_first(places: &mut Line<u16>)
 }
 
 /// The only place becomes another one.
-pub(crate) fn stand_alone(places: &mut Line<u16>, at: u16)
+pub(crate) fn stand_alone(places: &mut ShortQueue<u16>, at: u16)
     requires { length places.old.items ≡ 1 }
     ensures { places.new ≡ buffer (at ∷ []) places.old.capacity }
 {
@@ -39,7 +39,7 @@ pub(crate) fn stand_alone(places: &mut Line<u16>, at: u16)
 }
 
 /// The first place goes, from which the events were sent that have no place: each of these goes on to its neighbour.
-pub(crate) fn go_on(places: &mut Line<u16>, events: &Events, at: u16)
+pub(crate) fn go_on(places: &mut ShortQueue<u16>, events: &Events, at: u16)
     requires place { (1 ≤ at) × (at ≤ 255) }
     requires some { 0 < length places.old.items }
     requires room { events.now.capacity ≤ places.old.capacity }
@@ -56,7 +56,7 @@ pub(crate) fn go_on(places: &mut Line<u16>, events: &Events, at: u16)
 }
 
 /// The events behind those that have places were sent from one: each goes on to its neighbour.
-fn put_places(places: &mut Line<u16>, events: &Events, at: u16)
+fn put_places(places: &mut ShortQueue<u16>, events: &Events, at: u16)
     requires place { (1 ≤ at) × (at ≤ 255) }
     requires room { events.now.capacity ≤ places.old.capacity }
     ensures { places.new ≡ buffer (places.old.items ++ places_on at (drop (length places.old.items) events.now.items))

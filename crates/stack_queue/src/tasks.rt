@@ -12,7 +12,7 @@ use layer_eval::Predicted;
 use layer_mean::Envelope;
 use layer_stage::Stage;
 use msg_core::Headers;
-use pool_message::{Events, Line, PoolEvent};
+use pool_message::{Events, PoolEvent, ShortQueue};
 use slot_pool::Pool;
 use std::alloc::{AllocError, Global};
 use std::marker::Model;
@@ -37,7 +37,7 @@ pub struct BareTask {
 /// with their directions, and beside these where each of them goes. There is one place more, for the event that a layer
 /// takes.
 pub struct Tasks {
-    places: Line<u16>,
+    places: ShortQueue<u16>,
     events: Events,
 }
 
@@ -79,7 +79,7 @@ impl Tasks {
     {
         stack.is_accepted();
         let count = stack.weight() as usize + 1;
-        let places = Line::with_capacity(alloc, count, 0)?;
+        let places = ShortQueue::with_capacity(alloc, count, 0)?;
         match Events::fresh(alloc, count) {
             Ok(events) => Ok(Tasks { places, events }),
             Err(fault) => {

@@ -6,8 +6,7 @@ ghost use Rattle.step_outputs.specs.Kept.{numbered};
 
 use crate::kept::{Kept, Span, What, take_number};
 use msg_core::Headers;
-use slot_pool::Memory;
-use std::alloc::Global;
+use std::alloc::{AllocError, Global};
 use std::marker::Model;
 
 /// Outputs in order, in as many places as are chosen once. Their places stay when they go, so that headers are copied
@@ -37,7 +36,7 @@ impl KeptList {
     ghost use Rattle.step_outputs.specs.Kept.{numbered};
 
     /// No output, with so many places.
-    pub fn fresh(alloc: Global, places: usize) -> Result<KeptList, Memory>
+    pub fn fresh(alloc: Global, places: usize) -> Result<KeptList, AllocError>
         ensures { IfOk result (λ l. l ≡ buffer [] places) }
     {
         Ok(KeptList {

@@ -27,8 +27,8 @@ use layer_mean::Envelope;
 use msg_core::{Headers, LONGEST_BODY, View};
 use packet_mean::Here;
 use pool_message::PoolEvent;
-use slot_pool::{Memory, Pool};
-use std::alloc::Global;
+use slot_pool::Pool;
+use std::alloc::{AllocError, Global};
 use std::marker::Model;
 
 /// The outputs of a step of a member, in order. All memory is taken at first: for as many outputs as the stack's
@@ -60,7 +60,7 @@ impl Model for Outputs {
 
 impl Outputs {
     /// No output, with places for all that a step of a stack may have.
-    pub fn fresh(alloc: Global, stack: &Stack) -> Result<Outputs, Memory>
+    pub fn fresh(alloc: Global, stack: &Stack) -> Result<Outputs, AllocError>
         ensures none { IfOk result (λ o. o.outputs ≡ []) }
         ensures places { IfOk result (λ o. o.places ≡ largest_weight (stack_tree stack.now)) }
     {

@@ -20,7 +20,7 @@ use Rattle.pack_mean.specs.Accepted.{longest_file}
 use Rattle.trace_file.proofs.Bare.{read_alike}
 use Rattle.trace_file.specs.declared.due.Due as heads
 use Rattle.trace_file.specs.declared.reading.Reading.{Reading}
-use Rattle.trace_file.specs.declared.reading.Stage.TheVariants.{Idle, Within}
+use Rattle.trace_file.specs.declared.reading.FilePart.TheVariants.{Idle, Within}
 use Rattle.trace_file.specs.Open.{Adds, held_in, left_after, named_of}
 use Rattle.trace_core.specs.Trees.{trace_tree}
 use Rattle.trace_file.specs.declared.error.ReadError.{ReadError}
@@ -38,16 +38,16 @@ next_is (d ∷ due) traces line b e = ap (λ z. if z then Some (onward (d ∷ du
 
 -- a line in a case
 abbrev within_of : List LayerTree → Reading → file.Stage
-within_of stack r = within (map due_tree r.due.now) (named_of stack r.open) r.open.left
+within_of stack r = within (map due_tree r.due.now) (named_of stack r.current) r.current.left
 
 abbrev within_reading : List LayerTree → Reading → file.Reading
-within_reading stack r = record { stage = within_of stack r; held = held_in r.open; traces = traces_of r }
+within_reading stack r = record { stage = within_of stack r; held = held_in r.current; traces = traces_of r }
 
 line_in_case : (stack : List LayerTree) (r : Reading) (line : List ℕ) → r.stage ≡ Within →
     line_from stack r line ≡ line_read stack (within_reading stack r) (within_of stack r) line
 line_in_case stack r line e = ap (λ stage. line_read stack
-    (record { stage = stage_in stack stage r.due.now r.open; held = held_in r.open; traces = traces_of r })
-    (stage_in stack stage r.due.now r.open) line) e
+    (record { stage = stage_in stack stage r.due.now r.current; held = held_in r.current; traces = traces_of r })
+    (stage_in stack stage r.due.now r.current) line) e
 
 -- with one operation more
 with_is : (stack : List LayerTree) (due : List Due) (s : Named) (left n : ℕ) (r : file.Reading) (o : trace.Operation) →
@@ -78,40 +78,40 @@ pub case_added : (stack : List LayerTree) (old new : Reading) (line : List ℕ) 
     old.stage ≡ Within →
     new.stage ≡ old.stage → new.due ≡ old.due → new.traces ≡ old.traces →
     false ≡ begins (map due_tree old.due.now) line →
-    Adds stack line old.open new.open r → Goes (line_from stack old line) stack new r
+    Adds stack line old.current new.current r → Goes (line_from stack old line) stack new r
 case_added stack old new line r within_is stage due traces e h = go r h where
-  said_line : line_from stack old line ≡ operation_line stack (map due_tree old.due.now) (named_of stack old.open)
-      old.open.left
+  said_line : line_from stack old line ≡ operation_line stack (map due_tree old.due.now) (named_of stack old.current)
+      old.current.left
       (within_reading stack old)
-      (operation_said stack (named_of stack old.open) line)
+      (operation_said stack (named_of stack old.current) line)
   said_line = line_in_case stack old line within_is
-      ∙ ap (file.case_line stack (map due_tree old.due.now) (named_of stack old.open) old.open.left
+      ∙ ap (file.case_line stack (map due_tree old.due.now) (named_of stack old.current) old.current.left
       (within_reading stack old) line)
-      (next_is (map due_tree old.due.now) (traces_of old ++ held_in old.open ∷ []) line false e)
+      (next_is (map due_tree old.due.now) (traces_of old ++ held_in old.current ∷ []) line false e)
 
-  go : (r : Result (Unit {0}) LineError) → Adds stack line old.open new.open r →
+  go : (r : Result (Unit {0}) LineError) → Adds stack line old.current new.current r →
       Goes (line_from stack old line) stack new r
   go (Ok done) h = record {
     is = said_line
-        ∙ ap (operation_line stack (map due_tree old.due.now) (named_of stack old.open) old.open.left
+        ∙ ap (operation_line stack (map due_tree old.due.now) (named_of stack old.current) old.current.left
         (within_reading stack old)) h.said
-        ∙ with_is stack (map due_tree old.due.now) (named_of stack old.open) old.open.left new.open.left
+        ∙ with_is stack (map due_tree old.due.now) (named_of stack old.current) old.current.left new.current.left
         (within_reading stack old) h.operation h.left
         ∙ sym (λ i. Some (record {
-          stage = within (map due_tree (due i).now) (h.named i) new.open.left;
+          stage = within (map due_tree (due i).now) (h.named i) new.current.left;
           held = h.held i;
           traces = map trace_tree (traces i).items;
         }))
         ∙ sym (λ i. Some (record {
-          stage = stage_in stack ((stage ∙ within_is) i) new.due.now new.open;
-          held = held_in new.open;
+          stage = stage_in stack ((stage ∙ within_is) i) new.due.now new.current;
+          held = held_in new.current;
           traces = traces_of new;
         }));
     parts = h.parts;
   }
-  go (Err Form) h = said_line ∙ none_said stack (map due_tree old.due.now) (named_of stack old.open) old.open.left
+  go (Err Form) h = said_line ∙ none_said stack (map due_tree old.due.now) (named_of stack old.current) old.current.left
       (within_reading stack old)
-      (operation_said stack (named_of stack old.open) line) h
+      (operation_said stack (named_of stack old.current) line) h
   go (Err Memory) h = tt
 
 -- a line before the first case
@@ -120,8 +120,12 @@ pub idle_line : (stack : List LayerTree) (old new : Reading) (line : List ℕ) (
     Goes (next_case (map due_tree old.due.now) (traces_of old) line) stack new r →
     Goes (line_from stack old line) stack new r
 idle_line stack old new line r e h = subst (λ stage. Goes (line_read stack
-    (record { stage = stage_in stack stage old.due.now old.open; held = held_in old.open; traces = traces_of old })
-    (stage_in stack stage old.due.now old.open) line) stack new r) (sym e) h
+    (record {
+      stage = stage_in stack stage old.due.now old.current;
+      held = held_in old.current;
+      traces = traces_of old;
+    })
+    (stage_in stack stage old.due.now old.current) line) stack new r) (sym e) h
 
 -- what is read of the lines after one
 abbrev goes_on : List LayerTree → ℕ → List (List ℕ) → Option file.Reading → Result (List (List trace.Operation)) ℕ

@@ -16,8 +16,8 @@ use Rattle.trace_file.specs.declared.error.ReadError.{ReadError}
 use Rattle.trace_file.specs.declared.error.ReadError.TheVariants.{Line, Memory}
 use Rattle.trace_file.specs.declared.open.Open.{Open}
 use Rattle.trace_file.specs.declared.reading.Reading.{Reading}
-use Rattle.trace_file.specs.declared.reading.Stage.{Stage}
-use Rattle.trace_file.specs.declared.reading.Stage.TheVariants.{Idle, Within, Ended}
+use Rattle.trace_file.specs.declared.reading.FilePart.{FilePart}
+use Rattle.trace_file.specs.declared.reading.FilePart.TheVariants.{Idle, Within, Ended}
 use Rattle.trace_file.specs.Open.{AreParts, held_in, named_of}
 
 -- A case that is due, without the stack's own trace.
@@ -45,7 +45,7 @@ onward (d ∷ due) traces =
     record { stage = file.within due (nothing_named d.fields) most_operations; held = []; traces = traces }
 
 -- A file as it is read.
-abbrev pub stage_in : List LayerTree → Stage → List Due → Open → file.Stage
+abbrev pub stage_in : List LayerTree → FilePart → List Due → Open → file.Stage
 stage_in stack Idle due o = file.idle (map due_tree due)
 stage_in stack Within due o = file.within (map due_tree due) (named_of stack o) o.left
 stage_in stack Ended due o = file.ended
@@ -55,8 +55,8 @@ traces_of r = map trace_tree r.traces.items
 
 abbrev pub reading_in : List LayerTree → Reading → file.Reading
 reading_in stack r = record {
-  stage = stage_in stack r.stage r.due.now r.open;
-  held = held_in r.open;
+  stage = stage_in stack r.stage r.due.now r.current;
+  held = held_in r.current;
   traces =
       traces_of r;
 }
@@ -67,16 +67,16 @@ begun_after due = record { stage = file.idle (map due_tree due); held = []; trac
 
 pub record IsBegun (due : List Due) (r : Reading) : Type 0 where
   pub is : (stack : List LayerTree) → reading_in stack r ≡ begun_after due
-  pub parts : AreParts r.open
+  pub parts : AreParts r.current
 
 -- The next case is begun, or the file has ended.
 pub record GoesOn (old new : Reading) : Type 0 where
   pub is : (stack : List LayerTree) → reading_in stack new ≡ onward (map due_tree old.due.now) (traces_of old)
-  pub parts : AreParts new.open
+  pub parts : AreParts new.current
 
 -- The trace of the case that was open is put after the others.
 pub record IsClosed (old new : Reading) : Type 0 where
-  pub traces : traces_of new ≡ traces_of old ++ held_in old.open ∷ []
+  pub traces : traces_of new ≡ traces_of old ++ held_in old.current ∷ []
   pub due : new.due.now ≡ old.due.now
 
 abbrev pub Closes : Reading → Reading → {E : Type 0} → Result (Unit {0}) E → Type 0
@@ -85,11 +85,11 @@ Closes old new (Err e) = Unit {0}
 
 -- What is read with one line more.
 abbrev pub line_from : List LayerTree → Reading → List ℕ → Option file.Reading
-line_from stack r line = file.line_read stack (reading_in stack r) (stage_in stack r.stage r.due.now r.open) line
+line_from stack r line = file.line_read stack (reading_in stack r) (stage_in stack r.stage r.due.now r.current) line
 
 pub record IsFurther (read : Option file.Reading) (stack : List LayerTree) (new : Reading) : Type 0 where
   pub is : read ≡ Some (reading_in stack new)
-  pub parts : AreParts new.open
+  pub parts : AreParts new.current
 
 abbrev pub Goes : Option file.Reading → List LayerTree → Reading → Result (Unit {0}) LineError → Type 0
 Goes read stack new (Ok done) = IsFurther read stack new

@@ -6,7 +6,7 @@ ghost use Rattle.pack_mean.specs.File as file;
 ghost use Rattle.trace_file.specs.Open.{AreParts, held_in};
 ghost use Rattle.layer_mean.specs.Tree.{LayerTree};
 ghost use Rattle.trace_core.specs.Trees.{trace_tree};
-ghost use Rattle.trace_file.specs.declared.reading.Stage.TheVariants.{Within};
+ghost use Rattle.trace_file.specs.declared.reading.FilePart.TheVariants.{Within};
 ghost use Rattle.trace_file.specs.View.{Closes, Goes, GoesOn, IsBegun, Reads, due_tree, line_from, reading_in};
 
 use crate::due::Due;
@@ -21,7 +21,7 @@ use trace_words::LineError;
 
 /// Where in a file a line stands: after its first, in a case, or after `end`.
 #[derive(Clone, Copy)]
-pub(crate) enum Stage {
+pub(crate) enum FilePart {
     Idle,
     Within,
     Ended,
@@ -30,9 +30,9 @@ pub(crate) enum Stage {
 /// What was read of a file, and the cases that are still due.
 #[derive(Drop)]
 pub(crate) struct Reading<'a> {
-    stage: Stage,
+    stage: FilePart,
     due: &'a [Due],
-    open: Open,
+    current: Open,
     traces: Vec<Trace>,
 }
 
@@ -42,9 +42,9 @@ impl<'a> Reading<'a> {
         ensures { IsBegun due.now result }
     {
         Reading {
-            stage: Stage::Idle,
+            stage: FilePart::Idle,
             due,
-            open: Open::new(alloc, 0),
+            current: Open::new(alloc, 0),
             traces: Vec::new(alloc),
         }
     }
@@ -55,23 +55,23 @@ impl<'a> Reading<'a> {
     {
         match self.due {
             [first, rest @ ..] => {
-                self.open = Open::new(alloc, first.fields);
+                self.current = Open::new(alloc, first.fields);
                 self.due = rest;
-                self.stage = Stage::Within;
+                self.stage = FilePart::Within;
             }
             [] => {
-                self.open = Open::new(alloc, 0);
-                self.stage = Stage::Ended;
+                self.current = Open::new(alloc, 0);
+                self.stage = FilePart::Ended;
             }
         }
     }
 
     /// The trace of the case that is open is put after the others.
     fn close(&mut self, alloc: Global) -> Result<(), AllocError>
-        requires { AreParts self.old.open }
+        requires { AreParts self.old.current }
         ensures { Closes self.old self.new result }
     {
-        let open = replace(&mut self.open, Open::new(alloc, 0));
+        let open = replace(&mut self.current, Open::new(alloc, 0));
         self.traces.push(open.finish())?;
         Ok(())
     }
@@ -91,11 +91,11 @@ impl<'a> Reading<'a> {
     /// A line in a case.
     fn case_line(&mut self, alloc: Global, stack: &Stack, line: &[u8]) -> Result<(), LineError>
         requires stage { self.old.stage ≡ Within }
-        requires parts { AreParts self.old.open }
+        requires parts { AreParts self.old.current }
         ensures { Goes (line_from (stack_tree stack.now) self.old line.now) (stack_tree stack.now) self.new result }
     {
         if !begins(self.due, line) {
-            return self.open.add(stack, line);
+            return self.current.add(stack, line);
         }
         self.close(alloc)?;
         self.go_on(alloc);
@@ -109,13 +109,13 @@ impl<'a> Reading<'a> {
         stack: &Stack,
         line: &[u8],
     ) -> Result<(), LineError>
-        requires { AreParts self.old.open }
+        requires { AreParts self.old.current }
         ensures { Goes (line_from (stack_tree stack.now) self.old line.now) (stack_tree stack.now) self.new result }
     {
         match self.stage {
-            Stage::Idle => self.idle_line(alloc, line),
-            Stage::Within => self.case_line(alloc, stack, line),
-            Stage::Ended => Err(LineError::Form),
+            FilePart::Idle => self.idle_line(alloc, line),
+            FilePart::Within => self.case_line(alloc, stack, line),
+            FilePart::Ended => Err(LineError::Form),
         }
     }
 
@@ -127,11 +127,11 @@ impl<'a> Reading<'a> {
         let Reading {
             stage,
             due: _,
-            open: _,
+            current: _,
             traces,
         } = self;
         match stage {
-            Stage::Ended => Ok(traces),
+            FilePart::Ended => Ok(traces),
             _ => Err(ReadError::Line(number)),
         }
     }

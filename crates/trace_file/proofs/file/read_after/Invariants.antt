@@ -10,5 +10,5 @@ abbrev pub invariant-loop-line : goal.invariant-loop-line
 invariant-loop-line l =
     (traces_from (stack_tree l.stack) (reading_in (stack_tree l.stack) l.reading) l.number (lines_left l.line-iterator)
     ≡ traces_from (stack_tree l.stack) (begun_after l.fn.due) 2 (lines_left l.fn.lines))
-    × AreParts l.reading.open
+    × AreParts l.reading.current
     × (l.number + length (lines_left l.line-iterator) ≤ 33554434)

@@ -1,5 +1,5 @@
 use Rattle.std.proofs.Common.{ap, ◌∙◌, arith, rules}
-use Rattle.slot_pool.specs.declared.place.Place.{Place}
+use Rattle.slot_pool.specs.declared.slot_record.SlotRecord.{SlotRecord}
 use Rattle.slot_pool.proofs.Spots.{there, sets_short, are_long, sets_long}
 use Rattle.slot_pool.proofs.row.Row.hold.Goals as goal
 
@@ -31,5 +31,5 @@ returns-else-body-le-SHORT c =
     sets_long _ _ _ _ _ c.reach.ensures c.self.invariant
     (there c.self.inside.block.values c.self.inside.long.values _ _ _ c.self.view_is c.requires.there) _ c.self.view_is
     c.hold_elsewhere.new.self c.write_front.new.bytes c.args.body.now
-    (ap (λ (p : Place). p.count) c.hold_elsewhere.ensures)
-    (ap (λ (p : Place). p.len) c.hold_elsewhere.ensures ∙ search rules) (search rules) (omega arith)
+    (ap (λ (p : SlotRecord). p.count) c.hold_elsewhere.ensures)
+    (ap (λ (p : SlotRecord). p.len) c.hold_elsewhere.ensures ∙ search rules) (search rules) (omega arith)

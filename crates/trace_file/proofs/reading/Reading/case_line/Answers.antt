@@ -8,6 +8,6 @@ returns-then-not-begins c = case_added (stack_tree c.args.stack.now) c.args.self
     (record {
       stage = c.args.self.now.stage;
       due = c.args.self.now.due;
-      «open» = c.add.new.self;
+      current = c.add.new.self;
       traces = c.args.self.now.traces;
     }) c.args.line.now c.add.result c.requires.stage refl refl refl (search rules) c.add.ensures
