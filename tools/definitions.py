@@ -5,7 +5,8 @@
     tools/definitions.py --check   prints what differs where the page is stale, and ends with 1
 
 Of each file at most MOST definitions are listed: of those that other crates name the ones that most do, where one that no other of the file is made of counts for
-TOPS crates more. Each has the first sentence of its comment; one without a comment shares that of the definition before it. Worked samples are left out.
+TOPS crates more. Each has the first sentence of its comment; one without a comment shares that of the definition before it. Files of which fewer than LEAST other
+crates name a definition have their names alone, but where that would be all of a crate. Worked samples are left out.
 """
 import collections
 import difflib
@@ -15,7 +16,8 @@ import sys
 
 TOP = os.path.join(os.path.dirname(os.path.abspath(__file__)), "..")
 PAGE = "docs/DEFINITIONS.md"
-MOST = 3
+MOST = 2
+LEAST = 2
 TOPS = 5
 LONG = 120
 MAP = re.compile(r"^    (\S.*?\S)  +([a-z]+_[a-z]+|outside)(?:  +\S.*)?$", re.M)
@@ -26,9 +28,9 @@ SAMPLES = re.compile(r"^(Sample|\w*Cases\b)|^\w+: (A|The) file (of|whose|with)|w
 HEAD = """# Definitions
 
 The law of the product: what contracts cite. Each definition stands once, in `specs/` of the crate that is named, under a comment that says what it means. This page
-gathers first sentences of these comments, in the order of the map in [ARCHITECTURE.md](ARCHITECTURE.md): of each file what it is about, and the three definitions on which other
-crates build the most. A long sentence is cut at its first colon; the rest is said in the file. What follows from definitions is said by the crates of laws (`_laws`), and
-what they compute on small cases by the crates of rows (`_rows`).
+gathers first sentences of these comments, in the order of the map in [ARCHITECTURE.md](ARCHITECTURE.md): of each file that several crates cite what it is about, and the two
+definitions on which other crates build the most; other files have their names alone. A long sentence is cut at its first colon. What follows from definitions is said by the
+crates of laws (`_laws`), and what they compute on small cases by the crates of rows (`_rows`).
 
 The page is made by `tools/definitions.py`, and `tools/test.sh` says when it is stale. A sentence is changed in the file where it stands.
 """
@@ -129,17 +131,26 @@ def entries(found, listed):
     return ["- " + ", ".join(f"`{one.name}`" for one in some) + ": " + sentence(some[0].said) for some in lines]
 
 
+def file_lines(crate, name, by):
+    """How many other crates name a definition of a file, and its lines: what it is about and its listed definitions; none where it is a worked sample."""
+    head, found = definitions(read("crates", crate, "specs", f"{name}.antt"))
+    crates = collections.defaultdict(set, {key[2]: some for key, some in by.items() if key[:2] == (crate, name)})
+    listed = [] if SAMPLES.search(f"{name}: {head}") else chosen(found, crates)
+    said = entries(found, listed)
+    lines = [f"**{name}**: {sentence(head)}\n", *said, *[""] * bool(said)]
+    return len(set().union(*crates.values())), lines if listed else []
+
+
 def page():
     by, lines = namings(), [HEAD]
     for crate, about in mapped():
-        lines.append(f"## {crate}: {about}\n")
-        for name in re.findall(r"pub mod (\w+)", read("crates", crate, "specs", "Lib.antt")):
-            head, found = definitions(read("crates", crate, "specs", f"{name}.antt"))
-            crates = collections.defaultdict(set, {key[2]: some for key, some in by.items() if key[:2] == (crate, name)})
-            listed = [] if SAMPLES.search(f"{name}: {head}") else chosen(found, crates)
-            if listed:
-                said = entries(found, listed)
-                lines += [f"[{name}](../crates/{crate}/specs/{name}.antt): {sentence(head)}\n", *said, *[""] * bool(said)]
+        lines.append(f"## [{crate}](../crates/{crate}/specs): {about}\n")
+        names = re.findall(r"pub mod (\w+)", read("crates", crate, "specs", "Lib.antt"))
+        files = [(name, *file_lines(crate, name, by)) for name in names]
+        least = min(LEAST, max(users for _, users, said in files if said))
+        lines += [line for _, users, said in files if users >= least for line in said]
+        more = [name for name, users, said in files if said and users < least]
+        lines += [f"More files: {', '.join(more)}.\n"] * bool(more)
     return "\n".join(lines).rstrip() + "\n"
 
 
