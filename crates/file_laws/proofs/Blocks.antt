@@ -12,7 +12,7 @@ use Rattle.fault_mean.specs.Scope.{Local, Scope, Standing, locals_as, visible, s
 use Rattle.fault_mean.specs.TypeFaults.{row_type_faults, row_sorts, statement_type_faults}
 use Rattle.fault_mean.specs.Uses.{arguments_in, statement_uses}
 use Rattle.file_mean.specs.Names.{Names, with_numbers}
-use Rattle.file_mean.specs.Statements.{with_taken, after_block, behind, behind_all, statements_of}
+use Rattle.file_mean.specs.Statements.{with_taken, after_block, behind_all, statements_of}
 use Rattle.file_mean.specs.Layers.{layer_of}
 use Rattle.chain_laws.specs.Typed.{TypedAll}
 use Rattle.file_laws.specs.Literals.{LiteralStatement}
@@ -22,40 +22,13 @@ use Rattle.file_laws.proofs.Messages.{Agree, LastMessages}
 use Rattle.file_laws.proofs.Emissions.{emission_is, push_is}
 use Rattle.file_laws.proofs.Slots.{agree_numbers, locals_are_numbers, Free, free_more}
 use Rattle.file_laws.proofs.Takes.{take_is}
+use Rattle.file_laws.proofs.Growth.{grows, grows_all}
 
 -- a statement without faults, of which all numbers are
 pub record Good (s : Standing) : Type 0 where
   pub types : statement_type_faults s.scope s.statement ≡ []
   pub named : statement_name_faults s ≡ []
   pub literal : LiteralStatement s.statement
-
--- slots are only ever added
-mutual
-  grows : (x : ast.StatementTree) (names : Names) → names.taken.messages ≤ (behind x names).taken.messages
-  grows (ast.bind at name e) names = omega arith
-  grows (ast.set at name index e) names = omega arith
-  grows (ast.set_square at name row column e) names = omega arith
-  grows (ast.push at q items otherwise) names = grows_all otherwise names
-  grows (ast.take at q new block otherwise) names =
-      let inner = with_taken q (names_in (Some new)) names in
-      let one = grows_all block inner in
-      let two = grows_all otherwise (after_block names (behind_all block inner)) in
-      omega (arith, one, two)
-  grows (ast.when at likely e block) names = grows_all block names
-  grows (ast.choose at likely e block otherwise) names =
-      let one = grows_all block names in
-      let two = grows_all otherwise (after_block names (behind_all block names)) in
-      omega (arith, one, two)
-  grows (ast.each at name below most block) names = grows_all block (with_numbers (name ∷ []) names)
-  grows (ast.emit at dir kind arguments pushed) names = omega arith
-
-  pub grows_all : (xs : ast.StatementTrees) (names : Names) →
-      names.taken.messages ≤ (behind_all xs names).taken.messages
-  grows_all ast.none names = omega arith
-  grows_all (ast.more x rest) names =
-      let one = grows x names in
-      let two = grows_all rest (behind x names) in
-      omega (arith, one, two)
 
 -- what a block is typed under
 pub record Under (names : Names) (locals : List Local) (sorts : List Sort) : Type 0 where
@@ -114,12 +87,13 @@ block_typed (ast.more (ast.push at q items otherwise) rest) names locals sorts u
     let parts = each_parts Good (standing_in scope otherwise) (standing_in scope rest) h.1 in
     let inner = behind_all otherwise names in
     let later = after_block names inner in
-    let end = grows_all rest later in (
+    let end = (grows_all rest later).messages in (
       (
         push_is names locals sorts u.agree u.rows u.placed at q args faults.0 faults.1 h.0.literal.1,
         block_typed otherwise names locals sorts u (omega (arith, end, bound)) parts.0,
       ),
-      block_typed rest later locals sorts (under_behind names inner locals sorts (grows_all otherwise names) u) bound
+      block_typed rest later locals sorts (under_behind names inner locals sorts (grows_all otherwise names).messages u)
+          bound
           parts.1,
     )
 block_typed (ast.more (ast.take at q new block otherwise) rest) names locals sorts u bound h =
@@ -141,10 +115,10 @@ block_typed (ast.more (ast.take at q new block otherwise) rest) names locals sor
     twice_among (visible scope) fresh_names) [] h.0.named in
     let fresh = nils (uses_faults scope (statement_uses (ast.take at q new block otherwise)))
     (twice_among (visible scope) fresh_names) named.0 in
-    let zero_le = grows (ast.take at q new ast.none ast.none) names in
-    let one = grows_all block inner in
-    let two = grows_all otherwise between in
-    let end = grows_all rest later in
+    let zero_le = (grows (ast.take at q new ast.none ast.none) names).messages in
+    let one = (grows_all block inner).messages in
+    let two = (grows_all otherwise between).messages in
+    let end = (grows_all rest later).messages in
     let taken = take_is names locals sorts u.agree u.rows u.free at q new.first new.rest h.0.types fresh.1
     (omega (arith, one, two, end, bound)) in (
       (
@@ -163,9 +137,10 @@ block_typed (ast.more (ast.when at likely e block) rest) names locals sorts u bo
     let parts = each_parts Good (standing_in scope block) (standing_in scope rest) h.1 in
     let inner = behind_all block names in
     let later = after_block names inner in
-    let end = grows_all rest later in (
+    let end = (grows_all rest later).messages in (
       (block_typed block names locals sorts u (omega (arith, end, bound)) parts.0, tt),
-      block_typed rest later locals sorts (under_behind names inner locals sorts (grows_all block names) u) bound
+      block_typed rest later locals sorts (under_behind names inner locals sorts (grows_all block names).messages u)
+          bound
           parts.1,
     )
 block_typed (ast.more (ast.choose at likely e block otherwise) rest) names locals sorts u bound h =
@@ -176,9 +151,9 @@ block_typed (ast.more (ast.choose at likely e block otherwise) rest) names local
     let between = after_block names first in
     let second = behind_all otherwise between in
     let later = after_block names second in
-    let one = grows_all block names in
-    let two = grows_all otherwise between in
-    let end = grows_all rest later in (
+    let one = (grows_all block names).messages in
+    let two = (grows_all otherwise between).messages in
+    let end = (grows_all rest later).messages in (
       (
         block_typed block names locals sorts u (omega (arith, two, end, bound)) parts.0,
         block_typed otherwise between locals sorts (under_behind names first locals sorts one u)
@@ -194,13 +169,14 @@ block_typed (ast.more (ast.each at name below most block) rest) names locals sor
     let inner = with_numbers (name ∷ []) names in
     let first = behind_all block inner in
     let later = after_block names first in
-    let end = grows_all rest later in (
+    let end = (grows_all rest later).messages in (
       (
         number_small names u.placed below h.0.literal.0,
         block_typed block inner (locals ++ locals_as [] (name ∷ [])) sorts (under_number names locals sorts name u)
             (omega (arith, end, bound)) parts.0,
       ),
-      block_typed rest later locals sorts (under_behind names first locals sorts (grows_all block inner) u) bound
+      block_typed rest later locals sorts (under_behind names first locals sorts (grows_all block inner).messages u)
+          bound
           parts.1,
     )
 block_typed (ast.more (ast.emit at dir kind arguments pushed) rest) names locals sorts u bound h = (

@@ -43,7 +43,8 @@ use Rattle.file_laws.proofs.Small.{LiteralPlaced, number_small, size_small}
 use Rattle.file_laws.proofs.Messages.{sort_among, slot_among, Slot, Agree, LastMessages}
 use Rattle.file_laws.proofs.Emissions.{kind_arguments}
 use Rattle.file_laws.proofs.Slots.{AreNumbers, agree_numbers, locals_are_numbers, Free, slot_new}
-use Rattle.file_laws.proofs.Blocks.{Good, grows_all, block_typed}
+use Rattle.file_laws.proofs.Blocks.{Good, block_typed}
+use Rattle.file_laws.proofs.Growth.{grows_all}
 
 -- room behind the sorts that are met
 
@@ -110,7 +111,7 @@ handler_from p h sorts placed rows met count agree good =
       free = room_free room sorts entry.taken.messages (subst (Free sorts) (sym count) (none_free sorts))
           (omega (arith, count));
     })
-    (omega (arith, count, grows_all h.block entry, room_length room sorts)) good)
+    (omega (arith, count, (grows_all h.block entry).messages, room_length room sorts)) good)
 
 -- handlers of events without messages
 

@@ -5,6 +5,7 @@ pub mod Messages
 pub mod Emissions
 pub mod Slots
 pub mod Takes
+pub mod Growth
 pub mod Blocks
 pub mod Handlers
 pub mod Files

@@ -34,7 +34,7 @@ use Rattle.fault_mean.specs.TypeFaults.{statement_type_faults, expected_type_fau
 use Rattle.fault_mean.specs.TypeFaults.{declaration_type_faults, layer_type_faults}
 use Rattle.file_mean.specs.Names.{Names, Placed, own_names, in_slots, numbers_among, with_numbers, size_value}
 use Rattle.file_mean.specs.Values.{queue_row, queue_carries, number_of}
-use Rattle.file_mean.specs.Statements.{with_taken, after_block, behind, behind_all, statements_of}
+use Rattle.file_mean.specs.Statements.{with_taken, after_block, behind_all, statements_of}
 use Rattle.file_mean.specs.Layers.{popped_tag, expected_of, handler_names, handler_of, cell_in, layer_of}
 use Rattle.layer_ast.specs.declared.names.At.{At}
 use Rattle.fault_mean.specs.Limits.{LimitedSize, capacity_in, is_within, maximum_in, number_outside, sizes_in}
@@ -50,6 +50,7 @@ use Rattle.file_laws.proofs.Fronts.{front, front_is, Found, found_new, seen_all,
 use Rattle.file_laws.proofs.Fronts.{LastSort, Sees, sees_numbers, sees_all, sees_kept}
 use Rattle.file_laws.proofs.NamedValues.{shape_named, number_named, queue_named}
 use Rattle.file_laws.proofs.NamedBlocks.{last_sort, range_below, row_named, emission_named}
+use Rattle.file_laws.proofs.Growth.{grows, grows_all}
 use Rattle.chain_laws.proofs.Lists.{Where, each_append, each_so, each_map}
 
 -- sizes within their limits, where a place gives params their values
@@ -104,34 +105,6 @@ each_flat_parts P f (x ∷ xs) h = let parts = each_parts P (f x) (flat_map f xs
 abbrev pub Clean : Placed → Standing → Type 0
 Clean p s = (statement_type_faults s.scope s.statement ≡ []) × AllByRecursion (FitsAt p) (maximum_in s.statement)
 
--- slots are only ever added
-mutual
-  grows : (x : ast.StatementTree) (names : Names) → names.taken.numbers ≤ (behind x names).taken.numbers
-  grows (ast.bind at name e) names = omega arith
-  grows (ast.set at name index e) names = omega arith
-  grows (ast.set_square at name row column e) names = omega arith
-  grows (ast.push at q items otherwise) names = grows_all otherwise names
-  grows (ast.take at q new block otherwise) names =
-      let inner = with_taken q (names_in (Some new)) names in
-      let one = grows_all block inner in
-      let two = grows_all otherwise (after_block names (behind_all block inner)) in
-      omega (arith, one, two)
-  grows (ast.when at likely e block) names = grows_all block names
-  grows (ast.choose at likely e block otherwise) names =
-      let one = grows_all block names in
-      let two = grows_all otherwise (after_block names (behind_all block names)) in
-      omega (arith, one, two)
-  grows (ast.each at name below most block) names =
-      let one = grows_all block (with_numbers (name ∷ []) names) in omega (arith, one)
-  grows (ast.emit at dir k arguments pushed) names = omega arith
-
-  grows_all : (xs : ast.StatementTrees) (names : Names) → names.taken.numbers ≤ (behind_all xs names).taken.numbers
-  grows_all ast.none names = omega arith
-  grows_all (ast.more x rest) names =
-      let one = grows x names in
-      let two = grows_all rest (behind x names) in
-      omega (arith, one, two)
-
 abbrev scope_of : Names → List Local → Scope
 scope_of names locals = record { layer = names.place.layer; locals = locals }
 
@@ -162,7 +135,7 @@ block_named : (xs : ast.StatementTrees) (names : Names) (locals : List Local) (s
     NamedAll (layer_of names.place) slots (statements_of names xs)
 block_named ast.none names locals slots sees last bound h = tt
 block_named (ast.more (ast.bind at name e) rest) names locals slots sees last bound h =
-    let end = grows_all rest (with_numbers (name ∷ []) names) in (
+    let end = (grows_all rest (with_numbers (name ∷ []) names)).numbers in (
       (omega (arith, end, bound), number_named names locals slots sees (omega (arith, end, bound)) e h.0.0),
       block_named rest (with_numbers (name ∷ []) names) (locals ++ locals_as [] (name ∷ [])) slots
           (sees_all names locals [] (name ∷ []) sees) last bound h.1,
@@ -170,7 +143,7 @@ block_named (ast.more (ast.bind at name e) rest) names locals slots sees last bo
 block_named (ast.more (ast.set at name None e) rest) names locals slots sees last bound h =
     let scope = scope_of names locals in
     let test = declared_as (is_numbers One) names.place.layer name.word in
-    let end = grows_all rest names in
+    let end = (grows_all rest names).numbers in
     let parts = nils (unless test (kind at)) (number_faults scope e ++ []) h.0.0 in (
       (
         inl (
@@ -186,7 +159,7 @@ block_named (ast.more (ast.set at name None e) rest) names locals slots sees las
 block_named (ast.more (ast.set at name (Some index) e) rest) names locals slots sees last bound h =
     let scope = scope_of names locals in
     let test = declared_as (is_numbers Array) names.place.layer name.word in
-    let end = grows_all rest names in
+    let end = (grows_all rest names).numbers in
     let parts = nils (unless test (kind at)) (number_faults scope index ++ (number_faults scope e ++ [])) h.0.0 in
     let more = nils (number_faults scope index) (number_faults scope e ++ []) parts.1 in (
       (
@@ -200,7 +173,7 @@ block_named (ast.more (ast.set at name (Some index) e) rest) names locals slots 
 block_named (ast.more (ast.set_square at name row column e) rest) names locals slots sees last bound h =
     let scope = scope_of names locals in
     let test = declared_as (is_numbers Square) names.place.layer name.word in
-    let end = grows_all rest names in
+    let end = (grows_all rest names).numbers in
     let parts = nils (unless test (kind at))
     (number_faults scope row ++ (number_faults scope column ++ (number_faults scope e ++ []))) h.0.0 in
     let more = nils (number_faults scope row) (number_faults scope column ++ (number_faults scope e ++ [])) parts.1 in
@@ -220,8 +193,8 @@ block_named (ast.more (ast.push at q items otherwise) rest) names locals slots s
     let args = arguments_in (Some items) in
     let inner = behind_all otherwise names in
     let later = after_block names inner in
-    let one = grows_all otherwise names in
-    let end = grows_all rest later in
+    let one = (grows_all otherwise names).numbers in
+    let end = (grows_all rest later).numbers in
     let faults = nils (row_type_faults scope at q (length args))
     (arguments_faults scope (row_sorts names.place.layer q) args) h.0.0 in
     let test = length (queue_row names q) == length args in
@@ -249,10 +222,10 @@ block_named (ast.more (ast.take at q new block otherwise) rest) names locals slo
     let between = after_block names first in
     let second = behind_all otherwise between in
     let later = after_block names second in
-    let zero_le = grows (ast.take at q new ast.none ast.none) names in
-    let one = grows_all block inner in
-    let two = grows_all otherwise between in
-    let end = grows_all rest later in
+    let zero_le = (grows (ast.take at q new ast.none ast.none) names).numbers in
+    let one = (grows_all block inner).numbers in
+    let two = (grows_all otherwise between).numbers in
+    let end = (grows_all rest later).numbers in
     let test = length (queue_row names q) == length fresh in
     let faults = nils (queue_faults scope at q) (unless test (arity at)) h.0.0 in
     let count = eqb-true (length (queue_row names q)) (length fresh) (unless_nil test (arity at) faults.1) in
@@ -281,8 +254,8 @@ block_named (ast.more (ast.when at likely e block) rest) names locals slots sees
     let scope = scope_of names locals in
     let inner = behind_all block names in
     let later = after_block names inner in
-    let one = grows_all block names in
-    let end = grows_all rest later in
+    let one = (grows_all block names).numbers in
+    let end = (grows_all rest later).numbers in
     let parts = each_parts (Clean names.place) (standing_in scope block) (standing_in scope rest) h.1 in (
       (
         number_named names locals slots sees (omega (arith, one, end, bound)) e h.0.0,
@@ -297,9 +270,9 @@ block_named (ast.more (ast.choose at likely e block otherwise) rest) names local
     let between = after_block names first in
     let second = behind_all otherwise between in
     let later = after_block names second in
-    let one = grows_all block names in
-    let two = grows_all otherwise between in
-    let end = grows_all rest later in
+    let one = (grows_all block names).numbers in
+    let two = (grows_all otherwise between).numbers in
+    let end = (grows_all rest later).numbers in
     let outer = each_parts (Clean names.place) (standing_in scope block ++ standing_in scope otherwise)
     (standing_in scope rest) h.1 in
     let parts = each_parts (Clean names.place) (standing_in scope block) (standing_in scope otherwise) outer.0 in (
@@ -318,8 +291,8 @@ block_named (ast.more (ast.each at name below most block) rest) names locals slo
     let inner = with_numbers (name ∷ []) names in
     let first = behind_all block inner in
     let later = after_block names first in
-    let one = grows_all block inner in
-    let end = grows_all rest later in
+    let one = (grows_all block inner).numbers in
+    let end = (grows_all rest later).numbers in
     let faults = nils (number_faults scope below) (size_type_faults names.place.layer (size_at most) most) h.0.0 in
     let parts = each_parts (Clean names.place) (standing_in inside block) (standing_in scope rest) h.1 in (
       (
@@ -332,7 +305,7 @@ block_named (ast.more (ast.each at name below most block) rest) names locals slo
       block_named rest later locals slots (sees_behind names first locals (omega (arith, one)) sees) last bound parts.1,
     )
 block_named (ast.more (ast.emit at dir k arguments pushed) rest) names locals slots sees last bound h =
-    let end = grows_all rest names in (
+    let end = (grows_all rest names).numbers in (
       emission_named names locals slots sees (omega (arith, end, bound)) at dir k (arguments_in (Some arguments)) pushed
           h.0.0,
       block_named rest names locals slots sees last bound h.1,
@@ -477,7 +450,7 @@ handler_named p h last is =
       brought_is h.kind (names_in (Some h.names)) head.names_are,
       popped_count p h h.popped head.popped_is,
     ) in
-    let more : entry.taken.numbers ≤ end.taken.numbers = grows_all h.block entry in (
+    let more : entry.taken.numbers ≤ end.taken.numbers = (grows_all h.block entry).numbers in (
       expected_named entry (head_scope p.layer h).locals slots h.expected sees (omega (arith, met)) head.expected_is,
       block_named h.block entry (head_scope p.layer h).locals slots sees last (omega (arith, met, more))
           head.statements_are,

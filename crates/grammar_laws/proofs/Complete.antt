@@ -38,6 +38,8 @@ use Rattle.grammar_laws.specs.Machine.{some_names, a_popped, an_expected, handle
 use Rattle.grammar_laws.specs.Machine.{more_items, a_declaration, declarations, a_layer, layers, more_given, some_given}
 use Rattle.grammar_laws.specs.Machine.{a_place, places, Move, eats, skips, refuses, move, all_optional, moved, feed}
 use Rattle.grammar_laws.specs.Machine.{operand, emission, handling, start}
+use Rattle.grammar_laws.proofs.Begins.{NoIndex, form_of}
+use Rattle.grammar_laws.proofs.Signs.{operator_ends}
 
 -- the tokens of what is printed
 abbrev pub toks : List Printed → List Token
@@ -92,21 +94,13 @@ operator_drives BitAnd stack tokens = refl
 operator_drives BitOr stack tokens = refl
 operator_drives BitXor stack tokens = refl
 
-operator_ends : (o : Operator) → IsSkip (move an_index (token.Sign (operator_sign o)))
-operator_ends Add = tt
-operator_ends Subtract = tt
-operator_ends Multiply = tt
-operator_ends Equal = tt
-operator_ends NotEqual = tt
-operator_ends Less = tt
-operator_ends LessOrEqual = tt
-operator_ends Greater = tt
-operator_ends GreaterOrEqual = tt
-operator_ends And = tt
-operator_ends Or = tt
-operator_ends BitAnd = tt
-operator_ends BitOr = tt
-operator_ends BitXor = tt
+-- where no index begins, one is left out
+no_index_skips : (t : Token) → NoIndex (form_of t) → IsSkip (move an_index t)
+no_index_skips (token.Sign sign.LeftBracket) free = free
+no_index_skips _ free = tt
+
+operator_skips : (o : Operator) → IsSkip (move an_index (token.Sign (operator_sign o)))
+operator_skips o = no_index_skips (token.Sign (operator_sign o)) (operator_ends o)
 
 -- a function's word begins an expression, and an argument, and it isn't a prediction
 function_begins : (f : Function) (stack : List Symbol) (tokens : List Token) →
@@ -177,7 +171,7 @@ mutual
   expression_drives (binary at left operator right) stack k free =
       let behind = print.expression right (plain sign.RightParen ∷ k) in
       expression_drives left (an_operator ∷ an_expression ∷ one sign.RightParen ∷ stack)
-      (plain (operator_sign operator) ∷ behind) (operator_ends operator)
+      (plain (operator_sign operator) ∷ behind) (operator_skips operator)
       ∙ (operator_drives operator (an_expression ∷ one sign.RightParen ∷ stack) (toks behind)
       ∙ expression_drives right (one sign.RightParen ∷ stack) (plain sign.RightParen ∷ k) tt)
   expression_drives (apply at function x) stack k free =

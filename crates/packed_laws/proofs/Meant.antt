@@ -1,22 +1,18 @@
 -- What was packed of a stack that a file means is accepted.
-use Rattle.std.proofs.Common.{◌≡◌, ◌∙◌, ℕ, ◌+◌, ◌≤◌, Bool, true, false, List, [], ◌∷◌, length, map, Option, Some, None}
+use Rattle.std.proofs.Common.{◌≡◌, ◌∙◌, ℕ, ◌+◌, ◌≤◌, List, [], ◌∷◌, length, map, Option, Some, None}
 use Rattle.std.proofs.Common.{refl, subst, arith}
-use Rattle.std.specs.Prelude.{Ok, Err, nat_lt, if◌then◌else◌}
 use Rattle.std.specs.List.{AllByRecursion, enumerate_from}
 use Rattle.std.specs.Option.{option_map_or}
 use Rattle.std.proofs.lemmas.List.{length-map}
 use Rattle.std.proofs.lemmas.List.FromFn.{length-enumerate_from}
 use Rattle.layer_ast.specs.Tree as ast
 use Rattle.layer_mean.specs.Tree.{HeaderTree, LayerTree, no_layer}
-use Rattle.fault_mean.specs.Faults as faults
 use Rattle.fault_mean.specs.FileFault.{file_fault}
 use Rattle.file_mean.specs.Layers.{header_in, layer_of}
 use Rattle.file_mean.specs.Names.{Placed}
 use Rattle.file_mean.specs.Stack.{placed_layer, stack_of}
 use Rattle.msg_core.specs.Headers.{most_fields}
-use Rattle.stack_mean.specs.Graph.{Node, first_on_cycle}
-use Rattle.stack_mean.specs.Acceptance.{accepted, without_cycle, largest_weight, largest_joins, weight_limit}
-use Rattle.stack_mean.specs.Acceptance.{joins_limit, held_at_most, too_many, too_many_joins}
+use Rattle.stack_mean.specs.Acceptance.{accepted}
 use Rattle.chain_laws.specs.Runs.{TypedStack}
 use Rattle.chain_laws.proofs.Lists.{Where}
 use Rattle.file_laws.specs.Bounds.{HoldsDeclaration, HoldsLayer, HoldsPlaced, placed_at}
@@ -25,7 +21,8 @@ use Rattle.file_laws.proofs.Files.{NamesLayer, file_parts, files_are_typed, file
 use Rattle.file_laws.proofs.HeldLayers.{files_are_held}
 use Rattle.file_laws.proofs.Lists.{filter_map_each}
 use Rattle.file_laws.proofs.Texts.{texts_are_literal}
-use Rattle.output_mean.specs.Judged.{Means, judged_by, said_accepted}
+use Rattle.output_mean.specs.Judged.{Means}
+use Rattle.output_mean.proofs.Judged.{IsOwn, own_stack}
 use Rattle.packed_laws.specs.Told.{AreToldApart, StacksAreToldApart}
 use Rattle.packed_laws.proofs.Layers.{LayersFit}
 use Rattle.packed_laws.proofs.Packable.{CanBePacked}
@@ -34,35 +31,6 @@ use Rattle.packed_laws.proofs.Entries.{HasFewFields, entries_fit}
 use Rattle.packed_laws.proofs.Library.{file_walked}
 use Rattle.packed_laws.proofs.Packed.{packed_is_read, packed_is_accepted}
 use Rattle.packed_laws.proofs.Stacks.{stack_fits, stack_told}
-
--- an accepted stack is the one that was judged
-accepted_same : (s t : List LayerTree) (o : Option Node) → said_accepted (without_cycle s o) ≡ Ok t →
-    (without_cycle s o ≡ Ok s) × (s ≡ t)
-accepted_same s t (Some node) is = absurd (cc is)
-accepted_same s t None is = heavy (nat_lt weight_limit (largest_weight s)) (nat_lt joins_limit (largest_joins s)) is
-  where
-    heavy : (a b : Bool) →
-        said_accepted (if a then Err (too_many (held_at_most (largest_weight s))) else if b then Err too_many_joins else
-        Ok s) ≡ Ok t →
-        ((if a then Err (too_many (held_at_most (largest_weight s))) else if b then Err too_many_joins else Ok s) ≡
-        Ok s)
-        × (s ≡ t)
-    heavy true b is = absurd (cc is)
-    heavy false true is = absurd (cc is)
-    heavy false false is = (refl, cc is)
-
-record IsOwn (file : ast.FileTree) (t : List LayerTree) : Type 0 where
-  faultless : file_fault file ≡ None
-  accepts : accepted (stack_of file) ≡ Ok (stack_of file)
-  is : stack_of file ≡ t
-
-own_stack : (file : ast.FileTree) (t : List LayerTree) (fault : Option faults.FileFault) → file_fault file ≡ fault →
-    judged_by file fault ≡ Ok t →
-    IsOwn file t
-own_stack file t (Some fault) found is = absurd (cc is)
-own_stack file t None none is =
-    let same = accepted_same (stack_of file) t (first_on_cycle (stack_of file)) is in
-    record { faultless = none; accepts = same.0; is = same.1 }
 
 -- the headers of a layer that members hold have few fields
 few_in : (p : Placed) (d : ast.DeclarationTree) → HoldsDeclaration p d →

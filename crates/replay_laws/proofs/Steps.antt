@@ -1,19 +1,14 @@
 -- Each moment of a replay is a step of the definition.
-use Rattle.std.proofs.Common.{◌≡◌, ℕ, Bool, true, false, List, [], ◌∷◌, Option, Some, None, refl, subst}
-use Rattle.std.specs.Prelude.{if◌then◌else◌, nat_lt, Result, Ok, Err}
+use Rattle.std.proofs.Common.{◌≡◌, ℕ, List, [], ◌∷◌, Option, Some, None, refl, subst}
+use Rattle.std.specs.Prelude.{Result, Ok, Err}
 use Rattle.msg_core.specs.declared.packet.Packet.{Packet}
 use Rattle.msg_core.specs.declared.packet.View.{View}
-use Rattle.layer_ast.specs.Tree.{FileTree}
 use Rattle.layer_mean.specs.Tree.{LayerTree}
 use Rattle.layer_mean.specs.State.{State}
-use Rattle.fault_mean.specs.Faults as faults
 use Rattle.fault_mean.specs.FileFault.{file_fault}
-use Rattle.file_mean.specs.Stack.{stack_of}
 use Rattle.packet_mean.specs.Spelling.{full_bytes, IsSpellable}
 use Rattle.packet_mean.specs.declared.here.Here.{Here}
-use Rattle.stack_mean.specs.Acceptance.{accepted, too_many, too_many_joins, held_at_most, without_cycle, largest_weight}
-use Rattle.stack_mean.specs.Acceptance.{largest_joins, weight_limit, joins_limit}
-use Rattle.stack_mean.specs.Graph.{Node, first_on_cycle}
+use Rattle.stack_mean.specs.Acceptance.{accepted}
 use Rattle.stack_mean.specs.Plans.{plans_of}
 use Rattle.chain_laws.specs.Runs.{TypedStack}
 use Rattle.chain_laws.proofs.Lists.{Where, each_or}
@@ -26,7 +21,8 @@ use Rattle.run_mean.specs.Member.{entered}
 use Rattle.run_mean.specs.World.{World, Happening, first_world, member_at, packet_number, here_of, stepped_inside}
 use Rattle.run_mean.specs.World.{stepped_of, stepped, given, happens}
 use Rattle.run_mean.specs.Report.{Moment}
-use Rattle.output_mean.specs.Judged.{Means, judged_by, said_accepted}
+use Rattle.output_mean.specs.Judged.{Means}
+use Rattle.output_mean.proofs.Judged.{own_stack}
 use Rattle.member_laws.specs.Members.{IsChainedMember, IsInput, IsEntered, IsGivenEvent, IsChainedWorld}
 use Rattle.member_laws.proofs.Members.{first_world_is_chained, events_keep_chains, given_enters, here_is, numbered}
 use Rattle.member_laws.proofs.Numbered.{plans_are_numbered, inputs_are_in_range, worlds_are_chained}
@@ -116,36 +112,6 @@ moments_are_steps stack w (e ∷ events) typed h world standing = (
 )
 
 -- what a file means
-
--- an accepted stack is the one that was judged
-accepted_same : (s t : List LayerTree) (o : Option Node) → said_accepted (without_cycle s o) ≡ Ok t →
-    (without_cycle s o ≡ Ok s) × (s ≡ t)
-accepted_same s t (Some node) is = absurd (cc is)
-accepted_same s t None is = heavy (nat_lt weight_limit (largest_weight s)) (nat_lt joins_limit (largest_joins s)) is
-  where
-    heavy : (a b : Bool) →
-        said_accepted (if a then Err (too_many (held_at_most (largest_weight s))) else if b then Err too_many_joins else
-        Ok s) ≡ Ok t →
-        ((if a then Err (too_many (held_at_most (largest_weight s))) else if b then Err too_many_joins else Ok s) ≡
-        Ok s)
-        × (s ≡ t)
-    heavy true b is = absurd (cc is)
-    heavy false true is = absurd (cc is)
-    heavy false false is = (refl, cc is)
-
--- the stack of a file without faults
-pub record IsOwn (file : FileTree) (t : List LayerTree) : Type 0 where
-  pub faultless : file_fault file ≡ None
-  pub accepts : accepted (stack_of file) ≡ Ok (stack_of file)
-  pub is : stack_of file ≡ t
-
-pub own_stack : (file : FileTree) (t : List LayerTree) (fault : Option faults.FileFault) → file_fault file ≡ fault →
-    judged_by file fault ≡ Ok t →
-    IsOwn file t
-own_stack file t (Some fault) found is = absurd (cc is)
-own_stack file t None none is =
-    let same = accepted_same (stack_of file) t (first_on_cycle (stack_of file)) is in
-    record { faultless = none; accepts = same.0; is = same.1 }
 
 accepts_and_typed : (text : List ℕ) (stack : List LayerTree) → Means text stack → (accepted stack ≡ Ok stack) ×
     TypedStack stack

@@ -135,7 +135,7 @@ impl Open {
     }
 
     /// The trace that was read.
-    #[tactic(auto, using(crate::proofs::Opened::parts_hold))]
+    #[tactic(auto, using(trace_core::proofs::Parts::parts_hold))]
     pub(crate) fn finish(self) -> Trace
         requires { AreParts self }
         ensures { trace_tree result ≡ held_in self }

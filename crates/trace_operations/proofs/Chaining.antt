@@ -16,7 +16,7 @@ use Rattle.trace_words.specs.declared.error.LineError.{LineError}
 use Rattle.trace_words.specs.declared.error.LineError.TheVariants.{Form, Memory}
 use Rattle.trace_operations.specs.declared.header.Header.{Header}
 use Rattle.trace_operations.specs.Reading.{ChainRead, ReadsChain, TakesAs, header_at}
-use Rattle.trace_operations.proofs.Growing.{none_more, more_then, linked_more}
+use Rattle.trace_core.proofs.Growing.{none_more, more_then, linked_more}
 use Rattle.trace_operations.proofs.Listing.{with_first, one_less}
 
 -- The chain of no headers is there.

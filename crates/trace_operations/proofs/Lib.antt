@@ -1,4 +1,3 @@
-pub mod Growing
 mod Listing
 mod Fields
 mod Chaining

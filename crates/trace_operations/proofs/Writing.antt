@@ -2,7 +2,7 @@
 use Rattle.std.proofs.Common.{◌≡◌, ℕ, ◌+◌, List, [], ◌++◌, length, map, Option, Some, Result, refl, sym, ap, subst, ◌∙◌}
 use Rattle.std.specs.Prelude.{codes, option_and_then, option_map}
 use Rattle.std.specs.Fmt.{decimal}
-use Rattle.std.proofs.lemmas.List.{append-nil, length-map}
+use Rattle.std.proofs.lemmas.List.{length-map}
 use Rattle.layer_mean.specs.Tree.{ItemsTree, LayerTree}
 use Rattle.trace_mean.specs.Trace as trace
 use Rattle.trace_mean.specs.Trace.{TraceNumber}
@@ -28,8 +28,8 @@ use Rattle.trace_words.specs.declared.spot.Spot.{Spot}
 use Rattle.trace_words.specs.Reading.{Takes}
 use Rattle.trace_words.specs.View.{row_of}
 use Rattle.trace_operations.specs.declared.store.Store.{Store}
-use Rattle.trace_operations.specs.Reading.{Grown, MessageRead, NumbersRead, OperationRead, set_of}
-use Rattle.trace_operations.proofs.Growing.{made_more, more_then, number_stays}
+use Rattle.trace_operations.specs.Reading.{MessageRead, NumbersRead, OperationRead, set_of}
+use Rattle.trace_core.proofs.Growing.{made_more, more_then, number_stays, same_more}
 
 -- the number of a row that is taken
 pub row_text : (front text after : List ℕ) (stack : List LayerTree) (rows : List Spot)
@@ -64,9 +64,6 @@ set_by : (stack : List LayerTree) (s : Named) (text : List ℕ) →
     a_set stack s text ≡ setting_by (a_target stack s) (a_number stack s) text
 set_by stack s text = refl
 
-same_links : {A : Type 0} {a b : List A} → b ≡ a → Grown a b
-same_links {A} {a} e = record { more = []; grown = e ∙ sym (append-nil a) }
-
 pub set_read : (stack : List LayerTree) (s : Named) (t0 t1 t2 t3 t4 : List ℕ) (old new : Store) (nodes : List Node)
     (t : Target) (v : ℕ)
     (o : Operation) →
@@ -82,7 +79,7 @@ set_read stack s t0 t1 t2 t3 t4 old new nodes (targets.Element spot index) v o s
           ∙ ap (λ x. Some (trace.set spot.place spot.cell x (number_in (terms new.nodes) v), t4)) (sym kept.0);
       part = (kept.1, number_made second.made);
       nodes = more_then (made_more first.made) (made_more second.made);
-      links = same_links links;
+      links = same_more links;
     })
 set_read stack s t0 t1 t2 t3 t4 old new nodes (targets.Square spot row column) v o space first is second links set =
     let rows = number_stays {a = nodes} {b = new.nodes} {k = row} (number_made first.made.0) (made_more second.made) in
@@ -98,7 +95,7 @@ set_read stack s t0 t1 t2 t3 t4 old new nodes (targets.Square spot row column) v
           ));
       part = (rows.1, columns.1, number_made second.made);
       nodes = more_then (made_more first.made.0) (made_more second.made);
-      links = same_links links;
+      links = same_more links;
     })
 
 -- What is pushed, after its queue and a bracket.

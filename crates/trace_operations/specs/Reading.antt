@@ -17,6 +17,7 @@ use Rattle.trace_core.specs.declared.operation.Operation.{Operation}
 use Rattle.trace_core.specs.declared.operation.Operation.TheVariants as operations
 use Rattle.trace_expressions.specs.declared.targeted.Target.{Target}
 use Rattle.trace_expressions.specs.declared.targeted.Target.TheVariants as targets
+use Rattle.trace_core.specs.Grown.{Grown}
 use Rattle.trace_core.specs.View.{atom_tree, core_tree, number_in, terms}
 use Rattle.trace_core.specs.Links.{IsChain, chain_in, chains}
 use Rattle.trace_core.specs.Operations.{AllNumbers, HasChain, IsPart, chained_in, operation_in}
@@ -32,11 +33,6 @@ abbrev pub TakesAs : {A B : Type 0} → (A → B) → Option (B × List ℕ) →
 TakesAs tree taken (Ok value) after = taken ≡ Some (tree value, after)
 TakesAs tree taken (Err Form) after = taken ≡ None
 TakesAs tree taken (Err Memory) after = Unit {0}
-
--- More was put after what there was.
-pub record Grown {A : Type 0} (old new : List A) : Type 0 where
-  pub more : List A
-  pub grown : new ≡ old ++ more
 
 -- Atoms that a reader took stand after those in front.
 pub record AreTaken (taken : Option (List trace.Atom × List ℕ)) (front all : List Atom) (after : List ℕ) : Type 0 where

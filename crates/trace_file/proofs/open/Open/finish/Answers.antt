@@ -1,4 +1,4 @@
-use Rattle.trace_file.proofs.Opened.{parts_hold}
+use Rattle.trace_core.proofs.Parts.{parts_hold}
 use Rattle.trace_file.proofs.open.Open.finish.Goals as goal
 
 pub invariant_of-result : goal.invariant_of-result
