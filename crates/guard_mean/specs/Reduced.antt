@@ -65,6 +65,7 @@ abbrev pub is_never : List TraceNumber → Bool
 is_never (atom (number n) ∷ []) = n == 0
 is_never _ = false
 
+-- An operation whose expressions are plain.
 abbrev pub plain_operation : Operation → Bool
 plain_operation (bind e) = plain e
 plain_operation (note m) = plain_message m
@@ -75,6 +76,8 @@ plain_operation (push p c e numbers m) = plain e && list_all plain numbers
 plain_operation (take p c e) = plain e
 plain_operation (output dir kind numbers m) = true
 
+-- A guarded handler in its simplest form: each entry value is new and so is each conjunct, unless the guard never
+-- holds, and its operations are plain.
 abbrev pub is_reduced : Guarded → Bool
 is_reduced g = all_new [] g.values &&
     ((is_never g.conjuncts || all_clear [] g.conjuncts) && list_all plain_operation g.operations)

@@ -43,9 +43,11 @@ beyond Down at = at - 1
 abbrev pub tasks_of : {E : Type 0} → ℕ → List (Dir × E) → List (Task E)
 tasks_of at sent = map (λ x. record { at = beyond x.0 at; dir = x.0; event = x.1 }) sent
 
+-- Places of a stack are numbered from 1.
 abbrev pub is_place : ℕ → ℕ → Bool
 is_place places at = nat_le 1 at && nat_le at places
 
+-- The world after a turn, and its tasks: those that waited, and then those of what the turn sent.
 abbrev pub taken_turn : {W E : Type 0} → ℕ → List (Task E) → Turn W E → Line W E
 taken_turn at rest turn = record { world = turn.world; tasks = rest ++ tasks_of at turn.sent }
 

@@ -2,6 +2,7 @@
 -- carry.
 use Rattle.std.specs.Prelude.{ℕ}
 
+-- The most places of a stack.
 abbrev pub most_places : ℕ
 most_places = 24
 

@@ -52,13 +52,15 @@ entries stack =
 abbrev pub largest_weight : List LayerTree → ℕ
 largest_weight stack = largest (map (weight stack) (entries stack))
 
+-- The most joins that an entry of a stack makes.
 abbrev pub largest_joins : List LayerTree → ℕ
 largest_joins stack = largest (map (most_joins stack) (entries stack))
 
--- The weight and the joins that an entry may have.
+-- The greatest weight that an entry may have.
 abbrev pub weight_limit : ℕ
 weight_limit = 65536
 
+-- The most joins that an entry may have.
 abbrev pub joins_limit : ℕ
 joins_limit = 1024
 

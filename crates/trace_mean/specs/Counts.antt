@@ -8,10 +8,12 @@ abbrev pub counted : Operation → ℕ
 counted (note m) = 0
 counted _ = 1
 
+-- One for a note, and nothing for any other operation.
 abbrev pub a_note : Operation → ℕ
 a_note (note m) = 1
 a_note _ = 0
 
+-- One for an output, and nothing for any other operation.
 abbrev pub an_output : Operation → ℕ
 an_output (output dir kind numbers message) = 1
 an_output _ = 0
@@ -20,9 +22,11 @@ an_output _ = 0
 abbrev pub trace_length : List Operation → ℕ
 trace_length operations = sum_by counted operations
 
+-- How many notes it has.
 abbrev pub trace_notes : List Operation → ℕ
 trace_notes operations = sum_by a_note operations
 
+-- How many outputs it has.
 abbrev pub trace_outputs : List Operation → ℕ
 trace_outputs operations = sum_by an_output operations
 
@@ -39,5 +43,6 @@ abbrev pub note_joins : Operation → ℕ
 note_joins (note m) = message_joins m
 note_joins _ = 0
 
+-- How many joins its notes make.
 abbrev pub trace_joins : List Operation → ℕ
 trace_joins operations = sum_by note_joins operations
