@@ -10,6 +10,7 @@ use Rattle.slot_pool.specs.Times.{hit, times}
 use Rattle.slot_pool.proofs.Times.{hit_or_not, hit_same, times-append}
 use Rattle.layer_ast.specs.declared.tokens.Dir.{Dir}
 use Rattle.pool_message.specs.Sent.{first_sent}
+use Rattle.pool_message.specs.Lends.{last_sent, in_front_of_last}
 use Rattle.pool_message.specs.Slots.{slot_at, standing, first_number, AreParted, IsFirst}
 use Rattle.pool_message.specs.declared.event.PoolEvent.{PoolEvent}
 
@@ -411,3 +412,24 @@ module _ (xs olds : List (Dir × PoolEvent)) (e : Dir × PoolEvent) (order free 
 
   pub back_stands : (y : Dir × PoolEvent) → standing (set xs k y) order ≡ olds ++ y ∷ []
   back_stands y = ap (standing (set xs k y)) split ∙ last_stands xs init free k y behind ∙ (λ j. both.0 j ++ y ∷ [])
+
+-- the last of some events, behind those in front of it
+pub last_whole : (es : List (Dir × PoolEvent)) → 0 < length es → es ≡ in_front_of_last es ++ last_sent es ∷ []
+last_whole [] some = absurd (omega (arith, some))
+last_whole (e ∷ []) some = refl
+last_whole (e ∷ e' ∷ es) some = let rest = last_whole (e' ∷ es) (omega arith) in λ j. e ∷ rest j
+
+pub last_pushed : (es : List (Dir × PoolEvent)) (e : Dir × PoolEvent) → last_sent (es ++ e ∷ []) ≡ e
+last_pushed [] e = refl
+last_pushed (e' ∷ []) e = refl
+last_pushed (e' ∷ e'' ∷ es) e = last_pushed (e'' ∷ es) e
+
+pub rest_pushed : (es : List (Dir × PoolEvent)) (e : Dir × PoolEvent) → in_front_of_last (es ++ e ∷ []) ≡ es
+rest_pushed [] e = refl
+rest_pushed (e' ∷ []) e = refl
+rest_pushed (e' ∷ e'' ∷ es) e = ap (λ more. e' ∷ more) (rest_pushed (e'' ∷ es) e)
+
+-- so many events stand as there are numbers
+pub some_stand : (xs es : List (Dir × PoolEvent)) (order : List ℕ) → standing xs order ≡ es → 0 < length es →
+    0 < length order
+some_stand xs es order is some = omega (arith, some, ap length is, stand_count xs order)

@@ -1,5 +1,5 @@
 -- What a list of events ends as, once a `&mut` to its first one has ended.
-use Rattle.std.specs.Prelude.{[], ◌∷◌, drop}
+use Rattle.std.specs.Prelude.{List, [], ◌∷◌, ◌++◌, drop}
 use denote.Struct.Tuple.{Tuple}
 use Rattle.std.specs.Borrow.{Fml, MutBor, Lends}
 use Rattle.circular_buffer.specs.Buffer.{Buffer, buffer}
@@ -8,6 +8,7 @@ use Rattle.layer_ast.specs.contracts.tokens.Dir as dir
 use Rattle.pool_message.specs.contracts.event.PoolEvent as event
 use Rattle.pool_message.specs.contracts.events.Events.{the_row}
 use Rattle.pool_message.specs.contracts.list.List as list
+use Rattle.pool_message.specs.Sent.{first_sent}
 use Rattle.pool_message.specs.declared.event.PoolEvent.{PoolEvent}
 
 -- the first one is the last that was written through r
@@ -19,3 +20,19 @@ lends_first es r = Lends the_row (Tuple (dir.the_row ∷ event.the_row ∷ [])) 
 abbrev pub lends_listed : MutBor (Buffer (Dir × PoolEvent)) → MutBor (Dir × PoolEvent) → Fml
 lends_listed es r = Lends list.the_row (Tuple (dir.the_row ∷ event.the_row ∷ [])) es r
     (λ w. buffer (w ∷ drop 1 es.now.items) es.now.capacity)
+
+-- the last of some events, and those in front of it
+abbrev pub last_sent : List (Dir × PoolEvent) → Dir × PoolEvent
+last_sent [] = first_sent []
+last_sent (e ∷ []) = e
+last_sent (e ∷ e' ∷ es) = last_sent (e' ∷ es)
+
+abbrev pub in_front_of_last : List (Dir × PoolEvent) → List (Dir × PoolEvent)
+in_front_of_last [] = []
+in_front_of_last (e ∷ []) = []
+in_front_of_last (e ∷ e' ∷ es) = e ∷ in_front_of_last (e' ∷ es)
+
+-- the last one is the last that was written through r
+abbrev pub lends_last : MutBor (Buffer (Dir × PoolEvent)) → MutBor (Dir × PoolEvent) → Fml
+lends_last es r = Lends list.the_row (Tuple (dir.the_row ∷ event.the_row ∷ [])) es r
+    (λ w. buffer (in_front_of_last es.now.items ++ w ∷ []) es.now.capacity)

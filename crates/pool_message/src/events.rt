@@ -9,14 +9,15 @@ ghost use Rattle.pool_message.specs.Moves.{CanKeep, Kept, Returned};
 ghost use Rattle.pool_message.specs.Piled.{without_last};
 ghost use Rattle.pool_message.specs.Put.{Puts};
 ghost use Rattle.pool_message.specs.Seen.{refs, event_refs};
-ghost use Rattle.pool_message.specs.Sent.{sent_refs, most_sent, first_sent, sent_behind, message_passed, pool_event};
-ghost use Rattle.pool_message.specs.Sent.{CanPass};
+ghost use Rattle.pool_message.specs.Sent.{sent_refs, most_sent, first_sent, sent_behind, bared, message_passed};
+ghost use Rattle.pool_message.specs.Sent.{pool_event, CanPass};
 
 use crate::event::PoolEvent;
 use crate::list::List;
 use crate::message::PoolMessage;
 use crate::message_place::MessagePlace;
 use crate::messages::Messages;
+use crate::part::Part;
 use layer_ast::Dir;
 use layer_mean::Envelope;
 use msg_core::{Fields, Header, Headers};
@@ -112,6 +113,7 @@ impl Events {
     }
 
     /// Puts an event with this envelope and with what lies in a place, behind the others. The place is empty then.
+    #[tactic(auto, using(crate::proofs::Slots::last_pushed, crate::proofs::Slots::rest_pushed))]
     #[inline(always)]
     pub fn push_from(&mut self, direction: Dir, envelope: Envelope, message: &mut MessagePlace)
         requires { length self.old.items < self.old.capacity }
@@ -119,7 +121,8 @@ impl Events {
             self.old.capacity }
         ensures left { message.new ≡ None }
     {
-        self.list.push_from(direction, envelope, message);
+        self.list.push_bare(direction, envelope);
+        fill_from(self.list.last_mut(), message);
     }
 
     /// Puts an event with this envelope and without a message, behind the others.
@@ -132,6 +135,7 @@ impl Events {
 
     /// Puts an event with this envelope and with the last of some messages, if there is one, behind the others. That
     /// message is taken out.
+    #[tactic(auto, using(crate::proofs::Slots::last_pushed, crate::proofs::Slots::rest_pushed))]
     #[inline(always)]
     pub fn push_last(&mut self, direction: Dir, envelope: Envelope, messages: &mut Messages)
         requires { length self.old.items < self.old.capacity }
@@ -140,7 +144,8 @@ impl Events {
             self.old.capacity }
         ensures rest { messages.new ≡ buffer (without_last messages.old.items) messages.old.capacity }
     {
-        self.list.push_last(direction, envelope, messages);
+        self.list.push_bare(direction, envelope);
+        fill_last(self.list.last_mut(), messages);
     }
 
     /// Puts an event with this envelope and with a message of these headers and a copy of these bytes, behind the
@@ -160,12 +165,36 @@ impl Events {
         ensures { Puts pool.old self.old direction envelope (record { headers = headers.now; body = bytes.now })
             pool.new self.new result }
     {
-        self.list
-            .push_put(direction, envelope, headers, bytes, pool)
+        let Some(slot) = pool.put(bytes) else {
+            return false
+        };
+        let part = Part {
+            slot,
+            from: 0,
+            len: bytes.len() as u32,
+        };
+        self.push_made(direction, envelope, headers, part);
+        true
+    }
+
+    /// Puts an event with this envelope and with a message of these headers before this body, behind the others.
+    #[tactic(auto, using(crate::proofs::Slots::last_pushed, crate::proofs::Slots::rest_pushed))]
+    #[inline(always)]
+    fn push_made(&mut self, direction: Dir, envelope: Envelope, headers: &Headers, body: Part)
+        requires { length self.old.items < self.old.capacity }
+        ensures { self.new ≡ buffer
+            (self.old.items ++ (
+              direction,
+              pool_event envelope (Some (record { headers = headers.now; body = Some body })),
+            ) ∷ []) self.old.capacity }
+    {
+        self.list.push_bare(direction, envelope);
+        fill_made(self.list.last_mut(), headers, body);
     }
 
     /// Puts an event with this envelope and with a message once more, which goes down behind this header, behind the
     /// others. The two share the message's bytes, to which there is one more reference.
+    #[tactic(auto, using(crate::proofs::Slots::last_pushed, crate::proofs::Slots::rest_pushed))]
     pub fn push_kept(
         &mut self,
         direction: Dir,
@@ -183,8 +212,8 @@ impl Events {
             ∷ []) self.old.capacity }
         ensures kept { Kept pool.old pool.new (refs message.now) }
     {
-        self.list
-            .push_kept(direction, envelope, header, message, pool);
+        self.list.push_bare(direction, envelope);
+        fill_kept(self.list.last_mut(), direction, header, message, pool);
     }
 
     /// The first one becomes the last of others.
@@ -194,7 +223,8 @@ impl Events {
         ensures rest { self.new ≡ buffer (drop 1 self.old.items) self.old.capacity }
         ensures moved { to.new ≡ buffer (to.old.items ++ first_sent self.old.items ∷ []) to.old.capacity }
     {
-        self.list.move_first(&mut to.list);
+        move_event(self.list.first_mut(), to);
+        self.list.end_first();
     }
 
     /// The first one goes, and the reference of its message back.
@@ -204,7 +234,8 @@ impl Events {
         ensures rest { self.new ≡ buffer (drop 1 self.old.items) self.old.capacity }
         ensures returned { Returned pool.old pool.new (event_refs (first_sent self.old.items).1) }
     {
-        self.list.drop_first(pool);
+        drop_message(self.list.first_mut(), pool);
+        self.list.end_first();
     }
 
     /// The first one goes, which has no message.
@@ -230,7 +261,9 @@ impl Events {
         ensures empty { self.new ≡ buffer [] self.old.capacity }
         ensures returned { Returned pool.old pool.new (sent_refs self.old.items) }
     {
-        self.list.clear(pool);
+        while self.len() > 0 {
+            self.drop_first(pool);
+        }
     }
 
     /// Ends a list without events.
@@ -254,4 +287,77 @@ pub fn pass_message(direction: Dir, header: Header, message: &mut MessagePlace)
         }
         Dir::Down => message.push_header(header),
     }
+}
+
+/// An event without a message takes what lies in a place.
+fn fill_from(sent: &mut (Dir, PoolEvent), message: &mut MessagePlace)
+    requires { sent.old.1.message ≡ None }
+    ensures filled { sent.new ≡ (sent.old.0, record sent.old.1 { message = message.old }) }
+    ensures left { message.new ≡ None }
+{
+    sent.1.message.take_over(message);
+}
+
+/// An event without a message gets one of these headers before this body.
+fn fill_made(sent: &mut (Dir, PoolEvent), headers: &Headers, body: Part)
+    requires { sent.old.1.message ≡ None }
+    ensures { sent.new ≡ (
+      sent.old.0,
+      record sent.old.1 { message = Some (record { headers = headers.now; body = Some body }) },
+    ) }
+{
+    sent.1.message.make(headers, body);
+}
+
+/// An event without a message takes the last of some, if there is one.
+fn fill_last(sent: &mut (Dir, PoolEvent), messages: &mut Messages)
+    requires { sent.old.1.message ≡ None }
+    ensures filled { sent.new ≡ (sent.old.0, record sent.old.1 { message = last_item messages.old.items }) }
+    ensures rest { messages.new ≡ buffer (without_last messages.old.items) messages.old.capacity }
+{
+    messages.pop_to(&mut sent.1.message);
+}
+
+/// An event without a message gets one once more, which goes down behind a header.
+fn fill_kept(
+    sent: &mut (Dir, PoolEvent),
+    direction: Dir,
+    header: Header,
+    message: &PoolMessage,
+    pool: &mut Pool,
+)
+    requires bare { sent.old.1.message ≡ None }
+    requires room { CanPass direction (Some message.now) }
+    requires there { Covers pool.old (refs message.now) }
+    requires keeps { CanKeep pool.old (refs message.now) }
+    ensures filled { sent.new ≡
+        (sent.old.0, record sent.old.1 { message = Some (sent_behind direction header message.now) }) }
+    ensures kept { Kept pool.old pool.new (refs message.now) }
+{
+    let place = &mut sent.1.message;
+    place.keep_from(message, pool);
+    match direction {
+        Dir::Up => {}
+        Dir::Down => place.push_header(header),
+    }
+}
+
+/// An event goes to others, and leaves its slot without a message.
+fn move_event(sent: &mut (Dir, PoolEvent), to: &mut Events)
+    requires { length to.old.items < to.old.capacity }
+    ensures moved { to.new ≡ buffer (to.old.items ++ sent.old ∷ []) to.old.capacity }
+    ensures left { sent.new ≡ bared sent.old }
+{
+    let direction = sent.0;
+    let event = &mut sent.1;
+    to.push_from(direction, event.envelope(), &mut event.message);
+}
+
+/// An event lets its message go, whose reference goes back.
+fn drop_message(sent: &mut (Dir, PoolEvent), pool: &mut Pool)
+    requires { Covers pool.old (event_refs sent.old.1) }
+    ensures left { sent.new ≡ bared sent.old }
+    ensures returned { Returned pool.old pool.new (event_refs sent.old.1) }
+{
+    sent.1.message.let_go(pool);
 }

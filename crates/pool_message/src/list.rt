@@ -3,25 +3,14 @@
 ghost use Rattle.std.specs.Prelude.{◌≡◌, ◌<◌, ◌≤◌, [], ◌∷◌, ◌++◌, length, drop, slice_get, Some, None, option_map};
 ghost use Rattle.std.specs.Prelude.{IfOk};
 ghost use Rattle.circular_buffer.specs.Buffer.{buffer, last_item};
-ghost use Rattle.slot_pool.specs.References.{Covers};
-ghost use Rattle.msg_core.specs.Parts.{longest_body};
-ghost use Rattle.pool_message.specs.Moves.{CanKeep, Kept, Returned};
-ghost use Rattle.pool_message.specs.Piled.{without_last};
-ghost use Rattle.pool_message.specs.Put.{Puts};
-ghost use Rattle.pool_message.specs.Seen.{refs, event_refs};
-ghost use Rattle.pool_message.specs.Sent.{sent_refs, most_sent, first_sent, sent_behind, bared, pool_event, CanPass};
+ghost use Rattle.pool_message.specs.Sent.{most_sent, first_sent, pool_event};
 ghost use Rattle.pool_message.specs.Slots.{first_number};
 
 use crate::event::PoolEvent;
-use crate::message::PoolMessage;
 use crate::message_place::MessagePlace;
-use crate::messages::Messages;
-use crate::part::Part;
 use crate::short_queue::ShortQueue;
 use layer_ast::Dir;
 use layer_mean::Envelope;
-use msg_core::{Header, Headers};
-use slot_pool::Pool;
 use std::alloc::{AllocError, Global};
 use std::marker::Model;
 
@@ -57,7 +46,7 @@ impl Model for List {
 
 impl List {
     ghost use Rattle.std.specs.Borrow.{sem};
-    ghost use Rattle.pool_message.specs.Lends.{lends_listed};
+    ghost use Rattle.pool_message.specs.Lends.{lends_listed, lends_last, last_sent};
 
     /// Room for so many events.
     pub fn fresh(alloc: Global, places: usize) -> Result<List, AllocError>
@@ -128,21 +117,6 @@ impl List {
         self.first = first_of(&self.order);
     }
 
-    /// Puts an event with this envelope and with what lies in a place, behind the others. The place is empty then.
-    #[inline(always)]
-    pub fn push_from(&mut self, direction: Dir, envelope: Envelope, message: &mut MessagePlace)
-        requires { length self.old.items < self.old.capacity }
-        ensures pushed { self.new ≡ buffer (self.old.items ++ (direction, pool_event envelope message.old) ∷ [])
-            self.old.capacity }
-        ensures left { message.new ≡ None }
-    {
-        self.push_bare(direction, envelope);
-        let Some(k) = self.order.back() else {
-            unreachable!();
-        };
-        fill_from(&mut self.slots[*k as usize], message);
-    }
-
     /// Puts an event with this envelope and without a message, behind the others.
     pub fn push_bare(&mut self, direction: Dir, envelope: Envelope)
         requires { length self.old.items < self.old.capacity }
@@ -170,121 +144,15 @@ impl List {
         }
     }
 
-    /// Puts an event with this envelope and with the last of some messages, if there is one, behind the others. That
-    /// message is taken out.
+    /// The last one, to be changed where it lies.
     #[inline(always)]
-    pub fn push_last(&mut self, direction: Dir, envelope: Envelope, messages: &mut Messages)
-        requires { length self.old.items < self.old.capacity }
-        ensures pushed { self.new ≡
-            buffer (self.old.items ++ (direction, pool_event envelope (last_item messages.old.items)) ∷ [])
-            self.old.capacity }
-        ensures rest { messages.new ≡ buffer (without_last messages.old.items) messages.old.capacity }
+    pub fn last_mut(&mut self) -> &mut (Dir, PoolEvent)
+        requires { 0 < length self.old.items }
+        ensures* writes_back { sem 𝓛 (lends_last self.entry result) }
+        ensures value { result.now ≡ last_sent self.old.items }
     {
-        self.push_bare(direction, envelope);
-        let Some(k) = self.order.back() else {
-            unreachable!();
-        };
-        fill_last(&mut self.slots[*k as usize], messages);
-    }
-
-    /// Puts an event with this envelope and with a message of these headers and a copy of these bytes, behind the
-    /// others: the bytes in a slot that was unused, and the headers where the event stands. False where the pool is
-    /// full, and then nothing has changed.
-    #[inline(always)]
-    pub fn push_put(
-        &mut self,
-        direction: Dir,
-        envelope: Envelope,
-        headers: &Headers,
-        bytes: &[u8],
-        pool: &mut Pool,
-    ) -> bool
-        requires room { length self.old.items < self.old.capacity }
-        requires fits { length bytes.now ≤ longest_body }
-        ensures { Puts pool.old self.old direction envelope (record { headers = headers.now; body = bytes.now })
-            pool.new self.new result }
-    {
-        let Some(slot) = pool.put(bytes) else {
-            return false
-        };
-        let part = Part {
-            slot,
-            from: 0,
-            len: bytes.len() as u32,
-        };
-        self.push_made(direction, envelope, headers, part);
-        true
-    }
-
-    /// Puts an event with this envelope and with a message of these headers before this body, behind the others.
-    #[inline(always)]
-    fn push_made(&mut self, direction: Dir, envelope: Envelope, headers: &Headers, body: Part)
-        requires { length self.old.items < self.old.capacity }
-        ensures { self.new ≡ buffer
-            (self.old.items ++ (
-              direction,
-              pool_event envelope (Some (record { headers = headers.now; body = Some body })),
-            ) ∷ []) self.old.capacity }
-    {
-        self.push_bare(direction, envelope);
-        let Some(k) = self.order.back() else {
-            unreachable!();
-        };
-        fill_made(&mut self.slots[*k as usize], headers, body);
-    }
-
-    /// Puts an event with this envelope and with a message once more, which goes down behind this header, behind the
-    /// others. The two share the message's bytes, to which there is one more reference.
-    pub fn push_kept(
-        &mut self,
-        direction: Dir,
-        envelope: Envelope,
-        header: Header,
-        message: &PoolMessage,
-        pool: &mut Pool,
-    )
-        requires places { length self.old.items < self.old.capacity }
-        requires room { CanPass direction (Some message.now) }
-        requires there { Covers pool.old (refs message.now) }
-        requires keeps { CanKeep pool.old (refs message.now) }
-        ensures pushed { self.new ≡
-            buffer (self.old.items ++ (direction, pool_event envelope (Some (sent_behind direction header message.now)))
-            ∷ []) self.old.capacity }
-        ensures kept { Kept pool.old pool.new (refs message.now) }
-    {
-        self.push_bare(direction, envelope);
-        let Some(k) = self.order.back() else {
-            unreachable!();
-        };
-        fill_kept(
-            &mut self.slots[*k as usize],
-            direction,
-            header,
-            message,
-            pool,
-        );
-    }
-
-    /// The first one becomes the last of others.
-    pub fn move_first(&mut self, to: &mut List)
-        requires some { 0 < length self.old.items }
-        requires room { length to.old.items < to.old.capacity }
-        ensures rest { self.new ≡ buffer (drop 1 self.old.items) self.old.capacity }
-        ensures moved { to.new ≡ buffer (to.old.items ++ first_sent self.old.items ∷ []) to.old.capacity }
-    {
-        move_event(&mut self.slots[self.first as usize], to);
-        self.end_first();
-    }
-
-    /// The first one goes, and the reference of its message back.
-    pub fn drop_first(&mut self, pool: &mut Pool)
-        requires some { 0 < length self.old.items }
-        requires there { Covers pool.old (event_refs (first_sent self.old.items).1) }
-        ensures rest { self.new ≡ buffer (drop 1 self.old.items) self.old.capacity }
-        ensures returned { Returned pool.old pool.new (event_refs (first_sent self.old.items).1) }
-    {
-        drop_message(&mut self.slots[self.first as usize], pool);
-        self.end_first();
+        let k = last_of(&self.order);
+        &mut self.slots[k as usize]
     }
 
     /// The first one goes, which has no message.
@@ -308,17 +176,6 @@ impl List {
         match self.order.get(k) {
             Some(slot) => self.slots[*slot as usize].0,
             None => unreachable!(),
-        }
-    }
-
-    /// Lets all go, and gives the references of their messages back.
-    pub fn clear(&mut self, pool: &mut Pool)
-        requires { Covers pool.old (sent_refs self.old.items) }
-        ensures empty { self.new ≡ buffer [] self.old.capacity }
-        ensures returned { Returned pool.old pool.new (sent_refs self.old.items) }
-    {
-        while self.len() > 0 {
-            self.drop_first(pool);
         }
     }
 
@@ -350,83 +207,21 @@ fn first_of(order: &ShortQueue<u32>) -> u32
     }
 }
 
+/// The last number of some.
+fn last_of(order: &ShortQueue<u32>) -> u32
+    requires { 0 < length order.now.items }
+    ensures { last_item order.now.items ≡ Some result }
+{
+    match order.back() {
+        Some(k) => *k,
+        None => unreachable!(),
+    }
+}
+
 /// An event gets this direction and this envelope, and keeps its message, if it has one.
 pub(crate) fn begin_event(sent: &mut (Dir, PoolEvent), direction: Dir, envelope: Envelope)
     ensures { sent.new ≡ (direction, pool_event envelope sent.old.1.message) }
 {
     sent.0 = direction;
     sent.1.become_of(envelope);
-}
-
-/// An event without a message takes what lies in a place.
-fn fill_from(sent: &mut (Dir, PoolEvent), message: &mut MessagePlace)
-    requires { sent.old.1.message ≡ None }
-    ensures filled { sent.new ≡ (sent.old.0, record sent.old.1 { message = message.old }) }
-    ensures left { message.new ≡ None }
-{
-    sent.1.message.take_over(message);
-}
-
-/// An event without a message gets one of these headers before this body.
-fn fill_made(sent: &mut (Dir, PoolEvent), headers: &Headers, body: Part)
-    requires { sent.old.1.message ≡ None }
-    ensures { sent.new ≡ (
-      sent.old.0,
-      record sent.old.1 { message = Some (record { headers = headers.now; body = Some body }) },
-    ) }
-{
-    sent.1.message.make(headers, body);
-}
-
-/// An event without a message takes the last of some, if there is one.
-fn fill_last(sent: &mut (Dir, PoolEvent), messages: &mut Messages)
-    requires { sent.old.1.message ≡ None }
-    ensures filled { sent.new ≡ (sent.old.0, record sent.old.1 { message = last_item messages.old.items }) }
-    ensures rest { messages.new ≡ buffer (without_last messages.old.items) messages.old.capacity }
-{
-    messages.pop_to(&mut sent.1.message);
-}
-
-/// An event without a message gets one once more, which goes down behind a header.
-fn fill_kept(
-    sent: &mut (Dir, PoolEvent),
-    direction: Dir,
-    header: Header,
-    message: &PoolMessage,
-    pool: &mut Pool,
-)
-    requires bare { sent.old.1.message ≡ None }
-    requires room { CanPass direction (Some message.now) }
-    requires there { Covers pool.old (refs message.now) }
-    requires keeps { CanKeep pool.old (refs message.now) }
-    ensures filled { sent.new ≡
-        (sent.old.0, record sent.old.1 { message = Some (sent_behind direction header message.now) }) }
-    ensures kept { Kept pool.old pool.new (refs message.now) }
-{
-    let place = &mut sent.1.message;
-    place.keep_from(message, pool);
-    match direction {
-        Dir::Up => {}
-        Dir::Down => place.push_header(header),
-    }
-}
-
-/// An event goes to others, and leaves its slot without a message.
-fn move_event(sent: &mut (Dir, PoolEvent), to: &mut List)
-    requires { length to.old.items < to.old.capacity }
-    ensures moved { to.new ≡ buffer (to.old.items ++ sent.old ∷ []) to.old.capacity }
-    ensures left { sent.new ≡ bared sent.old }
-{
-    let direction = sent.0;
-    let event = &mut sent.1;
-    to.push_from(direction, event.envelope(), &mut event.message);
-}
-
-/// An event lets its message go, whose reference goes back.
-fn drop_message(sent: &mut (Dir, PoolEvent), pool: &mut Pool)
-    requires { Covers pool.old (event_refs sent.old.1) }
-    ensures left { sent.new ≡ bared sent.old }
-    ensures returned { Returned pool.old pool.new (event_refs sent.old.1) }
-{
-    sent.1.message.let_go(pool);
 }

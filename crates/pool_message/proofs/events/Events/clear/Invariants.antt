@@ -2,7 +2,7 @@ use Rattle.std.proofs.Common.{◌≡◌, ◌≤◌, length}
 use Rattle.slot_pool.specs.Held.{spare}
 use Rattle.slot_pool.specs.References.{Moved, Covers}
 use Rattle.pool_message.specs.Sent.{sent_refs}
-use Rattle.pool_message.proofs.list.List.clear.Given as goal
+use Rattle.pool_message.proofs.events.Events.clear.Given as goal
 
 abbrev pub invariant-loop-self : goal.invariant-loop-self
 invariant-loop-self l =

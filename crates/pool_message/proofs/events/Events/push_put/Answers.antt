@@ -1,6 +1,6 @@
 use Rattle.std.proofs.Common.{refl}
 use Rattle.pool_message.proofs.Moves.{put_alone, made_of}
-use Rattle.pool_message.proofs.list.List.push_put.Goals as goal
+use Rattle.pool_message.proofs.events.Events.push_put.Goals as goal
 
 pub returns : goal.returns
 returns c = record {
