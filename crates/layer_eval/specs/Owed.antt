@@ -7,12 +7,13 @@ use Rattle.layer_ast.specs.declared.tokens.Dir.{Dir}
 use Rattle.layer_mean.specs.declared.run.Event.{Event}
 use Rattle.layer_mean.specs.Tree.{StatementTree, bind, assign, assign_square, EmissionTree, MessageTree, message}
 use Rattle.layer_mean.specs.Effect.{sent_as}
-use Rattle.layer_desk.specs.Laid.{Laid}
+use Rattle.layer_desk.specs.Laid.{Laid, bound, assigned, assigned_square}
 use Rattle.layer_mean.specs.Envelope.{event_in}
 use Rattle.layer_desk.specs.Need.{Room, Need}
 use Rattle.layer_desk.specs.Spent.{SpentAtMost, Lacks}
 use Rattle.layer_desk.specs.declared.no_room.NoRoom.{NoRoom}
 use Rattle.layer_eval.specs.declared.pending.Pending.{Pending}
+use Rattle.layer_eval.specs.Worth.{number_of}
 
 -- A statement that sets a number alone: it sends nothing, and no message of the scope changes.
 abbrev pub sets_number : StatementTree → Bool
@@ -20,6 +21,14 @@ sets_number (bind k e) = true
 sets_number (assign c i e) = true
 sets_number (assign_square c row column e) = true
 sets_number _ = false
+
+-- What lies there once it has set it; what another statement does isn't said here.
+abbrev pub number_set : StatementTree → Laid → Laid
+number_set (bind k e) p = bound k (number_of e p) p
+number_set (assign c i e) p = assigned c (number_of i p) (number_of e p) p
+number_set (assign_square c row column e) p =
+    assigned_square c (number_of row p) (number_of column p) (number_of e p) p
+number_set _ p = p
 
 -- An emission that may wait for the end of the visit: it sends a message of the scope as it lies there.
 abbrev pub is_of_scope : MessageTree → Bool

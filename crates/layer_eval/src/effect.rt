@@ -13,6 +13,7 @@ ghost use Rattle.layer_desk.specs.Need.{push_need, emission_need, statement_need
 ghost use Rattle.layer_desk.specs.Spent.{Spent};
 ghost use Rattle.layer_eval.specs.Worth.{number_of, numbers_of, message_sent};
 ghost use Rattle.layer_eval.specs.Did.{Did, FindsNothing, statement_does, block_does};
+ghost use Rattle.layer_eval.specs.Owed.{sets_number, number_set};
 
 use crate::message::make;
 use crate::predicted::Predicted;
@@ -24,7 +25,8 @@ use msg_core::{Fields, Header};
 use slot_pool::Pool;
 use typed_layer::{Block, Content, Emission, Expression, MessageExpression, Row, Statement};
 
-/// Runs the statements of a block in a statement.
+/// Runs the statements of a block in a statement. Often there are none: these cost no call. Otherwise there is mostly
+/// one: this costs no loop.
 #[cycle(effect)]
 #[inline(always)]
 fn run_block<K: Start, D: Desk>(
@@ -41,35 +43,11 @@ fn run_block<K: Start, D: Desk>(
     ensures spent { Spent (D.free pool.old desk.old) (D.free pool.new desk.new)
         (block_need K.begun.layout (block_tree block.now)) result }
 {
-    run_all::<K, D>(place, block.statements.as_slice(), desk, pool, predicted)
-}
-
-/// Runs statements in order. Often there are none: these cost no call. Otherwise there is mostly one: this costs no
-/// loop.
-#[cycle(effect)]
-#[inline(always)]
-fn run_all<K: Start, D: Desk>(
-    place: u8,
-    statements: &[Statement],
-    desk: &mut D,
-    pool: &mut Pool,
-    predicted: &mut Predicted,
-) -> Result<(), NoRoom>
-    requires { D.ready K.begun pool.old desk.old }
-    ensures ready { D.ready K.begun pool.new desk.new }
-    ensures did { OnOk result
-        (Did (block_does place (trees (map statement_tree statements.now)) (D.shown pool.old desk.old))
-        (D.shown pool.old desk.old) (D.shown pool.new desk.new) predicted.old predicted.new) }
-    ensures spent { Spent (D.free pool.old desk.old) (D.free pool.new desk.new)
-        (block_need K.begun.layout (trees (map statement_tree statements.now))) result }
-{
-    if statements.is_empty() {
-        return Ok(());
+    match block.statements.as_slice() {
+        [] => Ok(()),
+        [only] => run_single::<K, D>(place, only, desk, pool, predicted),
+        statements => run_statements::<K, D>(place, statements, desk, pool, predicted),
     }
-    if statements.len() == 1 {
-        return run_single::<K, D>(place, &statements[0], desk, pool, predicted);
-    }
-    run_statements::<K, D>(place, statements, desk, pool, predicted)
 }
 
 /// Runs the only statement of a block in a statement. Turns of a loop mostly look for a row in vain: these cost no
@@ -94,7 +72,31 @@ fn run_single<K: Start, D: Desk>(
         *predicted = Predicted::unusual();
         return Ok(());
     }
-    run_alone::<K, D>(place, statement, desk, pool, predicted)
+    run_statement::<K, D>(place, statement, desk, pool, predicted)
+}
+
+/// Runs statements in order.
+#[cycle(effect)]
+#[inline(never)]
+fn run_statements<K: Start, D: Desk>(
+    place: u8,
+    statements: &[Statement],
+    desk: &mut D,
+    pool: &mut Pool,
+    predicted: &mut Predicted,
+) -> Result<(), NoRoom>
+    requires { D.ready K.begun pool.old desk.old }
+    ensures ready { D.ready K.begun pool.new desk.new }
+    ensures did { OnOk result
+        (Did (block_does place (trees (map statement_tree statements.now)) (D.shown pool.old desk.old))
+        (D.shown pool.old desk.old) (D.shown pool.new desk.new) predicted.old predicted.new) }
+    ensures spent { Spent (D.free pool.old desk.old) (D.free pool.new desk.new)
+        (block_need K.begun.layout (trees (map statement_tree statements.now))) result }
+{
+    for statement in statements {
+        run_statement::<K, D>(place, statement, desk, pool, predicted)?;
+    }
+    Ok(())
 }
 
 /// Whether a statement takes a row of a queue that has none, and does nothing then. Where that takes more than a look
@@ -138,51 +140,11 @@ fn has_no_row<K: Start, D: Desk>(cell: u8, index: &Expression, desk: &D, pool: &
     desk.rows::<K>(pool, cell, index) == 0
 }
 
-/// Runs a statement that has none beside it, or none that is run in the same way.
-#[cycle(effect)]
-pub fn run_alone<K: Start, D: Desk>(
-    place: u8,
-    statement: &Statement,
-    desk: &mut D,
-    pool: &mut Pool,
-    predicted: &mut Predicted,
-) -> Result<(), NoRoom>
-    requires { D.ready K.begun pool.old desk.old }
-    ensures ready { D.ready K.begun pool.new desk.new }
-    ensures did { OnOk result (Did (statement_does place (statement_tree statement.now) (D.shown pool.old desk.old))
-        (D.shown pool.old desk.old) (D.shown pool.new desk.new) predicted.old predicted.new) }
-    ensures spent { Spent (D.free pool.old desk.old) (D.free pool.new desk.new)
-        (statement_need K.begun.layout (statement_tree statement.now)) result }
-{
-    run_statement::<K, D>(place, statement, desk, pool, predicted)
-}
-
+/// Runs a statement.
 #[cycle(effect)]
 #[inline(never)]
-fn run_statements<K: Start, D: Desk>(
-    place: u8,
-    statements: &[Statement],
-    desk: &mut D,
-    pool: &mut Pool,
-    predicted: &mut Predicted,
-) -> Result<(), NoRoom>
-    requires { D.ready K.begun pool.old desk.old }
-    ensures ready { D.ready K.begun pool.new desk.new }
-    ensures did { OnOk result
-        (Did (block_does place (trees (map statement_tree statements.now)) (D.shown pool.old desk.old))
-        (D.shown pool.old desk.old) (D.shown pool.new desk.new) predicted.old predicted.new) }
-    ensures spent { Spent (D.free pool.old desk.old) (D.free pool.new desk.new)
-        (block_need K.begun.layout (trees (map statement_tree statements.now))) result }
-{
-    for statement in statements {
-        run_statement::<K, D>(place, statement, desk, pool, predicted)?;
-    }
-    Ok(())
-}
-
-#[cycle(effect)]
-#[inline(always)]
-fn run_statement<K: Start, D: Desk>(
+#[tactic(auto, using(crate::proofs::Sets::set_did))]
+pub fn run_statement<K: Start, D: Desk>(
     place: u8,
     statement: &Statement,
     desk: &mut D,
@@ -197,27 +159,6 @@ fn run_statement<K: Start, D: Desk>(
         (statement_need K.begun.layout (statement_tree statement.now)) result }
 {
     match statement {
-        Statement::Bind { slot, value } => {
-            set_local::<K, D>(*slot, value, desk, pool);
-            Ok(())
-        }
-        Statement::Set { cell, value } => {
-            set_scalar::<K, D>(*cell, value, desk, pool);
-            Ok(())
-        }
-        Statement::SetElement { cell, index, value } => {
-            set_element::<K, D>(*cell, index, value, desk, pool);
-            Ok(())
-        }
-        Statement::SetSquare {
-            cell,
-            row,
-            column,
-            value,
-        } => {
-            set_square::<K, D>(*cell, row, column, value, desk, pool);
-            Ok(())
-        }
         Statement::Push {
             cell,
             index,
@@ -281,37 +222,38 @@ fn run_statement<K: Start, D: Desk>(
             Ok(())
         }
         Statement::Emit(emission) => { emit::<K, D>(place, emission, desk, pool) }
+        Statement::Bind { .. }
+        | Statement::Set { .. }
+        | Statement::SetElement { .. }
+        | Statement::SetSquare { .. } => {
+            let _sets = set_number::<K, D>(statement, desk, pool);
+            Ok(())
+        }
     }
 }
 
-/// Runs a statement that mostly sets a number and does nothing else: so one keeps less over its calls than others do.
+/// Runs a statement if it sets a number and does nothing else, and says whether it does. One that does keeps less over
+/// its calls than others do.
 #[inline(always)]
-pub fn run_setting<K: Start, D: Desk>(
-    place: u8,
-    statement: &Statement,
-    desk: &mut D,
-    pool: &mut Pool,
-    predicted: &mut Predicted,
-) -> Result<(), NoRoom>
-    requires { D.ready K.begun pool.old desk.old }
-    ensures ready { D.ready K.begun pool.new desk.new }
-    ensures did { OnOk result (Did (statement_does place (statement_tree statement.now) (D.shown pool.old desk.old))
-        (D.shown pool.old desk.old) (D.shown pool.new desk.new) predicted.old predicted.new) }
-    ensures spent { Spent (D.free pool.old desk.old) (D.free pool.new desk.new)
-        (statement_need K.begun.layout (statement_tree statement.now)) result }
+pub fn set_number<K: Start, D: Desk>(statement: &Statement, desk: &mut D, pool: &Pool) -> bool
+    requires { D.ready K.begun pool.now desk.old }
+    ensures ready { D.ready K.begun pool.now desk.new }
+    ensures sets { result ≡ sets_number (statement_tree statement.now) }
+    ensures shown { D.shown pool.now desk.new ≡ number_set (statement_tree statement.now) (D.shown pool.now desk.old) }
+    ensures free { D.free pool.now desk.new ≡ D.free pool.now desk.old }
 {
     match statement {
         Statement::Bind { slot, value } => {
             set_local::<K, D>(*slot, value, desk, pool);
-            Ok(())
+            true
         }
         Statement::Set { cell, value } => {
             set_scalar::<K, D>(*cell, value, desk, pool);
-            Ok(())
+            true
         }
         Statement::SetElement { cell, index, value } => {
             set_element::<K, D>(*cell, index, value, desk, pool);
-            Ok(())
+            true
         }
         Statement::SetSquare {
             cell,
@@ -320,9 +262,9 @@ pub fn run_setting<K: Start, D: Desk>(
             value,
         } => {
             set_square::<K, D>(*cell, row, column, value, desk, pool);
-            Ok(())
+            true
         }
-        _ => run_alone::<K, D>(place, statement, desk, pool, predicted),
+        _ => false,
     }
 }
 

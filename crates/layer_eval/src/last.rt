@@ -5,9 +5,9 @@ ghost use Rattle.typed_layer.specs.View.{trees, statement_tree, block_tree};
 ghost use Rattle.layer_desk.specs.Need.{statement_need, block_need};
 ghost use Rattle.layer_desk.specs.Spent.{Spent};
 ghost use Rattle.layer_eval.specs.Did.{Did, Ended, statement_does, block_does};
-ghost use Rattle.layer_eval.specs.Owed.{sets_number, settled, owing, SpentOwing};
+ghost use Rattle.layer_eval.specs.Owed.{settled, owing, SpentOwing};
 
-use crate::effect::{emit_last, run_alone, run_setting};
+use crate::effect::{emit_last, run_statement, set_number};
 use crate::pending::Owed;
 use crate::predicted::Predicted;
 use crate::value::number;
@@ -98,28 +98,11 @@ fn run_last<K: Start, D: Desk>(
                 run_last_block::<K, D>(place, otherwise, pending, desk, pool, predicted)
             }
         }
-        _ => run_end::<K, D>(place, statement, pending, desk, pool, predicted),
+        _ => {
+            run_owing::<K, D>(place, statement, pending, desk, pool, predicted)?;
+            pending.finish::<K, D>(desk, pool)
+        }
     }
-}
-
-/// Runs a statement behind which there is nothing to be done but to let go what the visit leaves.
-fn run_end<K: Start, D: Desk>(
-    place: u8,
-    statement: &Statement,
-    pending: &mut Owed,
-    desk: &mut D,
-    pool: &mut Pool,
-    predicted: &mut Predicted,
-) -> Result<(), NoRoom>
-    requires { D.ready K.begun pool.old desk.old }
-    ensures ready { D.ready K.begun pool.new desk.new }
-    ensures ended { OnOk result (Ended (statement_does place (statement_tree statement.now) (D.shown pool.old desk.old))
-        (settled pending.old (D.shown pool.old desk.old)) (D.shown pool.new desk.new) predicted.old predicted.new) }
-    ensures spent { Spent (D.free pool.old desk.old) (D.free pool.new desk.new)
-        (owing pending.old (statement_need K.begun.layout (statement_tree statement.now))) result }
-{
-    run_owing::<K, D>(place, statement, pending, desk, pool, predicted)?;
-    pending.finish::<K, D>(desk, pool)
 }
 
 /// Runs statements that have others behind them.
@@ -150,6 +133,7 @@ fn run_front<K: Start, D: Desk>(
 /// Runs a statement. An emission that was put off waits until one comes that doesn't set a number alone; that may be
 /// put off in its turn.
 #[inline(always)]
+#[tactic(auto, using(crate::proofs::Sets::set_owing))]
 fn run_owing<K: Start, D: Desk>(
     place: u8,
     statement: &Statement,
@@ -166,8 +150,8 @@ fn run_owing<K: Start, D: Desk>(
     ensures spent { SpentOwing pending.old pending.new (D.free pool.old desk.old) (D.free pool.new desk.new)
         (statement_need K.begun.layout (statement_tree statement.now)) result }
 {
-    if sets_a_number(statement) {
-        return run_setting::<K, D>(place, statement, desk, pool, predicted);
+    if set_number::<K, D>(statement, desk, pool) {
+        return Ok(());
     }
     pending.settle::<K, D>(desk, pool)?;
     if let Statement::Emit(emission) = statement {
@@ -175,19 +159,5 @@ fn run_owing<K: Start, D: Desk>(
             return Ok(());
         }
     }
-    run_alone::<K, D>(place, statement, desk, pool, predicted)
-}
-
-/// Whether a statement sets a number and does nothing else.
-#[inline(always)]
-fn sets_a_number(statement: &Statement) -> bool
-    ensures { result ≡ sets_number (statement_tree statement.now) }
-{
-    matches!(
-        statement,
-        Statement::Bind { .. }
-            | Statement::Set { .. }
-            | Statement::SetElement { .. }
-            | Statement::SetSquare { .. }
-    )
+    run_statement::<K, D>(place, statement, desk, pool, predicted)
 }

@@ -1,4 +1,4 @@
-use Rattle.std.proofs.Common.{sym, ap, ◌∙◌}
+use Rattle.std.proofs.Common.{ap, ◌∙◌}
 use Rattle.typed_layer.specs.View.{expression_tree, taken_tree, statement_tree, block_tree}
 use Rattle.layer_eval.proofs.Nothing.{in_vain, no_statements}
 use Rattle.layer_eval.proofs.Trees.{take_tree}
