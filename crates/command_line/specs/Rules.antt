@@ -1,10 +1,12 @@
 -- The command line of a program as `clap` is told of it, and what is found in words.
-use Rattle.std.specs.Prelude.{◌≡◌, true, List, Option, Some, None, fold, if◌then◌else◌}
+use Rattle.std.specs.Prelude.{◌≡◌, Bool, true, false, List, Option, Some, None, codes, fold, if◌then◌else◌}
+use Rattle.std.specs.Option.{option_map_or}
+use Rattle.std.specs.Str.{bytes_eq}
 use Rattle.clap.specs.Faults.{fault_of, is_simple_and_free}
 use Rattle.clap.specs.Matches.{found_of}
 use Rattle.clap.specs.Simple.{App, Shape, is_simple, matches_of, new_app, new_rule, on_top, with_rule}
-use Rattle.clap.specs.Walk.{Row, Rule, Text, is_empty, rows_of}
-use Rattle.clap.specs.declared.builder.action.ArgAction.TheVariants.{Set}
+use Rattle.clap.specs.Walk.{Row, Rule, Text, is_empty, one_of, rows_of}
+use Rattle.clap.specs.declared.builder.action.ArgAction.TheVariants.{Set, SetTrue}
 use Rattle.clap.specs.declared.parser.matches.ArgMatches.{ArgMatches}
 
 -- a word at its place, which may be missing
@@ -18,6 +20,10 @@ required name = record (positional name) { required = true }
 -- `--NAME` with a value, at most once
 abbrev pub option : Text → Rule
 option name = record (positional name) { long = Some name }
+
+-- `--NAME` without a value, at most once
+abbrev pub flag : Text → Rule
+flag name = record (new_rule name) { long = Some name; action = Some SetTrue }
 
 -- no help, and the words are those behind the program's name
 abbrev pub plain_top : Shape → Shape
@@ -43,3 +49,7 @@ pub record IsExact (app : App) : Type 0 where
 -- what was found, by name
 abbrev pub rows_found : ArgMatches → List Row
 rows_found matches = rows_of (found_of matches)
+
+-- whether a flag was given
+abbrev pub is_set : Text → List Row → Bool
+is_set name rows = option_map_or (λ text. bytes_eq text (codes "true")) (one_of name rows) false

@@ -5,5 +5,5 @@
 mod rules;
 mod words;
 
-pub use rules::{bare, option, positional, required, with};
-pub use words::{taken, text};
+pub use rules::{bare, flag, option, positional, required, with};
+pub use words::{is_set, taken, text};

@@ -48,3 +48,11 @@ pub fn option<'a>(alloc: Global, name: &'a str) -> Arg<'a>
 {
     positional(alloc, name).long(name)
 }
+
+/// `--NAME` without a value, at most once.
+pub fn flag<'a>(alloc: Global, name: &'a str) -> Arg<'a>
+    ensures rule { rule_of result ≡ spec.flag name.entry.now }
+    ensures local { result.global ≡ false }
+{
+    Arg::new(alloc, name).long(name).action(ArgAction::SetTrue)
+}

@@ -6,7 +6,7 @@ ghost use Rattle.clap.specs.Simple.{App, app_of};
 ghost use Rattle.clap.specs.Values.{kind_of};
 ghost use Rattle.clap.specs.Walk.{first_of};
 ghost use Rattle.clap.specs.declared.error.kind.ErrorKind.TheVariants.{OutOfMemory};
-ghost use Rattle.command_line.specs.Rules.{IsExact, rows_found, rows_in};
+ghost use Rattle.command_line.specs.Rules.{IsExact, is_set, rows_found, rows_in};
 
 use clap::error::ErrorKind;
 use clap::{ArgMatches, Command, Error};
@@ -41,4 +41,11 @@ pub fn text<'w>(matches: &ArgMatches<'w>, name: &str) -> Option<&'w str>
     ensures { option_map (λ s. s.now) result ≡ first_of name.now (rows_found matches.now) }
 {
     matches.get_str(name)
+}
+
+/// Whether a flag was given.
+pub fn is_set(matches: &ArgMatches<'_>, name: &str) -> bool
+    ensures { result ≡ is_set name.now (rows_found matches.now) }
+{
+    matches.get_one::<bool>(name).unwrap_or(false)
 }

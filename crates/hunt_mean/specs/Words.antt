@@ -1,12 +1,11 @@
 -- The words of the program: which hunt they ask for.
-use Rattle.std.specs.Prelude.{ℕ, List, [], ◌∷◌, Option, Some, None, codes, fold, if◌then◌else◌}
-use Rattle.clap.specs.Walk.{Rule, Row, Text, first_of, is_empty}
-use Rattle.clap.specs.Simple.{App, new_app, on_top, with_rule, matches_of}
-use Rattle.clap.specs.Faults.{fault_of}
+use Rattle.std.specs.Prelude.{ℕ, List, [], ◌∷◌, Option, Some, codes}
+use Rattle.clap.specs.Walk.{Rule, Row, Text, first_of}
+use Rattle.clap.specs.Simple.{App}
+use Rattle.command_line.specs.Rules.{command_of, option, read_in, required}
 use Rattle.audit_mean.specs.declared.law.Law.{Law}
 use Rattle.script_mean.specs.Words.{◌>>=◌}
 use Rattle.msg_core.specs.View.{most_members}
-use Rattle.job_mean.specs.Command.{option, plain_top, required}
 use Rattle.job_mean.specs.Job.{a_number, a_number_or_zero, law_of, most_generated}
 
 -- `FILE --law L --members N --events E --runs R --seed S`, may have `--seconds T`
@@ -17,7 +16,7 @@ rules =
     option (codes "seed") ∷ option (codes "seconds") ∷ []
 
 abbrev pub command : App
-command = fold with_rule (on_top plain_top (new_app (codes "stackhunt"))) rules
+command = command_of (codes "stackhunt") rules
 
 -- the name of a stack file; a law that its stack is to break; how many members a group has, and events a run; how many
 -- runs there are, and from which number on; and behind how many seconds no run begins, which is 0 where the time
@@ -62,4 +61,4 @@ request_in rows = do
 
 -- what the words behind the program's name ask for, if `clap` takes them
 abbrev pub request_of : List Text → Option Request
-request_of words = if is_empty (fault_of command words) then request_in (matches_of command words) else None
+request_of = read_in command request_in

@@ -1,10 +1,7 @@
 -- What the words of the command line give.
-use Rattle.std.specs.Prelude.{Bool, false, List, Option, Some, None, codes, if◌then◌else◌}
-use Rattle.std.specs.Option.{option_map_or}
-use Rattle.std.specs.Str.{bytes_eq}
-use Rattle.clap.specs.Walk.{Row, Text, first_of, is_empty, one_of}
-use Rattle.clap.specs.Simple.{matches_of}
-use Rattle.clap.specs.Faults.{fault_of}
+use Rattle.std.specs.Prelude.{Bool, List, Option, Some, codes}
+use Rattle.clap.specs.Walk.{Row, Text, first_of}
+use Rattle.command_line.specs.Rules.{is_set, read_in}
 use Rattle.script_mean.specs.Words.{◌>>=◌}
 use Rattle.job_mean.specs.Command.{command}
 
@@ -25,10 +22,6 @@ pub record Given : Type 0 where
   pub wire : Bool
   pub count : Bool
   pub raw : Bool
-
--- whether a flag was given
-abbrev pub is_set : Text → List Row → Bool
-is_set name rows = option_map_or (λ text. bytes_eq text (codes "true")) (one_of name rows) false
 
 -- what `clap` found, by name
 abbrev pub given_in : List Row → Option Given
@@ -55,4 +48,4 @@ given_in rows = do
 
 -- what the words behind the program's name give, if `clap` takes them
 abbrev pub given_of : List Text → Option Given
-given_of words = if is_empty (fault_of command words) then given_in (matches_of command words) else None
+given_of = read_in command given_in

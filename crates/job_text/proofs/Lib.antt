@@ -1,4 +1,3 @@
 pub mod Words
-pub mod Read
 pub mod Bounds
 pub mod Members

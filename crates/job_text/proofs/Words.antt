@@ -1,6 +1,6 @@
 -- What words give, and the members that they name.
 use Rattle.std.proofs.Common.{◌≡◌, ℕ, Bool, true, false, not, List, [], ◌∷◌, ◌++◌, Option, Some, None, refl, ap, ap₂}
-use Rattle.std.proofs.Common.{sym, ◌∙◌}
+use Rattle.std.proofs.Common.{◌∙◌}
 use Rattle.std.specs.Prelude.{◌&&◌, ◌||◌, map, filter, is_some, option_map, if◌then◌else◌}
 use Rattle.std.specs.List.{list_all, list_any}
 use Rattle.clap.specs.Walk.{Text}
@@ -9,12 +9,8 @@ use Rattle.job_mean.specs.Job.{extras, with_only}
 use Rattle.job_text.specs.Shown.{shown_given, text}
 use Rattle.job_text.specs.declared.given.Given.{Given}
 use denote.Ref.{Bor}
-use Rattle.std.specs.Prelude.{◌≢◌, codes, unwrap_or}
+use Rattle.std.specs.Prelude.{codes}
 use Rattle.std.specs.Str.{bytes_eq}
-use Rattle.std.proofs.lemmas.Slice.Eq.{bytes_eq-Decides}
-use Rattle.std.specs.Option.{option_map_or}
-use Rattle.std.specs.Str.Parse.{ParsesBool}
-use Rattle.clap.specs.Matches.{ReadsOne}
 
 -- members that were read, in front of those that other words name
 abbrev pub with_front : List ℕ → Option (List ℕ) → Option (List ℕ)
@@ -44,21 +40,6 @@ pub given_all : (p : Text → Bool) (xs : List (Text × Bool)) →
 given_all p [] = refl
 given_all p ((name, true) ∷ xs) = ap (λ b. p name && b) (given_all p xs)
 given_all p ((name, false) ∷ xs) = given_all p xs
-
-unequal : (t u : Text) → t ≢ u → bytes_eq t u ≡ false
-unequal t u other = go (bytes_eq t u) refl where
-  go : (b : Bool) → bytes_eq t u ≡ b → b ≡ false
-  go true e = absurd (other ((bytes_eq-Decides t u).0 e))
-  go false e = refl
-
--- A flag's text as a truth: true where it is `true`, and false where it is another or there is none.
-pub flag_is : (E : Type 0) (o : Option Text) (read : Option Bool) → (o ≡ None → read ≡ None) →
-    ((t : Text) → o ≡ Some t → ReadsOne (ParsesBool {E = E}) t read) →
-    unwrap_or read false ≡ option_map_or (λ t. bytes_eq t (codes "true")) o false
-flag_is E None read none value = ap (λ r. unwrap_or r false) (none refl)
-flag_is E (Some t) (Some true) none value = ap (λ s. bytes_eq s (codes "true")) (sym (value t refl))
-flag_is E (Some t) (Some false) none value = ap (λ s. bytes_eq s (codes "true")) (sym (value t refl))
-flag_is E (Some t) None none value = sym (unequal t (codes "true") (value t refl).1.0)
 
 -- that nothing but what is listed was given, as a test of each word that may be
 any_named : (name : Text) (listed : List (Bor Text)) →

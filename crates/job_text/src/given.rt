@@ -3,13 +3,13 @@
 ghost use Rattle.std.specs.Prelude.{◌≡◌, ◌&&◌, ◌||◌, List, map, not, option_map, is_some};
 ghost use Rattle.std.specs.List.{list_all, list_any};
 ghost use Rattle.std.specs.Str.{bytes_eq};
-ghost use Rattle.clap.specs.Matches.{found_of};
-ghost use Rattle.clap.specs.Walk.{first_of, rows_of};
+ghost use Rattle.command_line.specs.Rules.{rows_found};
 ghost use Rattle.job_mean.specs.Given as spec;
 ghost use Rattle.job_mean.specs.Job.{extras, with_only};
 ghost use Rattle.job_text.specs.Shown.{shown_given};
 
 use clap::ArgMatches;
+use command_line::{is_set, text};
 
 /// The words at their places, the value of each option, and whether each flag was given.
 #[derive(Clone, Copy)]
@@ -37,7 +37,7 @@ type Extra = (&'static str, bool);
 impl<'w> Given<'w> {
     /// What `clap` found, by name.
     pub(crate) fn of(matches: &ArgMatches<'w>) -> Option<Given<'w>>
-        ensures { option_map shown_given result ≡ spec.given_in (rows_of (found_of matches.now)) }
+        ensures { option_map shown_given result ≡ spec.given_in (rows_found matches.now) }
     {
         let job = text(matches, "job")?;
         let file = text(matches, "file")?;
@@ -103,18 +103,4 @@ fn is_listed(listed: &[&str], wanted: &str) -> bool
     ensures { result ≡ list_any (λ name. bytes_eq wanted.now name.now) listed.now }
 {
     listed.iter().any(|name| wanted == *name)
-}
-
-/// The value of an argument, if it has one.
-fn text<'w>(matches: &ArgMatches<'w>, name: &str) -> Option<&'w str>
-    ensures { option_map (λ s. s.now) result ≡ first_of name.now (rows_of (found_of matches.now)) }
-{
-    matches.get_str(name)
-}
-
-/// Whether a flag was given.
-fn is_set(matches: &ArgMatches<'_>, name: &str) -> bool
-    ensures { result ≡ spec.is_set name.now (rows_of (found_of matches.now)) }
-{
-    matches.get_one::<bool>(name).unwrap_or(false)
 }

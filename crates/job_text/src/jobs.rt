@@ -214,7 +214,7 @@ fn mode_of(given: Option<&str>) -> Option<Mode>
 }
 
 /// The law of `--law`, which has to be given.
-fn law_of(given: Option<&str>) -> Option<Law>
+pub fn law_of(given: Option<&str>) -> Option<Law>
     ensures { result ≡ spec.law_of (text given.entry) }
 {
     let name = given?;

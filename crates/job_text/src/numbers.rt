@@ -13,7 +13,7 @@ use script_text::{cut, number_within};
 use std::alloc::{AllocError, Global};
 
 /// A number that has to be given, within bounds.
-pub(crate) fn a_number(low: u32, high: u32, given: Option<&str>) -> Option<u32>
+pub fn a_number(low: u32, high: u32, given: Option<&str>) -> Option<u32>
     ensures is { result ≡ spec.a_number low high (text given.entry) }
     ensures bounds { IfSome result (λ number. (low ≤ number) × (number ≤ high)) }
 {
@@ -21,7 +21,7 @@ pub(crate) fn a_number(low: u32, high: u32, given: Option<&str>) -> Option<u32>
 }
 
 /// A number within a bound that is 0 where it isn't given.
-pub(crate) fn a_number_or_zero(high: u32, given: Option<&str>) -> Option<u32>
+pub fn a_number_or_zero(high: u32, given: Option<&str>) -> Option<u32>
     ensures { result ≡ spec.a_number_or_zero high (text given.entry) }
 {
     match given {
@@ -69,7 +69,7 @@ fn members_in(alloc: Global, text: &[u8]) -> Result<Option<Vec<u32>>, AllocError
     Ok(Some(members))
 }
 
-/// Each number is below all those behind it.
+/// Each number is below all those after it.
 fn is_ascending(numbers: &[u32]) -> bool
     ensures { result ≡ spec.is_ascending numbers.now }
 {

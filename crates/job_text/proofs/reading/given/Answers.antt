@@ -1,19 +1,20 @@
-use Rattle.std.proofs.Common.{◌∙◌, map}
+use Rattle.std.proofs.Common.{◌∙◌, ap, map, refl, sym}
+use Rattle.std.specs.Prelude.{option_map}
 use Rattle.std.specs.String.{string_bytes}
-use Rattle.clap.specs.Matches.{found_of}
-use Rattle.clap.specs.Walk.{rows_of}
-use Rattle.clap.specs.Simple.{app_of}
-use Rattle.job_text.specs.Shown.{shown_given}
-use Rattle.job_text.proofs.Read.{taken, none_given}
+use Rattle.job_mean.specs.Command.{command}
+use Rattle.job_mean.specs.Given.{given_in}
+use Rattle.command_line.specs.Rules.{IsExact, rows_found}
+use Rattle.command_line.proofs.Found.{read_rows, read_none}
 use Rattle.job_text.proofs.reading.given.Goals as goal
 
-pub returns-in-Ok : goal.returns-in-Ok
-returns-in-Ok c =
-    c.of.ensures ∙ taken (app_of c.in_ok-command.command) (map string_bytes c.args.words.now)
-    (rows_of (found_of c.in-Ok.matches))
-    c.in_ok-command.ensures c.in-Ok.ensures.kinds c.in-Ok.ensures.matches
+is_exact : IsExact command
+is_exact = record { simple = refl; free = refl }
 
-pub returns-in-Err : goal.returns-in-Err
-returns-in-Err c = none_given shown_given (app_of c.in_ok-command.command) (map string_bytes c.args.words.now)
-    c.in-Err.error c.refused.result
-    c.in_ok-command.ensures c.in-Err.ensures.kinds c.refused.ensures
+pub returns-in-Some : goal.returns-in-Some
+returns-in-Some c = c.of.ensures ∙ read_rows command given_in (map string_bytes c.args.words.now)
+    (rows_found c.in-Some.matches)
+    (ap (option_map rows_found) (sym c.in-Some.is) ∙ c.in_ok-matches.ensures command c.in_ok-command.ensures is_exact)
+
+pub returns-in-None : goal.returns-in-None
+returns-in-None c = read_none command given_in (map string_bytes c.args.words.now)
+    (ap (option_map rows_found) (sym c.in-None.is) ∙ c.in_ok-matches.ensures command c.in_ok-command.ensures is_exact)

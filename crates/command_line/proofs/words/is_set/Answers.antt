@@ -2,8 +2,8 @@ use Rattle.std.proofs.Common.{◌∙◌}
 use Rattle.clap.specs.Matches.{found_of}
 use Rattle.clap.specs.Walk.{one_of, rows_of}
 use Rattle.clap.proofs.WalkLemmas.{one_text-rows}
-use Rattle.job_text.proofs.Words.{flag_is}
-use Rattle.job_text.proofs.given.is_set.Goals as goal
+use Rattle.command_line.proofs.Flags.{flag_is}
+use Rattle.command_line.proofs.words.is_set.Goals as goal
 
 pub returns : goal.returns
 returns c =
