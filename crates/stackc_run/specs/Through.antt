@@ -1,58 +1,35 @@
 -- A run over streams, and the handing on of what was put.
-use Rattle.std.specs.Prelude.{◌≡◌, ◌⊎◌, ℕ, Bool, true, false, List, Option, Some, None}
+use Rattle.std.specs.Prelude.{◌≡◌, ◌⊎◌, ℕ, List, Option, Some, None}
 use Rattle.std.specs.List.{concat}
 use Rattle.std.specs.Io.KnownBytes.{Appends}
 use Rattle.outside.specs.Shelf.{Shelved}
 use Rattle.clap.specs.Walk.{Text}
 use Rattle.stack_mean.specs.Plans.{plans_of}
 use Rattle.job_mean.specs.Job.{Job, job_of_words}
-use Rattle.end_mean.specs.Status.{Ended, done, breached, file_refused, report_refused, words_refused, second_refused}
-use Rattle.end_mean.specs.Status.{traces_refused, read_failed, write_failed, link_failed, no_memory}
+use Rattle.end_mean.specs.Status.{Ended}
 use Rattle.run_mean.specs.Journal.{node_lines}
 use Rattle.group_mean.specs.Node.{node_words}
 use Rattle.group_mean.specs.Node.{Surroundings, failed, noted, played}
 use Rattle.output_mean.specs.Output.{IsNode}
 use Rattle.outside.specs.Said.{errors}
 use Rattle.outside.specs.Tells.{Tells}
-use Rattle.program_streams.specs.Streams.{HandsOn, Stream}
+use Rattle.program_streams.specs.Streams.{Stream, stream}
 use Rattle.job_ends.specs.Comes.{Good, surrounding}
-use Rattle.job_ends.specs.Shown.{Said}
+use Rattle.job_streams.specs.Closes.{Closes, closed}
 use Rattle.node_loop.specs.Serve.{MadeAllTurns}
 use Rattle.node_jobs.specs.Comes.{Beyond, Node, Ran}
 use Rattle.stackc_run.specs.Performed.{Way, over_files, over_network, way_of, Performed, Does}
 
--- How a job ended whose whole output was written, where its stream got all or lacks something: then that is a fault of
--- writing.
-abbrev pub closed : Bool → Ended → Ended
-closed true end = end
-closed false done = write_failed
-closed false breached = write_failed
-closed false (file_refused fault) = file_refused fault
-closed false (report_refused fault) = report_refused fault
-closed false words_refused = words_refused
-closed false (second_refused fault) = second_refused fault
-closed false (traces_refused fault) = traces_refused fault
-closed false read_failed = read_failed
-closed false write_failed = write_failed
-closed false link_failed = link_failed
-closed false no_memory = no_memory
-
--- A run that put so much on the output and ended so; what was handed on to the output's stream; and what was said then,
--- of the end that comes of both, and handed on to the standard error's. Where that is the job's own end, all that `run`
--- does is done.
+-- A run that put so much on the output and ended so, and how that was said over the streams. Where that is the job's
+-- own end, all that `run` does is done.
 pub record RunsThrough (words : List Text) (told : Option Shelved) (reads reads_after : ℕ) (n : Beyond)
     (out err : Stream) (status : ℕ) : Type 0 where
   pub put : Tells
   pub end : Ended
   pub performed : Performed (job_of_words words) (surrounding told reads reads_after out.before put) n end
-  pub whole : Bool
-  pub handed_on : HandsOn put out.after out.holds whole
-  pub closing : Tells
-  pub said : Said (closed whole end) (errors err.before closing status)
-  pub does : closed whole end ≡ end →
-      Does words (surrounding told reads reads_after out.before put) n (errors err.before closing status)
-  pub heard : Bool
-  pub told_on : HandsOn closing err.after err.holds heard
+  pub closes : Closes end (stream put out.after out.holds) err status
+  pub does : closed closes.whole end ≡ end →
+      Does words (surrounding told reads reads_after out.before put) n (errors err.before closes.closing status)
 
 -- The status of a whole output: 0, or 8 where that is a breach of a law.
 abbrev pub IsWhole : ℕ → Type 0

@@ -1,19 +1,15 @@
 //! A run over streams, which are handed what was put.
 
-ghost use Rattle.std.specs.Prelude.{◌≡◌, map};
+ghost use Rattle.std.specs.Prelude.{map};
 ghost use Rattle.std.specs.String.{string_bytes};
-ghost use Rattle.outside.specs.Stream.{stream_of};
 ghost use Rattle.job_mean.specs.Job.{job_of_words};
-ghost use Rattle.job_ends.specs.Shown.{shown};
-ghost use Rattle.outside.specs.Tells.{tells};
 ghost use Rattle.node_jobs.specs.Comes.{beyond};
-ghost use Rattle.stackc_run.specs.Through.{RunsThrough, Delivers, IsWhole, closed};
-ghost use Rattle.program_streams.specs.Streams.{stream};
+ghost use Rattle.stackc_run.specs.Through.{RunsThrough, Delivers, IsWhole};
+ghost use Rattle.program_streams.specs.Streams.{over};
 
 use crate::perform::perform;
-use job_ends::{Ending, say};
+use job_streams::close;
 use outside::{Clock, Links, Shelf, Sink, StdSink};
-use program_streams::hand_on;
 use std::alloc::Global;
 use std::io::Write;
 
@@ -34,42 +30,14 @@ pub fn run_through<S: Shelf, O: Write + Drop, E: Write + Drop, N: Links, C: Cloc
     ensures through { RunsThrough (map string_bytes words.now) (S.told shelf.old) (S.faults shelf.old)
         (S.faults shelf.new)
         (beyond N.Links C.Clock links.old links.new clock.old clock.new)
-        (stream (tells (⟦<StdSink<O> as Sink>⟧.contents out.old) (⟦<StdSink<O> as Sink>⟧.failures out.old)
-        (⟦<StdSink<O> as Sink>⟧.faults out.old))
-        (tells (⟦<StdSink<O> as Sink>⟧.contents out.new) (⟦<StdSink<O> as Sink>⟧.failures out.new)
-        (⟦<StdSink<O> as Sink>⟧.faults out.new))
-        (O.contents (stream_of out.new)))
-        (stream (tells (⟦<StdSink<E> as Sink>⟧.contents err.old) (⟦<StdSink<E> as Sink>⟧.failures err.old)
-        (⟦<StdSink<E> as Sink>⟧.faults err.old))
-        (tells (⟦<StdSink<E> as Sink>⟧.contents err.new) (⟦<StdSink<E> as Sink>⟧.failures err.new)
-        (⟦<StdSink<E> as Sink>⟧.faults err.new))
-        (E.contents (stream_of err.new))) result }
+        (over O.Write ⟦<StdSink<O> as Sink>⟧ out.old out.new) (over E.Write ⟦<StdSink<E> as Sink>⟧ err.old err.new)
+        result }
     ensures delivered { IsWhole result →
         Delivers (job_of_words (map string_bytes words.now)) (S.told shelf.old) (S.faults shelf.old)
         (S.faults shelf.new)
         (beyond N.Links C.Clock links.old links.new clock.old clock.new)
-        (stream (tells (⟦<StdSink<O> as Sink>⟧.contents out.old) (⟦<StdSink<O> as Sink>⟧.failures out.old)
-        (⟦<StdSink<O> as Sink>⟧.faults out.old))
-        (tells (⟦<StdSink<O> as Sink>⟧.contents out.new) (⟦<StdSink<O> as Sink>⟧.failures out.new)
-        (⟦<StdSink<O> as Sink>⟧.faults out.new))
-        (O.contents (stream_of out.new))) }
+        (over O.Write ⟦<StdSink<O> as Sink>⟧ out.old out.new) }
 {
     let ending = perform(alloc, words, shelf, out, links, clock);
-    let whole = hand_on(out);
-    let status = say(alloc, closed(whole, ending), err);
-    let _ = hand_on(err);
-    status
-}
-
-/// How a job ended whose stream got all that was put or didn't: then a whole output is a fault of writing.
-fn closed(whole: bool, ending: Ending) -> Ending
-    ensures { shown result ≡ closed whole (shown ending) }
-{
-    if whole {
-        return ending;
-    }
-    match ending {
-        Ending::Done | Ending::Breached => Ending::Write,
-        ending => ending,
-    }
+    close(alloc, ending, out, err)
 }

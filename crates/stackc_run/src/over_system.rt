@@ -2,10 +2,9 @@
 
 use crate::over_streams::run_through;
 use job_ends::NO_MEMORY;
-use outside::{FileShelf, RunClock, StdSink};
-use program_streams::command_words;
-use std::alloc::Global;
-use std::io::{self, Write};
+use outside::{FileShelf, RunClock};
+use program_streams::begin;
+use std::io::Write;
 use std::net::Net;
 use std::rt::{Clock as SystemClock, Env, Files};
 use udp_link::UdpLinks;
@@ -17,22 +16,16 @@ pub fn program<R: AllocGlobal + Env + Files + Net + SystemClock, O: Write + Drop
     out: O,
     err: E,
 ) -> u8 {
-    begun(system, out, err).unwrap_or(NO_MEMORY)
-}
-
-fn begun<R: AllocGlobal + Env + Files + Net + SystemClock, O: Write + Drop, E: Write + Drop>(
-    system: &R,
-    out: O,
-    err: E,
-) -> io::Result<u8> {
     let alloc = system.alloc();
-    let words = command_words(system)?;
+    let Ok((words, mut out, mut err)) = begin(system, out, err) else {
+        return NO_MEMORY;
+    };
     let mut shelf = FileShelf::of(system);
-    let mut out = StdSink::of(alloc, out)?;
-    let mut err = StdSink::of(alloc, err)?;
-    let mut links = UdpLinks::of(alloc, system)?;
+    let Ok(mut links) = UdpLinks::of(alloc, system) else {
+        return NO_MEMORY;
+    };
     let mut clock = RunClock::of(system);
-    Ok(run_through(
+    run_through(
         alloc, &words, &mut shelf, &mut out, &mut err, &mut links, &mut clock,
-    ))
+    )
 }

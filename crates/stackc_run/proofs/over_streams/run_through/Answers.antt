@@ -15,11 +15,9 @@ pub returns-clause-through : goal.returns-clause-through
 returns-clause-through g c =
     let out = c.perform-ending.new.out in
     let first = c.args.err.now in
-    let last = c.say-status.new.err in
     let before = tells (gathered (g.E.Write.contents first.stream) first.done first.held.items) None first.faults in
-    let closing = tells (gathered (g.E.Write.contents last.stream) last.done last.held.items) None last.faults in
-    let e = errors before closing c.say-status.result in
-    let said = subst (λ end. Said end e) c.closed.ensures c.say-status.ensures in
+    let closes = c.close.ensures in
+    let e = errors before closes.closing c.close.result in
     let put = tells (gathered (g.O.Write.contents out.stream) out.done out.held.items) None out.faults in
     let start = c.args.out.now in
     let a = surrounding (g.S.Shelf.told c.args.shelf.now) (g.S.Shelf.faults c.args.shelf.now)
@@ -31,14 +29,9 @@ returns-clause-through g c =
       put = put;
       end = shown c.perform-ending.result;
       performed = c.perform-ending.ensures;
-      whole = c.hand_on-whole.result;
-      handed_on = c.hand_on-whole.ensures;
-      closing = closing;
-      said = said;
+      closes = closes;
       does = λ is. does (map string_bytes c.args.words.now) (job_of_words (map string_bytes c.args.words.now)) refl a n
-          e (shown c.perform-ending.result) c.perform-ending.ensures (subst (λ end. Said end e) is said);
-      heard = c.hand_on.result;
-      told_on = c.hand_on.ensures;
+          e (shown c.perform-ending.result) c.perform-ending.ensures (subst (λ end. Said end e) is closes.said);
     }
 
 pub returns-clause-delivered : goal.returns-clause-delivered

@@ -1,0 +1,24 @@
+-- How a job ends over streams, which are handed what was put.
+use Rattle.std.specs.Prelude.{ℕ, Bool, true, false}
+use Rattle.end_mean.specs.Status.{Ended, done, breached, write_failed}
+use Rattle.outside.specs.Said.{errors}
+use Rattle.outside.specs.Tells.{Tells}
+use Rattle.program_streams.specs.Streams.{HandsOn, Stream}
+use Rattle.job_ends.specs.Shown.{Said}
+
+-- How a job ended whose output was put, where the stream got all or lacks something: then a whole output is a fault of
+-- writing.
+abbrev pub closed : Bool → Ended → Ended
+closed false done = write_failed
+closed false breached = write_failed
+closed _ end = end
+
+-- A job that ended so, from when all was put: what was handed on to the output's stream; and what was said then, of the
+-- end that comes of both, and handed on to the standard error's.
+pub record Closes (end : Ended) (out err : Stream) (status : ℕ) : Type 0 where
+  pub whole : Bool
+  pub handed_on : HandsOn out.before out.after out.holds whole
+  pub closing : Tells
+  pub said : Said (closed whole end) (errors err.before closing status)
+  pub heard : Bool
+  pub told_on : HandsOn closing err.after err.holds heard

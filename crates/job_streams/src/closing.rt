@@ -1,0 +1,45 @@
+//! The handing on of what a job put, and what is said of its end.
+
+ghost use Rattle.std.specs.Prelude.{◌≡◌};
+ghost use Rattle.job_ends.specs.Shown.{shown};
+ghost use Rattle.job_streams.specs.Closes.{Closes, closed};
+ghost use Rattle.program_streams.specs.Streams.{over};
+
+use job_ends::{Ending, say};
+use outside::{Sink, StdSink};
+use program_streams::hand_on;
+use std::alloc::Global;
+use std::io::Write;
+
+/// Hands on what a job put to the output's stream, says how the job ended, hands on what was said, and answers the
+/// program's status.
+///
+/// Where the output's stream lacks something, a whole output is said as a fault of writing; how a job ended else stays.
+/// What was said is handed on to the stream of `err`, or that sink counted a fault.
+pub fn close<O: Write + Drop, E: Write + Drop>(
+    alloc: Global,
+    ending: Ending,
+    out: &mut StdSink<O>,
+    err: &mut StdSink<E>,
+) -> u8
+    ensures { Closes (shown ending) (over O.Write ⟦<StdSink<O> as Sink>⟧ out.old out.new)
+        (over E.Write ⟦<StdSink<E> as Sink>⟧ err.old err.new) result }
+{
+    let whole = hand_on(out);
+    let status = say(alloc, closed(whole, ending), err);
+    let _ = hand_on(err);
+    status
+}
+
+/// How a job ended whose stream got all that was put or didn't: then a whole output is a fault of writing.
+fn closed(whole: bool, ending: Ending) -> Ending
+    ensures { shown result ≡ closed whole (shown ending) }
+{
+    if whole {
+        return ending;
+    }
+    match ending {
+        Ending::Done | Ending::Breached => Ending::Write,
+        ending => ending,
+    }
+}
