@@ -11,7 +11,7 @@ use outside::{Shelf, Sink};
 use run_audit::Law;
 use std::alloc::Global;
 
-/// Judges a law of the group on a report, and writes what it comes to.
+/// Judges a law of the group on a report, and writes the verdict.
 pub fn audit_report<S: Shelf, O: Sink>(
     alloc: Global,
     file: &str,

@@ -44,7 +44,7 @@ fn places_of(stack: Stack) -> u8
     places
 }
 
-/// Writes that a stack of so many places is accepted.
+/// Writes that a stack of this many places is accepted.
 fn accept<O: Sink>(alloc: Global, places: u8, out: &mut O) -> Ending
     ensures { Writes ((codes "accepted " ++ decimal places ++ codes "\n") ∷ []) done
         (tells_of O.Sink out.old) (tells_of O.Sink out.new) (shown result) }

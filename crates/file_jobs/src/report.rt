@@ -8,7 +8,7 @@ ghost use Rattle.file_jobs.specs.Report.{Fetches, Judges};
 use crate::judged::Output;
 use crate::lines::finding_line;
 use job_ends::Ending;
-use outside::{Got, Shelf, ShelfError};
+use outside::{Got, Shelf};
 use run_audit::{AuditError, Finding, Law, audit};
 use std::alloc::Global;
 
@@ -25,11 +25,9 @@ pub(crate) fn fetch_report<S: Shelf>(
     ensures { Fetches file.now law (S.told shelf.old) (S.faults shelf.old) (S.faults shelf.new) result }
 {
     let mut text = Vec::new(alloc);
-    match shelf.read(file, &mut text, LONGEST_REPORT) {
-        Ok(Got::Whole) => judged(alloc, &text, law),
-        Ok(Got::TooLong) => Err(Ending::ReportTooLarge),
-        Err(ShelfError::Failed) => Err(Ending::Read),
-        Err(ShelfError::Memory) => Err(Ending::Memory),
+    match shelf.read(file, &mut text, LONGEST_REPORT)? {
+        Got::Whole => judged(alloc, &text, law),
+        Got::TooLong => Err(Ending::ReportTooLarge),
     }
 }
 

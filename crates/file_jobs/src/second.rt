@@ -7,7 +7,7 @@ ghost use Rattle.job_ends.specs.Shown.{shown};
 ghost use Rattle.file_jobs.specs.Second.{Reads, refused_as};
 
 use job_ends::Ending;
-use outside::{Got, Shelf, ShelfError};
+use outside::{Got, Shelf};
 use script_text::ScriptError;
 use std::alloc::Global;
 
@@ -20,11 +20,9 @@ pub fn fetch_second<S: Shelf>(alloc: Global, name: &str, shelf: &mut S) -> Resul
     ensures kept { S.told shelf.new ≡ option_map after_read (S.told shelf.old) }
 {
     let mut text = Vec::new(alloc);
-    match shelf.read(name, &mut text, LONGEST_SECOND) {
-        Ok(Got::Whole) => Ok(text),
-        Ok(Got::TooLong) => Err(Ending::SecondTooLong),
-        Err(ShelfError::Failed) => Err(Ending::Read),
-        Err(ShelfError::Memory) => Err(Ending::Memory),
+    match shelf.read(name, &mut text, LONGEST_SECOND)? {
+        Got::Whole => Ok(text),
+        Got::TooLong => Err(Ending::SecondTooLong),
     }
 }
 

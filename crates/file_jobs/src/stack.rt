@@ -9,7 +9,7 @@ use event_graph::Stack;
 use file_judge::{FileError, judge, read_file};
 use job_ends::Ending;
 use layer_ast::{File, LONGEST_FILE};
-use outside::{Got, Shelf, ShelfError};
+use outside::{Got, Shelf};
 use std::alloc::Global;
 use std::mem::forget;
 
@@ -26,11 +26,9 @@ fn fetch_text<S: Shelf>(alloc: Global, file: &str, shelf: &mut S) -> Result<Vec<
     ensures kept { S.told shelf.new ≡ option_map after_read (S.told shelf.old) }
 {
     let mut text = Vec::new(alloc);
-    match shelf.read(file, &mut text, u64::from(LONGEST_FILE)) {
-        Ok(Got::Whole) => Ok(text),
-        Ok(Got::TooLong) => Err(Ending::File(FileError::TooLarge)),
-        Err(ShelfError::Failed) => Err(Ending::Read),
-        Err(ShelfError::Memory) => Err(Ending::Memory),
+    match shelf.read(file, &mut text, u64::from(LONGEST_FILE))? {
+        Got::Whole => Ok(text),
+        Got::TooLong => Err(Ending::File(FileError::TooLarge)),
     }
 }
 
@@ -39,10 +37,8 @@ pub fn fetch_stack<S: Shelf>(alloc: Global, file: &str, shelf: &mut S) -> Result
     ensures read { Fetches file.now (S.told shelf.old) (S.faults shelf.old) (S.faults shelf.new) result }
     ensures kept { S.told shelf.new ≡ option_map after_read (S.told shelf.old) }
 {
-    match fetch_text(alloc, file, shelf) {
-        Ok(text) => judged(alloc, &text),
-        Err(ending) => Err(ending),
-    }
+    let text = fetch_text(alloc, file, shelf)?;
+    judged(alloc, &text)
 }
 
 /// The same, with the file's tree.
@@ -50,20 +46,16 @@ pub fn fetch_file<S: Shelf>(alloc: Global, file: &str, shelf: &mut S) -> Result<
     ensures read { FetchesFile file.now (S.told shelf.old) (S.faults shelf.old) (S.faults shelf.new) result }
     ensures kept { S.told shelf.new ≡ option_map after_read (S.told shelf.old) }
 {
-    match fetch_text(alloc, file, shelf) {
-        Ok(text) => judged_file(alloc, &text),
-        Err(ending) => Err(ending),
-    }
+    let text = fetch_text(alloc, file, shelf)?;
+    judged_file(alloc, &text)
 }
 
 /// The accepted stack of a text, or why it is refused.
 fn judged(alloc: Global, text: &[u8]) -> Result<Stack, Ending>
     ensures { JudgesStack text.now result }
 {
-    match judge(alloc, text) {
-        Ok(stack) => Ok(stack),
-        Err(error) => Err(Ending::File(error)),
-    }
+    let stack = judge(alloc, text)?;
+    Ok(stack)
 }
 
 /// The same, with the tree of the file that the text spells: judging takes its own apart, so the text is read once

@@ -1,4 +1,3 @@
-mod Read
 mod Ran
 mod Looked
 mod Judged

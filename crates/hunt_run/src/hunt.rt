@@ -38,10 +38,8 @@ pub(crate) fn look<C: Clock + Drop, N: Write + Drop>(
 ) -> Result<Output, Ending>
     ensures { Looks (request_shown request.entry) file.now result }
 {
-    match judge(alloc, file) {
-        Ok(stack) => look_over(alloc, request, file, stack, watch),
-        Err(error) => Err(Ending::File(error)),
-    }
+    let stack = judge(alloc, file)?;
+    look_over(alloc, request, file, stack, watch)
 }
 
 /// The same, with the stack that the file means.

@@ -19,7 +19,7 @@ use crate::words::{Request, asked_for};
 use file_judge::FileError;
 use job_ends::{Ending, say};
 use layer_ast::LONGEST_FILE;
-use outside::{Clock, Got, Shelf, ShelfError, Sink, SinkError, put_line};
+use outside::{Clock, Got, Shelf, Sink, SinkError, put_line};
 use std::alloc::Global;
 use std::io::Write;
 
@@ -27,7 +27,7 @@ use std::io::Write;
 /// writes goes to `out`, in one put; where it ends with another status than 0, one line on `err` says why. What `watch`
 /// tells of its progress goes elsewhere.
 ///
-/// With status 8 `out` gained a script whose report breaks the law, by the definitions, behind comments with the two
+/// With status 8 `out` gained a script whose report breaks the law, by the definitions, after comments with the two
 /// lines that do; with 0 the number of runs in which no such script was found, and of breaches that were missed nothing
 /// is claimed. 1, 2 and 3 come exactly where the stack file is refused, the words ask for no hunt, and the members
 /// would keep too many rows; 4 and 5 only where the shelf or `out` counted a fault in this call; and 7 where memory ran
@@ -88,7 +88,8 @@ fn fetch<S: Shelf, C: Clock + Drop, N: Write + Drop>(
     shelf: &mut S,
     watch: &mut Watch<C, N>,
 ) -> Result<Output, Ending>
-    ensures { Fetches (request_shown request.entry) (S.told shelf.old) (S.faults shelf.old) (S.faults shelf.new) result }
+    ensures { Fetches (request_shown request.entry) (S.told shelf.old) (S.faults shelf.old) (S.faults shelf.new)
+        result }
 {
     match fetch_text(alloc, request.file, shelf) {
         Ok(file) => look(alloc, request, &file, watch),
@@ -101,11 +102,9 @@ fn fetch_text<S: Shelf>(alloc: Global, file: &str, shelf: &mut S) -> Result<Vec<
     ensures { ReadsText file.now (S.told shelf.old) (S.faults shelf.old) (S.faults shelf.new) result }
 {
     let mut text = Vec::new(alloc);
-    match shelf.read(file, &mut text, u64::from(LONGEST_FILE)) {
-        Ok(Got::Whole) => Ok(text),
-        Ok(Got::TooLong) => Err(Ending::File(FileError::TooLarge)),
-        Err(ShelfError::Failed) => Err(Ending::Read),
-        Err(ShelfError::Memory) => Err(Ending::Memory),
+    match shelf.read(file, &mut text, u64::from(LONGEST_FILE))? {
+        Got::Whole => Ok(text),
+        Got::TooLong => Err(Ending::File(FileError::TooLarge)),
     }
 }
 

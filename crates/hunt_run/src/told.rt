@@ -13,7 +13,7 @@ use report_lines::Line;
 use script_text::cut;
 use std::alloc::Global;
 
-/// A script behind comments that tell which law its report breaks, and by which two lines.
+/// A script after comments that tell which law its report breaks, and by which two lines.
 pub(crate) fn tell(alloc: Global, law: Law, broken: &Broken, script: &[u8]) -> Result<Line, Memory>
     ensures { IfOk result
         (λ text. text ≡ spec.told_breach law broken.now.report.items broken.now.first broken.now.second ++ script.now) }
@@ -47,7 +47,7 @@ fn line_at(text: &[u8], number: u32) -> &[u8]
     first_line(behind_lines(text, number.saturating_sub(1)))
 }
 
-/// What stands behind so many line feeds, if there are as many.
+/// What stands after this many line feeds, if there are as many.
 #[tactic(auto, using(crate::proofs::Lines::one_more))]
 fn behind_lines(text: &[u8], count: u32) -> Option<&[u8]>
     ensures { parts_behind 10 result ≡ drop count (slice_split (λ byte. byte == 10) text.now) }
@@ -59,7 +59,7 @@ fn behind_lines(text: &[u8], count: u32) -> Option<&[u8]>
     rest
 }
 
-/// What stands behind the first line feed.
+/// What stands after the first line feed.
 fn behind_line(rest: Option<&[u8]>) -> Option<&[u8]>
     ensures { parts_behind 10 result ≡ drop 1 (parts_behind 10 rest.entry) }
 {
@@ -69,7 +69,7 @@ fn behind_line(rest: Option<&[u8]>) -> Option<&[u8]>
     }
 }
 
-/// What stands in front of the first line feed, and no bytes where nothing is left.
+/// What stands before the first line feed, and no bytes where nothing is left.
 fn first_line(rest: Option<&[u8]>) -> &[u8]
     ensures { result.now ≡ slice_index_or (parts_behind 10 rest.entry) 0 [] }
 {

@@ -43,7 +43,7 @@ impl<C: Clock + Drop, N: Write + Drop> Watch<C, N> {
         self.told = self.began;
     }
 
-    /// Whether so many seconds are up, which is never where they are none.
+    /// Whether this many seconds are up, which is never where they are none.
     pub(crate) fn is_up(&mut self, seconds: u32) -> bool
         ensures { seconds ≡ 0 → result ≡ false }
     {

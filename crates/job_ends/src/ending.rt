@@ -1,7 +1,12 @@
 //! How a job ended.
 
+ghost use Rattle.std.specs.Prelude.{◌≡◌};
+ghost use Rattle.job_ends.specs.Causes.{unread};
+ghost use Rattle.job_ends.specs.declared.ending.Ending.TheVariants as ending;
+
 use file_judge::FileError;
 use layer_mean::Case;
+use outside::ShelfError;
 
 /// How a job ended.
 #[derive(Clone, Copy)]
@@ -41,4 +46,23 @@ pub enum Ending {
     Link,
     /// Memory ran out.
     Memory,
+}
+
+impl From<ShelfError> for Ending {
+    ghost from_gives = { λ cause end. end ≡ unread cause };
+
+    fn from(cause: ShelfError) -> Ending {
+        match cause {
+            ShelfError::Failed => Ending::Read,
+            ShelfError::Memory => Ending::Memory,
+        }
+    }
+}
+
+impl From<FileError> for Ending {
+    ghost from_gives = { λ cause end. end ≡ ending.File cause };
+
+    fn from(cause: FileError) -> Ending {
+        Ending::File(cause)
+    }
 }

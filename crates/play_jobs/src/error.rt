@@ -21,7 +21,7 @@ pub enum PlayError {
     Memory,
 }
 
-/// What a group came to that wasn't opened.
+/// How the job ends whose group wasn't opened.
 pub(crate) fn unopened(error: OpenError) -> PlayError
     ensures { result ≡ not_opened error }
 {
@@ -31,7 +31,7 @@ pub(crate) fn unopened(error: OpenError) -> PlayError
     }
 }
 
-/// What lines came to whose members have room.
+/// How lines ended whose members have room.
 pub(crate) fn with_room(wrote: Result<(), SinkError>) -> Result<(), PlayError>
     ensures { result ≡ cut_short wrote }
 {

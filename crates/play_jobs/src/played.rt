@@ -7,7 +7,7 @@ ghost use Rattle.play_jobs.specs.Ends.{end_of};
 use crate::error::PlayError;
 use job_ends::Ending;
 
-/// How the job ends whose run came to this.
+/// How the job ends whose run ended so.
 pub(crate) fn ending(run: Result<(), PlayError>) -> Ending
     ensures { shown result ≡ end_of run }
 {

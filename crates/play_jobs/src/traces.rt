@@ -9,7 +9,7 @@ ghost use Rattle.play_jobs.specs.Traces.{FetchesTraces, JudgesTraces, refused_as
 use bypass_file::{BypassError, read_bypasses};
 use event_graph::Stack;
 use job_ends::Ending;
-use outside::{Got, Shelf, ShelfError};
+use outside::{Got, Shelf};
 use std::alloc::Global;
 use trace_core::Bypasses;
 
@@ -28,11 +28,9 @@ pub(crate) fn fetch_traces<S: Shelf>(
         result }
 {
     let mut text = Vec::new(alloc);
-    match shelf.read(name, &mut text, LONGEST_TRACES) {
-        Ok(Got::Whole) => judged(alloc, stack, &text),
-        Ok(Got::TooLong) => Err(Ending::TracesTooLarge),
-        Err(ShelfError::Failed) => Err(Ending::Read),
-        Err(ShelfError::Memory) => Err(Ending::Memory),
+    match shelf.read(name, &mut text, LONGEST_TRACES)? {
+        Got::Whole => judged(alloc, stack, &text),
+        Got::TooLong => Err(Ending::TracesTooLarge),
     }
 }
 

@@ -1,19 +1,19 @@
-use Rattle.std.proofs.Common.{◌∙◌, map}
+use Rattle.std.proofs.Common.{◌∙◌, ap, map, refl, sym}
+use Rattle.std.specs.Prelude.{option_map}
 use Rattle.std.specs.String.{string_bytes}
-use Rattle.clap.specs.Matches.{found_of}
-use Rattle.clap.specs.Walk.{rows_of}
-use Rattle.clap.specs.Simple.{app_of}
-use Rattle.hunt_run.specs.Reading.{request_shown}
-use Rattle.hunt_run.proofs.Read.{taken, none_given}
+use Rattle.hunt_mean.specs.Words.{command, request_in}
+use Rattle.command_line.specs.Rules.{IsExact, rows_found}
+use Rattle.command_line.proofs.Found.{read_rows, read_none}
 use Rattle.hunt_run.proofs.words.asked_for.Goals as goal
 
-pub returns-in-Ok : goal.returns-in-Ok
-returns-in-Ok c =
-    c.request_in.ensures ∙ taken (app_of c.in_ok-command.command) (map string_bytes c.args.words.now)
-    (rows_of (found_of c.in-Ok.matches))
-    c.in_ok-command.ensures c.in-Ok.ensures.kinds c.in-Ok.ensures.matches
+is_exact : IsExact command
+is_exact = record { simple = refl; free = refl }
 
-pub returns-in-Err : goal.returns-in-Err
-returns-in-Err c = none_given request_shown (app_of c.in_ok-command.command) (map string_bytes c.args.words.now)
-    c.in-Err.error c.refused.result
-    c.in_ok-command.ensures c.in-Err.ensures.kinds c.refused.ensures
+pub returns : goal.returns
+returns c = c.request_in.ensures ∙ read_rows command request_in (map string_bytes c.args.words.now)
+    (rows_found c.in-Some.matches)
+    (ap (option_map rows_found) (sym c.in-Some.is) ∙ c.in_ok-matches.ensures command c.in_ok-command.ensures is_exact)
+
+pub returns-in_default : goal.returns-in_default
+returns-in_default c = read_none command request_in (map string_bytes c.args.words.now)
+    (ap (option_map rows_found) (sym c.in_default.is) ∙ c.in_ok-matches.ensures command c.in_ok-command.ensures is_exact)
