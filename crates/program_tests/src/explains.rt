@@ -43,13 +43,19 @@ fn decisions_are_told_by_their_lines(rt: HostRuntime) -> Result<(), Fail> {
         ),
         (
             COUNTER,
-            b"group 1 stamp 7 members 3\nraw 1 e50000000100000007000000000000000700ff0061\nraw 1 e5\ngive 1 1\ntick 1 5\n",
+            b"\
+                group 1 stamp 7 members 3\nraw 1 e50000000100000007000000000000000700ff0061\n\
+                raw 1 e5\ngive 1 1\ntick 1 5\n",
             b"miss 1 1 none noplan\nend 4\n",
         ),
         (
             ORDER,
-            b"group 1 stamp 1 members 3\ncast 1 796f\ncast 0 6869\ngive 2 1\ngive 2 2\ngive 1 0\nleave 2\ncast 2 -\nstate 2\n",
-            b"miss 1 1 cast visit 1 place 3 total line 7\nmiss 5 0 none noplan\nmiss 7 2 cast visit 1 place 3 total line 7\nend 8\n",
+            b"\
+                group 1 stamp 1 members 3\ncast 1 796f\ncast 0 6869\ngive 2 1\ngive 2 2\ngive 1 0\n\
+                leave 2\ncast 2 -\nstate 2\n",
+            b"\
+                miss 1 1 cast visit 1 place 3 total line 7\nmiss 5 0 none noplan\n\
+                miss 7 2 cast visit 1 place 3 total line 7\nend 8\n",
         ),
     ];
     for (file, script, told) in cases {
@@ -66,12 +72,17 @@ fn both_cases_are_told(rt: HostRuntime) -> Result<(), Fail> {
         (
             LATE,
             b"group 1 stamp 1 members 2\ncast 0 -\ncast 0 -\ncast 0 -\n",
-            b"miss 1 0 cast absent loop 0 or visit 1 place 0 late line 1\nmiss 3 0 cast absent loop 0 or visit 1 place 0 late line 1\nend 3\n",
+            b"\
+                miss 1 0 cast absent loop 0 or visit 1 place 0 late line 1\n\
+                miss 3 0 cast absent loop 0 or visit 1 place 0 late line 1\nend 3\n",
         ),
         (
             BOTH,
             b"group 1 stamp 1 members 2\ncast 0 -\ncast 0 -\nsend 0 1 -\nsend 0 0 -\n",
-            b"miss 1 0 cast visit 1 place 0 both line 6 or visit 1 place 0 both line 5\nmiss 2 0 cast visit 1 place 0 both line 5 or visit 1 place 0 both line 8\nmiss 3 0 send visit 1 place 0 both line 13 or absent loop 0\nend 4\n",
+            b"\
+                miss 1 0 cast visit 1 place 0 both line 6 or visit 1 place 0 both line 5\n\
+                miss 2 0 cast visit 1 place 0 both line 5 or visit 1 place 0 both line 8\n\
+                miss 3 0 send visit 1 place 0 both line 13 or absent loop 0\nend 4\n",
         ),
         (
             REPEATER,

@@ -89,16 +89,26 @@ fn counts_generated_scripts(rt: HostRuntime) -> Result<(), Fail> {
 }
 
 /// The bypasses of the counter: a packet is common where its number is the one that is due.
-const BYPASSES: &[u8] =
-    b"entry cast fused\ndo bind t.0 = peer\ndo bind t.1 = 0.k\ndo set 0.k = (0.k + 1)\ndo out down Cast(t.0,body) cnt.num(t.1)\nentry send fused\ndo out down Send(peer,body) cnt.none()\nplan 0 cast cnt.num(?)\nentry plan 0 fused\nwhen (in.0 == 0.e[peer])\ndo set 0.e[peer] = (in.0 + 1)\ndo bind t.0 = peer\ndo out up Cast(t.0,body)\nplan 1 send cnt.none()\nentry plan 1 fused\ndo out up Send(peer,body)\nend 4 fused 0 absent\n";
+const BYPASSES: &[u8] = b"\
+        entry cast fused\ndo bind t.0 = peer\ndo bind t.1 = 0.k\ndo set 0.k = (0.k + 1)\n\
+        do out down Cast(t.0,body) cnt.num(t.1)\nentry send fused\n\
+        do out down Send(peer,body) cnt.none()\nplan 0 cast cnt.num(?)\nentry plan 0 fused\n\
+        when (in.0 == 0.e[peer])\ndo set 0.e[peer] = (in.0 + 1)\ndo bind t.0 = peer\n\
+        do out up Cast(t.0,body)\nplan 1 send cnt.none()\nentry plan 1 fused\n\
+        do out up Send(peer,body)\nend 4 fused 0 absent\n";
 
 /// Their traces.
-const TRACES: &[u8] =
-    b"bypasses 1\nentry cast case 1\nbind t.0 = peer\nbind t.1 = 0.k\nset 0.k = (0.k + 1)\nout down Cast(t.0,body) cnt.num(t.1)\nentry send case 1\nout down Send(peer,body) cnt.none()\nentry plan 0 case 1\ncheck (in.0 == 0.e[peer])\nset 0.e[peer] = (in.0 + 1)\nbind t.0 = peer\nout up Cast(t.0,body)\nentry plan 1 case 1\nout up Send(peer,body)\nend\n";
+const TRACES: &[u8] = b"\
+        bypasses 1\nentry cast case 1\nbind t.0 = peer\nbind t.1 = 0.k\nset 0.k = (0.k + 1)\n\
+        out down Cast(t.0,body) cnt.num(t.1)\nentry send case 1\n\
+        out down Send(peer,body) cnt.none()\nentry plan 0 case 1\ncheck (in.0 == 0.e[peer])\n\
+        set 0.e[peer] = (in.0 + 1)\nbind t.0 = peer\nout up Cast(t.0,body)\nentry plan 1 case 1\n\
+        out up Send(peer,body)\nend\n";
 
 /// A layer whose casts and sends go round a loop.
-pub(crate) const REPEATER: &[u8] =
-    b"layer rep { down Cast(p, m) { each i below 2 max 2 { down Cast(p, m); } } down Send(p, m) { each i below 1 max 1 { down Send(p, m); } } }\nstack { rep; }\n";
+pub(crate) const REPEATER: &[u8] = b"\
+        layer rep { down Cast(p, m) { each i below 2 max 2 { down Cast(p, m); } } down Send(p, m) { each i below 1 max 1 { down Send(p, m); } } }\n\
+        stack { rep; }\n";
 
 const LOOPS: &[u8] = b"entry cast absent loop 0\nentry send absent loop 0\nend 0 fused 2 absent\n";
 
@@ -106,32 +116,53 @@ const LOOPS: &[u8] = b"entry cast absent loop 0\nentry send absent loop 0\nend 0
 const KEEPER: &[u8] =
     b"layer keep {\n  state queue q[4] of (m: msg);\n  header one() passes;\n  down Cast(p, m) { push q (m) else { } take q (w) { down Cast(p, w) with one(); } else { } }\n}\nstack { keep; }\n";
 
-const STORED: &[u8] =
-    b"entry cast absent stored 0\nentry send fused\ndo out down Send(peer,body) keep.none()\nplan 0 send keep.none()\nentry plan 0 fused\ndo out up Send(peer,body)\nend 2 fused 1 absent\n";
+const STORED: &[u8] = b"\
+        entry cast absent stored 0\nentry send fused\ndo out down Send(peer,body) keep.none()\n\
+        plan 0 send keep.none()\nentry plan 0 fused\ndo out up Send(peer,body)\n\
+        end 2 fused 1 absent\n";
 
 /// A layer whose headers and conditions are numbers alone.
 const LITERAL: &[u8] =
     b"layer lit { header h(v) passes; down Cast(p, m) { down Cast(p, m) with h((2 + 3)); }\n  up Cast(o, m) with h(v) common ((v == 5) and (1 < 2)) { if (v == 5) { up Cast(o, m); } } }\nstack { lit; }\n";
 
-const COMPUTED: &[u8] =
-    b"entry cast fused\ndo bind t.0 = peer\ndo bind t.1 = 5\ndo out down Cast(t.0,body) lit.h(t.1)\nentry send fused\ndo out down Send(peer,body) lit.none()\nplan 0 cast lit.h(5)\nentry plan 0 fused\ndo bind t.0 = peer\ndo out up Cast(t.0,body)\nplan 1 send lit.none()\nentry plan 1 fused\ndo out up Send(peer,body)\nend 4 fused 0 absent\n";
+const COMPUTED: &[u8] = b"\
+        entry cast fused\ndo bind t.0 = peer\ndo bind t.1 = 5\n\
+        do out down Cast(t.0,body) lit.h(t.1)\nentry send fused\n\
+        do out down Send(peer,body) lit.none()\nplan 0 cast lit.h(5)\nentry plan 0 fused\n\
+        do bind t.0 = peer\ndo out up Cast(t.0,body)\nplan 1 send lit.none()\nentry plan 1 fused\n\
+        do out up Send(peer,body)\nend 4 fused 0 absent\n";
 
 /// A layer with two cases, whose casts have no handler when they arrive.
 pub(crate) const FLIP: &[u8] =
     b"layer flip {\n  state int k;\n  header a(x) passes;\n  header b(x) passes;\n  down Cast(p, m) {\n    set k = (k + 1);\n    if two ((k & 1) == 1) { down Cast(p, m) with a(k); } else { down Cast(p, m) with b(k); }\n  }\n}\nstack { flip; }\n";
 
-const CASES: &[u8] =
-    b"entry cast fused\nlet v.0 = (0.k + 1)\nwhen ((v.0 & 1) == 1)\ndo set 0.k = (0.k + 1)\ndo bind t.0 = peer\ndo bind t.1 = 0.k\ndo out down Cast(t.0,body) flip.a(t.1)\nentry cast second fused\nlet v.0 = (0.k + 1)\nwhen (((v.0 & 1) == 1) == 0)\ndo set 0.k = (0.k + 1)\ndo bind t.0 = peer\ndo bind t.1 = 0.k\ndo out down Cast(t.0,body) flip.b(t.1)\nentry send fused\ndo out down Send(peer,body) flip.none()\nplan 0 cast flip.a(?)\nentry plan 0 absent rare 0\nplan 1 send flip.none()\nentry plan 1 fused\ndo out up Send(peer,body)\nplan 2 cast flip.b(?)\nentry plan 2 absent rare 0\nend 4 fused 2 absent\n";
+const CASES: &[u8] = b"\
+        entry cast fused\nlet v.0 = (0.k + 1)\nwhen ((v.0 & 1) == 1)\ndo set 0.k = (0.k + 1)\n\
+        do bind t.0 = peer\ndo bind t.1 = 0.k\ndo out down Cast(t.0,body) flip.a(t.1)\n\
+        entry cast second fused\nlet v.0 = (0.k + 1)\nwhen (((v.0 & 1) == 1) == 0)\n\
+        do set 0.k = (0.k + 1)\ndo bind t.0 = peer\ndo bind t.1 = 0.k\n\
+        do out down Cast(t.0,body) flip.b(t.1)\nentry send fused\n\
+        do out down Send(peer,body) flip.none()\nplan 0 cast flip.a(?)\n\
+        entry plan 0 absent rare 0\nplan 1 send flip.none()\nentry plan 1 fused\n\
+        do out up Send(peer,body)\nplan 2 cast flip.b(?)\nentry plan 2 absent rare 0\n\
+        end 4 fused 2 absent\n";
 
-const CASE_TRACES: &[u8] =
-    b"bypasses 1\nentry cast case 1\nset 0.k = (0.k + 1)\ncheck ((0.k & 1) == 1)\nbind t.0 = peer\nbind t.1 = 0.k\nout down Cast(t.0,body) flip.a(t.1)\nentry cast case 2\nset 0.k = (0.k + 1)\ncheck (((0.k & 1) == 1) == 0)\nbind t.0 = peer\nbind t.1 = 0.k\nout down Cast(t.0,body) flip.b(t.1)\nentry send case 1\nout down Send(peer,body) flip.none()\nentry plan 1 case 1\nout up Send(peer,body)\nend\n";
+const CASE_TRACES: &[u8] = b"\
+        bypasses 1\nentry cast case 1\nset 0.k = (0.k + 1)\ncheck ((0.k & 1) == 1)\n\
+        bind t.0 = peer\nbind t.1 = 0.k\nout down Cast(t.0,body) flip.a(t.1)\nentry cast case 2\n\
+        set 0.k = (0.k + 1)\ncheck (((0.k & 1) == 1) == 0)\nbind t.0 = peer\nbind t.1 = 0.k\n\
+        out down Cast(t.0,body) flip.b(t.1)\nentry send case 1\n\
+        out down Send(peer,body) flip.none()\nentry plan 1 case 1\nout up Send(peer,body)\nend\n";
 
 /// A layer whose casts are never as predicted.
 const NEVER: &[u8] =
     b"layer never { down Cast(p, m) common (1 == 2) { down Cast(p, m); } }\nstack { never; }\n";
 
-const NOT_RUN: &[u8] =
-    b"entry cast fused\nwhen 0\ndo bind t.0 = peer\ndo out down Cast(t.0,body) never.none()\nentry send fused\ndo out down Send(peer,body) never.none()\nplan 0 cast never.none()\nentry plan 0 fused\ndo out up Cast(peer,body)\nplan 1 send never.none()\nentry plan 1 fused\ndo out up Send(peer,body)\nend 4 fused 0 absent\n";
+const NOT_RUN: &[u8] = b"\
+        entry cast fused\nwhen 0\ndo bind t.0 = peer\ndo out down Cast(t.0,body) never.none()\n\
+        entry send fused\ndo out down Send(peer,body) never.none()\nplan 0 cast never.none()\n\
+        entry plan 0 fused\ndo out up Cast(peer,body)\nplan 1 send never.none()\n\
+        entry plan 1 fused\ndo out up Send(peer,body)\nend 4 fused 0 absent\n";
 
 /// A layer whose casts have 4,096 statements, and the argument of one that goes on.
 fn long_file(alloc: Global) -> Result<Vec<u8>, AllocError> {
@@ -144,8 +175,11 @@ fn long_file(alloc: Global) -> Result<Vec<u8>, AllocError> {
     Ok(file)
 }
 
-const LONG: &[u8] =
-    b"entry cast absent long\nentry send fused\ndo out down Send(peer,body) long.none()\nplan 0 cast long.none()\nentry plan 0 fused\ndo out up Cast(peer,body)\nplan 1 send long.none()\nentry plan 1 fused\ndo out up Send(peer,body)\nend 3 fused 1 absent\n";
+const LONG: &[u8] = b"\
+        entry cast absent long\nentry send fused\ndo out down Send(peer,body) long.none()\n\
+        plan 0 cast long.none()\nentry plan 0 fused\ndo out up Cast(peer,body)\n\
+        plan 1 send long.none()\nentry plan 1 fused\ndo out up Send(peer,body)\n\
+        end 3 fused 1 absent\n";
 
 /// Whether the long file leaves its text.
 fn leaves_long(alloc: Global, synth: &[&str]) -> Result<bool, AllocError> {

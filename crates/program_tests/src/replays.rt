@@ -17,7 +17,9 @@ fn reports(rt: HostRuntime) -> Result<(), Fail> {
         (
             COUNTER,
             b"group 1 stamp 7 members 3\ncast 0 6869\ngive 1 1\ngive 1 1\nstate 1\n",
-            b"packet 1 0 all cnt.num(0) 6869\ndeliver 1 cast 0 6869\ndeliver 1 cast 0 6869\nstate 1 0 7\ncell 1 0 cnt.k 0\ncell 1 0 cnt.e 1 0 0\nend 4\n",
+            b"\
+                packet 1 0 all cnt.num(0) 6869\ndeliver 1 cast 0 6869\ndeliver 1 cast 0 6869\n\
+                state 1 0 7\ncell 1 0 cnt.k 0\ncell 1 0 cnt.e 1 0 0\nend 4\n",
         ),
         (
             COUNTER,
@@ -32,7 +34,10 @@ fn reports(rt: HostRuntime) -> Result<(), Fail> {
         (
             QUEUE,
             b"group 1 stamp 7 members 3\ncast 1 61\ncast 1 62\nstate 1\n",
-            b"packet 1 1 all one.num(0) 61\npacket 2 1 all one.full() -\npacket 3 1 all one.num(1) 62\nstate 1 0 7\ncell 1 0 one.s 1\ncell 1 0 one.q [4294967295]\nend 3\n",
+            b"\
+                packet 1 1 all one.num(0) 61\npacket 2 1 all one.full() -\n\
+                packet 3 1 all one.num(1) 62\nstate 1 0 7\ncell 1 0 one.s 1\n\
+                cell 1 0 one.q [4294967295]\nend 3\n",
         ),
     ];
     for (file, script, out) in cases {

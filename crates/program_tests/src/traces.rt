@@ -11,16 +11,26 @@ const WITH: &[&str] = &["replay", "f", "s", "--with=t", "--wire", "--count"];
 const SCRIPT: &[u8] = b"group 1 stamp 7 members 3\ncast 0 6869\ngive 1 1\ngive 1 1\n";
 
 /// What is written of SCRIPT: its second packet isn't common.
-const REPORT: &[u8] =
-    b"packet 1 0 all cnt.num(0) 6869\nwire 1 e60000000100000007000000000000000700ff00000000006869\ndeliver 1 cast 0 6869\ndeliver 1 cast 0 6869\nend 3\nvisits 1\n";
+const REPORT: &[u8] = b"\
+        packet 1 0 all cnt.num(0) 6869\n\
+        wire 1 e60000000100000007000000000000000700ff00000000006869\ndeliver 1 cast 0 6869\n\
+        deliver 1 cast 0 6869\nend 3\nvisits 1\n";
 
 /// Traces of COUNTER: a bind of the packet's is written out in its place.
-const TRACES: &[u8] =
-    b"bypasses 1\nentry cast case 1\nbind t.0 = peer\nbind t.1 = 0.k\nset 0.k = (0.k + 1)\nout down Cast(t.0,body) cnt.num(t.1)\nentry send case 1\nout down Send(peer,body) cnt.none()\nentry plan 0 case 1\ncheck (in.0 == 0.e[peer])\nset 0.e[peer] = (in.0 + 1)\nout up Cast(peer,body)\nentry plan 1 case 1\nout up Send(peer,body)\nend\n";
+const TRACES: &[u8] = b"\
+        bypasses 1\nentry cast case 1\nbind t.0 = peer\nbind t.1 = 0.k\nset 0.k = (0.k + 1)\n\
+        out down Cast(t.0,body) cnt.num(t.1)\nentry send case 1\n\
+        out down Send(peer,body) cnt.none()\nentry plan 0 case 1\ncheck (in.0 == 0.e[peer])\n\
+        set 0.e[peer] = (in.0 + 1)\nout up Cast(peer,body)\nentry plan 1 case 1\n\
+        out up Send(peer,body)\nend\n";
 
 /// The same, but for what a packet's number sets.
-const OTHER: &[u8] =
-    b"bypasses 1\nentry cast case 1\nbind t.0 = peer\nbind t.1 = 0.k\nset 0.k = (0.k + 1)\nout down Cast(t.0,body) cnt.num(t.1)\nentry send case 1\nout down Send(peer,body) cnt.none()\nentry plan 0 case 1\ncheck (in.0 == 0.e[peer])\nset 0.e[peer] = (in.0 + 2)\nout up Cast(peer,body)\nentry plan 1 case 1\nout up Send(peer,body)\nend\n";
+const OTHER: &[u8] = b"\
+        bypasses 1\nentry cast case 1\nbind t.0 = peer\nbind t.1 = 0.k\nset 0.k = (0.k + 1)\n\
+        out down Cast(t.0,body) cnt.num(t.1)\nentry send case 1\n\
+        out down Send(peer,body) cnt.none()\nentry plan 0 case 1\ncheck (in.0 == 0.e[peer])\n\
+        set 0.e[peer] = (in.0 + 2)\nout up Cast(peer,body)\nentry plan 1 case 1\n\
+        out up Send(peer,body)\nend\n";
 
 /// Whether a replay of a script by traces leaves this, with the reads that are to fail.
 fn leaves(
