@@ -82,10 +82,10 @@ def token(text, at):
     behind_digit = text[:offset(text, at)][-1:].isdigit()
     word = WORD.match(rest)
     if behind_digit and word:
-        return "a letter stands directly behind a number: a name begins with a letter, and numbers are decimal"
+        return "a letter stands directly after a number: a name begins with a letter, and numbers are decimal"
     if here.isdigit():
         digits = re.match(rb"[0-9]+", rest).group().decode()
-        return f"`{digits[:40]}` has a zero in front" if digits[0] == "0" else f"`{digits[:40]}` is over 4294967295, the largest number"
+        return f"`{digits[:40]}` has a leading zero" if digits[0] == "0" else f"`{digits[:40]}` is over 4294967295, the largest number"
     if here == b"_":
         return "a word begins with a letter, and not with `_`"
     if word:
@@ -186,7 +186,7 @@ def elsewhere(layer, word, at):
     seen = set(names.own) | (names.visible or set())
     let = next((part for part in every(layer) if part.get("what") == "let" and part["name"][0] == word and part["at"] <= at), None)
     if let and any(part.get("at") == at for part in every(let["value"])):
-        return ": a `let` brings its name in behind its own expression"
+        return ": a `let` brings its name in after its own expression"
     if word in names.brought:
         line, col = names.brought[word]
         return f": the one at {line}:{col} is of another block or handler, or comes later"
@@ -332,7 +332,7 @@ def kind(text, at):
         return f"`with` names a header, and {category(layer, name, types.locals)}"
     outer = next((part for part in every(layer) if part.get("what") == "join" and at in (part["first"]["at"], part["second"]["at"])), None)
     if outer:
-        return f"`join` puts a part in front of a message, and {described(layer, parts[0], types.locals)}"
+        return f"`join` puts a part before a message, and {described(layer, parts[0], types.locals)}"
     if parts and parts[0]["what"] in OF_QUEUES:
         return queue_said(layer, parts[0], types.locals)
     if parts and parts[0]["what"] == "tail":
@@ -428,9 +428,9 @@ def header(text, at):
     if part["dir"] == "up":
         return "a part, which is bytes alone, can't go up: above, headers are to be popped"
     if part["with"] and Types(layer, at).ends(part["with"]):
-        return f"behind `{part['with'][0][0]}`, which `ends`, come bytes alone, and this is a message with the headers of the layers above"
+        return f"after `{part['with'][0][0]}`, which `ends`, come bytes alone, and this is a message with the headers of the layers above"
     name = f"`{part['with'][0][0]}`, which `passes`," if part["with"] else "`none`, the header without a `with`,"
-    return f"behind {name} come the headers of the layers above, and this is a part, which has none: it wants a header that `ends`"
+    return f"after {name} come the headers of the layers above, and this is a part, which has none: it wants a header that `ends`"
 
 
 def initial(text, at):

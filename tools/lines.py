@@ -100,7 +100,7 @@ def spaced(line):
     if b"\t" in line:
         raise Fault(line.index(b"\t"), "words have one space between them, and no tab")
     if line.startswith(b" "):
-        raise Fault(0, "no space stands in front of a line")
+        raise Fault(0, "a line begins without a space")
     if line.endswith(b" "):
         raise Fault(len(line.rstrip(b" ")), "no space stands at the end of a line")
     if b"  " in line:
@@ -129,7 +129,7 @@ def number(low, high):
         if is_plain(word, low, high):
             return None
         if re.fullmatch("0[0-9]+", word):
-            return f"`{word}` has a zero in front"
+            return f"`{word}` has a leading zero"
         return f"a number from {low} to {high} is wanted here" if high < LARGEST else "a number is wanted here"
     return judge
 
@@ -155,7 +155,7 @@ def peer(word):
     parts = octets.split(".")
     if len(parts) != 4 or not all(is_plain(part, 0, 255) for part in parts):
         return "an address is four numbers from 0 to 255, as in `127.0.0.1:47110`: names aren't looked up"
-    return None if sign and is_plain(port, 0, 65535) else "a port from 0 to 65535 stands behind the address, as in `127.0.0.1:47110`"
+    return None if sign and is_plain(port, 0, 65535) else "a port from 0 to 65535 stands after the address, as in `127.0.0.1:47110`"
 
 
 WORDS = {name: number(0, LARGEST) for name in ("G", "S", "M", "K", "TIME")}
@@ -173,7 +173,7 @@ def event(words, verbs, head=""):
         return
     front, verb = words[0]
     if verb == ">":
-        raise Fault(front, "these are lines of a journal: its script is what stands behind `> `, with the plan's first line in front")
+        raise Fault(front, "these are lines of a journal: its script is what stands after `> `, with the plan's first line before it")
     if verb == "group":
         raise Fault(front, "the group's line is the first, and stands once")
     if verb not in verbs:
@@ -214,7 +214,7 @@ def plan_line(text, number, words):
     if words[0][1] != "turn":
         if words[0][1] == "peer":
             raise Fault(0, f"the group has {members} members, and each has its peer already")
-        raise Fault(0, "behind the peers a line is `turn T` and a cast, send or leave line")
+        raise Fault(0, "after the peers a line is `turn T` and a cast, send or leave line")
     if len(words) > 1:
         turn_number(text, number, words[1])
     event(words[2:], list(REQUESTS), "turn T ")
@@ -228,7 +228,7 @@ def turn_number(text, number, word):
         raise Fault(front, fault + ": `turn T`")
     before = [line.decode("latin-1").split(" ")[1] for k, line in said_lines(text) if k < number and line.startswith(b"turn ")]
     if before and int(turn) < int(before[-1]):
-        raise Fault(front, f"turns don't fall, and turn {before[-1]} stands in front of this one")
+        raise Fault(front, f"turns don't fall, and turn {before[-1]} stands before this one")
 
 
 def member_found(text, number, line):
@@ -284,7 +284,7 @@ def report_line(text, number, line):
     if verb not in REPORTED:
         raise Fault(0, f"`{verb}` begins no line of a report" + like(verb, REPORTED))
     if verb == "visits" and not ended:
-        raise Fault(0, "`visits V` stands behind `end N`")
+        raise Fault(0, "`visits V` stands after `end N`")
     if verb in REPORT_FORMS:
         form, head = REPORT_FORMS[verb]
         fits(form, words[1:], head)

@@ -14,7 +14,7 @@ TABLE = Table()
 SCRIPT_WORDS = [
     ("--help", "prints this"),
     ("--version", "prints the commit of the sources and the kit"),
-    ("--trial", "in front of a job: runs a build that is not proved, ready in a minute or two"),
+    ("--trial", "before a job: runs a build that is not proved, ready in a minute or two"),
 ]
 FROM = "made by tools/make.py from tools/jobs.tsv"
 
@@ -148,7 +148,7 @@ def filled(text, fills):
 
 
 ZSH = r"""#compdef stackc
-# Completions of stackc for zsh, @FROM. To have them: put this folder into fpath, in front of compinit.
+# Completions of stackc for zsh, @FROM. To have them: put this folder into fpath, before compinit.
 
 _stackc() {
   local curcontext="$curcontext" state line
@@ -222,17 +222,17 @@ def man():
     lines += [".SH DESCRIPTION", "The jobs, by their first words, write to the standard output:"]
     for job in TABLE.jobs.values():
         lines += [".TP", f".B {job.name}", roff(job.says) + "."]
-    lines += [".PP", "Words come in any order but those that name files; a value stands behind its option or behind =; behind \\-\\- there are no options."]
+    lines += [".PP", "Words come in any order but those that name files; a value stands after its option or after =; after \\-\\- there are no options."]
     lines += [".SH OPTIONS AND FILES"]
     for name in TABLE.words:
         lines += [".TP", f".B {roff(name)}", roff(meaning(name)) + "."]
-    lines += [".PP", "The script that runs the program takes these words in front:"]
+    lines += [".PP", "The script that runs the program takes these words before the others:"]
     for name, says in SCRIPT_WORDS:
         lines += [".TP", f".B {roff(name)}", roff(says) + "."]
     lines += [".SH EXIT STATUS"]
     for number, line, says in TABLE.statuses:
         lines += [".TP", f".B {number}", roff(says) + (f"; the line on the standard error is\n.IR \"{roff(line)}\" ." if line else ".")]
-    lines += [".PP", "Where the standard error is a terminal, the line that a refusal names is shown behind it, with what is at fault there."]
+    lines += [".PP", "Where the standard error is a terminal, the line that a refusal names is shown after it, with what is at fault there."]
     lines += [".SH SEE ALSO", "README.md and docs/LANGUAGE.md of the repository."]
     return "\n".join(lines) + "\n"
 

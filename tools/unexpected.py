@@ -114,7 +114,7 @@ def at_end(s):
         bracket, at = s.brackets[-1]
         return f"the file ends, and the `{bracket}` at {at[0]}:{at[1]} is still open"
     if s.part == "file":
-        return "the file ends without its stack: `stack { NAME; }` stands behind the layers, the lowest place first"
+        return "the file ends without its stack: `stack { NAME; }` stands after the layers, the lowest place first"
     return None
 
 
@@ -128,8 +128,8 @@ def behind_else(s):
     if s.before != "else":
         return None
     if s.sees("if"):
-        return "behind `else` stands a block: `else { if .. }`"
-    return "behind `else` stands a block: `else { .. }`"
+        return "a block stands after `else`: `else { if .. }`"
+    return "a block stands after `else`: `else { .. }`"
 
 
 def no_else(s):
@@ -144,9 +144,9 @@ def at_file(s):
     if s.part != "file" or s.brackets:
         return None
     if s.before == "}" and not s.wanted:
-        return "nothing follows the stack: all layers stand in front of it"
+        return "nothing follows the stack: all layers stand before it"
     if s.before == "}" and s.wanted[-1:] == ["stack"]:
-        return "the layer in front has ended: is there a `}` too many? A file has layers, and then `stack { NAME; }`"
+        return "the layer before has ended: is there a `}` too many? A file has layers, and then `stack { NAME; }`"
     return "a file has layers, `layer NAME { .. }`, and then `stack { NAME; }`" if s.wanted[-1:] == ["stack"] else None
 
 
@@ -171,7 +171,7 @@ def event_kind(s):
     if s.part != "kind":
         return None
     near = difflib.get_close_matches(str(s.word).capitalize(), reading.KINDS, 1)
-    return f"a kind of events is wanted behind `{s.before}`" + (f"; is `{near[0]}` meant?" if near else f": {' '.join(reading.KINDS)}")
+    return f"a kind of events is wanted after `{s.before}`" + (f"; is `{near[0]}` meant?" if near else f": {' '.join(reading.KINDS)}")
 
 
 def doubled(s):
@@ -225,11 +225,11 @@ def statement(s):
     if s.kind == "name" and s.rest[:1] in (b"=", b"[", b":", b"+", b"-", b"*"):
         return f"a cell is set by `set {s.word} = ..;`, and a value gets a name by `let {s.word} = ..;`"
     if s.sees("int"):
-        return "a value gets a name by `let x = ..;`, and cells are declared in front of the layer's handlers"
+        return "a value gets a name by `let x = ..;`, and cells are declared before the layer's handlers"
     if s.sees(*reading.KINDS):
         return f"an event is sent `up` or `down`: `down {s.word}(..);`"
     if s.sees("param", "state", "header"):
-        return "params, cells and headers are declared in front of the layer's handlers" + (": is a `}` missing?" if s.line > 1 else "")
+        return "params, cells and headers are declared before the layer's handlers" + (": is a `}` missing?" if s.line > 1 else "")
     if s.sees("else"):
         return "this `else` follows no `if`, `push` or `take`"
     if s.sees(";"):
@@ -244,13 +244,13 @@ def in_layer(s):
     if s.part != "layer" or "}" not in s.wanted:
         return None
     if s.sees("param", "state", "header"):
-        return "params, cells and headers are declared in front of the layer's handlers"
+        return "params, cells and headers are declared before the layer's handlers"
     if s.sees("layer", "stack"):
-        return "is a `}` missing? The layer in front is still open"
+        return "is a `}` missing? The layer before is still open"
     if s.sees(*reading.KINDS):
         return f"a handler begins with the side from which an event comes: `up {s.word}(..)` or `down {s.word}(..)`"
     if s.sees("let", "set", "push", "take", "if", "each", "else"):
-        return "the handler in front has ended: is there a `}` too many?"
+        return "the handler before has ended: is there a `}` too many?"
     return "a layer has params, cells and headers, and then handlers: `up KIND(..) { .. }` or `down KIND(..) { .. }`"
 
 
@@ -259,7 +259,7 @@ def in_declaration(s):
         return None
     word, last = s.within("declaration")[0], s.wanted[-1:]
     if word == "header" and last == ["ends"]:
-        return "a header `passes`, where those of the layers above stand behind it, or it `ends`, and bytes alone do"
+        return "a header `passes`, where those of the layers above follow it, or it `ends`, and bytes alone do"
     if word == "state" and last == ["queue"]:
         return "a cell is `state int NAME;` or `state queue NAME[SIZE] of (..);`"
     if last == ["n"]:
@@ -294,7 +294,7 @@ def semicolon(s):
     (_, word), at, _ = s.behind[-1]
     if s.part == "place" and s.sees(","):
         return "each place of a stack ends with `;`"
-    return f"is a `;` missing behind `{word}` at {at[0]}:{at[1]}?"
+    return f"is a `;` missing after `{word}` at {at[0]}:{at[1]}?"
 
 
 def plainly(s):

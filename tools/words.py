@@ -111,7 +111,7 @@ def cut(words, options):
             continue
         option, sign, value = word.partition("=")
         if option in ("--trial", "--help", "--version"):
-            raise NoJob(f"`{option}` stands in front of the job")
+            raise NoJob(f"`{option}` stands before the job")
         if option not in options:
             raise NoJob(f"there is no option `{option}`" + nearest(option, options))
         if option in given:
@@ -129,7 +129,7 @@ def value_of(option, value, wanted, left):
     if value is not None:
         return value
     if not left or (left[0].startswith("-") and left[0] != "-"):
-        raise NoJob(f"`{option}` needs a value behind it: `{option} {wanted}`")
+        raise NoJob(f"`{option}` needs a value after it: `{option} {wanted}`")
     return left.pop(0)
 
 

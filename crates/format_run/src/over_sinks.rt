@@ -50,7 +50,7 @@ pub(crate) fn perform<S: Shelf, O: Sink>(
     }
 }
 
-/// The name of the file that is the one word, if it doesn't begin as an option does, or stands behind `--`.
+/// The name of the file that is the one word, if it doesn't begin as an option does, or stands after `--`.
 fn name_of(words: &[String]) -> Option<&str>
     ensures { option_map (λ name. name.now) result ≡ spec.name_of (map string_bytes words.now) }
 {

@@ -39,7 +39,7 @@ impl Model for Group {
 }
 
 impl Group {
-    /// A group of so many members, with room for its outputs.
+    /// A group of this many members, with room for its outputs.
     pub(crate) fn of(world: World, outputs: Outputs, members: u8) -> Group
         requires places { outputs.places ≡ largest_weight world.stack }
         requires count { length world.members ≡ members }

@@ -23,7 +23,7 @@ struct Stays {
     contents: Vec<Content>,
 }
 
-/// Whether the notes of a group of so many members break a law: if they do, so does the report, but for two bodies of
+/// Whether the notes of a group of this many members break a law: if they do, so does the report, but for two bodies of
 /// one number.
 pub(crate) fn is_broken(
     alloc: Global,
@@ -40,7 +40,7 @@ pub(crate) fn is_broken(
     any_differ(law, members, &all, &mut bodies)
 }
 
-/// Puts the stays of all members, one member behind the other.
+/// Puts the stays of all members, one member after the other.
 fn put_all(all: &mut Stays, members: u8, notes: &[Note]) -> Result<(), SearchError> {
     for member in 0..members {
         put_stays(all, member, notes)?;
@@ -48,7 +48,7 @@ fn put_all(all: &mut Stays, members: u8, notes: &[Note]) -> Result<(), SearchErr
     Ok(())
 }
 
-/// Puts the stays of a member behind those of others.
+/// Puts the stays of a member after those of others.
 fn put_stays(all: &mut Stays, member: u8, notes: &[Note]) -> Result<(), SearchError> {
     let mut now = Some(begun(all, member, None));
     for note in notes {
@@ -59,7 +59,7 @@ fn put_stays(all: &mut Stays, member: u8, notes: &[Note]) -> Result<(), SearchEr
     put_ended(all, now, None)
 }
 
-/// A stay that begins behind all that was delivered.
+/// A stay that begins after all that was delivered.
 fn begun(all: &Stays, member: u8, name: Option<Name>) -> Stay {
     let from = all.contents.len();
     Stay {
@@ -71,7 +71,7 @@ fn begun(all: &Stays, member: u8, name: Option<Name>) -> Stay {
     }
 }
 
-/// The stay in which a member is behind one note more.
+/// The stay in which a member is after one note more.
 fn follow(all: &mut Stays, now: Option<Stay>, note: &Note) -> Result<Option<Stay>, SearchError> {
     match note.deed {
         Deed::Delivered(content) => {
@@ -91,7 +91,7 @@ fn follow(all: &mut Stays, now: Option<Stay>, note: &Note) -> Result<Option<Stay
     }
 }
 
-/// Puts a stay that ends behind the others.
+/// Puts a stay that ends after the others.
 fn put_ended(all: &mut Stays, now: Option<Stay>, next: Option<Name>) -> Result<(), SearchError> {
     if let Some(stay) = now {
         let to = all.contents.len();

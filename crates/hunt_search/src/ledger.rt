@@ -34,7 +34,7 @@ impl Ledger {
         }
     }
 
-    /// Forgets all, with room for the packets of so many steps.
+    /// Forgets all, with room for the packets of this many steps.
     pub(crate) fn clear(&mut self, steps: u32) -> Result<(), SearchError> {
         self.notes.clear();
         self.sent.clear();
@@ -107,7 +107,7 @@ impl Ledger {
         }
     }
 
-    /// Notes what a step came to.
+    /// Notes what a step yielded.
     fn note(
         &mut self,
         group: &Group,

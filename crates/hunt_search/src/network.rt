@@ -38,7 +38,7 @@ pub(crate) fn only(member: u8) -> u32 {
 }
 
 impl Network {
-    /// A network of so many members, on which nothing is on its way.
+    /// A network of this many members, on which nothing is on its way.
     pub(crate) fn of(alloc: Global, members: u8) -> Result<Network, SearchError> {
         Ok(Network {
             dues: Vec::with_capacity(alloc, MOST_DUES)?,
@@ -144,7 +144,7 @@ impl Network {
         take_at(&mut self.dues, place);
     }
 
-    /// Puts the packet at a place behind all others.
+    /// Puts the packet at a place after all others.
     pub(crate) fn put_off(&mut self, place: usize) -> Result<(), SearchError> {
         if place < self.dues.len() {
             let due = self.dues.remove(place);
@@ -166,13 +166,13 @@ impl Network {
         Ok(())
     }
 
-    /// A member is in no view any more, and nothing comes to it.
+    /// A member is in no view any more, and nothing reaches it.
     pub(crate) fn leave(&mut self, member: u8) -> Result<(), SearchError> {
         self.enter(member, u32::MAX)
     }
 }
 
-/// Puts a packet behind others; where there are too many, the first is lost.
+/// Puts a packet after others; where there are too many, the first is lost.
 fn put_last(dues: &mut Vec<Due>, due: Due) -> Result<(), SearchError> {
     if dues.len() >= MOST_DUES {
         let _ = dues.remove(0);
@@ -181,7 +181,7 @@ fn put_last(dues: &mut Vec<Due>, due: Due) -> Result<(), SearchError> {
     Ok(())
 }
 
-/// Puts those that waited for the view of this logical time at a member behind others.
+/// Puts those that waited for the view of this logical time at a member after others.
 fn admit(dues: &mut Vec<Due>, waiting: &[Due], member: u8, ltime: u32) -> Result<(), SearchError> {
     for due in waiting {
         if due.to == member && due.ltime == ltime {

@@ -32,7 +32,7 @@ impl Random {
         self.below(100) < often
     }
 
-    /// A member of so many, if there are some.
+    /// A member of this many, if there are some.
     pub(crate) fn member(&mut self, members: u8) -> u8 {
         if members == 0 {
             return 0;

@@ -77,7 +77,7 @@ fn replace_act(schedule: &mut Schedule, place: usize, act: Act) -> Option<Act> {
     }
 }
 
-/// Cuts off what stands behind the breach.
+/// Cuts off what stands after the breach.
 fn cut_off(search: &mut Search, least: &mut Schedule) -> Result<(), SearchError> {
     let mut low = 0;
     let mut high = least.steps.len();
@@ -111,7 +111,7 @@ fn thin_out(search: &mut Search, least: &mut Schedule) -> Result<(), SearchError
     Ok(())
 }
 
-/// Takes out groups of so many steps, the last first, and answers whether one could be.
+/// Takes out groups of this many steps, the last first, and answers whether one could be.
 fn take_out(search: &mut Search, least: &mut Schedule, size: usize) -> Result<bool, SearchError> {
     let mut is_less = false;
     let mut end = least.steps.len();
@@ -158,7 +158,7 @@ fn leave_out_members(search: &mut Search, least: &mut Schedule) -> Result<bool, 
     Ok(is_less)
 }
 
-/// A schedule without a member: those behind it take its number and the next ones.
+/// A schedule without a member: those after it take its number and the next ones.
 fn without_member(alloc: Global, schedule: &Schedule, member: u8) -> Result<Schedule, SearchError> {
     let mut steps = Vec::with_capacity(alloc, schedule.steps.len())?;
     for step in schedule.steps.as_slice() {

@@ -1,6 +1,6 @@
 //! What happens in a run, one thing after the other.
 
-/// A body: so many bytes, each one more than the byte before.
+/// A body: this many bytes, each one more than the byte before.
 #[derive(Clone, Copy)]
 pub(crate) struct Body {
     pub first: u8,
@@ -73,7 +73,7 @@ impl Step {
     }
 }
 
-/// The number of a member in a group without another one: those behind that one take its number and the next ones.
+/// The number of a member in a group without another one: those after that one take its number and the next ones.
 fn number_without(member: u8, gone: u8) -> Option<u8> {
     if member == gone {
         None

@@ -19,7 +19,7 @@ use std::alloc::Global;
 /// Of four parts of a run, in how many it is unquiet.
 const UNQUIET: u32 = 3;
 
-/// What is looked for: a law that runs of so many members and events are to break.
+/// What is looked for: a law that runs of this many members and events are to break.
 #[derive(Clone, Copy)]
 pub struct Aim {
     pub law: Law,
@@ -73,7 +73,7 @@ impl Search {
         self.breaks_before(schedule, schedule.steps.len())
     }
 
-    /// Whether the steps of a schedule in front of a place break the law.
+    /// Whether the steps of a schedule before a place break the law.
     pub(crate) fn breaks_before(
         &mut self,
         schedule: &Schedule,
@@ -83,7 +83,7 @@ impl Search {
         self.is_broken(schedule.members)
     }
 
-    /// Begins a group of so many members, or of as many as there may be.
+    /// Begins a group of this many members, or of as many as there may be.
     fn open(&mut self, members: u8) -> Result<Group, SearchError> {
         let members = members.clamp(1, MOST_MEMBERS);
         match self.ground.begin(self.alloc, members) {
@@ -117,7 +117,7 @@ impl Search {
         })
     }
 
-    /// Makes the run of the steps of a schedule in front of a place.
+    /// Makes the run of the steps of a schedule before a place.
     fn perform(&mut self, schedule: &Schedule, place: usize) -> Result<(), SearchError> {
         let count = place.min(schedule.steps.len());
         self.ledger.clear(schedule.names)?;

@@ -14,7 +14,7 @@ pub(crate) struct Text {
 }
 
 impl Text {
-    /// The script of a group of so many members in which nothing happens, behind a comment that tells the run from
+    /// The script of a group of this many members in which nothing happens, after a comment that tells the run from
     /// which it comes.
     pub(crate) fn of(
         alloc: Global,
@@ -29,7 +29,7 @@ impl Text {
         Ok(Text { bytes, line })
     }
 
-    /// Puts the line of an event, which stands in a journal behind a sign and a space.
+    /// Puts the line of an event, which stands in a journal after a sign and a space.
     pub(crate) fn put(&mut self, event: &ScriptEvent) -> Result<(), SearchError> {
         self.line.clear();
         journal_line(&mut self.line, event)?;

@@ -35,7 +35,7 @@ pub(crate) struct Wander {
 }
 
 impl Wander {
-    /// A run of so many members, by its number.
+    /// A run of this many members, by its number.
     pub(crate) fn of(alloc: Global, members: u8, run: u64) -> Result<Wander, SearchError> {
         let mut random = Random::of(run);
         let habits = Habits::draw(&mut random);
@@ -119,7 +119,7 @@ impl Wander {
         member
     }
 
-    /// The member behind another, and the first behind the last.
+    /// The member after another, and the first after the last.
     fn behind(&self, member: u8) -> u8 {
         let next = member.saturating_add(1);
         if next < self.members { next } else { 0 }
@@ -215,7 +215,7 @@ impl Wander {
         }
     }
 
-    /// What a step came to: the packets that it sent to these are on their way, and who is in another view now hears
+    /// What a step yielded: the packets that it sent to these are on their way, and who is in another view now hears
     /// that one alone.
     pub(crate) fn follow(
         &mut self,

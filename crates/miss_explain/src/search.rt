@@ -8,7 +8,7 @@ use layer_ast::At;
 /// The search for a decision by its number among some, counted from 0.
 #[derive(Clone, Copy, Debug, PartialEq, Eq)]
 pub(crate) enum Search {
-    /// So many decisions stand in front of it.
+    /// This many decisions stand before it.
     Ahead(u32),
     /// It stands in this line.
     Found(u32),

@@ -31,7 +31,7 @@ pub(crate) fn pass_block(search: &mut Search, case: Case, b: &Block)
     pass_statements(search, case, &b.statements);
 }
 
-/// Passes those of statements one behind the other.
+/// Passes those of statements one after the other.
 #[cycle(blocks)]
 fn pass_statements(search: &mut Search, case: Case, all: &[Statement])
     ensures { Passes search.old (block_lines case (statement_trees all.now)) search.new }

@@ -20,7 +20,7 @@ pub enum NodeError {
     Memory,
 }
 
-/// What writing came to, as a node's end.
+/// How writing ended, as a node's end.
 pub(crate) fn cut(wrote: Result<(), SinkError>) -> Result<(), NodeError>
     ensures { result ≡ cut_short wrote }
 {

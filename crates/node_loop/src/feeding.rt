@@ -1,4 +1,4 @@
-//! One event of a node: its line, what it comes to, and its packets handed on.
+//! One event of a node: its line, what it yields, and its packets handed on.
 
 ghost use Rattle.std.specs.Prelude.{◌≡◌, ◌+◌, ◌^◌, ◌<◌, ◌∷◌, [], ℕ, OnOk};
 ghost use Rattle.packet_mean.specs.ChainedState.{IsNumber};
@@ -65,7 +65,7 @@ pub(crate) fn is_given(event: &ScriptEvent)
     }
 }
 
-/// Feeds an event to a member of this node's own: puts its line, and then the lines of what it came to, with its
+/// Feeds an event to a member of this node's own: puts its line, and then the lines of what it yielded, with its
 /// packets handed on.
 pub(crate) fn feed_event<F: Feed, O: Sink, N: Links>(
     feed: &mut F,

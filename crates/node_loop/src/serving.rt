@@ -113,10 +113,10 @@ fn make_turns<F: Feed, O: Sink, N: Links, C: Clock>(
     Ok(())
 }
 
-/// Runs the members `me` of a plan's group, in its mode, over links, through so many turns, and puts what they do and
-/// what it comes to line by line: behind `> ` each event, and then the lines of its report. Each packet is handed on
-/// just behind its line, as it is sent; a sending that fails is told by `lost` and the packet's number, and not made
-/// again. A receive that fails is told by `deaf` and the member; of these so many are borne as `patience` says.
+/// Runs the members `me` of a plan's group, in its mode, over links, for a number of turns, and puts what they do and
+/// what it yields line by line: after `> ` each event, and then the lines of its report. Each packet is handed on
+/// just after its line, as it is sent; a sending that fails is told by `lost` and the packet's number, and not made
+/// again. A receive that fails is told by `deaf` and the member; of these as many are tolerated as `patience` says.
 ///
 /// Each turn is a tick of the clock's moment at each own member, one receive of each, whose datagram is an event of
 /// that member, and then the plan's events of this turn for own members. The last line says how many events there were.

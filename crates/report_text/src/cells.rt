@@ -85,7 +85,7 @@ fn push_row(line: &mut Line, stack: &NamedStack, row: &RowView<'_>) -> Result<()
     }
 }
 
-/// Appends row number `k` of a queue, behind what separates it from the one in front.
+/// Appends row number `k` of a queue, after what separates it from the one before.
 fn push_row_at<S: Shows>(
     line: &mut Line,
     stack: &NamedStack,

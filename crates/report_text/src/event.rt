@@ -1,4 +1,4 @@
-//! The lines of what one event of a script came to.
+//! The lines of what one event of a script yielded.
 
 ghost use Rattle.std.specs.Prelude.{◌≡◌, ◌+◌, ◌^◌, ◌<◌, ◌∷◌, ◌++◌, [], OnOk, length};
 ghost use Rattle.event_graph.specs.Answer.{stack_tree};
@@ -33,7 +33,7 @@ fn packet_given(event: &ScriptEvent) -> u32
     }
 }
 
-/// Builds the line of where a member is behind a step that installed something.
+/// Builds the line of where a member is after a step that installed something.
 fn build_change(line: &mut Line, id: u8, change: Change) -> Result<(), Memory>
     ensures { OnOk result (line.new ≡ line.old ++ change_line id change) }
 {
@@ -43,7 +43,7 @@ fn build_change(line: &mut Line, id: u8, change: Change) -> Result<(), Memory>
     }
 }
 
-/// Puts the line of where a member is behind a step, if it installed something.
+/// Puts the line of where a member is after a step, if it installed something.
 pub fn write_change<O: Sink>(
     pen: &mut Pen,
     id: u8,
@@ -122,9 +122,9 @@ fn write_absent<O: Sink>(pen: &mut Pen, id: u8, number: u32, out: &mut O) -> Res
     put_line(pen.line.slice(), out)
 }
 
-/// Puts the lines of what an event came to, one by one: those of a step's outputs, and of where the member is then; a
+/// Puts the lines of what an event yielded, one by one: those of a step's outputs, and of where the member is then; a
 /// refusal; a packet that isn't there; or the member that is shown, as the group has it. Where it is wanted, the bytes
-/// of each packet stand behind its line, as it is sent: short under the plan beside it, or in full.
+/// of each packet stand after its line, as it is sent: short under the plan beside it, or in full.
 pub fn write_event<S: Shows, O: Sink>(
     pen: &mut Pen,
     manner: Manner<'_>,

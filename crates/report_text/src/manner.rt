@@ -7,7 +7,7 @@ use step_outputs::Outputs;
 use view_core::Did;
 
 /// How the lines of a run are written: by the names of its stack, and where it is wanted with the bytes of each packet
-/// behind its line, as it is sent with these plans.
+/// after its line, as it is sent with these plans.
 #[derive(Clone, Copy)]
 pub struct Manner<'a> {
     pub stack: &'a NamedStack,
@@ -15,7 +15,7 @@ pub struct Manner<'a> {
     pub wire: bool,
 }
 
-/// What an event of a script came to: what was done, what came out, and the number of the first packet.
+/// What an event of a script yielded: what was done, what came out, and the number of the first packet.
 #[derive(Clone, Copy)]
 pub struct Outcome<'a> {
     pub event: &'a ScriptEvent,

@@ -141,7 +141,7 @@ fn write_output<O: Sink>(
     }
 }
 
-/// The number of the next packet behind an output: one more behind a packet, and behind all others the same.
+/// The number of the next packet after an output: one more after a packet, and after all others the same.
 pub fn number_behind(_here: &Here, number: u64, output: &OutputView<'_>) -> u64
     requires { number + 1 < 2 ^ 64 }
     ensures is { result ≡ number_behind number (output_meant _here.now output.now).0 }

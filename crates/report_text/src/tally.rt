@@ -67,7 +67,7 @@ impl Tally {
         self.counts
     }
 
-    /// Counts an event, and the lines of what it came to.
+    /// Counts an event, and the lines of what it yielded.
     pub fn count_event(&mut self, did: Did, outputs: &Outputs)
         requires events { self.old.events < 2 ^ 32 }
         requires few { length outputs.now.outputs ≤ 65536 }
@@ -115,7 +115,7 @@ fn count_outputs(counts: &mut Counts, outputs: &Outputs)
     }
 }
 
-/// Counts the line of where a member is behind a step.
+/// Counts the line of where a member is after a step.
 fn count_change(counts: &mut Counts, change: Option<Change>)
     requires { total counts.old + 1 < 2 ^ 64 }
     ensures is { counts.new ≡ change_counted counts.old change }
@@ -145,7 +145,7 @@ fn count_step(counts: &mut Counts, stepped: Stepped, outputs: &Outputs)
     }
 }
 
-/// Counts the lines of what an event came to.
+/// Counts the lines of what an event yielded.
 fn count_did(counts: &mut Counts, did: Did, outputs: &Outputs)
     requires { total counts.old + 2 * length outputs.now.outputs + 1 < 2 ^ 64 }
     ensures is { counts.new ≡ lines_counted counts.old did outputs.now.outputs }

@@ -76,7 +76,7 @@ fn draw_picture(alloc: Global, lines: &[Line<'_>], text: &mut Text) -> Result<()
     text.put(b"</svg>\n")
 }
 
-/// Appends the first line of a picture, of so many pixels each way.
+/// Appends the first line of a picture of this width and height in pixels.
 fn draw_opening(width: u64, height: u64, text: &mut Text) -> Result<(), AllocError>
     ensures { OnOk result (text.new ≡ text.old ++ spec.opening width height) }
 {

@@ -37,7 +37,7 @@ fn draw_row(member: u32, end: u64, lines: &[Line<'_>], text: &mut Text) -> Resul
     draw_stays(member, end, lines, text)
 }
 
-/// Appends a member's number in front of its row.
+/// Appends a member's number before its row.
 fn draw_heading(member: u32, text: &mut Text) -> Result<(), AllocError>
     ensures { OnOk result (text.new ≡ text.old ++ spec.heading member) }
 {
@@ -62,7 +62,7 @@ fn draw_stays(member: u32, end: u64, lines: &[Line<'_>], text: &mut Text) -> Res
     draw_stay(member, turn, end, text)
 }
 
-/// Appends the stay that a line ends, if it ends one, and answers the turn behind the line.
+/// Appends the stay that a line ends, if it ends one, and answers the turn after the line.
 #[tactic(auto, using(crate::proofs::Stays::stands, crate::proofs::Stays::turns))]
 fn draw_turn(member: u32, turn: Turn, line: &Line<'_>, text: &mut Text) -> Result<Turn, AllocError>
     ensures { IfOk result (λ next. TurnsTo member turn (line_shown line.now) text.old text.new next) }

@@ -62,7 +62,7 @@ impl Text {
         self.put(buffer.format(number).as_bytes())
     }
 
-    /// Appends these bytes, and behind them a number in decimal.
+    /// Appends these bytes, and after them a number in decimal.
     pub(crate) fn put_number(&mut self, bytes: &[u8], number: u64) -> Result<(), AllocError>
         ensures { OnOk result (self.new ≡ self.old ++ (bytes.now ++ decimal number)) }
     {

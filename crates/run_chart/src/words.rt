@@ -19,7 +19,7 @@ pub(crate) struct Request<'w> {
     pub range: Range,
 }
 
-/// What the words behind the program's name ask for, or nothing where they are no request.
+/// What the words after the program's name ask for, or nothing where they are no request.
 pub(crate) fn asked_for<'w>(
     alloc: Global,
     words: &'w [String],
@@ -53,7 +53,7 @@ fn line_number(default: u32, given: Option<&str>) -> Option<u32>
     }
 }
 
-/// The range from a line to one that doesn't stand in front of it.
+/// The range from a line to one that doesn't stand before it.
 fn range_of(first: u32, last: u32) -> Option<Range>
     ensures { result ≡ spec.range_of first last }
 {
