@@ -21,7 +21,7 @@ pub record Placed : Type 0 where
   pub entry : Entry
   pub place : ℕ
 
--- deliveries that stand behind others, each with its place
+-- deliveries that stand after others, each with its place
 abbrev pub placed_behind : Lists → List Entry → List Entry → List Placed
 placed_behind lists before [] = []
 placed_behind lists before (entry ∷ entries) =
@@ -42,7 +42,7 @@ clashes lists b a = same_place lists a b &&
 abbrev pub lines_at : Placed → Placed → ℕ × ℕ
 lines_at b a = (a.entry.line, b.entry.line)
 
--- each delivery with each of those in front of it that it clashes with
+-- each delivery with each of those before it that it clashes with
 abbrev pub clashes_behind : Lists → List Placed → List Placed → List (ℕ × ℕ)
 clashes_behind lists before [] = []
 clashes_behind lists before (b ∷ rest) =

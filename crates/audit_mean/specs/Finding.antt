@@ -44,10 +44,11 @@ pub data AuditFault : Type 0 where
   bad_line : (line : ℕ) → AuditFault
 
 -- what the lines say, judged by a law
-abbrev pub judged : Law → Result (List ReportLine) ℕ → Result Finding AuditFault
-judged law (Err line) = Err (bad_line line)
-judged law (Ok lines) = Ok (finding_of (least (breaches law (enumerate_from 1 lines))))
+abbrev pub report_finding : Law → Result (List ReportLine) ℕ → Result Finding AuditFault
+report_finding law (Err line) = Err (bad_line line)
+report_finding law (Ok lines) = Ok (finding_of (least (breaches law (enumerate_from 1 lines))))
 
 -- the finding of a text by a law, unless it is too large or no report
 abbrev pub audit_of : Law → List ℕ → Result Finding AuditFault
-audit_of law text = if is_too_large text then Err too_large else judged law (report_from running 1 (lines_of text))
+audit_of law text = if is_too_large text then Err too_large else report_finding law
+    (report_from running 1 (lines_of text))

@@ -20,7 +20,7 @@ pub record Ended : Type 0 where
 abbrev pub is_in : ℕ → Segment → Entry → Bool
 is_in member segment entry = entry.member == member && entry.segment.began == segment.began
 
--- the segment that a line behind these ends, if it does by `view`
+-- the segment that a line after these ends, if it does by `view`
 abbrev pub ended_by : List Numbered → Numbered → Option Ended
 ended_by before (number, view member ltime mask) =
     option_map
@@ -35,7 +35,7 @@ ended_by before (number, view member ltime mask) =
     (segment_behind member before)
 ended_by before (number, _) = None
 
--- the segments that lines behind others end
+-- the segments that lines after others end
 abbrev pub ended_behind : List Numbered → List Numbered → List Ended
 ended_behind before [] = []
 ended_behind before (line ∷ lines) = option_to_list (ended_by before line) ++ ended_behind (before ++ line ∷ []) lines
@@ -45,7 +45,7 @@ abbrev pub goes_along : Ended → Ended → Bool
 goes_along one other = (same_name one.name other.name && same_name one.next other.next) &&
     not (one.member == other.member)
 
--- the first deliveries, of those behind others, that have as many of their kind in front as the one segment has in all
+-- the first deliveries, of those after others, that have as many of their kind in front as the one segment has in all
 abbrev pub surplus_behind : List Entry → List Entry → List Entry → List Entry
 surplus_behind all before [] = []
 surplus_behind all before (entry ∷ entries) =

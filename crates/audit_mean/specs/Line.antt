@@ -76,16 +76,16 @@ count_line said = do
   ends said
 
 -- the first words of the lines that no law looks at, whatever follows
-abbrev pub skipped : List Word
-skipped =
+abbrev pub skipped_words : List Word
+skipped_words =
     codes "block" ∷ codes "announce" ∷ codes "timer" ∷ codes "packet" ∷ codes "refused" ∷ codes "absent" ∷
     codes "state" ∷ codes "cell"
     ∷ codes "wire" ∷ codes "lost" ∷ codes "deaf" ∷ codes ">" ∷ []
 
 abbrev pub is_skipped : Word → Bool
-is_skipped verb = list_any (bytes_eq verb) skipped
+is_skipped verb = list_any (bytes_eq verb) skipped_words
 
--- what stands behind the first word of a line
+-- what stands after the first word of a line
 abbrev pub behind_first : Word → Form ReportLine
 behind_first verb =
     if bytes_eq verb (codes "deliver") then deliver_line

@@ -2,13 +2,13 @@
 use Rattle.std.specs.Prelude.{ℕ, ◌+◌, List, [], ◌∷◌, Option, Some, None, Result, Ok, Err}
 use Rattle.audit_mean.specs.Line.{ReportLine, end, visits, line_said}
 
--- where in a report a line stands: in front of `end`, behind it, or behind `visits`, where nothing may follow
+-- where in a report a line stands: before `end`, after it, or after `visits`, where nothing may follow
 pub data Stage : Type 0 where
   running : Stage
   ended : Stage
   closed : Stage
 
--- the stage behind a line, if the line may stand there: `end` once, and `visits` only behind it
+-- the stage after a line, if the line may stand there: `end` once, and `visits` only after it
 abbrev pub stage_behind : Stage → ReportLine → Option Stage
 stage_behind running end = Some ended
 stage_behind running visits = None
@@ -28,7 +28,7 @@ abbrev pub in_form : {A : Type 0} → ℕ → Option A → Result A ℕ
 in_form number None = Err number
 in_form number (Some value) = Ok value
 
--- the lines may end behind `end`; else it is missing
+-- the lines may end after `end`; else it is missing
 abbrev pub at_end : Stage → ℕ → Result (List ReportLine) ℕ
 at_end running number = Err number
 at_end ended number = Ok []

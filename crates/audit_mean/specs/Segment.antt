@@ -27,14 +27,14 @@ first_segment = record { name = start; began = 0 }
 abbrev pub Numbered : Type 0
 Numbered = ℕ × ReportLine
 
--- a member's segment behind a line, given the one in front: `view` begins another, and `out` ends it and begins none
+-- a member's segment after a line, given the one in front: `view` begins another, and `out` ends it and begins none
 abbrev pub segment_next : ℕ → Option Segment → Numbered → Option Segment
 segment_next member now (number, view m ltime mask) =
     if m == member then Some (record { name = in_view ltime mask; began = number }) else now
 segment_next member now (number, out m) = if m == member then None else now
 segment_next member now (number, _) = now
 
--- a member's segment behind these lines, if it is in one
+-- a member's segment after these lines, if it is in one
 abbrev pub segment_behind : ℕ → List Numbered → Option Segment
 segment_behind member lines = fold (segment_next member) (Some first_segment) lines
 
@@ -57,11 +57,11 @@ entry_in segments (number, deliver member peer body) =
     (segments member)
 entry_in segments (number, _) = None
 
--- the delivery of a line behind these
+-- the delivery of a line after these
 abbrev pub entry_behind : List Numbered → Numbered → Option Entry
 entry_behind before line = entry_in (λ member. segment_behind member before) line
 
--- the deliveries of lines that stand behind others, in order
+-- the deliveries of lines that stand after others, in order
 abbrev pub entries_behind : List Numbered → List Numbered → List Entry
 entries_behind before [] = []
 entries_behind before (line ∷ lines) = option_to_list (entry_behind before line) ++

@@ -18,7 +18,7 @@ pub fn find_breaches()
 {}
 
 /// Members that keep a law though they differ: in the order of two peers, in other views, in sends, and
-/// behind the line by which one is out.
+/// after the line by which one is out.
 pub fn keep_laws()
     ensures order_of_two_peers { audit_of Sender (codes "deliver 0 cast 0 61\ndeliver 1 cast 1 62\ndeliver 1 cast 0 61\nend 3\n") ≡ Ok Holds }
     ensures same_so_far { audit_of Same (codes "deliver 0 cast 0 61\ndeliver 1 cast 1 62\ndeliver 1 cast 0 61\nend 3\n") ≡ Ok Holds }

@@ -18,7 +18,7 @@ use Rattle.bypass_laws.specs.Making.{made_with, simplest}
 use Rattle.pack_mean.specs.File.{Due, within_limit, due_in, due_from}
 use Rattle.synth.specs.Cases.{MadeCases, cases_of}
 use Rattle.bypass_file.specs.Due.{entry_varying, made_due, second_due, cases_due, all_due}
-use Rattle.bypass_file.specs.Filling.{owned, made_owned, second_owned, cases_owned, all_owned}
+use Rattle.bypass_file.specs.Filling.{own_case, made_owned, second_owned, cases_owned, all_owned}
 
 abbrev due_with : ℕ → Entry → Case → List Operation → Due
 due_with n e case own = record { entry = n; case = case; fields = entry_varying e; own = own }
@@ -63,22 +63,22 @@ module _ (stack : List LayerTree) where
       λ i. first i ++ second i ++ due_are (suc n) es i
 
 -- and these have the own traces of the same
-made_own : (n fields : ℕ) (case : Case) (own : Made) → map owned (made_due n fields case own) ≡ made_owned n case own
+made_own : (n fields : ℕ) (case : Case) (own : Made) → map own_case (made_due n fields case own) ≡ made_owned n case own
 made_own n fields case (fused own guarded) = refl
 made_own n fields case (absent reason) = refl
 
-second_own : (n fields : ℕ) (own : Option Made) → map owned (second_due n fields own) ≡ second_owned n own
+second_own : (n fields : ℕ) (own : Option Made) → map own_case (second_due n fields own) ≡ second_owned n own
 second_own n fields None = refl
 second_own n fields (Some own) = made_own n fields Second own
 
-cases_own : (n fields : ℕ) (c : MadeCases) → map owned (cases_due n fields c) ≡ cases_owned n c
+cases_own : (n fields : ℕ) (c : MadeCases) → map own_case (cases_due n fields c) ≡ cases_owned n c
 cases_own n fields c =
-    map-append owned (made_due n fields First c.first) (second_due n fields c.second)
+    map-append own_case (made_due n fields First c.first) (second_due n fields c.second)
     ∙ (λ i. made_own n fields First c.first i ++ second_own n fields c.second i)
 
 pub all_own : {E : Type 0} (v : E → ℕ) (f : E → MadeCases) (n : ℕ) (es : List E) →
-    map owned (all_due n (map v es) (map f es)) ≡ all_owned n (map f es)
+    map own_case (all_due n (map v es) (map f es)) ≡ all_owned n (map f es)
 all_own v f n [] = refl
 all_own v f n (e ∷ es) =
-    map-append owned (cases_due n (v e) (f e)) (all_due (suc n) (map v es) (map f es))
+    map-append own_case (cases_due n (v e) (f e)) (all_due (suc n) (map v es) (map f es))
     ∙ (λ i. cases_own n (v e) (f e) i ++ all_own v f (suc n) es i)

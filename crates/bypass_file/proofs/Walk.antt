@@ -8,9 +8,9 @@ use Rattle.trace_mean.specs.Trace.{Operation}
 use Rattle.bypass_mean.specs.Bypasses.{Made, fused, absent}
 use Rattle.pack_mean.specs.File.{Due}
 use Rattle.pack_mean.specs.Accepted.{SameActs, DiffersIn}
-use Rattle.pack_laws.specs.Replaced.{filled, second_filled}
+use Rattle.pack_laws.specs.Replaced.{filled_case, second_filled}
 use Rattle.synth.specs.Cases.{MadeCases}
-use Rattle.bypass_file.specs.Filling.{Owned, owned, made_owned, second_owned, cases_owned, all_owned, AreSame}
+use Rattle.bypass_file.specs.Filling.{Owned, own_case, made_owned, second_owned, cases_owned, all_owned, AreSame}
 use Rattle.bypass_file.specs.Filling.{FirstOther, cases_filled, all_filled, Filled, Fills}
 use Rattle.bypass_file.specs.declared.error.BypassError.{BypassError}
 use Rattle.bypass_file.specs.declared.error.BypassError.TheVariants.{TooLarge, Line, Differs, Memory}
@@ -18,7 +18,7 @@ use Rattle.bypass_file.specs.declared.error.BypassError.TheVariants.{TooLarge, L
 abbrev pub Traces : Type 0
 Traces = List (List Operation)
 
--- traces behind others
+-- traces after others
 same_both : (os more : List Owned) (ts : Traces) → AreSame os ts → AreSame more (drop (length os) ts) →
     AreSame (os ++ more) ts
 same_both [] more ts h k = k
@@ -53,7 +53,7 @@ drop_both (o ∷ os) more (t ∷ ts) = drop_both os more ts
 
 -- as many traces are taken as are due
 made_left : (n : ℕ) (case : Case) (own : Made) (ts : Traces) →
-    (filled own ts).1 ≡ drop (length (made_owned n case own)) ts
+    (filled_case own ts).1 ≡ drop (length (made_owned n case own)) ts
 made_left n case (fused own guarded) [] = refl
 made_left n case (fused own guarded) (t ∷ ts) = refl
 made_left n case (absent reason) ts = refl
@@ -66,11 +66,11 @@ second_left n (Some own) ts = made_left n Second own ts
 pub cases_left : (n : ℕ) (own : MadeCases) (ts : Traces) →
     (cases_filled own ts).1 ≡ drop (length (cases_owned n own)) ts
 cases_left n own ts =
-    second_left n own.second (filled own.first ts).1
+    second_left n own.second (filled_case own.first ts).1
     ∙ ap (drop (length (second_owned n own.second))) (made_left n First own.first ts)
     ∙ drop_both (made_owned n First own.first) (second_owned n own.second) ts
 
--- what is judged behind others
+-- what is judged after others
 module _ {A : Type 0} (os more : List Owned) (w : A × Traces) (old mid : Traces) (left : w.1 ≡ drop (length os) old)
     (x : A)
     (h : Filled os w old x mid) where
@@ -85,21 +85,21 @@ module _ {A : Type 0} (os more : List Owned) (w : A × Traces) (old mid : Traces
 
 -- of an entry
 pub cases_made : (n : ℕ) (own : MadeCases) (old mid new : Traces) (first : Made) (second : Option Made) →
-    Filled (made_owned n First own.first) (filled own.first old) old first mid →
+    Filled (made_owned n First own.first) (filled_case own.first old) old first mid →
     Filled (second_owned n own.second) (second_filled own.second mid) mid second new →
     Filled (cases_owned n own) (cases_filled own old) old (record { first = first; second = second }) new
 cases_made n own old mid new first second h k = record {
   made_is = λ i. record
       { first = h.made_is i; second = (ap (λ ts. (second_filled own.second ts).0) h.left_is ∙ k.made_is) i };
   left_is = ap (λ ts. (second_filled own.second ts).1) h.left_is ∙ k.left_is;
-  same = same_later (made_owned n First own.first) (second_owned n own.second) (filled own.first old) old mid
+  same = same_later (made_owned n First own.first) (second_owned n own.second) (filled_case own.first old) old mid
       (made_left n First own.first old) first
       h k.same;
 }
 
 -- all of them, where there are as many as are due
 pub all_same : (P : Due → List Operation → Type 0) (due : List Due) (ts : Traces) → AllZip P due ts →
-    AreSame (map owned due) ts →
+    AreSame (map own_case due) ts →
     AllZip SameActs due ts
 all_same P [] [] all h = tt
 all_same P [] (t ∷ ts) all h = absurd all
@@ -108,7 +108,7 @@ all_same P (d ∷ due) (t ∷ ts) all h = (h.0, all_same P due ts all.1 h.1)
 
 -- the first that does something else
 pub differs_in : (due : List Due) (ts : Traces) (entry : ℕ) (case : Case) (act : ℕ) →
-    FirstOther (map owned due) ts entry case act →
+    FirstOther (map own_case due) ts entry case act →
     DiffersIn due ts entry case act
 differs_in [] ts entry case act h = absurd h
 differs_in (d ∷ due) [] entry case act h = absurd h
@@ -143,7 +143,7 @@ differs_in (d ∷ due) (t ∷ ts) entry case act (inr h) =
       differ = k.differ;
     }
 
--- what is cut short in the front, or behind what was made
+-- what is cut short in the front, or after what was made
 cut_in_front : {A B : Type 0} (os more : List Owned) (w : A × Traces) (v : B × Traces) (old mid new : Traces) (x : A)
     (y : B) (e : BypassError) →
     Fills os w old mid x (Err e) → Fills (os ++ more) v old new y (Err e)
@@ -166,11 +166,11 @@ cut_later os more w v u old mid next new left x y z (Line line) h k = absurd k
 -- of an entry
 pub second_cut : (n : ℕ) (own cut : MadeCases) (old mid new : Traces) (first : Made) (second : Option Made)
     (e : BypassError) →
-    Filled (made_owned n First own.first) (filled own.first old) old first mid →
+    Filled (made_owned n First own.first) (filled_case own.first old) old first mid →
     Fills (second_owned n own.second) (second_filled own.second mid) mid new second (Err e) →
     Fills (cases_owned n own) (cases_filled own old) old new cut (Err e)
 second_cut n own cut old mid new first second e h k =
-    cut_later (made_owned n First own.first) (second_owned n own.second) (filled own.first old)
+    cut_later (made_owned n First own.first) (second_owned n own.second) (filled_case own.first old)
     (second_filled own.second mid) (cases_filled own old)
     old mid new new (made_left n First own.first old) first second cut e h k
 

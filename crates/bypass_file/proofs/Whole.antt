@@ -30,7 +30,8 @@ use Rattle.trace_core.specs.declared.bypass.Cases.{Cases}
 use Rattle.trace_core.specs.declared.bypass.Bypasses as code_bypass
 use Rattle.trace_core.specs.Bypasses.{first_tree, second_tree, bypasses_tree}
 use Rattle.bypass_file.specs.Due.{entry_varying, plan_varying, all_due, all_cases}
-use Rattle.bypass_file.specs.Filling.{owned, all_owned, AreSame, FirstOther, cases_filled, all_filled, Filled, IsSimple}
+use Rattle.bypass_file.specs.Filling.{own_case, all_owned, AreSame, FirstOther, cases_filled, all_filled, Filled}
+use Rattle.bypass_file.specs.Filling.{IsSimple}
 use Rattle.bypass_file.specs.Filling.{SecondIsSimple, AreSimple}
 use Rattle.bypass_file.specs.Judged.{AreOfFile}
 use Rattle.bypass_file.proofs.Dues.{due_are, all_own}
@@ -102,11 +103,11 @@ module _ (stack : List LayerTree) (own : code_bypass.Bypasses) (own_is : bypasse
     simple_known = subst (AllByRecursion AreSimple) (sym cases_known) (all_simple stack (entries_of stack))
 
     -- these have the traces that are due
-    owns_known : all_owned 0 (all_cases own) ≡ map owned (due_of stack)
+    owns_known : all_owned 0 (all_cases own) ≡ map own_case (due_of stack)
     owns_known =
         ap (all_owned 0) cases_known
         ∙ sym (all_own entry_varying (cases_of stack) 0 (entries_of stack))
-        ∙ ap (map owned) (sym (due_are stack 0 (entries_of stack)))
+        ∙ ap (map own_case) (sym (due_are stack 0 (entries_of stack)))
 
     module _ (plans : List code.Plan) (plans_are : map plan_tree plans ≡ plans_of stack) where
       pub as_many : length own.plans.items ≡ length plans

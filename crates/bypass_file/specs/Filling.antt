@@ -8,7 +8,7 @@ use Rattle.bypass_mean.specs.Bypasses.{Made, fused, absent}
 use Rattle.bypass_laws.specs.Making.{simplest}
 use Rattle.pack_mean.specs.File.{Due}
 use Rattle.pack_mean.specs.Accepted.{DifferAt}
-use Rattle.pack_laws.specs.Replaced.{chosen, filled, second_filled}
+use Rattle.pack_laws.specs.Replaced.{chosen_trace, filled_case, second_filled}
 use Rattle.synth.specs.Cases.{MadeCases}
 use Rattle.trace_core.specs.declared.bypass.Bypass.{Bypass}
 use Rattle.trace_core.specs.Trees.{trace_tree, guarded_tree}
@@ -21,8 +21,8 @@ pub record Owned : Type 0 where
   pub case : Case
   pub own : List Operation
 
-abbrev pub owned : Due → Owned
-owned d = record { entry = d.entry; case = d.case; own = d.own }
+abbrev pub own_case : Due → Owned
+own_case d = record { entry = d.entry; case = d.case; own = d.own }
 
 -- Those of what is made: of a case, of a second one, of an entry, and of entries from a number on.
 abbrev pub made_owned : ℕ → Case → Made → List Owned
@@ -57,10 +57,10 @@ FirstOther (o ∷ os) (trace ∷ traces) entry case act =
     IsOther o trace entry case act ⊎ ((symbolic trace ≡ symbolic o.own) × FirstOther os traces entry case act)
 FirstOther _ _ entry case act = ⊥
 
--- What is made of an entry with the first of a file's traces, and the traces behind these; and of several entries.
+-- What is made of an entry with the first of a file's traces, and the traces after these; and of several entries.
 abbrev pub cases_filled : MadeCases → List (List Operation) → MadeCases × List (List Operation)
 cases_filled own traces =
-    let first = filled own.first traces in
+    let first = filled_case own.first traces in
     let second = second_filled own.second first.1 in
     (record { first = first.0; second = second.0 }, second.1)
 
@@ -100,7 +100,7 @@ Agrees n case trace own (Err _) = ⊥
 -- A trace that does the same is in place of the own one, where it joins no more.
 pub record IsReplaced (own trace : List Operation) (b : Bypass) : Type 0 where
   pub made : fused (trace_tree b.trace) (guarded_tree b.guarded) ≡
-      fused (chosen own trace) (simplest (chosen own trace))
+      fused (chosen_trace own trace) (simplest (chosen_trace own trace))
   pub same : symbolic trace ≡ symbolic own
 
 abbrev pub Replaces : ℕ → Case → (trace own : List Operation) → Bypass → Result (Unit {0}) BypassError → Type 0

@@ -3,7 +3,7 @@
 ghost use Rattle.std.specs.List.{AllByRecursion};
 ghost use Rattle.std.specs.Prelude.{◌≤◌, length, map, option_map};
 ghost use Rattle.layer_mean.specs.declared.run.Case.TheVariants.{First};
-ghost use Rattle.pack_laws.specs.Replaced.{filled, second_filled};
+ghost use Rattle.pack_laws.specs.Replaced.{filled_case, second_filled};
 ghost use Rattle.stack_shapes.specs.declared.types.TheConstants.{MOST_PLANS};
 ghost use Rattle.synth.specs.Cases.{cases_tree};
 ghost use Rattle.trace_core.specs.Bypasses.{made_tree};
@@ -30,7 +30,7 @@ fn fill(
 ) -> Result<(), BypassError>
     requires { IsSimple (made_tree own.old) }
     ensures { Fills (made_owned entry case (made_tree own.old))
-        (filled (made_tree own.old) (map trace_tree traces.old.items))
+        (filled_case (made_tree own.old) (map trace_tree traces.old.items))
         (map trace_tree traces.old.items) (map trace_tree traces.new.items) (made_tree own.new) result }
 {
     match own {

@@ -102,7 +102,8 @@ pub(crate) fn all_due(alloc: Global, plans: &[Plan], own: &Bypasses) -> Result<V
     requires few { length plans.now ≤ MOST_PLANS }
     requires each { length own.now.plans.items ≡ length plans.now }
     ensures { IfOk result
-        (λ due. map due_tree due.items ≡ map bare (all_due 0 (0 ∷ 0 ∷ map plan_varying plans.now) (all_cases own.now))) }
+        (λ due. map due_tree due.items ≡
+        map bare (all_due 0 (0 ∷ 0 ∷ map plan_varying plans.now) (all_cases own.now))) }
 {
     let mut due = Vec::new(alloc);
     cases_due(&mut due, 0, 0, &own.cast)?;

@@ -54,7 +54,8 @@ fn trace_joins(trace: &Trace) -> u32
 
 /// Whether a trace joins no more than the own one. Err comes where that joins 4,294,967,295 times or more.
 pub(crate) fn joins_no_more(trace: &Trace, own: &Trace) -> Result<bool, AllocError>
-    ensures { IfOk result (λ few. few ≡ nat_le (trace_joins (trace_tree trace.now)) (trace_joins (trace_tree own.now))) }
+    ensures { IfOk result
+        (λ few. few ≡ nat_le (trace_joins (trace_tree trace.now)) (trace_joins (trace_tree own.now))) }
 {
     let most = trace_joins(own);
     if most == u32::MAX {

@@ -6,13 +6,13 @@ use Rattle.job_mean.specs.Job.{Job, synth, pack}
 use Rattle.stack_mean.specs.Plans.{plans_of}
 use Rattle.bypass_mean.specs.Lines.{printed_lines}
 use Rattle.bypass_laws.specs.Making.{bypasses_of, simplest}
-use Rattle.job_ends.specs.Printed.{Lines, packed}
+use Rattle.job_ends.specs.Printed.{Lines, packed_file}
 use Rattle.bypass_jobs.specs.declared.printing.Printing.{Printing}
 use Rattle.bypass_jobs.specs.declared.printing.Printing.TheVariants.{Handlers, Traces}
 
 abbrev pub printing : Printing → Lines
 printing Handlers = printed_lines
-printing Traces = packed
+printing Traces = packed_file
 
 -- That of the stack's own.
 abbrev pub own_lines : Printing → List LayerTree → List (List ℕ)

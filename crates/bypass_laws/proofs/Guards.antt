@@ -16,7 +16,7 @@ use Rattle.trace_form_laws.specs.There.{AreThere}
 use Rattle.trace_form_laws.specs.WellFormed.{IsWellFormed}
 use Rattle.trace_form_laws.proofs.WellFormed.{traces_are_well_formed}
 use Rattle.bypass_mean.specs.Bypasses.{Entry}
-use Rattle.guard_mean.specs.Perform.{End, end_of, ended, holds, performed}
+use Rattle.guard_mean.specs.Perform.{End, end_of, answer_end, holds, performed}
 use Rattle.guard_mean.specs.Prune.{hoist}
 use Rattle.guard_mean.specs.Simplify.{simplified}
 use Rattle.guard_laws.proofs.Closed.{hoisted_is_closed, simplified_is_closed}
@@ -65,12 +65,13 @@ still_there stack (output dir kind numbers message ∷ os) h = (h.0, still_there
 
 -- where the guard holds, following the trace comes to its end
 followed_safe : (stack : List LayerTree) (i : Input) (os : List Operation) (states : List State) (b : Bool) (x : End) →
-    (if b then Some x else None) ≡ ended (follow i os states) → b ≡ true → SafeTrace stack i os (on (before states)) →
+    (if b then Some x else None) ≡ answer_end (follow i os states) → b ≡ true →
+    SafeTrace stack i os (on (before states)) →
     SafeTrace stack i (unchecked os) (on (before states))
 unfolding follow
 followed_safe stack i os states b x same held safe =
     go (follows i os (on (before states))) refl (ap (λ c. if c then Some x else None) (sym held) ∙ same) where
-      go : (f : Followed) → follows i os (on (before states)) ≡ f → Some x ≡ ended (answer_of f) →
+      go : (f : Followed) → follows i os (on (before states)) ≡ f → Some x ≡ answer_end (answer_of f) →
           SafeTrace stack i (unchecked os) (on (before states))
       go (on u) is reaches = (checks_can_go stack i os states u is safe).safe
       go (stopped_at n) is reaches = absurd (cc reaches)
@@ -81,7 +82,7 @@ pub hoisted_guards : (stack : List LayerTree) (e : Entry) (trace : List Operatio
     IsGuard stack e trace (hoist trace)
 hoisted_guards stack e trace formed =
     let same : (i : Input) (states : List State) → Enters stack e.known e.fields i states →
-    performed i (hoist trace) states ≡ ended (follow i trace states) =
+    performed i (hoist trace) states ≡ answer_end (follow i trace states) =
     λ i states enters. hoisted_is_same (squares_of stack) i states trace
     (safe_is_sound stack e.known e.fields trace i states formed.there (formed.safe i states enters) enters) in
     let many = hoisted_adds_nothing trace in record {

@@ -9,7 +9,7 @@ use Rattle.std.proofs.lemmas.List.Sums.{sum_by-cons}
 use Rattle.layer_mean.specs.declared.run.Case.{Case}
 use Rattle.layer_mean.specs.declared.run.Case.TheVariants.{First, Second}
 use Rattle.layer_mean.specs.Tree.{LayerTree}
-use Rattle.stack_mean.specs.Acceptance.{without_cycle, accepted}
+use Rattle.stack_mean.specs.Acceptance.{without_cycle, acceptance}
 use Rattle.stack_mean.specs.Graph.{Node, first_on_cycle}
 use Rattle.stack_mean.specs.NoShape.{NoShape, long, drawn_from}
 use Rattle.stack_mean.specs.Plan.{Plan}
@@ -18,7 +18,7 @@ use Rattle.stack_mean.specs.Shape.{Shape, shape, has_second_case}
 use Rattle.run_mean.specs.Common.{longest_shape}
 use Rattle.chain_laws.proofs.Orderly.{typed_is_orderly}
 use Rattle.trace_mean.specs.Trace.{Operation, bind, note, check, set, set_square, push, take, output, Guarded}
-use Rattle.trace_mean.specs.Counts.{counted, trace_length, trace_outputs}
+use Rattle.trace_mean.specs.Counts.{operation_length, trace_length, trace_outputs}
 use Rattle.trace_mean.specs.Fuse.{trace_of}
 use Rattle.trace_laws.specs.Shapes.{Told, told_by_shape, told_by_trace, shape_outlet}
 use Rattle.trace_laws.proofs.Law.{traces_are_right}
@@ -37,7 +37,7 @@ use Rattle.guard_laws.proofs.NoSimpler.{simplified_is_reduced}
 use Rattle.bypass_laws.proofs.Guards.{hoisting_guards, simplifying_guards}
 
 -- an accepted stack has no cycle
-off_cycles : (stack : List LayerTree) → accepted stack ≡ Ok stack → first_on_cycle stack ≡ None
+off_cycles : (stack : List LayerTree) → acceptance stack ≡ Ok stack → first_on_cycle stack ≡ None
 off_cycles stack h = go (first_on_cycle stack) refl h where
   go : (o : Option Node) → first_on_cycle stack ≡ o → without_cycle stack o ≡ Ok stack → first_on_cycle stack ≡ None
   go (Some n) is e = absurd (cc e)
@@ -46,16 +46,17 @@ off_cycles stack h = go (first_on_cycle stack) refl h where
 -- writes count
 writes_count : (os : List Operation) → trace_writes os ≤ trace_length os
 writes_count [] = omega arith
-writes_count (o ∷ os) = omega (arith, sum_by-cons a_write o os, sum_by-cons counted o os, writes_count os, one o) where
-  one : (o : Operation) → a_write o ≤ counted o
-  one (note m) = omega arith
-  one (bind e) = omega arith
-  one (check e) = omega arith
-  one (set p c e x) = omega arith
-  one (set_square p c row column x) = omega arith
-  one (push p c e numbers message) = omega arith
-  one (take p c e) = omega arith
-  one (output dir kind numbers message) = omega arith
+writes_count (o ∷ os) =
+    omega (arith, sum_by-cons a_write o os, sum_by-cons operation_length o os, writes_count os, one o) where
+      one : (o : Operation) → a_write o ≤ operation_length o
+      one (note m) = omega arith
+      one (bind e) = omega arith
+      one (check e) = omega arith
+      one (set p c e x) = omega arith
+      one (set_square p c row column x) = omega arith
+      one (push p c e numbers message) = omega arith
+      one (take p c e) = omega arith
+      one (output dir kind numbers message) = omega arith
 
 module _ (stack : List LayerTree) (sound : IsSound stack) (guard : List Operation → Guarded)
     (guards : Guards guard stack) (reduces : Reduces guard) where

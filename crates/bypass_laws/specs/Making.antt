@@ -3,7 +3,7 @@ use Rattle.std.specs.Prelude.{◌≡◌, true, if◌then◌else◌, List, map, O
 use Rattle.layer_mean.specs.declared.run.Case.{Case}
 use Rattle.layer_mean.specs.declared.run.Case.TheVariants.{First, Second}
 use Rattle.layer_mean.specs.Tree.{LayerTree}
-use Rattle.stack_mean.specs.Acceptance.{accepted}
+use Rattle.stack_mean.specs.Acceptance.{acceptance}
 use Rattle.stack_mean.specs.NoShape.{NoShape}
 use Rattle.stack_mean.specs.Shape.{shape, has_second_case}
 use Rattle.chain_laws.specs.Runs.{TypedStack}
@@ -48,7 +48,7 @@ Reduces guard = (operations : List Operation) → is_reduced (guard operations) 
 pub record IsSound (stack : List LayerTree) : Type 0 where
   pub typed : TypedStack stack
   pub named : NamedStack stack
-  pub accepts : accepted stack ≡ Ok stack
+  pub accepts : acceptance stack ≡ Ok stack
 
 -- So what is made of it is its own.
 abbrev pub MadeAreOfStack : Type 0
@@ -56,7 +56,7 @@ MadeAreOfStack = (guard : List Operation → Guarded) (stack : List LayerTree) �
     Reduces guard →
     AreOfStack stack (bypasses_of guard stack)
 
--- Hoisting is such a way, and what is simplified behind such a way is one, too.
+-- Hoisting is such a way, and what is simplified after such a way is one, too.
 abbrev pub HoistingGuards : Type 0
 HoistingGuards = (stack : List LayerTree) → NamedStack stack → Guards hoist stack
 

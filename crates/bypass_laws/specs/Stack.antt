@@ -22,7 +22,7 @@ use Rattle.trace_form_laws.specs.There.{AreThere}
 use Rattle.trace_form_laws.specs.WellFormed.{IsWellFormed}
 use Rattle.guard_mean.specs.Closed.{is_closed}
 use Rattle.guard_mean.specs.Reduced.{is_reduced}
-use Rattle.guard_mean.specs.Perform.{holds, ended, performed}
+use Rattle.guard_mean.specs.Perform.{holds, answer_end, performed}
 use Rattle.bypass_mean.specs.Bypasses.{Entry, entries_of, Made, fused, absent, Bypasses}
 
 -- Why nothing is made of an entry in a case: the reason for which it has no shape, or that its shape is too long.
@@ -61,7 +61,7 @@ pub record IsTrace (case : Case) (stack : List LayerTree) (e : Entry) (trace : L
 -- joins and puts out no more.
 pub record IsGuard (stack : List LayerTree) (e : Entry) (trace : List Operation) (guarded : Guarded) : Type 0 where
   pub same : (i : Input) (states : List State) → Enters stack e.known e.fields i states →
-      performed i guarded states ≡ ended (follow i trace states)
+      performed i guarded states ≡ answer_end (follow i trace states)
   pub unchecked : list_all is_done guarded.operations ≡ true
   pub values : is_closed guarded ≡ true
   pub closed : Closed stack (entry_reach e.fields) guarded.operations

@@ -14,7 +14,7 @@ pub fn hoisting_guards()
     ensures { HoistingGuards }
 {}
 
-/// What is simplified behind a way of guarding is still guarded.
+/// What is simplified after a way of guarding is still guarded.
 pub fn simplifying_guards()
     ensures { SimplifyingGuards }
 {}

@@ -40,7 +40,7 @@ reason_text (no_shape.stored place) = codes "stored " ++ decimal place
 reason_text no_shape.long = codes "long"
 reason_text no_shape.same = codes "same"
 
--- What is made of an entry in a case, behind a heading.
+-- What is made of an entry in a case, after a heading.
 abbrev pub made_lines : List LayerTree → List ℕ → Made → List (List ℕ)
 made_lines stack heading (fused trace guarded) = (heading ++ codes " fused") ∷ guarded_lines stack guarded
 made_lines stack heading (absent reason) = (heading ++ codes " absent " ++ reason_text reason) ∷ []

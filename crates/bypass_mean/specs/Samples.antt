@@ -12,7 +12,7 @@ use Rattle.stack_mean.specs.TwoCases.{flip}
 use Rattle.trace_mean.specs.Trace as trace
 use Rattle.trace_mean.specs.Trace.{number, peer, field, value, atom, element, binary, Operation, set, push}
 use Rattle.trace_mean.specs.Fuse.{trace_of}
-use Rattle.trace_mean.specs.Samples.{joiner, joined, keeper}
+use Rattle.trace_mean.specs.Samples.{joiner, joiner_trace, keeper}
 use Rattle.bypass_mean.specs.Bypasses.{Entry, entries_of, Made, fused, absent, Bypasses}
 use Rattle.bypass_mean.specs.Lines.{made_lines, bypass_lines, file_lines}
 use Rattle.bypass_mean.specs.Text.{operation_lines}
@@ -32,12 +32,12 @@ all_unguarded stack = record {
   second = map (λ (e : Entry). second_unguarded (trace_of Second stack e.known e.fields)) (entries_of stack);
 }
 
-abbrev pub written : List LayerTree → List (List ℕ)
-written stack = bypass_lines stack (plans_of stack) (all_unguarded stack)
+abbrev pub unguarded_lines : List LayerTree → List (List ℕ)
+unguarded_lines stack = bypass_lines stack (plans_of stack) (all_unguarded stack)
 
 -- A layer that counts casts.
 abbrev pub CounterText : Type 0
-CounterText = written (counter ∷ []) ≡
+CounterText = unguarded_lines (counter ∷ []) ≡
     codes "entry cast fused" ∷ codes "do bind t.0 = peer" ∷ codes "do bind t.1 = 0.k" ∷ codes "do set 0.k = (0.k + 1)" ∷
     codes "do out down Cast(t.0,body) cnt.num(t.1)" ∷
     codes "entry send fused" ∷ codes "do out down Send(peer,body) cnt.none()" ∷
@@ -63,7 +63,7 @@ GuardText = made_lines (counter ∷ []) (codes "entry plan 0") due ≡
 
 -- A layer with two cases, whose packets of casts have no handler.
 abbrev pub FlipText : Type 0
-FlipText = written (flip ∷ []) ≡
+FlipText = unguarded_lines (flip ∷ []) ≡
     codes "entry cast fused" ∷ codes "do set 0.k = (0.k + 1)" ∷ codes "do check ((0.k & 1) == 1)" ∷
     codes "do bind t.0 = peer" ∷
     codes "do bind t.1 = 0.k" ∷ codes "do out down Cast(t.0,body) flip.a(t.1)" ∷
@@ -82,11 +82,12 @@ lines_of noting (Err reason) = []
 
 abbrev pub JoinedText : Type 0
 JoinedText =
-    (lines_of false joined ≡ codes "check (len(0.q) < 4)" ∷ codes "push 0.q (7,cut(body,0,2))" ∷
+    (lines_of false joiner_trace ≡ codes "check (len(0.q) < 4)" ∷ codes "push 0.q (7,cut(body,0,2))" ∷
     codes "check (len(0.q) > 0)" ∷
     codes "take 0.q row.0" ∷ codes "bind t.0 = row.0.x" ∷ codes "out down Cast(t.0,join(row.0,body)) joiner.none()" ∷
     []) ×
-    (lines_of true joined ≡ codes "check (len(0.q) < 4)" ∷ codes "note m.0 = cut(body,0,2)" ∷ codes "push 0.q (7,m.0)" ∷
+    (lines_of true joiner_trace ≡ codes "check (len(0.q) < 4)" ∷ codes "note m.0 = cut(body,0,2)" ∷
+    codes "push 0.q (7,m.0)" ∷
     codes "check (len(0.q) > 0)" ∷ codes "take 0.q row.0" ∷ codes "bind t.0 = row.0.x" ∷
     codes "note m.1 = join(row.0,body)" ∷
     codes "out down Cast(t.0,m.1) joiner.none()" ∷ [])

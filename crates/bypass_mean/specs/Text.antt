@@ -10,7 +10,7 @@ use Rattle.layer_ast.specs.declared.tokens.Sign.{Sign}
 use Rattle.layer_ast.specs.declared.syntax.Shape.TheVariants.{One}
 use Rattle.layer_ast.specs.Printed.{direction_sign, function_sign, operator_sign}
 use Rattle.layer_ast.specs.Spelling.{reserved, symbols}
-use Rattle.layer_mean.specs.Headers.{declared}
+use Rattle.layer_mean.specs.Headers.{header_of_tag}
 use Rattle.layer_mean.specs.Tree.{Form, numbers, queue, queues, CellTree, LayerTree, no_layer}
 use Rattle.layer_ast.specs.Spelling.{kind_word}
 use Rattle.trace_mean.specs.Trace.{Atom, number, peer, field, bound, taken_number, value, Core, body, noted}
@@ -24,11 +24,11 @@ abbrev pub sign_text : Sign → List ℕ
 sign_text sign = option_map_or (λ entry. entry.0) (find (λ entry. sameb the_type entry.1 sign) (symbols ++ reserved)) []
 
 -- Parts in brackets, with commas between.
-abbrev pub listed : List (List ℕ) → List ℕ
-listed parts = codes "(" ++ join_by (λ part. part) (codes ",") parts ++ codes ")"
+abbrev pub bracketed_list : List (List ℕ) → List ℕ
+bracketed_list parts = codes "(" ++ join_by (λ part. part) (codes ",") parts ++ codes ")"
 
-abbrev pub indexed : List ℕ → List ℕ
-indexed index = codes "[" ++ index ++ codes "]"
+abbrev pub bracketed_index : List ℕ → List ℕ
+bracketed_index index = codes "[" ++ index ++ codes "]"
 
 -- What an operation may name, and the lines so far: how many numbers were bound, of each taken row how its numbers are
 -- called, and of each noted message how it is written.
@@ -58,7 +58,7 @@ cell_name stack place c =
 abbrev pub with_index : Option Form → List ℕ → List ℕ → List ℕ
 with_index (Some (numbers One initial)) name index = name
 with_index (Some (queue capacity items)) name index = name
-with_index _ name index = name ++ indexed index
+with_index _ name index = name ++ bracketed_index index
 
 abbrev pub cell_text : List LayerTree → ℕ → ℕ → List ℕ → List ℕ
 cell_text stack place c index = with_index (form_at (layer_of stack place) c) (cell_name stack place c) index
@@ -86,40 +86,44 @@ abbrev mutual
   number_text stack w ltime = codes "ltime"
   number_text stack w (element p c e) = cell_text stack p c (number_text stack w e)
   number_text stack w (square p c row column) =
-      cell_name stack p c ++ indexed (number_text stack w row) ++ indexed (number_text stack w column)
-  number_text stack w (rows p c e) = codes "len" ++ listed (cell_text stack p c (number_text stack w e) ∷ [])
+      cell_name stack p c ++ bracketed_index (number_text stack w row) ++ bracketed_index (number_text stack w column)
+  number_text stack w (rows p c e) = codes "len" ++ bracketed_list (cell_text stack p c (number_text stack w e) ∷ [])
   number_text stack w (item p c e row n) =
-      codes "at" ++ listed (cell_text stack p c (number_text stack w e) ∷ number_text stack w row ∷ []) ++ codes "."
+      codes "at" ++ bracketed_list (cell_text stack p c (number_text stack w e) ∷ number_text stack w row ∷ []) ++
+      codes "."
       ++ slice_index_or (numbers_called (form_at (layer_of stack p) c)) n []
-  number_text stack w (size m) = codes "size" ++ listed (message_text stack w m ∷ [])
+  number_text stack w (size m) = codes "size" ++ bracketed_list (message_text stack w m ∷ [])
   number_text stack w (binary operator a b) = codes "(" ++ number_text stack w a ++ codes " " ++
       sign_text (operator_sign operator)
       ++ codes " " ++ number_text stack w b ++ codes ")"
-  number_text stack w (apply function a) = sign_text (function_sign function) ++ listed (number_text stack w a ∷ [])
+  number_text stack w (apply function a) = sign_text (function_sign function) ++
+      bracketed_list (number_text stack w a ∷ [])
   number_text stack w (pick c a b) =
-      codes "pick" ++ listed (number_text stack w c ∷ number_text stack w a ∷ number_text stack w b ∷ [])
+      codes "pick" ++ bracketed_list (number_text stack w c ∷ number_text stack w a ∷ number_text stack w b ∷ [])
 
   pub message_text : List LayerTree → Written → TraceMessage → List ℕ
   message_text stack w (core c) = core_text w c
   message_text stack w (held p c e row carried) =
-      codes "held" ++ listed (cell_text stack p c (number_text stack w e) ∷ number_text stack w row ∷ [])
+      codes "held" ++ bracketed_list (cell_text stack p c (number_text stack w e) ∷ number_text stack w row ∷ [])
   message_text stack w (cut m from n) =
-      codes "cut" ++ listed (message_text stack w m ∷ number_text stack w from ∷ number_text stack w n ∷ [])
-  message_text stack w (tail m from) = codes "tail" ++ listed (message_text stack w m ∷ number_text stack w from ∷ [])
+      codes "cut" ++ bracketed_list (message_text stack w m ∷ number_text stack w from ∷ number_text stack w n ∷ [])
+  message_text stack w (tail m from) = codes "tail" ++
+      bracketed_list (message_text stack w m ∷ number_text stack w from ∷ [])
   message_text stack w (join first m) = codes "join" ++
-      listed (message_text stack w first ∷ message_text stack w m ∷ [])
+      bracketed_list (message_text stack w first ∷ message_text stack w m ∷ [])
 
 -- Known headers, the lowest place's first, with `/` between: LAYER.HEADER(F,F).
 abbrev pub link_text : List LayerTree → (Atom → List ℕ) → Link → List ℕ
 link_text stack shown l =
-    (layer_of stack l.place).name ++ codes "." ++ option_map_or (λ h. h.name) (declared (layer_of stack l.place) l.tag)
+    (layer_of stack l.place).name ++ codes "." ++
+    option_map_or (λ h. h.name) (header_of_tag (layer_of stack l.place) l.tag)
     []
-    ++ listed (map shown l.fields)
+    ++ bracketed_list (map shown l.fields)
 
 abbrev pub chain_text : List LayerTree → (Atom → List ℕ) → List Link → List ℕ
 chain_text stack shown chain = join_by (link_text stack shown) (codes "/") chain
 
--- Known headers behind what they are of, where there are any.
+-- Known headers after what they are of, where there are any.
 abbrev pub behind : List LayerTree → Written → List Link → List ℕ
 behind stack w [] = []
 behind stack w (l ∷ ls) = codes " " ++ chain_text stack (atom_text w) (l ∷ ls)
@@ -137,12 +141,13 @@ line_of stack w (set p c e x) = codes "set " ++ cell_text stack p c (number_text
 line_of stack w (set_square p c row column x) =
     codes "set " ++ number_text stack w (square p c row column) ++ codes " = " ++ number_text stack w x
 line_of stack w (push p c e row message) = codes "push " ++ cell_text stack p c (number_text stack w e) ++ codes " "
-    ++ listed (map (number_text stack w) row ++ map (pushed_text stack w) (option_to_list message))
+    ++ bracketed_list (map (number_text stack w) row ++ map (pushed_text stack w) (option_to_list message))
 line_of stack w (take p c e) =
     codes "take " ++ cell_text stack p c (number_text stack w e) ++ codes " row." ++ decimal (length w.rows)
 line_of stack w (output dir kind arguments message) = codes "out " ++ sign_text (direction_sign dir) ++ codes " " ++
     kind_word kind
-    ++ listed (map (atom_text w) arguments ++ map (λ (m : Chained). core_text w m.core) (option_to_list message))
+    ++ bracketed_list (map (atom_text w) arguments ++
+    map (λ (m : Chained). core_text w m.core) (option_to_list message))
     ++ option_map_or (λ (m : Chained). behind stack w m.chain) message []
 
 abbrev pub with_line : List ℕ → Written → Written

@@ -9,7 +9,7 @@ use Rattle.stack_mean.specs.Plan.{Plan}
 use Rattle.run_mean.specs.Mode.{Mode, layered, bypass}
 use Rattle.run_mean.specs.Common.{is_common, case_of, first_plan, short_from, is_planned, with_plans, as_sent}
 use Rattle.run_mean.specs.Member.{Entered, Output, Step}
-use Rattle.run_mean.specs.Report.{counted}
+use Rattle.run_mean.specs.Report.{visit_count}
 use Rattle.layer_eval.specs.declared.predicted.Predicted.{Predicted}
 use Rattle.step_outputs.specs.Gathered.{Gathered}
 use Rattle.bypass_member.specs.Modes.{IsTakenSo}
@@ -49,7 +49,7 @@ module _ (g : Ground) (old : Works) (what : Entered) where
   uncommon_short bypass un = ap (λ (c : Option Case). option_and_then (first_plan (stack_of g) its.entered) c) un
 
   uncommon_counted : (mode : Mode) → IsUncommon mode g (states_in old) what →
-      counted mode (stack_of g) (plans_in g) its ≡ its.work.visits
+      visit_count mode (stack_of g) (plans_in g) its ≡ its.work.visits
   uncommon_counted layered un = refl
   uncommon_counted bypass un = ap (λ (c : Option Case). if is_some c then 0 else its.work.visits) un
 
@@ -117,7 +117,7 @@ module _ (g : Ground) (old : Works) (what : Entered) where
           visits =
               let none : visits ≡ visits + 0 = omega arith in
               none ∙ ap (λ (c : Option Case). visits + (if is_some c then 0 else its.work.visits)) (sym is)
-              ∙ ap (λ (mode : Mode). visits + counted mode (stack_of g) (plans_in g) its) (sym made.mode);
+              ∙ ap (λ (mode : Mode). visits + visit_count mode (stack_of g) (plans_in g) its) (sym made.mode);
           taken = subst (λ (mode : Mode). IsTakenSo mode (is_common (stack_of g) (plans_in g) its) (taken_in old) ran_to
               (taken_in new)) (sym made.mode)
               (subst (λ (c : Option Case). IsTakenSo bypass (is_some c) (taken_in old) ran_to (taken_in new)) (sym is)

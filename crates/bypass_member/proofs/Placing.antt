@@ -20,7 +20,7 @@ use Rattle.bypass_member.specs.Judged.{entry_meant}
 use Rattle.bypass_member.specs.Making.{IsOpening}
 use Rattle.bypass_codes.specs.Codes.{CodesTree}
 use Rattle.bypass_member.specs.Modes.{IsTakenSo}
-use Rattle.bypass_member.specs.Placing.{codes_kept, placed, IsMember, IsRankIn}
+use Rattle.bypass_member.specs.Placing.{codes_kept, placed_member, IsMember, IsRankIn}
 use Rattle.bypass_member.specs.Serving.{AreCodes, IsSpare}
 use Rattle.bypass_member.specs.Viewing.{HasMembers, IsIn, IsAt}
 use Rattle.bypass_member.specs.declared.entry.Entry.{Entry}
@@ -30,13 +30,14 @@ use Rattle.layer_mean.specs.State.{State}
 use Rattle.packet_mean.specs.declared.here.Here.{Here}
 use Rattle.run_mean.specs.Mode.{Mode}
 use Rattle.run_mean.specs.Common.{is_common, as_sent}
-use Rattle.run_mean.specs.Report.{counted}
-use Rattle.run_mean.specs.Member.{Member, inside, out, Input, Refusal, Entered, entered, first_task, Step, step_from}
+use Rattle.run_mean.specs.Report.{visit_count}
+use Rattle.run_mean.specs.Member.{Member, inside, out, Input, Refusal, Entered, entered_input, first_task, Step}
+use Rattle.run_mean.specs.Member.{step_from}
 use Rattle.run_mean.specs.Member.{member_behind}
 use Rattle.stack_queue.specs.Taken.{taken_behind}
 use Rattle.step_outputs.specs.Gathered.{Gathered}
 use Rattle.view_core.specs.Refusals.{refusal_meant}
-use Rattle.view_core.specs.Steps.{changed}
+use Rattle.view_core.specs.Steps.{installed_change}
 use Rattle.view_core.specs.declared.refusal.Refusal as refusal
 use Rattle.view_core.specs.declared.refusal.Refusal.TheVariants as reasons
 use Rattle.member_reads.specs.Shown.{member_in}
@@ -58,7 +59,8 @@ ranked m view is at = subst (λ (v : Option View). IsRankIn v m.id m.rank) at is
 abbrev pub here_at : Inside → View → Here
 here_at m view = record { group = m.group; stamp = m.stamp; view = view; rank = m.rank }
 
-pub stands : (m : Inside) (view : View) → IsMember m → m.view ≡ Some view → here_at m view ≡ here_in (placed m) view
+pub stands : (m : Inside) (view : View) → IsMember m → m.view ≡ Some view →
+    here_at m view ≡ here_in (placed_member m) view
 stands m view is at = ap (λ (r : ℕ). record { group = m.group; stamp = m.stamp; view = view; rank = r })
     (ranked m view is at).0
 
@@ -68,7 +70,7 @@ refused_out p input is = ap (λ (m : Member). step_at p m input) is
 
 module _ (p : Placed) (view : View) (states : List State) (input : Input) (is : p.member ≡ inside view states) where
   -- one in a view refuses what doesn't enter
-  pub refused_in : (reason : refusal.Refusal) → entered p.stack p.plans (here_in p view) input ≡
+  pub refused_in : (reason : refusal.Refusal) → entered_input p.stack p.plans (here_in p view) input ≡
       Err (refusal_meant reason) →
       step_of p input ≡ Err (refusal_meant reason)
   refused_in reason not = ap (λ (m : Member). step_at p m input) is ∙
@@ -78,7 +80,7 @@ module _ (p : Placed) (view : View) (states : List State) (input : Input) (is : 
   abbrev its : Entered → Step
   its what = step_from p.stack (here_in p view) p.id states what
 
-  pub steps_in : (what : Entered) → entered p.stack p.plans (here_in p view) input ≡ Ok what →
+  pub steps_in : (what : Entered) → entered_input p.stack p.plans (here_in p view) input ≡ Ok what →
       step_of p input ≡ Ok (its what)
   steps_in what enters = ap (λ (m : Member). step_at p m input) is ∙
       ap (λ (e : Result Entered Refusal). step_in p view states e) enters
@@ -86,7 +88,8 @@ module _ (p : Placed) (view : View) (states : List State) (input : Input) (is : 
   pub takes : (g : Ground) (what : Entered) (old works : Works) (gathered : Gathered) (before after : ℕ) (took : Took)
       (new : Placed) →
       stack_of g ≡ p.stack → plans_in g ≡ p.plans → mode_of g ≡ p.mode → g.here.now ≡ here_in p view → g.id ≡ p.id →
-      entered p.stack p.plans (here_in p view) input ≡ Ok what → HasTaken g old what works gathered before after took →
+      entered_input p.stack p.plans (here_in p view) input ≡ Ok what →
+      HasTaken g old what works gathered before after took →
       states_in old ≡ states → p.taken ≡ taken_in old →
       new.member ≡ member_in (view_behind g.here.now.view took.change) (states_in works) → new.taken ≡ taken_in works →
       SamePlace p new →
@@ -108,8 +111,8 @@ module _ (p : Placed) (view : View) (states : List State) (input : Input) (is : 
             ∙ ap (λ (m : Member). member_after m (its what)) (sym is);
         outputs = taken.outputs ∙ (λ i. as_sent (mode i) (stack i) (plans i) (same i));
         common_is = taken.common ∙ common;
-        change_is = taken.change ∙ ap (λ (s : Step). changed s.installs) same;
-        visits = taken.visits ∙ (λ i. before + counted (mode i) (stack i) (plans i) (same i));
+        change_is = taken.change ∙ ap (λ (s : Step). installed_change s.installs) same;
+        visits = taken.visits ∙ (λ i. before + visit_count (mode i) (stack i) (plans i) (same i));
         taken_is =
             subst (λ (xs : List ℕ). IsTakenSo p.mode (is_common p.stack p.plans (its what)) p.taken
             (taken_at p p.member what) xs) (sym tells)
@@ -180,11 +183,11 @@ pub entered_is : (m : Inside) (stack other : Stack) (plans : Plans) (here : Here
     IsMember m → stack ≡ rc_value
     m.stack →
     other ≡ rc_value m.stack → plans ≡ rc_value m.plans → IsInput input →
-    entered (stack_tree stack) (plans_tree plans) here input ≡ Ok (entry_meant here entry) →
+    entered_input (stack_tree stack) (plans_tree plans) here input ≡ Ok (entry_meant here entry) →
     IsEntered (stack_tree other) (entry_meant here entry)
 entered_is m stack other plans here input entry is at too with small enters =
-    let its : entered (stack_tree other) (plans_of (stack_tree other)) here input ≡ Ok (entry_meant here entry) =
-    (λ i. entered (stack_tree ((too ∙ sym at) i))
+    let its : entered_input (stack_tree other) (plans_of (stack_tree other)) here input ≡ Ok (entry_meant here entry) =
+    (λ i. entered_input (stack_tree ((too ∙ sym at) i))
     ((ap (λ (s : Stack). plans_of (stack_tree s)) too ∙ sym is.plans_are ∙ ap plans_tree (sym with)) i) here input)
     ∙ enters in
     inputs_are_in_range (stack_tree other) here input (entry_meant here entry)
@@ -194,7 +197,7 @@ entered_is m stack other plans here input entry is at too with small enters =
 -- what enters is the same for what is equal
 pub entered_same : (stack stack' : Stack) (plans plans' : Plans) (here here' : Here) (input : Input)
     (r : Result Entered Refusal) → stack ≡ stack' →
-    plans ≡ plans' → here ≡ here' → entered (stack_tree stack) (plans_tree plans) here input ≡ r →
-    entered (stack_tree stack') (plans_tree plans') here' input ≡ r
+    plans ≡ plans' → here ≡ here' → entered_input (stack_tree stack) (plans_tree plans) here input ≡ r →
+    entered_input (stack_tree stack') (plans_tree plans') here' input ≡ r
 entered_same stack stack' plans plans' here here' input r at with there is =
-    (λ i. entered (stack_tree (sym at i)) (plans_tree (sym with i)) (sym there i) input) ∙ is
+    (λ i. entered_input (stack_tree (sym at i)) (plans_tree (sym with i)) (sym there i) input) ∙ is

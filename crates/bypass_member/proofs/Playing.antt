@@ -21,7 +21,7 @@ use Rattle.layer_mean.specs.declared.run.Event.{Event}
 use Rattle.layer_mean.specs.State.{State}
 use Rattle.layer_mean.specs.Tree.{LayerTree}
 use Rattle.layer_mean.specs.Queue.{Task, Work, run}
-use Rattle.stack_mean.specs.Acceptance.{accepted, cost_in, largest_weight, rows_of, weight}
+use Rattle.stack_mean.specs.Acceptance.{acceptance, cost_in, largest_weight, rows_of, weight}
 use Rattle.stack_mean.specs.Graph.{Node, nodes}
 use Rattle.weight_laws.specs.Nodes.{task_node}
 use Rattle.msg_core.specs.declared.message.Header.{Header}
@@ -231,7 +231,7 @@ module _ (stack : List LayerTree) (here : Here) (id : ℕ) (states : List State)
         chained_bring stack p xs
         (subst (λ (outs : List (Dir × Event)). AllByRecursion (IsChainedOut stack) outs) (sym seen) kept.outs)
 
-    pub outs_few : accepted stack ≡ Ok stack → (p : List Held) (xs : List (Dir × PoolEvent)) →
+    pub outs_few : acceptance stack ≡ Ok stack → (p : List Held) (xs : List (Dir × PoolEvent)) →
         sent_seen p xs ≡ its.work.outs →
         length xs ≤ largest_weight stack
     outs_few accepts p xs seen =
@@ -341,6 +341,6 @@ module _ (g : Ground) (w : Works) (what : Entered) (q : List Held) (first : Pool
   pub all_bring : AllByRecursion BringsAsKind mid.outs.items
   all_bring = outs_bring (stack_of g) g.here.now g.id (states_in w) what a_step mid.pool mid.outs.items ended_so.outs
 
-  pub all_few : accepted (stack_of g) ≡ Ok (stack_of g) → length mid.outs.items ≤ largest_weight (stack_of g)
+  pub all_few : acceptance (stack_of g) ≡ Ok (stack_of g) → length mid.outs.items ≤ largest_weight (stack_of g)
   all_few accepts = outs_few (stack_of g) g.here.now g.id (states_in w) what a_step accepts mid.pool mid.outs.items
       ended_so.outs

@@ -57,7 +57,7 @@ pub covers_turned : (p : List Held) (xs ys : List ℕ) → Exact p (xs ++ ys) �
 covers_turned p xs ys e =
     record { covers = λ i. let is = e.exact i in omega (arith, times-append i xs ys, times-append i ys xs) }
 
--- behind a first reference of an event there is room for the joins of a run
+-- after a first reference of an event there is room for the joins of a run
 pub record Room (q : List Held) : Type 0 where
   pub joins : joins_limit ≤ spare q
   pub counts : CountsWithin most_at_first q

@@ -19,7 +19,7 @@ use Rattle.miss_laws.specs.Asked.{AllAsked, miss_asked}
 use Rattle.miss_laws.specs.Told.{AreChecksOf, MissesAreTold}
 use Rattle.miss_mean.specs.Lacks as lack
 use Rattle.miss_mean.specs.Lacks.{entry_named, miss_by, miss_of}
-use Rattle.stack_shapes.specs.Entries.{entry_for, planned}
+use Rattle.stack_shapes.specs.Entries.{entry_for, planned_entry}
 use Rattle.stack_shapes.specs.declared.entry.EntryOf.{EntryOf}
 use Rattle.step_misses.specs.Misses.{entry_meant, miss_meant}
 use Rattle.step_misses.specs.declared.miss.Miss.{Miss}
@@ -64,7 +64,7 @@ named plans (app_send to body) is = refl
 named plans app_leave is = absurd (cc is)
 named plans (clock_tick moment) is = absurd (cc is)
 named plans (from_peer p) is = ap (λ (e : lack.Entry). Some e) (go (least_fit plans p)) where
-  go : (number : Option ℕ) → option_map_or lack.plan number lack.none ≡ entry_meant (planned number)
+  go : (number : Option ℕ) → option_map_or lack.plan number lack.none ≡ entry_meant (planned_entry number)
   go None = refl
   go (Some number) = refl
 

@@ -8,11 +8,12 @@ use Rattle.msg_core.specs.declared.packet.View.{View}
 use Rattle.stack_mean.specs.Plan.{Plan}
 use Rattle.chain_laws.specs.Runs.{AreChainedStates}
 use Rattle.run_mean.specs.Common.{is_common, plan_behind, short_from, with_plans}
-use Rattle.run_mean.specs.Member.{Member, inside, out, Entered, Output, announced, installed, Step, member_behind}
+use Rattle.run_mean.specs.Member.{Member, inside, out, Entered, Output, announced_ranks, installed_member, Step}
+use Rattle.run_mean.specs.Member.{member_behind}
 use Rattle.member_laws.specs.Members.{IsEntered, IsChainedMember}
 use Rattle.member_laws.proofs.Members.{steps_keep_chains}
 use Rattle.step_outputs.specs.Gathered.{Gathered}
-use Rattle.view_core.specs.Steps.{changed}
+use Rattle.view_core.specs.Steps.{installed_change}
 use Rattle.view_core.specs.declared.step.Change.{Change}
 use Rattle.view_core.specs.declared.step.Change.TheVariants.{Into, Out}
 use Rattle.member_reads.specs.Shown.{member_in}
@@ -35,22 +36,23 @@ module _ (g : Ground) (old : Works) (what : Entered) where
   abbrev its : Step
   its = step_over g (states_in old) what
 
-  -- where the member is behind the step, by what was announced
+  -- where the member is after the step, by what was announced
   pub record Moves (mid last : Works) (change : Option Change) : Type 0 where
     pub ready : IsReady (stack_of g) g.most last
     pub members : (view : View) → view_behind g.here.now.view change ≡ Some view →
         HasMembers (stack_of g) g.most view g.id (states_in last)
     pub member : member_in (view_behind g.here.now.view change) (states_in last) ≡ member_behind g.here.now.view its
-    pub change_is : change ≡ changed its.installs
+    pub change_is : change ≡ installed_change its.installs
     pub taken : taken_in last ≡ taken_in mid
 
-  moves : (mid last : Works) (o : Option ℕ) (change : Option Change) → slice_get (filter_map announced its.outputs) 0 ≡
+  moves : (mid last : Works) (o : Option ℕ) (change : Option Change) →
+      slice_get (filter_map announced_ranks its.outputs) 0 ≡
       o →
       IsReady (stack_of g) g.most mid → HasMembers (stack_of g) g.most g.here.now.view g.id (states_in mid) →
       states_in mid ≡ its.work.states →
       Changes (stack_of g) g.most g.here.now.view g.id o mid last change → Moves mid last change
   moves mid last None None first ready members are h =
-      let installs : its.installs ≡ None = ap (option_map (installed (stack_of g) g.here.now.view g.id)) first in
+      let installs : its.installs ≡ None = ap (option_map (installed_member (stack_of g) g.here.now.view g.id)) first in
       record {
         ready = subst (λ (w : Works). IsReady (stack_of g) g.most w) (sym h) ready;
         members = λ view at.
@@ -61,30 +63,32 @@ module _ (g : Ground) (old : Works) (what : Entered) where
             ap (λ (w : Works). inside g.here.now.view (states_in w)) h ∙ ap (inside g.here.now.view) are
             ∙ ap (λ (m : Option Member). option_map_or (λ m. m) m (inside g.here.now.view its.work.states))
             (sym installs);
-        change_is = ap changed (sym installs);
+        change_is = ap installed_change (sym installs);
         taken = ap taken_in h;
       }
   moves mid last (Some ranks) (Some (Into next)) first ready members are h =
       let installs : its.installs ≡ Some (inside next (states_in last)) =
-      ap (option_map (installed (stack_of g) g.here.now.view g.id)) first ∙ ap (λ (m : Member). Some m) h.member in
+      ap (option_map (installed_member (stack_of g) g.here.now.view g.id)) first ∙
+      ap (λ (m : Member). Some m) h.member in
       record {
         ready = h.ready;
         members = λ view at. let same : next ≡ view = cc at in
             subst (λ (v : View). HasMembers (stack_of g) g.most v g.id (states_in last)) same h.members;
         member = ap (λ (m : Option Member). option_map_or (λ m. m) m (inside g.here.now.view its.work.states))
             (sym installs);
-        change_is = ap changed (sym installs);
+        change_is = ap installed_change (sym installs);
         taken = h.taken;
       }
   moves mid last (Some ranks) (Some Out) first ready members are h =
       let installs : its.installs ≡ Some out =
-      ap (option_map (installed (stack_of g) g.here.now.view g.id)) first ∙ ap (λ (m : Member). Some m) h.member in
+      ap (option_map (installed_member (stack_of g) g.here.now.view g.id)) first ∙
+      ap (λ (m : Member). Some m) h.member in
       record {
         ready = h.ready;
         members = λ view at. absurd (cc at);
         member = ap (λ (m : Option Member). option_map_or (λ m. m) m (inside g.here.now.view its.work.states))
             (sym installs);
-        change_is = ap changed (sym installs);
+        change_is = ap installed_change (sym installs);
         taken = h.taken;
       }
   moves mid last None (Some change) first ready members are h = absurd h
@@ -102,19 +106,22 @@ module _ (g : Ground) (old : Works) (what : Entered) where
       IsGround g → AreChainedStates (stack_of g) (states_in old) → IsEntered (stack_of g) what →
       HasGone g old what mid gathered before after common →
       Changes (stack_of g) g.most g.here.now.view g.id
-      (slice_get (filter_map announced (map (λ (o : Output × Option ℕ). o.0) gathered.outputs)) 0)
+      (slice_get (filter_map announced_ranks (map (λ (o : Output × Option ℕ). o.0) gathered.outputs)) 0)
       mid last change →
       HasTaken g old what last gathered before after (record { common = common; change = change })
   taken mid last gathered before after common change ground chained is_entered gone changes =
       let told : map (λ (o : Output × Option ℕ). o.0) gathered.outputs ≡ its.outputs =
       ap (λ (os : List (Output × Option ℕ)). map (λ (o : Output × Option ℕ). o.0) os) gone.outputs
       ∙ told_back (plans_in g) (short_from (mode_of g) (stack_of g) (plans_in g) its) its.outputs in
-      let so : Changes (stack_of g) g.most g.here.now.view g.id (slice_get (filter_map announced its.outputs) 0) mid
+      let so : Changes (stack_of g) g.most g.here.now.view g.id (slice_get (filter_map announced_ranks its.outputs) 0)
+      mid
       last change =
       subst (λ (os : List Output).
-      Changes (stack_of g) g.most g.here.now.view g.id (slice_get (filter_map announced os) 0) mid last change) told
+      Changes (stack_of g) g.most g.here.now.view g.id (slice_get (filter_map announced_ranks os) 0) mid last change)
+      told
       changes in
-      let moved = moves mid last (slice_get (filter_map announced its.outputs) 0) change refl gone.ready gone.members
+      let moved = moves mid last (slice_get (filter_map announced_ranks its.outputs) 0) change refl gone.ready
+      gone.members
       gone.states_are so in
       let kept = steps_keep_chains (stack_of g) g.here.now g.id (states_in old) what ground.typed ground.here chained
       is_entered in record {

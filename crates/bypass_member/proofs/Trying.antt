@@ -13,7 +13,7 @@ use Rattle.layer_mean.specs.declared.run.Event.{Event}
 use Rattle.layer_mean.specs.State.{State}
 use Rattle.layer_mean.specs.Tree.{LayerTree}
 use Rattle.packet_mean.specs.declared.here.Here.{Here}
-use Rattle.stack_mean.specs.Acceptance.{accepted, largest_weight, rows_of}
+use Rattle.stack_mean.specs.Acceptance.{acceptance, largest_weight, rows_of}
 use Rattle.stack_mean.specs.Plan.{Plan}
 use Rattle.stack_queue.specs.Stages.{Stand}
 use Rattle.run_mean.specs.Member.{Entered, app_cast, app_send, app_leave, clock_tick, from_peer, Output}
@@ -80,7 +80,7 @@ module _ (g : Ground) (w : Works) (what : Entered) (ground : IsGround g)
       (sym (its_count (plans_in g) g.here.now what))
       (sym (its_ltime (plans_in g) g.here.now what)) (stack_of g) (states_in w) is_in.members.own
 
-  pub handles : StepsAreHandled → accepted (stack_of g) ≡ Ok (stack_of g) → IsEntered (stack_of g) what →
+  pub handles : StepsAreHandled → acceptance (stack_of g) ≡ Ok (stack_of g) → IsEntered (stack_of g) what →
       (codes : CodesTree) →
       codes_in g ≡ Some codes → (case : Case) → Handles g (states_in w) what codes case
   handles law accepts is_entered codes is case =

@@ -8,14 +8,14 @@ use Rattle.layer_mean.specs.Tree.{LayerTree}
 use Rattle.stack_mean.specs.Plan.{Plan}
 use Rattle.file_layer.specs.Layer.{refs_of, taken_by, state_in}
 use Rattle.stack_shapes.specs.Trees.{plans_tree}
-use Rattle.run_mean.specs.Member.{inside, Input, Refusal, Entered, entered, Output, Step, step_from}
+use Rattle.run_mean.specs.Member.{inside, Input, Refusal, Entered, entered_input, Output, Step, step_from}
 use Rattle.step_misses.specs.declared.miss.Miss.{Miss}
 use Rattle.step_outputs.specs.Gathered.{Gathered}
 use Rattle.member_reads.specs.Shown.{member_in}
 use Rattle.bypass_member.specs.Attempting.{IsNotMade}
 use Rattle.bypass_member.specs.Modes.{mode_with}
 use Rattle.bypass_member.specs.Placed.{Placed, here_in, step_of}
-use Rattle.bypass_member.specs.Placing.{codes_kept, placed}
+use Rattle.bypass_member.specs.Placing.{codes_kept, placed_member}
 use Rattle.bypass_member.specs.Probing.{InputLacks, IsNotTaken, Lacks}
 use Rattle.bypass_member.specs.Stepping.{stack_of, plans_in, step_over}
 use Rattle.bypass_member.specs.Working.{states_in, AreSame}
@@ -36,8 +36,8 @@ refused_is_not p input new outs reason why same none = record {
 -- a member whose layers and pool are the same is placed the same
 pub same_placed : (m m' : Inside) → m' ≡ record m { scan = m'.scan; works = m'.works; scratch = m'.scratch } →
     AreSame m.works m'.works →
-    placed m' ≡ placed m
-same_placed m m' is same = ap placed is ∙ (λ i. record {
+    placed_member m' ≡ placed_member m
+same_placed m m' is same = ap placed_member is ∙ (λ i. record {
   stack = stack_tree (rc_value m.stack);
   plans = plans_tree (rc_value m.plans);
   mode = mode_with (codes_kept m);
@@ -55,7 +55,7 @@ module _ (p : Placed) (view : View) (states : List State) (input : Input) (is : 
   pub left : (g : Ground) (what : Entered) (old works : Works) (gathered : Gathered) (miss : Option Miss)
       (new : Placed) →
       stack_of g ≡ p.stack → plans_in g ≡ p.plans → g.here.now ≡ here_in p view → g.id ≡ p.id →
-      entered p.stack p.plans (here_in p view) input ≡ Ok what → states_in old ≡ states →
+      entered_input p.stack p.plans (here_in p view) input ≡ Ok what → states_in old ≡ states →
       IsNotMade g old what works gathered miss → new ≡ p →
       IsNotTaken p input new gathered.outputs miss
   left g what old works gathered miss new stack plans here id enters are not same =

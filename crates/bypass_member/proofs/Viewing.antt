@@ -1,4 +1,4 @@
--- A member comes into the view behind its own.
+-- A member comes into the view after its own.
 use Rattle.std.proofs.Common.{◌≡◌, ◌∙◌, ℕ, ◌<◌, ◌≤◌, Bool, true, false, nat_lt, ltb-true, List, [], map, length, Option}
 use Rattle.std.proofs.Common.{Some, None, position, refl, sym, ap, subst, arith}
 use Rattle.std.specs.Prelude.{◌==◌, if◌then◌else◌}
@@ -12,7 +12,7 @@ use Rattle.layer_mean.specs.State.{State}
 use Rattle.layer_mean.specs.Tree.{LayerTree}
 use Rattle.layer_mean.specs.Visit.{fresh}
 use Rattle.run_mean.specs.View.{next_view}
-use Rattle.run_mean.specs.Member.{inside, out, opened}
+use Rattle.run_mean.specs.Member.{inside, out, opened_member}
 use Rattle.chain_laws.proofs.Lists.{each_so}
 use Rattle.pool_laws.proofs.Views.{views_shrink}
 use Rattle.trace_laws.specs.Members.{AreOf}
@@ -36,7 +36,7 @@ position_below p xs k is = go (nat_lt (position_or_len p xs) (length xs)) refl i
 pub rank_below : (view : View) (id me : ℕ) → rank view id ≡ Some me → me < member_count view
 rank_below view id me is = position_below (λ other. other == id) (ids view) me is
 
--- what was enough for a view is so for the one behind it
+-- what was enough for a view is so for the one after it
 
 pub fewer_now : (view next : View) (ranks count : ℕ) (states : List State) → next_view view ranks ≡ Some next →
     count ≡ member_count next →
@@ -59,7 +59,7 @@ fresh_own view id me stack states at fresh_are =
     (fresh_are_of (input_at view id) stack)
 
 pub opened_is : (stack : List LayerTree) (view : View) (id me : ℕ) → rank view id ≡ Some me →
-    opened stack view id ≡
+    opened_member stack view id ≡
     inside view (map (λ (layer : LayerTree). fresh layer me (member_count view) view.ltime) stack)
 opened_is stack view id me at =
     ap (λ (o : Option ℕ).
@@ -80,7 +80,7 @@ module _ (stack : List LayerTree) (most : ℕ) (view next : View) (id ranks me :
       ready.stand.layers
       ∙ ap (λ (n : ℕ). map (λ (layer : LayerTree). fresh layer me n next.ltime) stack) same in
       let less = views_shrink view next ranks behind in let few = members.few in record {
-        member = ap (λ (o : Option View). option_map_or (λ n. opened stack n id) o out) behind ∙
+        member = ap (λ (o : Option View). option_map_or (λ n. opened_member stack n id) o out) behind ∙
             opened_is stack next id me at ∙ ap (inside next)
             (sym states);
         members = record {

@@ -1,4 +1,4 @@
--- Ranks in views, and views behind changes.
+-- Ranks in views, and views after changes.
 use Rattle.std.specs.Prelude.{ℕ, Option, Some, None}
 use Rattle.std.specs.Option.{option_map_or}
 use Rattle.msg_core.specs.View.{rank}
@@ -10,7 +10,7 @@ use Rattle.view_core.specs.declared.step.Change.TheVariants.{Into, Out}
 abbrev pub rank_of : View → ℕ → ℕ
 rank_of view id = option_map_or (λ r. r) (rank view id) 0
 
--- The view of a member behind a change.
+-- The view of a member after a change.
 abbrev pub view_behind : View → Option Change → Option View
 view_behind view (Some (Into next)) = Some next
 view_behind view (Some Out) = None

@@ -9,7 +9,7 @@ use Rattle.msg_core.specs.View.{member_count}
 use Rattle.msg_core.specs.declared.packet.View.{View}
 use Rattle.layer_mean.specs.Tree.{LayerTree}
 use Rattle.layer_mean.specs.Visit.{fresh}
-use Rattle.run_mean.specs.Member.{inside, opened}
+use Rattle.run_mean.specs.Member.{inside, opened_member}
 use Rattle.file_layer.specs.Layer.{place_of, tree_of, refs_of, IsInOrder, state_in}
 use Rattle.file_layer.specs.Making.{Making}
 use Rattle.file_layer.specs.declared.layer.FileLayer.{FileLayer}
@@ -48,7 +48,7 @@ MakesAll me count ltime old new (Err e) = MadeAtMost (length old.stack) old new
 -- A member works with this as it comes into its first view.
 pub record IsOpening (stack : List LayerTree) (view : View) (id : ℕ) (old new : Making) (w : Works) : Type 0 where
   pub ready : IsReady stack (member_count view) w
-  pub member : opened stack view id ≡ inside view (states_in w)
+  pub member : opened_member stack view id ≡ inside view (states_in w)
   pub members : HasMembers stack (member_count view) view id (states_in w)
   pub making : Made (length stack) old new
 

@@ -12,7 +12,7 @@ use Rattle.event_graph.specs.Answer.{stack_tree}
 use Rattle.stack_shapes.specs.Trees.{plans_tree}
 use Rattle.stack_shapes.specs.Starts.{starts_of, starts_tree}
 use Rattle.stack_shapes.specs.Shapes.{short_shapes}
-use Rattle.run_mean.specs.Member.{opened}
+use Rattle.run_mean.specs.Member.{opened_member}
 use Rattle.run_mean.specs.Mode.{Mode}
 use Rattle.file_layer.specs.Making.{Making}
 use Rattle.bypass_codes.specs.Codes.{CodesTree}
@@ -55,7 +55,7 @@ rows_in o view = rows_of (stack_in o) (member_count view)
 
 -- The member of this id is opened in its first view, with fresh layers, each of which was made.
 pub record IsOpen (o : Opening) (view : View) (id : ℕ) (before after : Making) (m : Placed) : Type 0 where
-  pub member : m.member ≡ opened (stack_in o) view id
+  pub member : m.member ≡ opened_member (stack_in o) view id
   pub stack_is : m.stack ≡ stack_in o
   pub plans_are : m.plans ≡ plans_in o
   pub mode_is : m.mode ≡ mode_in o

@@ -8,12 +8,13 @@ use Rattle.stack_mean.specs.Plan.{Plan}
 use Rattle.packet_mean.specs.declared.here.Here.{Here}
 use Rattle.run_mean.specs.Mode.{Mode}
 use Rattle.run_mean.specs.Common.{is_common, as_sent}
-use Rattle.run_mean.specs.Report.{counted}
-use Rattle.run_mean.specs.Member.{Member, inside, out, Input, Refusal, is_out, Entered, entered, first_task, Output}
+use Rattle.run_mean.specs.Report.{visit_count}
+use Rattle.run_mean.specs.Member.{Member, inside, out, Input, Refusal, is_out, Entered, entered_input, first_task}
+use Rattle.run_mean.specs.Member.{Output}
 use Rattle.run_mean.specs.Member.{Step, step_from, member_behind}
 use Rattle.stack_queue.specs.Taken.{taken_behind}
 use Rattle.view_core.specs.Refusals.{refusal_meant}
-use Rattle.view_core.specs.Steps.{changed}
+use Rattle.view_core.specs.Steps.{installed_change}
 use Rattle.view_core.specs.declared.refusal.Refusal as refusal
 use Rattle.view_core.specs.declared.step.Change.{Change}
 use Rattle.view_core.specs.declared.step.Stepped.{Stepped}
@@ -49,17 +50,17 @@ step_in p view states (Err reason) = Err reason
 -- The step of a member that is here, on an input, or why there is none.
 abbrev pub step_at : Placed → Member → Input → Result Step Refusal
 step_at p out input = Err is_out
-step_at p (inside view states) input = step_in p view states (entered p.stack p.plans (here_in p view) input)
+step_at p (inside view states) input = step_in p view states (entered_input p.stack p.plans (here_in p view) input)
 
 abbrev pub step_of : Placed → Input → Result Step Refusal
 step_of p input = step_at p p.member input
 
--- The member behind a step that was taken.
+-- The member after a step that was taken.
 abbrev pub member_after : Member → Step → Member
 member_after out s = out
 member_after (inside view states) s = member_behind view s
 
--- How many events each layer has taken behind the run of what entered, of a member that is here.
+-- How many events each layer has taken after the run of what entered, of a member that is here.
 abbrev pub taken_at : Placed → Member → Entered → List ℕ
 taken_at p out what = p.taken
 taken_at p (inside view states) what = taken_behind p.stack states (first_task p.stack (here_in p view).rank what)
@@ -83,7 +84,7 @@ pub record Refuses (old : Placed) (input : Input) (new : Placed) (outs : List (O
   pub none : outs ≡ []
   pub visits : after ≡ before
 
--- An input was taken: the member is behind the step, the outputs are those that the step sends in the member's mode,
+-- An input was taken: the member is after the step, the outputs are those that the step sends in the member's mode,
 -- and so many visits more were made as it counts for in it. It is told whether the step was a common one, and where the
 -- member is now, if it installed something. In bypass mode a common step was no event to any layer; in any other each
 -- has taken what the run of the step comes to.
@@ -95,8 +96,8 @@ pub record Takes (old : Placed) (input : Input) (new : Placed) (outs : List (Out
   pub member : new.member ≡ member_after old.member step
   pub outputs : outs ≡ as_sent old.mode old.stack old.plans step
   pub common_is : common ≡ is_common old.stack old.plans step
-  pub change_is : change ≡ changed step.installs
-  pub visits : after ≡ before + counted old.mode old.stack old.plans step
+  pub change_is : change ≡ installed_change step.installs
+  pub visits : after ≡ before + visit_count old.mode old.stack old.plans step
   pub taken_is : IsTakenSo old.mode (is_common old.stack old.plans step) old.taken
       (taken_at old old.member step.entered) new.taken
   pub place : SamePlace old new

@@ -23,8 +23,8 @@ use Rattle.bypass_member.specs.declared.member.Member.TheInside.{Inside}
 abbrev pub codes_kept : Inside → Option CodesTree
 codes_kept m = option_map rc_value m.codes
 
-abbrev pub placed : Inside → Placed
-placed m = record {
+abbrev pub placed_member : Inside → Placed
+placed_member m = record {
   stack = stack_tree (rc_value m.stack);
   plans = plans_tree (rc_value m.plans);
   mode = mode_with (codes_kept m);

@@ -13,7 +13,7 @@ use Rattle.step_misses.specs.declared.miss.Probed.TheVariants.{Common, Other, Mi
 use Rattle.view_core.specs.declared.step.Change.{Change}
 use Rattle.bypass_member.specs.Placed.{Placed, step_of, StandsIn, Takes}
 
--- It is a common step, and was made: the member is behind it, and what came out is told. No visit is counted.
+-- It is a common step, and was made: the member is after it, and what came out is told. No visit is counted.
 pub record IsTakenAsCommon (old : Placed) (input : Input) (new : Placed) (outs : List (Output × Option ℕ)) : Type 0
   where
     pub change : Option Change

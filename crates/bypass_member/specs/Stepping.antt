@@ -7,7 +7,7 @@ use Rattle.stack_mean.specs.Plan.{Plan}
 use Rattle.stack_mean.specs.Plans.{plans_of}
 use Rattle.run_mean.specs.Mode.{Mode}
 use Rattle.run_mean.specs.Common.{is_common, as_sent}
-use Rattle.run_mean.specs.Report.{counted}
+use Rattle.run_mean.specs.Report.{visit_count}
 use Rattle.run_mean.specs.Member.{Entered, Output, Step, first_task, step_from, member_behind}
 use Rattle.chain_laws.specs.Runs.{TypedStack}
 use Rattle.member_laws.specs.Members.{IsHere}
@@ -19,7 +19,7 @@ use Rattle.layer_eval.specs.Did.{as_predicted}
 use Rattle.layer_eval.specs.declared.predicted.Predicted.{Predicted}
 use Rattle.step_outputs.specs.Gathered.{Gathered}
 use Rattle.stack_queue.specs.Taken.{taken_behind}
-use Rattle.view_core.specs.Steps.{changed}
+use Rattle.view_core.specs.Steps.{installed_change}
 use Rattle.member_reads.specs.Shown.{member_in}
 use Rattle.bypass_codes.specs.Codes.{CodesTree}
 use Rattle.bypass_member.specs.Behind.{rank_of, view_behind}
@@ -61,7 +61,7 @@ pub record IsGround (g : Ground) : Type 0 where
 abbrev pub step_over : Ground → List State → Entered → Step
 step_over g states what = step_from (stack_of g) g.here.now g.id states what
 
--- How many events each layer has taken behind the run of that step.
+-- How many events each layer has taken after the run of that step.
 abbrev pub taken_over : Ground → List State → Entered → List ℕ → List ℕ
 taken_over g states what taken = taken_behind (stack_of g) states (first_task (stack_of g) g.here.now.rank what) taken
 
@@ -92,7 +92,7 @@ pub record HasGone (g : Ground) (old : Works) (what : Entered) (new : Works) (ou
   pub outputs : out.outputs ≡ as_sent (mode_of g) (stack_of g) (plans_in g) (step_over g (states_in old) what)
   pub here : out.here ≡ g.here.now
   pub common : result ≡ is_common (stack_of g) (plans_in g) (step_over g (states_in old) what)
-  pub visits : after ≡ before + counted (mode_of g) (stack_of g) (plans_in g) (step_over g (states_in old) what)
+  pub visits : after ≡ before + visit_count (mode_of g) (stack_of g) (plans_in g) (step_over g (states_in old) what)
   pub taken : IsTakenSo (mode_of g) (is_common (stack_of g) (plans_in g) (step_over g (states_in old) what))
       (taken_in old)
       (taken_over g (states_in old) what (taken_in old)) (taken_in new)
@@ -107,8 +107,8 @@ pub record HasTaken (g : Ground) (old : Works) (what : Entered) (new : Works) (o
   pub outputs : out.outputs ≡ as_sent (mode_of g) (stack_of g) (plans_in g) (step_over g (states_in old) what)
   pub here : out.here ≡ g.here.now
   pub common : result.common ≡ is_common (stack_of g) (plans_in g) (step_over g (states_in old) what)
-  pub change : result.change ≡ changed (step_over g (states_in old) what).installs
-  pub visits : after ≡ before + counted (mode_of g) (stack_of g) (plans_in g) (step_over g (states_in old) what)
+  pub change : result.change ≡ installed_change (step_over g (states_in old) what).installs
+  pub visits : after ≡ before + visit_count (mode_of g) (stack_of g) (plans_in g) (step_over g (states_in old) what)
   pub taken : IsTakenSo (mode_of g) (is_common (stack_of g) (plans_in g) (step_over g (states_in old) what))
       (taken_in old)
       (taken_over g (states_in old) what (taken_in old)) (taken_in new)

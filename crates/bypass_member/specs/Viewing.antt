@@ -8,7 +8,7 @@ use Rattle.msg_core.specs.declared.packet.View.{View}
 use Rattle.layer_mean.specs.State.{State}
 use Rattle.layer_mean.specs.Tree.{LayerTree}
 use Rattle.layer_mean.specs.Visit.{fresh}
-use Rattle.run_mean.specs.Member.{inside, out, installed}
+use Rattle.run_mean.specs.Member.{inside, out, installed_member}
 use Rattle.member_laws.specs.Members.{IsInside}
 use Rattle.view_core.specs.declared.step.Change.{Change}
 use Rattle.view_core.specs.declared.step.Change.TheVariants.{Into, Out}
@@ -57,17 +57,17 @@ pub record Anew (me count ltime : ℕ) (p q : List Held) (old new : List FileLay
   pub taken : map taken_by new ≡ map taken_by old
   pub moved : Moved p q (flat_map refs_of old) []
 
--- A member comes into the view behind its own in which these ranks are, with fresh layers; or it is in none any more.
+-- A member comes into the view after its own in which these ranks are, with fresh layers; or it is in none any more.
 -- Either way its layers took as many events as before.
 pub record ComesInto (stack : List LayerTree) (most : ℕ) (view : View) (id ranks : ℕ) (next : View) (old w : Works) :
     Type 0 where
-  pub member : installed stack view id ranks ≡ inside next (states_in w)
+  pub member : installed_member stack view id ranks ≡ inside next (states_in w)
   pub members : HasMembers stack most next id (states_in w)
   pub ready : IsReady stack most w
   pub taken : taken_in w ≡ taken_in old
 
 pub record Leaves (stack : List LayerTree) (most : ℕ) (view : View) (id ranks : ℕ) (old w : Works) : Type 0 where
-  pub member : installed stack view id ranks ≡ out
+  pub member : installed_member stack view id ranks ≡ out
   pub ready : IsReady stack most w
   pub taken : taken_in w ≡ taken_in old
 

@@ -184,7 +184,8 @@ fn try_cases(
         tried.now.codes.now cases.Second }
     requires serves { ServesAll tried.now.codes.now values.old }
     requires begun { IsBegun ground.now out.old }
-    ensures made { MakesCommon ground.now works.old (entry_meant ground.now.here.now entry.now) works.new out.new result }
+    ensures made { MakesCommon ground.now works.old (entry_meant ground.now.here.now entry.now) works.new out.new
+        result }
     ensures serves { ServesAll tried.now.codes.now values.new }
     ensures places { out.new.places ≡ out.old.places }
 {
@@ -217,7 +218,8 @@ pub(crate) fn make_common<'x>(
     requires what { (here : stands.Here) → what ≡ entry_for (plans_in ground.now) (entry_meant here entry.now) }
     requires fields { AreGiven ground.now entry.now scratch.old.fields.items }
     requires out { out.old.places ≡ largest_weight (stack_of ground.now) }
-    ensures made { MakesCommon ground.now works.old (entry_meant ground.now.here.now entry.now) works.new out.new result }
+    ensures made { MakesCommon ground.now works.old (entry_meant ground.now.here.now entry.now) works.new out.new
+        result }
     ensures spare { IsSpare (codes_in ground.now) (plans_in ground.now) scratch.new }
     ensures fields { scratch.new.fields ≡ scratch.old.fields }
     ensures places { out.new.places ≡ out.old.places }

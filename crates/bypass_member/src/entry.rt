@@ -10,7 +10,7 @@ ghost use Rattle.packet_mean.specs.Received.{received};
 ghost use Rattle.packet_mean.specs.Spelling.{AreBytes};
 ghost use Rattle.packet_mean.specs.declared.here.Here.{Here};
 ghost use Rattle.stack_shapes.specs.Trees.{plans_tree};
-ghost use Rattle.run_mean.specs.Member.{entered};
+ghost use Rattle.run_mean.specs.Member.{entered_input};
 ghost use Rattle.view_core.specs.Steps.{input_meant};
 ghost use Rattle.bypass_member.specs.Judged.{entry_meant, Judges, LiesWithin};
 
@@ -67,7 +67,7 @@ pub(crate) fn judge<'b>(
     scan: &'b mut Scan,
 ) -> Result<Entry<'b>, Refusal>
     ensures judged { Judges here.now
-        (entered (stack_tree stack.now) (plans_tree plans.now) here.now (input_meant input.entry)) result }
+        (entered_input (stack_tree stack.now) (plans_tree plans.now) here.now (input_meant input.entry)) result }
     ensures lies { IfOk result LiesWithin }
     ensures input { IsInput (input_meant input.entry) }
 {

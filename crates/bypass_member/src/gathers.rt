@@ -13,7 +13,7 @@ use pool_message::Events;
 use slot_pool::Pool;
 use step_outputs::Outputs;
 
-/// Puts what came out behind the outputs that there are, in order, and gives its references back.
+/// Puts what came out after the outputs that there are, in order, and gives its references back.
 pub(crate) fn gather(outs: &mut Events, pool: &mut Pool, out: &mut Outputs)
     requires lie { SentLie pool.old outs.old.items }
     requires covers { Covers pool.old (sent_refs outs.old.items) }

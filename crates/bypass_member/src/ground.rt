@@ -31,7 +31,7 @@ pub(crate) struct Ground<'a> {
     pub(crate) most: u8,
 }
 
-/// Whether a step was a common one, and where the member is behind it, if it installed something.
+/// Whether a step was a common one, and where the member is after it, if it installed something.
 #[derive(Clone, Copy)]
 pub(crate) struct Took {
     pub(crate) common: bool,
@@ -51,7 +51,7 @@ pub(crate) fn rank_in(view: View, id: u8) -> u8
     }
 }
 
-/// The view that a member is in, and its rank in it, become those behind a change, if there was one.
+/// The view that a member is in, and its rank in it, become those after a change, if there was one.
 #[inline(always)]
 pub(crate) fn follow(view: &mut Option<View>, rank: &mut u8, id: u8, change: Option<Change>)
     ensures view { (before : View) → view.old ≡ Some before → view.new ≡ view_behind before change }

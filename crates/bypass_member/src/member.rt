@@ -61,9 +61,9 @@ impl Model for Member {
 
     ghost coded = { placed_code };
 
-    ghost use Rattle.bypass_member.specs.Placing.{placed, IsMember};
+    ghost use Rattle.bypass_member.specs.Placing.{placed_member, IsMember};
 
-    ghost view = { placed };
+    ghost view = { placed_member };
 
     ghost invariant = { IsMember };
 }
@@ -79,7 +79,7 @@ impl Member {
     ghost use Rattle.msg_core.specs.View.{rank};
     ghost use Rattle.slot_pool.specs.References.{Exact};
     ghost use Rattle.pool_laws.specs.Room.{slots_beyond};
-    ghost use Rattle.stack_mean.specs.Acceptance.{accepted, largest_weight, rows_of};
+    ghost use Rattle.stack_mean.specs.Acceptance.{acceptance, largest_weight, rows_of};
     ghost use Rattle.stack_mean.specs.Plans.{plans_of};
     ghost use Rattle.view_core.specs.Steps.{input_meant};
     ghost use Rattle.bypass_member.specs.Opening.{CanOpen, Opens};
@@ -287,7 +287,7 @@ impl Member {
     pub fn is_placed(&self)
         ensures typed { TypedStack self.now.stack }
         ensures plans { self.now.plans ≡ plans_of self.now.stack }
-        ensures accepted { accepted self.now.stack ≡ Ok self.now.stack }
+        ensures accepted { acceptance self.now.stack ≡ Ok self.now.stack }
     {
         self.stack.is_accepted();
     }

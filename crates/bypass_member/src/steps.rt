@@ -100,7 +100,8 @@ pub(crate) fn make_by_code<'x>(
     requires what { (here : stands.Here) → what ≡ entry_for (plans_in ground.now) (entry_meant here entry.now) }
     requires fields { AreGiven ground.now entry.now scratch.old.fields.items }
     requires out { out.old.places ≡ largest_weight (stack_of ground.now) }
-    ensures made { MakesByCode ground.now works.old (entry_meant ground.now.here.now entry.now) works.new out.new result }
+    ensures made { MakesByCode ground.now works.old (entry_meant ground.now.here.now entry.now) works.new out.new
+        result }
     ensures spare { IsSpare (codes_in ground.now) (plans_in ground.now) scratch.new }
     ensures fields { scratch.new.fields ≡ scratch.old.fields }
     ensures places { out.new.places ≡ out.old.places }

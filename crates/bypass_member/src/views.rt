@@ -4,7 +4,7 @@ ghost use Rattle.std.specs.Prelude.{◌<◌, ◌≤◌, map, slice_get};
 ghost use Rattle.std.specs.List.{AllByRecursion, filter_map, flat_map};
 ghost use Rattle.event_graph.specs.Answer.{stack_tree};
 ghost use Rattle.file_layer.specs.Layer.{refs_of, IsInOrder, state_in};
-ghost use Rattle.run_mean.specs.Member.{announced};
+ghost use Rattle.run_mean.specs.Member.{announced_ranks};
 ghost use Rattle.slot_pool.specs.References.{Covers};
 ghost use Rattle.bypass_member.specs.Viewing.{Anew, HasMembers, Installs, Changes};
 ghost use Rattle.bypass_member.specs.Working.{states_in, IsReady};
@@ -33,7 +33,7 @@ fn reset_all(layers: &mut Vec<FileLayer>, pool: &mut Pool, me: u32, count: u32, 
     }
 }
 
-/// Installs the view behind a member's own in which these ranks are, if there is one and the member is in it.
+/// Installs the view after a member's own in which these ranks are, if there is one and the member is in it.
 #[inline(never)]
 fn install(works: &mut Works, _stack: &Stack, _most: u8, view: View, id: u8, ranks: u32) -> Change
     requires ready { IsReady (stack_tree _stack.now) _most works.old }
@@ -70,7 +70,7 @@ pub(crate) fn change_view(
     requires ready { IsReady (stack_tree _stack.now) _most works.old }
     requires members { HasMembers (stack_tree _stack.now) _most view id (states_in works.old) }
     ensures { Changes (stack_tree _stack.now) _most view id
-        (slice_get (filter_map announced (map (λ o. o.0) out.now.outputs)) 0)
+        (slice_get (filter_map announced_ranks (map (λ o. o.0) out.now.outputs)) 0)
         works.old works.new result }
 {
     match out.first_announced() {

@@ -123,7 +123,7 @@ module _ {R : Type 0} where
       ap₂ (λ x xs. x ∷ xs) (ap (λ ns. framed s.frame ns s.rings) part)
       (kept_more most (s.at + s.count) block more rest laid.1.1)
 
-  -- a cell that begins behind a block
+  -- a cell that begins after a block
   pub record Begins (me n ltime most at : ℕ) (form : tree.Form) (s : StoredCell R) : Type 0 where
     pub place : s.at ≡ at
     pub count : s.count ≡ length (first_numbers me n ltime form)

@@ -23,7 +23,7 @@ module _ {R : Type 0} where
   none_in zero = refl
   none_in (suc n) = none_in n
 
-  -- the last of empty rings is empty, and so are those in front of it
+  -- the last of empty rings is empty, and so are those before it
   pub empty_popped : (olds news : List (VecDeque R Global)) (ring : VecDeque R Global) → olds ≡ news ++ ring ∷ [] →
       map deque_items olds ≡ replicate (length olds) [] →
       (map deque_items news ≡ replicate (length news) []) × (deque_items ring ≡ [])
@@ -34,7 +34,7 @@ module _ {R : Type 0} where
       ap (λ n. replicate n []) size
       ∙ sym (replicate_more (length news) []))
 
-  -- rings that are empty in front of a place and from it on are empty
+  -- rings that are empty before a place and from it on are empty
   pub all_empty : (shown : ℕ) (rows : List (List R)) → shown ≤ length rows → rows_of (take shown rows) ≡ [] →
       drop shown rows ≡ replicate (length rows - shown) [] → rows ≡ replicate (length rows) []
   all_empty zero rows within front back =

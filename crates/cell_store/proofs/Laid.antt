@@ -1,4 +1,4 @@
--- Cells that lie one behind the other: what is read and written of one.
+-- Cells that lie one after the other: what is read and written of one.
 use Rattle.std.proofs.lemmas.Bool.{le-ltb}
 use Rattle.std.proofs.Common.{◌≡◌, Bool, false, ◌&&◌, nat_lt, ℕ, zero, suc, ◌+◌, ◌-◌, ◌≤◌, ◌<◌, List, [], ◌∷◌, map}
 use Rattle.std.proofs.Common.{length, take, drop, slice_get, slice_index, slice_index_or, slice_set, Option, Some, None}
@@ -13,7 +13,7 @@ use Rattle.cell_store.specs.Rings.{CellQueues}
 use Rattle.cell_store.specs.Slots.{framed, slot_kept, FitsFrame, AreLaid, frames_of}
 use Rattle.cell_store.proofs.Written.{take_written}
 
--- there is no queue in front of the first
+-- there is no queue before the first
 pub no_room : (i : ℕ) (more : Bool) → false ≡ nat_lt i 0 && more
 no_room i more = ap (λ b. b && more) (sym (le-ltb i 0 (omega arith)))
 

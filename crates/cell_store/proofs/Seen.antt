@@ -7,7 +7,7 @@ use Rattle.layer_mean.specs.Tree as tree
 use Rattle.layer_mean.specs.Tree.{LayerTree, CellTree}
 use Rattle.layer_mean.specs.State as state
 use Rattle.layer_mean.specs.State.{State, Contents, no_cell, numbers_in, queues_in, cell_at, number_at, rows_at, row_at}
-use Rattle.layer_mean.specs.State.{has_room, with_number, with_rows, with_row, without_front, written, filled}
+use Rattle.layer_mean.specs.State.{has_room, with_number, with_rows, with_row, without_front, with_element, with_queue}
 use Rattle.layer_mean.specs.Visit.{bare_state, fresh, fresh_cell}
 use Rattle.layer_mean.specs.declared.run.Row.{Row}
 use Rattle.cell_store.specs.Kept.{KeptCell, numbers, queues, Kept, nothing_kept, numbers_kept, queues_kept, capacity_of}
@@ -89,12 +89,12 @@ module _ {R : Type 0} (see : R → Row) where
       (ap length (rows_seen k c i) ∙ length-map (kept_rows k c i) see)
 
   written_seen : (i v : ℕ) (cell : KeptCell R) → contents_seen see (number_set i v cell) ≡
-      written i v (contents_seen see cell)
+      with_element i v (contents_seen see cell)
   written_seen i v (numbers shape ns) = refl
   written_seen i v (queues shape capacity qs) = refl
 
   filled_seen : (i : ℕ) (rows : List R) (cell : KeptCell R) → contents_seen see (rows_set i rows cell) ≡
-      filled i (map see rows) (contents_seen see cell)
+      with_queue i (map see rows) (contents_seen see cell)
   filled_seen i rows (numbers shape ns) = refl
   filled_seen i rows (queues shape capacity qs) = ap state.queues (map-set (map see) qs i rows)
 
@@ -102,14 +102,14 @@ module _ {R : Type 0} (see : R → Row) where
   set_seen k c i v = ap (λ cells. record (state_of see k) { cells = cells })
       (map-set (contents_seen see) k.cells c (number_set i v (kept_at k c))
       ∙ ap (slice_set (map (contents_seen see) k.cells) c)
-      (written_seen i v (kept_at k c) ∙ ap (written i v) (sym (cell_seen k c))))
+      (written_seen i v (kept_at k c) ∙ ap (with_element i v) (sym (cell_seen k c))))
 
   pub rows_set_seen : (k : Kept R) (c i : ℕ) (rows : List R) → state_of see (with_kept_rows k c i rows) ≡
       with_rows (state_of see k) c i (map see rows)
   rows_set_seen k c i rows = ap (λ cells. record (state_of see k) { cells = cells })
       (map-set (contents_seen see) k.cells c (rows_set i rows (kept_at k c))
       ∙ ap (slice_set (map (contents_seen see) k.cells) c)
-      (filled_seen i rows (kept_at k c) ∙ ap (filled i (map see rows)) (sym (cell_seen k c))))
+      (filled_seen i rows (kept_at k c) ∙ ap (with_queue i (map see rows)) (sym (cell_seen k c))))
 
   pub last_seen : (k : Kept R) (c i : ℕ) (row : R) → state_of see (with_last k c i row) ≡
       with_row (state_of see k) c i (see row)

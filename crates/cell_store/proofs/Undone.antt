@@ -68,7 +68,7 @@ module _ {R : Type 0} where
   set_back i (numbers shape ns) = refl
   set_back i (queues shape capacity qs) = ap (queues shape capacity) (set-get_or qs i [])
 
-  -- rows that are as they were, behind other rows
+  -- rows that are as they were, after other rows
   pub back_again : (k : Kept R) (c i : ℕ) (rows rows' : List R) → i < length (queues_kept (kept_at k c)) →
       rows' ≡ kept_rows k c i →
       with_kept_rows (with_kept_rows k c i rows) c i rows' ≡ k
@@ -187,7 +187,7 @@ module _ {R : Type 0} where
   some_row [] j row is = absurd (cc is)
   some_row (x ∷ q) j row is = omega arith
 
-  -- a queue has room behind a row that was taken
+  -- a queue has room after a row that was taken
   pub room_left : (result : Option R) (k new : Kept R) (c i j : ℕ) (rows : List R) →
       result ≡ slice_get (kept_rows k c i) j →
       new ≡ with_kept_rows k c i rows → length rows ≡ length (kept_rows k c i) - 1 →

@@ -12,7 +12,7 @@ use Rattle.cell_store.proofs.Empty.{all_empty}
 use Rattle.cell_store.specs.Rings.{CellQueues, shown_rows, AreRings}
 
 module _ {A : Type 0} where
-  -- the front of a list that is written within or behind it
+  -- the front of a list that is written within or after it
   pub take_written : (n : ℕ) (xs : List A) (i : ℕ) (x : A) → take n (slice_set xs i x) ≡ slice_set (take n xs) i x
   take_written zero xs i x = refl
   take_written (suc n) [] i x = refl

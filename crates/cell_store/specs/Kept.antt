@@ -85,7 +85,7 @@ module _ {R : Type 0} where
   abbrev pub with_kept_rows : Kept R → ℕ → ℕ → List R → Kept R
   with_kept_rows k c i rows = with_kept k c (rows_set i rows (kept_at k c))
 
-  -- A row more at the back or in front of a queue, and one less in front or at the back.
+  -- A row more at the back or before a queue, and one less in front or at the back.
   abbrev pub with_last : Kept R → ℕ → ℕ → R → Kept R
   with_last k c i row = with_kept_rows k c i (kept_rows k c i ++ row ∷ [])
 
@@ -105,7 +105,7 @@ module _ {R : Type 0} where
   abbrev pub last_row : Kept R → ℕ → ℕ → Option R
   last_row k c i = kept_row k c i (length (kept_rows k c i) - 1)
 
-  -- All rows of some queues, of a cell, and of a state, one behind the other.
+  -- All rows of some queues, of a cell, and of a state, one after the other.
   abbrev pub rows_of : List (List R) → List R
   rows_of qs = flat_map (λ q. q) qs
 

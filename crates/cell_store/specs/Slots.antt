@@ -45,7 +45,7 @@ module _ {R : Type 0} where
   FitsFrame most (Numbers shape) count qs = (count ≤ size_of most shape) × (qs.rows ≡ [])
   FitsFrame most (Queues shape) count qs = (count ≡ 0) × (qs.most ≡ size_of most shape)
 
-  -- The cells' parts lie one behind the other between two places.
+  -- The cells' parts lie one after the other between two places.
   abbrev pub AreLaid : ℕ → ℕ → ℕ → List (StoredCell R) → Type 0
   AreLaid most at end [] = at ≤ end
   AreLaid most at end (s ∷ rest) =
@@ -86,7 +86,7 @@ module _ {R : Type 0} where
   abbrev pub slot_rows : List (StoredCell R) → List R
   slot_rows slots = flat_map (λ s. rows_of s.rings.rows) slots
 
-  -- Queue i of cell c has a row, and none in front of it has.
+  -- Queue i of cell c has a row, and none before it has.
   abbrev pub HasFirstIn : ℕ → Option (StoredCell R) → Type 0
   HasFirstIn i None = ⊥
   HasFirstIn i (Some s) = (0 < length (slice_index_or s.rings.rows i [])) × (rows_of (take i s.rings.rows) ≡ [])

@@ -247,7 +247,7 @@ impl<R> Cells<R> {
         slot.rings.push(index as usize, row);
     }
 
-    /// Puts a row in front of a queue.
+    /// Puts a row before a queue.
     pub fn put_front(&mut self, cell: u8, index: u32, row: R)
         requires { keeps_room self.old cell index (kept_capacity self.old cell) ≡ true }
         ensures { self.new ≡ with_first self.old cell index row }
@@ -256,7 +256,7 @@ impl<R> Cells<R> {
         slot.rings.put_front(index as usize, row);
     }
 
-    /// Takes the front row of a queue, which has room behind it.
+    /// Takes the front row of a queue, which has room after it.
     pub fn take(&mut self, cell: u8, index: u32) -> Option<R>
         ensures row { result ≡ first_row self.old cell index }
         ensures rest { self.new ≡ without_first self.old cell index }
@@ -270,7 +270,7 @@ impl<R> Cells<R> {
         }
     }
 
-    /// Takes the last row of a queue, which has room behind it.
+    /// Takes the last row of a queue, which has room after it.
     pub fn take_back(&mut self, cell: u8, index: u32) -> Option<R>
         ensures row { result ≡ last_row self.old cell index }
         ensures rest { self.new ≡ without_last self.old cell index }

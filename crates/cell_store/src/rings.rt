@@ -104,7 +104,7 @@ impl<R> Rings<R> {
         ring.push_back_reserved(row);
     }
 
-    /// Puts a row in front of a queue that has room.
+    /// Puts a row before a queue that has room.
     pub fn put_front(&mut self, index: usize, row: R)
         requires there { index < length self.old.rows }
         requires room { length (slice_index_or self.old.rows index []) < self.old.capacity }

@@ -1,4 +1,4 @@
-//! The cells of a layer, one behind the other.
+//! The cells of a layer, one after the other.
 
 ghost use Rattle.std.specs.Prelude.{◌≡◌, ◌+◌, ◌<◌, ◌≤◌, [], ◌++◌, ◌&&◌, true, nat_lt, length, map, replicate};
 ghost use Rattle.std.specs.Prelude.{slice_get, slice_index_or, option_copied, IfOk, IfNone, IfSome, OnOk, OnErr};
@@ -141,7 +141,7 @@ pub fn slot_at<R>(slots: &[StoredCell<R>], cell: u8) -> Option<&StoredCell<R>>
     slots.get(usize::from(cell))
 }
 
-/// Puts the first numbers of a cell behind those in the block.
+/// Puts the first numbers of a cell after those in the block.
 fn fill(
     block: &mut Vec<u32>,
     form: &Form,
@@ -164,7 +164,7 @@ fn fill(
     Ok(())
 }
 
-/// A cell with its first numbers behind those in the block.
+/// A cell with its first numbers after those in the block.
 fn fill_and_begin<R>(
     alloc: Global,
     block: &mut Vec<u32>,

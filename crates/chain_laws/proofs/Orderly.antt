@@ -10,7 +10,7 @@ use Rattle.layer_ast.specs.declared.tokens.Dir.{Dir}
 use Rattle.layer_ast.specs.declared.tokens.Dir.TheVariants.{Up, Down}
 use Rattle.layer_ast.specs.declared.tokens.Kind.{Kind}
 use Rattle.layer_mean.specs.Event.{carries}
-use Rattle.layer_mean.specs.Headers.{declared}
+use Rattle.layer_mean.specs.Headers.{header_of_tag}
 use Rattle.layer_mean.specs.Tree.{Carried, ContentTree, StatementTree, bind, assign, assign_square, push, take, branch}
 use Rattle.layer_mean.specs.Tree.{each, emit, StatementTrees, none, more, LayerTree}
 use Rattle.layer_mean.specs.Visit.{with_room}
@@ -33,7 +33,7 @@ sent_is layer blank sorts dir kind None b is h = tt
 sent_is layer blank sorts dir kind (Some c) false is h = absurd h
 sent_is layer blank sorts Up kind (Some c) true is h = is
 sent_is layer blank sorts Down kind (Some c) true is h =
-    (is, there (declared layer c.tag) _ h.declares (λ d listed rest. rw listed refl))
+    (is, there (header_of_tag layer c.tag) _ h.declares (λ d listed rest. rw listed refl))
 
 -- a handler of a message from above has it in its first slot
 abbrev Above : Bool → List Sort → Type 0

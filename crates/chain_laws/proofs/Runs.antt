@@ -10,12 +10,12 @@ use Rattle.msg_core.specs.declared.message.Header.{Header}
 use Rattle.layer_ast.specs.declared.tokens.Dir.{Dir}
 use Rattle.layer_ast.specs.declared.tokens.Dir.TheVariants.{Up, Down}
 use Rattle.layer_mean.specs.declared.run.Event.{Event}
-use Rattle.layer_mean.specs.Headers.{declared}
+use Rattle.layer_mean.specs.Headers.{header_of_tag}
 use Rattle.layer_mean.specs.Tree.{LayerTree, no_layer}
 use Rattle.layer_mean.specs.State.{State}
 use Rattle.layer_mean.specs.Visit.{Visited, step, no_state}
 use Rattle.layer_mean.specs.Queue.{Task, Work, beyond, tasks_of, is_place, taken_turn, next_of, run_for, layer_at}
-use Rattle.layer_mean.specs.Queue.{state_at, visited, layers, unstarted, run}
+use Rattle.layer_mean.specs.Queue.{state_at, visit_turn, layers, unstarted_work, run}
 use Rattle.packet_mean.specs.Chained.{IsChain}
 use Rattle.packet_mean.specs.ChainedState.{Numbers, IsFrom, IsEvent, IsChainedState, IsChainedEvent}
 use Rattle.chain_laws.specs.Typed.{TypedLayer}
@@ -145,7 +145,7 @@ module _ (stack : List LayerTree) (typed : TypedStack stack) where
     v = step (t.at - 1) (layer_at stack t.at) (state_at w t.at) t.dir t.event
 
     go : (b : Bool) → is_place (length stack) t.at ≡ b → IsChainedLine stack
-        (if b then taken_turn t.at rest (visited t.at w v) else record
+        (if b then taken_turn t.at rest (visit_turn t.at w v) else record
         { world = record w { outs = w.outs ++ (t.dir, t.event) ∷ [] }; tasks = rest })
     go true placed =
         let stays = visit_keeps t w placed states task in
@@ -191,7 +191,7 @@ runs_keep_chains stack turns r typed h = turns_keep stack typed turns r.tasks r.
 pub run_from_a_task : RunFromATask
 unfolding run
 run_from_a_task stack most states first typed h task =
-    turns_keep stack typed most (first ∷ []) (unstarted states) h tt (task, tt)
+    turns_keep stack typed most (first ∷ []) (unstarted_work states) h tt (task, tt)
 
 -- chains are short
 
@@ -205,7 +205,7 @@ chain_short : (above : List LayerTree) (place : ℕ) (hs : List Header) → IsCh
     length hs ≤ length above
 chain_short [] place hs is = rw is (omega arith)
 chain_short (layer ∷ above) place [] is = absurd is
-chain_short (layer ∷ above) place (h ∷ hs) is = there (declared layer h.tag) _ is (λ d declares is_d.
+chain_short (layer ∷ above) place (h ∷ hs) is = there (header_of_tag layer h.tag) _ is (λ d declares is_d.
     behind_short d.ends above (suc place) hs is_d.2 (chain_short above (suc place) hs))
 
 pub chains_are_short : ChainsAreShort

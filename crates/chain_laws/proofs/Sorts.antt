@@ -14,7 +14,7 @@ use Rattle.layer_mean.specs.declared.run.Row.{Row}
 use Rattle.layer_mean.specs.Tree.{Carried, part, whole, ItemsTree, Form, numbers, queue, queues, CellTree, LayerTree}
 use Rattle.layer_mean.specs.State as state
 use Rattle.layer_mean.specs.State.{State, Contents, no_cell, numbers_in, queues_in, cell_at, number_at, rows_at, row_at}
-use Rattle.layer_mean.specs.State.{has_room, with_cell, written, with_number, filled, with_rows, with_row}
+use Rattle.layer_mean.specs.State.{has_room, with_cell, with_element, with_number, with_queue, with_rows, with_row}
 use Rattle.layer_mean.specs.State.{without_front}
 use Rattle.layer_mean.specs.Value.{Scope, number_in, message_in, missing}
 use Rattle.packet_mean.specs.ChainedState.{IsNumber, Numbers, IsBody, IsMessage, KeptHeaders, EndsWith, IsRow, IsQueue}
@@ -217,7 +217,7 @@ with_held P layer s c held h so = record {
 
 number_written : (P : List Header → Type 0) (n i v : ℕ) (form : Form) (held : Contents) → IsNumber v →
     HoldsForm P n form held →
-    HoldsForm P n form (written i v held)
+    HoldsForm P n form (with_element i v held)
 number_written P n i v (numbers shape initial) (state.numbers ns) small h =
     (omega (arith, h.0, length-set ns i v), each_set IsNumber ns i v h.1 small)
 number_written P n i v (numbers shape initial) (state.queues qs) small h = absurd h
@@ -230,14 +230,14 @@ pub number_keeps : (P : List Header → Type 0) (layer : LayerTree) (s : State) 
     IsNumber v →
     IsState P layer (with_number s c i v)
 number_keeps P layer s c i v h small =
-    with_held P layer s c (written i v (cell_at s c)) h
+    with_held P layer s c (with_element i v (cell_at s c)) h
     (λ cell at is. number_written P s.count i v cell.form (cell_at s c) small is)
 
 -- other rows in a queue, where they are again rows of its form
 rows_filled : (P : List Header → Type 0) (n i : ℕ) (rows : List Row) (form : Form) (held : Contents) →
     HoldsForm P n form held →
     ((q : Queue) → queue_in form ≡ Some q → IsQueue P q.capacity q.items (slice_index_or (queues_in held) i []) →
-    IsQueue P q.capacity q.items rows) → HoldsForm P n form (filled i rows held)
+    IsQueue P q.capacity q.items rows) → HoldsForm P n form (with_queue i rows held)
 rows_filled P n i rows (numbers shape initial) (state.numbers ns) h so = h
 rows_filled P n i rows (numbers shape initial) (state.queues qs) h so = absurd h
 rows_filled P n i rows (queue capacity items) (state.numbers ns) h so = absurd h
@@ -255,7 +255,7 @@ rows_keep : (P : List Header → Type 0) (layer : LayerTree) (s : State) (c i : 
     ((q : Queue) → queue_at layer c ≡ Some q → IsQueue P q.capacity q.items (rows_at s c i) →
     IsQueue P q.capacity q.items rows) →
     IsState P layer (with_rows s c i rows)
-rows_keep P layer s c i rows h so = with_held P layer s c (filled i rows (cell_at s c)) h
+rows_keep P layer s c i rows h so = with_held P layer s c (with_queue i rows (cell_at s c)) h
     (λ cell at is. rows_filled P s.count i rows cell.form (cell_at s c) is (λ q form. so q (rw at form)))
 
 pub front_keeps : (P : List Header → Type 0) (layer : LayerTree) (s : State) (c i : ℕ) → IsState P layer s →

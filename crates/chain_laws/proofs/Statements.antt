@@ -16,14 +16,14 @@ use Rattle.layer_ast.specs.declared.tokens.Kind.{Kind}
 use Rattle.layer_mean.specs.declared.run.Event.{Event}
 use Rattle.layer_mean.specs.declared.run.Row.{Row}
 use Rattle.layer_mean.specs.Event.{carries, event_of}
-use Rattle.layer_mean.specs.Headers.{declared}
+use Rattle.layer_mean.specs.Headers.{header_of_tag}
 use Rattle.layer_mean.specs.Tree.{Carried, HeaderTree, MessageTree, ContentTree, EmissionTree, RowTree, StatementTree}
 use Rattle.layer_mean.specs.Tree.{bind, assign, assign_square, push, take, branch, each, emit, StatementTrees, none}
 use Rattle.layer_mean.specs.Tree.{more, LayerTree}
 use Rattle.layer_mean.specs.State.{State, flat_index, row_at, rows_at, has_room, with_number, with_row, without_front}
 use Rattle.layer_mean.specs.Value.{Scope, is_true, val, mval, message_in}
 use Rattle.layer_mean.specs.Effect.{Outcome, Act, done, after, in_order, with_slot, turns, row_of, with_slots}
-use Rattle.layer_mean.specs.Effect.{with_taken, header_of, sent_as, emitted, chosen, taking, does, acts}
+use Rattle.layer_mean.specs.Effect.{with_taken, header_of, sent_as, emitted_event, chosen_outcome, taking, does, acts}
 use Rattle.packet_mean.specs.ChainedState.{IsNumber, Numbers, IsMessage, EndsWith, IsRow, IsState, Brings, IsEvent}
 use Rattle.chain_laws.specs.Typed.{Small, sort_of, sort_under, Pushed, Content as SendsContent, Sends, Ends, Pushes}
 use Rattle.chain_laws.specs.Typed.{Takes, with_taken_sort, Typed, TypedAll}
@@ -41,13 +41,13 @@ sent_headers P Q Down headers = Q headers
 abbrev pub IsSent : (P Q : List Header → Type 0) → Dir × Event → Type 0
 IsSent P Q x = IsEvent (sent_headers P Q x.0) x.1
 
--- headers of which the first is one that a layer declares, with what stands behind it
+-- headers of which the first is one that a layer declares, with what stands after it
 pub record Popped (P : List Header → Type 0) (layer : LayerTree) (hs : List Header) : Type 0 where
   pub first : Header
   pub rest : List Header
   pub declaration : HeaderTree
   pub are : hs ≡ first ∷ rest
-  pub declares : declared layer first.tag ≡ Some declaration
+  pub declares : header_of_tag layer first.tag ≡ Some declaration
   pub fields : Numbers first.fields
   pub behind : HeadersOf P (sort_under declaration.ends) rest
 
@@ -55,7 +55,8 @@ pub record Popped (P : List Header → Type 0) (layer : LayerTree) (hs : List He
 -- this one on
 pub record Stands (P Q : List Header → Type 0) (layer : LayerTree) (place : ℕ) (blank : List Header) : Type 0 where
   pub blank_is : P blank
-  pub push_is : (h : Header) (d : HeaderTree) (hs : List Header) → h.layer ≡ place → declared layer h.tag ≡ Some d →
+  pub push_is : (h : Header) (d : HeaderTree) (hs : List Header) → h.layer ≡ place →
+      header_of_tag layer h.tag ≡ Some d →
       length h.fields ≡ d.fields → Numbers h.fields → HeadersOf P (sort_under d.ends) hs → Q (h ∷ hs)
   pub pop_is : (hs : List Header) → Q hs → Popped P layer hs
 
@@ -92,7 +93,7 @@ module _ (P Q : List Header → Type 0) (layer : LayerTree) (place : ℕ) (blank
   pushed_is : (sorts : List Sort) (c : ContentTree) (s : State) (l : Scope) → Pushed layer blank sorts c →
       IsState P layer s →
       IsScope P sorts l → IsMessage Q (pushed (header_of place c s l) (mval c.message s l))
-  pushed_is sorts c s l h state scope = there (declared layer c.tag) _ h.declares (λ d declares is.
+  pushed_is sorts c s l h state scope = there (header_of_tag layer c.tag) _ h.declares (λ d declares is.
       let m = mval_is P layer blank stands.blank_is sorts s l state scope c.message (sort_under d.ends) is.1 in
       record {
         headers = stands.push_is (header_of place c s l) d (mval c.message s l).headers refl declares
@@ -122,7 +123,7 @@ module _ (P Q : List Header → Type 0) (layer : LayerTree) (place : ℕ) (blank
 
   emitted_is : (sorts : List Sort) (e : EmissionTree) (s : State) (l : Scope) → AllByRecursion Small e.numbers →
       Sends layer blank sorts (carries e.kind) e.direction e.content → IsState P layer s → IsScope P sorts l →
-      IsSent P Q (e.direction, emitted place e s l)
+      IsSent P Q (e.direction, emitted_event place e s l)
   emitted_is sorts e s l small sends state scope =
       event_is (sent_headers P Q e.direction) e.kind (map (λ n. val n s l) e.numbers) _
       (vals_small s l (kept P layer sorts s l state scope) e.numbers small)
@@ -212,7 +213,7 @@ module _ (P Q : List Header → Type 0) (layer : LayerTree) (place : ℕ) (blank
 
   chosen_keeps : (sorts : List Sort) (b : Bool) (usual : Likely) (o p : Outcome) → Keeps P Q layer sorts o →
       Keeps P Q layer sorts p →
-      Keeps P Q layer sorts (chosen b usual o p)
+      Keeps P Q layer sorts (chosen_outcome b usual o p)
   chosen_keeps sorts true likely.First o p h i = h
   chosen_keeps sorts true likely.Else o p h i = h
   chosen_keeps sorts true likely.Two o p h i = h
@@ -226,7 +227,7 @@ module _ (P Q : List Header → Type 0) (layer : LayerTree) (place : ℕ) (blank
   taking_keeps sorts None o p h i = i
   taking_keeps sorts (Some r) o p h i = h r refl
 
-  -- one more act behind what was done before
+  -- one more act after what was done before
   after_keeps : (sorts : List Sort) (o : Outcome) (act : Act) → Keeps P Q layer sorts o →
       (IsState P layer o.state → IsScope P sorts o.scope → Keeps P Q layer sorts (act o.state o.scope)) →
       Keeps P Q layer sorts (after o act)
@@ -302,7 +303,7 @@ module _ (P Q : List Header → Type 0) (layer : LayerTree) (place : ℕ) (blank
       sent_is = (emitted_is sorts e s l h.0 h.1 state scope, tt);
     }
 
-    -- the statements of a block, behind what was done before
+    -- the statements of a block, after what was done before
     acts_keep : (xs : StatementTrees) (sorts : List Sort) (o : Outcome) → TypedAll layer blank sorts xs →
         Keeps P Q layer sorts o →
         Keeps P Q layer sorts (fold after o (acts place xs))

@@ -19,14 +19,15 @@ use Rattle.layer_ast.specs.declared.tokens.Kind.{Kind}
 use Rattle.layer_ast.specs.declared.tokens.Kind.TheVariants.{Cast, Send, Stable, Ack}
 use Rattle.layer_mean.specs.declared.run.Event.{Event}
 use Rattle.layer_mean.specs.Event.{carries, arguments, arguments_for}
-use Rattle.layer_mean.specs.Headers.{declared, header_none}
+use Rattle.layer_mean.specs.Headers.{header_of_tag, header_none}
 use Rattle.layer_mean.specs.Tree.{HeaderTree, Expected, always, common, rare, HandlerTree, Form, numbers, queue, queues}
 use Rattle.layer_mean.specs.Tree.{CellTree, LayerTree, no_layer}
 use Rattle.layer_mean.specs.State.{State, size_of}
 use Rattle.layer_mean.specs.Value.{Scope, is_true, val}
 use Rattle.layer_mean.specs.Effect.{usual, unusual, Outcome, decides, in_order, acts}
 use Rattle.layer_mean.specs.Visit.{no_scope, bare_state, fresh_cell, fresh, Met, behind, met, is_for, handler_for}
-use Rattle.layer_mean.specs.Visit.{entered, none_header, Visited, sent_on, unhandled, expecting, handled, step}
+use Rattle.layer_mean.specs.Visit.{entered_scope, none_header, Visited, sent_on, unhandled_visit, expecting}
+use Rattle.layer_mean.specs.Visit.{handled_visit, step}
 use Rattle.packet_mean.specs.Chained.{IsChain}
 use Rattle.packet_mean.specs.ChainedState.{IsNumber, Numbers, IsBody, IsFrom, IsMessage, HoldsForm, IsState, Brings}
 use Rattle.packet_mean.specs.ChainedState.{IsEvent, IsChainedEvent}
@@ -64,7 +65,7 @@ pub found : (P : HandlerTree → Type 0) (p : HandlerTree → Bool) (hs : List H
 found P p [] h = tt
 found P p (x ∷ hs) h = first_found P p x (find p hs) (p x) refl h.0 (found P p hs h.1)
 
--- what passes a layer that has no handler for it: going up it does behind `none` alone
+-- what passes a layer that has no handler for it: going up it does after `none` alone
 abbrev pub Passes : (List Header → Type 0) → Dir → Bool → ℕ → Option Content → Type 0
 Passes P dir b tag None = b ≡ false
 Passes P Down b tag (Some c) = (b ≡ true) × IsMessage P c
@@ -109,7 +110,7 @@ module _ (P Q : List Header → Type 0) (layer : LayerTree) (place : ℕ) (blank
           refl,
           is,
           λ none.
-              let e : p.declaration ≡ header_none = cc (ap (λ tag. declared layer tag) none, p.declares) in
+              let e : p.declaration ≡ header_none = cc (ap (λ tag. header_of_tag layer tag) none, p.declares) in
               subst (λ (d : HeaderTree). HeadersOf P (sort_under d.ends) p.rest) e p.behind,
         );
       }
@@ -127,7 +128,7 @@ module _ (P Q : List Header → Type 0) (layer : LayerTree) (place : ℕ) (blank
 
   unhandled_leaves : (s : State) (dir : Dir) (e : Event) (m : Met) (c : Option Content) → IsState P layer s →
       IsEvent (come_headers P Q dir) e →
-      Passes P dir (carries e.kind) m.tag c → Leaves P Q layer (unhandled place s dir e m c)
+      Passes P dir (carries e.kind) m.tag c → Leaves P Q layer (unhandled_visit place s dir e m c)
   unhandled_leaves s dir e m None state event passes = record {
     state = state;
     sent = (
@@ -177,7 +178,7 @@ module _ (P Q : List Header → Type 0) (layer : LayerTree) (place : ℕ) (blank
 
   pub entered_is : (h : HandlerTree) (e : Event) (m : Met) (dir : Dir) (b : Bool) → h.direction ≡ dir →
       carries h.kind ≡ b → h.tag ≡ m.tag →
-      Numbers (arguments e) → IsMet P layer dir b m → IsScope P (sorts_of layer h) (entered h e m)
+      Numbers (arguments e) → IsMet P layer dir b m → IsScope P (sorts_of layer h) (entered_scope h e m)
   entered_is h e m dir b same_dir same_kind same_tag small is = record {
     numbers_are = each_room IsNumber h.numbers 0 (arguments e ++ m.fields) zero_small
         (each_append IsNumber (arguments e) m.fields small is.fields_are);
@@ -190,13 +191,13 @@ module _ (P Q : List Header → Type 0) (layer : LayerTree) (place : ℕ) (blank
   handled_leaves : (o : Option HandlerTree) (s : State) (dir : Dir) (e : Event) (m : Met) →
       Where (λ h. TypedHandler layer blank h × (is_for dir e.kind m.tag h ≡ true)) o → IsState P layer s →
       IsEvent (come_headers P Q dir) e →
-      IsMet P layer dir (carries e.kind) m → Leaves P Q layer (handled place o s dir e m)
+      IsMet P layer dir (carries e.kind) m → Leaves P Q layer (handled_visit place o s dir e m)
   handled_leaves None s dir e m h state event is = unhandled_leaves s dir e m m.message state event is.passes
   handled_leaves (Some h) s dir e m typed state event is =
       let all = and_parts (sameb dir_row.the_type h.direction dir && sameb kind_row.the_type h.kind e.kind)
       (h.tag == m.tag) typed.1 in
       let both = and_parts (sameb dir_row.the_type h.direction dir) (sameb kind_row.the_type h.kind e.kind) all.0 in
-      let l = entered h e m in
+      let l = entered_scope h e m in
       let scope = entered_is h e m dir (carries e.kind) (same_true dir_row.the_type tt h.direction dir both.0)
       (ap carries (same_true kind_row.the_type tt h.kind e.kind both.1)) (eqb-true h.tag m.tag all.1)
       (arguments_small (come_headers P Q dir) e.kind e event) is in
@@ -222,7 +223,7 @@ from_layer [] place layer is = absurd (cc is)
 from_layer (first ∷ above) zero layer is = let e : first ≡ layer = cc is in ap (λ l. l ∷ above) e
 from_layer (first ∷ above) (suc place) layer is = from_layer above place layer is
 
--- what stands behind a header of a chain
+-- what stands after a header of a chain
 chain_behind : (ends : Bool) (stack : List LayerTree) (place : ℕ) (hs : List Header) →
     HeadersOf (IsFrom stack place) (sort_under ends) hs →
     MatchBool ends (hs ≡ []) (IsChain (drop place stack) place hs) × AllByRecursion (λ h. Numbers h.fields) hs
@@ -239,7 +240,7 @@ popped_from : (stack : List LayerTree) (place : ℕ) (layer : LayerTree) (hs : L
     IsChain (layer ∷ drop (suc place) stack) place hs → AllByRecursion (λ h. Numbers h.fields) hs →
     Popped (IsFrom stack (suc place)) layer hs
 popped_from stack place layer [] is fields = absurd is
-popped_from stack place layer (h ∷ hs) is fields = there (declared layer h.tag) _ is (λ d declares is_d. record {
+popped_from stack place layer (h ∷ hs) is fields = there (header_of_tag layer h.tag) _ is (λ d declares is_d. record {
   first = h;
   rest = hs;
   declaration = d;
@@ -258,7 +259,7 @@ stands stack place blank layer listed is = record {
       let on = chain_behind d.ends stack (suc place) hs h_behind in
       record {
         chain = rw (from_layer stack place layer listed)
-            (some_and (declared layer h.tag) _ d declares (at, count, on.0));
+            (some_and (header_of_tag layer h.tag) _ d declares (at, count, on.0));
         fields = (small, on.1);
       };
   pop_is = λ hs from. popped_from stack place layer hs (rw (from_layer stack place layer listed) at (from.chain))

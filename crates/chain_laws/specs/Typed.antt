@@ -1,5 +1,5 @@
 -- Layers whose visits keep chains, as it is seen from their trees alone: literals are numbers, the messages of the
--- scope and of queues are used as what they are, and each header that is pushed suits the message behind it. Everything
+-- scope and of queues are used as what they are, and each header that is pushed suits the message after it. Everything
 -- else has a meaning that keeps chains whatever it is.
 use Rattle.std.specs.Prelude.{◌≡◌, ℕ, Bool, true, false, if◌then◌else◌, List, [], ◌∷◌, length, slice_get, slice_set}
 use Rattle.std.specs.Prelude.{Option, Some, None, IsSomeAnd, option_map, option_and_then}
@@ -11,7 +11,7 @@ use Rattle.layer_ast.specs.declared.syntax.Sort.TheVariants.{Int, Msg, Part}
 use Rattle.layer_ast.specs.declared.tokens.Dir.{Dir}
 use Rattle.layer_ast.specs.declared.tokens.Dir.TheVariants.{Up, Down}
 use Rattle.layer_mean.specs.Event.{carries}
-use Rattle.layer_mean.specs.Headers.{declared}
+use Rattle.layer_mean.specs.Headers.{header_of_tag}
 use Rattle.layer_mean.specs.Tree.{Carried, part, whole, ExpressionTree, number, binary, pick, MessageTree, message}
 use Rattle.layer_mean.specs.Tree.{nothing, held, cut, tail, join, ContentTree, RowTree, ItemsTree, Form, numbers, queue}
 use Rattle.layer_mean.specs.Tree.{queues, StatementTree, bind, assign, assign_square, push, take, branch, each, emit}
@@ -67,13 +67,13 @@ Sorted layer blank sorts sort (tail m from) = Sorted layer blank sorts sort m
 Sorted layer blank sorts sort (join p m) = Sorted layer blank sorts sort m
 
 -- What is sent up is a message of the layers above. What is sent down gets a header that the layer declares, of as many
--- fields: one that ends stands in front of a part, and one that passes in front of a message of the layers above.
+-- fields: one that ends stands before a part, and one that passes before a message of the layers above.
 abbrev pub sort_under : Bool → Sort
 sort_under ends = if ends then Part else Msg
 
 pub record Pushed (layer : LayerTree) (blank : List Header) (sorts : List Sort) (c : ContentTree) : Type 0 where
   pub fields : AllByRecursion Small c.fields
-  pub declares : IsSomeAnd (declared layer c.tag) (λ d.
+  pub declares : IsSomeAnd (header_of_tag layer c.tag) (λ d.
       (length c.fields ≡ d.fields) × Sorted layer blank sorts (sort_under d.ends) c.message)
 
 abbrev pub Content : LayerTree → List Header → List Sort → Dir → ContentTree → Type 0
@@ -129,16 +129,16 @@ abbrev mutual
   Typed layer blank sorts (emit e) =
       AllByRecursion Small e.numbers × Sends layer blank sorts (carries e.kind) e.direction e.content
 
-  -- The statements of a block, each in the same scope: what a take fills is given back behind its block.
+  -- The statements of a block, each in the same scope: what a take fills is given back after its block.
   pub TypedAll : LayerTree → List Header → List Sort → StatementTrees → Type 0
   TypedAll layer blank sorts none = Unit {0}
   TypedAll layer blank sorts (more x rest) = Typed layer blank sorts x × TypedAll layer blank sorts rest
 
--- The sorts of the messages that a handler is entered with: behind a header that ends there is a part.
+-- The sorts of the messages that a handler is entered with: after a header that ends there is a part.
 abbrev pub met_sorts : LayerTree → Dir → Bool → ℕ → List Sort
 met_sorts layer dir false tag = []
 met_sorts layer Down true tag = Msg ∷ []
-met_sorts layer Up true tag = option_map_or (λ d. sort_under d.ends ∷ []) (declared layer tag) []
+met_sorts layer Up true tag = option_map_or (λ d. sort_under d.ends ∷ []) (header_of_tag layer tag) []
 
 abbrev pub sorts_of : LayerTree → HandlerTree → List Sort
 sorts_of layer h = with_room h.messages Int (met_sorts layer h.direction (carries h.kind) h.tag)

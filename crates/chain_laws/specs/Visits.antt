@@ -27,7 +27,7 @@ sent_place Down place = place
 abbrev pub IsChainedSent : List LayerTree → ℕ → Dir × Event → Type 0
 IsChainedSent stack place x = IsEvent (IsFrom stack (sent_place x.0 place)) x.1
 
--- What a visit leaves is chained: the state behind it, and all that it sent.
+-- What a visit leaves is chained: the state after it, and all that it sent.
 pub record StaysChained (stack : List LayerTree) (place : ℕ) (v : Visited) : Type 0 where
   pub state : IsChainedState stack place v.state
   pub sent : AllByRecursion (IsChainedSent stack place) v.sent

@@ -13,7 +13,7 @@ pub as_many_marks : (before lines : List Line) → length (marks before lines) �
 as_many_marks before [] = refl
 as_many_marks before (line ∷ lines) = ap suc (as_many_marks (before ++ line ∷ []) lines)
 
--- the spelling of a byte in front of escaped text is escaped, by the tests that tell how it is spelled
+-- the spelling of a byte before escaped text is escaped, by the tests that tell how it is spelled
 byte_escaped : (byte : ℕ) (rest : List ℕ) → is_escaped rest ≡ true → is_escaped (escaped_byte byte ++ rest) ≡ true
 byte_escaped byte rest behind = amp (byte == 38) refl where
   plain : (p : Bool) → (nat_le 32 byte && nat_le byte 126) ≡ p → (byte == 38) ≡ false → (byte == 60) ≡ false →

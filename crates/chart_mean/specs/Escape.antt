@@ -16,11 +16,11 @@ escaped_byte byte =
 abbrev pub escaped : List ℕ → List ℕ
 escaped text = flat_map escaped_byte text
 
--- what stands behind an `&`
+-- what stands after an `&`
 abbrev pub names : List (List ℕ)
 names = codes "amp;" ∷ codes "lt;" ∷ codes "gt;" ∷ codes "quot;" ∷ codes "#65533;" ∷ []
 
--- this byte may stand in front of these: it is printable ASCII and no `<`, `>` or `"`, and an `&` begins a name
+-- this byte may stand before these: it is printable ASCII and no `<`, `>` or `"`, and an `&` begins a name
 abbrev pub may_stand : ℕ → List ℕ → Bool
 may_stand byte rest =
     (nat_le 32 byte && nat_le byte 126)

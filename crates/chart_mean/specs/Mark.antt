@@ -30,7 +30,7 @@ abbrev pub sender_of : Says → ℕ
 sender_of (packet member body) = member
 sender_of _ = 0
 
--- the bearer of a body behind one more line
+-- the bearer of a body after one more line
 abbrev pub bearer_next : Word → Option Sent → Line → Option Sent
 bearer_next wanted found line =
     if carries wanted line.says then Some (record { x = line.x; member = sender_of line.says }) else found
@@ -76,7 +76,7 @@ sign line = codes "<use href='#" ++ sign_of line.says ++ codes "'" ++ numbered (
 abbrev pub mark : Option Sent → Line → List ℕ
 mark sent line = title line ++ arrow sent line.x (y_of line.says) ++ sign line ++ tenth line ++ codes "</g>\n"
 
--- the marks of lines that stand behind others, one each
+-- the marks of lines that stand after others, one each
 abbrev pub marks : List Line → List Line → List (List ℕ)
 marks before [] = []
 marks before (line ∷ lines) = mark (bringer (bearer before) line.says) line ∷ marks (before ++ line ∷ []) lines

@@ -34,21 +34,21 @@ picture lines =
     ++ concat (marks [] lines)
     ++ codes "</svg>\n"
 
--- those of the lines of a report that are in a range: up to the last, but for those in front of the first
+-- those of the lines of a report that are in a range: up to the last, but for those before the first
 abbrev pub in_range : Range → List (List ℕ) → List (List ℕ)
 in_range range texts = drop (range.first - 1) (take range.last texts)
 
 -- the picture of a range of a report's lines
-abbrev pub pictured : Range → List (List ℕ) → List ℕ
-pictured range texts = picture (lines_from range.first 0 (in_range range texts))
+abbrev pub range_picture : Range → List (List ℕ) → List ℕ
+range_picture range texts = picture (lines_from range.first 0 (in_range range texts))
 
 -- a picture of what is a report; else the first line that is out of form
-abbrev pub drawn : Range → List (List ℕ) → Result (List ReportLine) ℕ → Result (List ℕ) AuditFault
-drawn range texts (Err line) = Err (bad_line line)
-drawn range texts (Ok said) = Ok (pictured range texts)
+abbrev pub report_picture : Range → List (List ℕ) → Result (List ReportLine) ℕ → Result (List ℕ) AuditFault
+report_picture range texts (Err line) = Err (bad_line line)
+report_picture range texts (Ok said) = Ok (range_picture range texts)
 
 -- the picture of a range of a text, unless that is too large or no report: the texts that an audit takes are those of
 -- which there is one
 abbrev pub chart_of : Range → List ℕ → Result (List ℕ) AuditFault
-chart_of range text = if is_too_large text then Err too_large else drawn range (lines_of text)
+chart_of range text = if is_too_large text then Err too_large else report_picture range (lines_of text)
     (report_from running 1 (lines_of text))

@@ -17,12 +17,12 @@ stay_of member (out m) = if m == member then Some Out else None
 stay_of member _ = None
 
 -- the turn of a line that stands here, if it says where the member is
-abbrev pub turned : ℕ → Option Stay → List Turn
-turned x None = []
-turned x (Some stay) = record { x = x; stay = stay } ∷ []
+abbrev pub stay_turn : ℕ → Option Stay → List Turn
+stay_turn x None = []
+stay_turn x (Some stay) = record { x = x; stay = stay } ∷ []
 
 abbrev pub turn_at : ℕ → Line → List Turn
-turn_at member line = turned line.x (stay_of member line.says)
+turn_at member line = stay_turn line.x (stay_of member line.says)
 
 -- a member's turns at these lines
 abbrev pub turns_at : ℕ → List Line → List Turn
@@ -51,25 +51,25 @@ label member x ltime mask =
     ++ codes " dx='4'>view " ++ decimal ltime ++ codes " mask " ++ decimal mask ++ codes "</text>"
 
 -- a band of no view that is known
-abbrev pub untold : ℕ → (x end : ℕ) → List ℕ
-untold member x end = codes "<g class='untold'>" ++ band member x end ++ codes "</g>\n"
+abbrev pub untold_band : ℕ → (x end : ℕ) → List ℕ
+untold_band member x end = codes "<g class='untold'>" ++ band member x end ++ codes "</g>\n"
 
 -- what the band of a view begins with: one of six tints, by the logical time
-abbrev pub tinted : ℕ → (x end ltime : ℕ) → List ℕ
-tinted member x end ltime = codes "<g class='view" ++ decimal (ltime % 6) ++ codes "'>" ++ band member x end
+abbrev pub tinted_band : ℕ → (x end ltime : ℕ) → List ℕ
+tinted_band member x end ltime = codes "<g class='view" ++ decimal (ltime % 6) ++ codes "'>" ++ band member x end
 
 -- a stay up to where it ends; who is out has none
-abbrev pub stayed : ℕ → (x end : ℕ) → Stay → List ℕ
-stayed member x end Untold = untold member x end
-stayed member x end (View ltime mask) = tinted member x end ltime ++ label member x ltime mask ++ codes "</g>\n"
-stayed member x end Out = []
+abbrev pub stay_band : ℕ → (x end : ℕ) → Stay → List ℕ
+stay_band member x end Untold = untold_band member x end
+stay_band member x end (View ltime mask) = tinted_band member x end ltime ++ label member x ltime mask ++ codes "</g>\n"
+stay_band member x end Out = []
 
 -- the stays of a member: from each turn to the next, and from the last to the end
 abbrev pub stays : ℕ → (end : ℕ) → Turn → List Turn → List ℕ
-stays member end turn [] = stayed member turn.x end turn.stay
-stays member end turn (next ∷ turns) = stayed member turn.x next.x turn.stay ++ stays member end next turns
+stays member end turn [] = stay_band member turn.x end turn.stay
+stays member end turn (next ∷ turns) = stay_band member turn.x next.x turn.stay ++ stays member end next turns
 
--- a member's number in front of its row
+-- a member's number before its row
 abbrev pub heading : ℕ → List ℕ
 heading member =
     codes "<text class='member'" ++ numbered (codes "x") (left - 12) ++ numbered (codes "y") (down member + 5) ++

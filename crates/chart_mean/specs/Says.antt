@@ -72,7 +72,7 @@ other_line verb = do
   member ← a_member
   λ behind. Some (other verb member, behind)
 
--- what stands behind the first word of a line
+-- what stands after the first word of a line
 abbrev pub behind_first : Word → Form Says
 behind_first verb =
     if bytes_eq verb (codes "deliver") then deliver_line

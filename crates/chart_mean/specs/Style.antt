@@ -2,12 +2,12 @@
 use Rattle.std.specs.Prelude.{ℕ, List, [], ◌∷◌, ◌++◌, codes}
 
 -- lines one after the other, each ended by a line feed (10)
-abbrev pub ended : List (List ℕ) → List ℕ
-ended [] = []
-ended (line ∷ lines) = line ++ 10 ∷ ended lines
+abbrev pub ended_lines : List (List ℕ) → List ℕ
+ended_lines [] = []
+ended_lines (line ∷ lines) = line ++ 10 ∷ ended_lines lines
 
 unfoldable pub style : List ℕ
-style = ended
+style = ended_lines
     (codes "<style>"
     ∷ codes "text { font: 10px 'DejaVu Sans', Verdana, Arial, sans-serif; fill: #241f31 }"
     ∷ codes ".member { font-size: 14px; font-weight: bold; text-anchor: end }"

@@ -13,15 +13,15 @@ use Rattle.chart_mean.specs.declared.types.Ending.{Ending}
 use Rattle.chart_mean.specs.declared.types.Ending.TheVariants.{Done, TooLarge, Line, Words, Read, Write, Memory}
 
 -- How a run ended whose picture was put, where the stream got all or lacks something: then that is a fault of writing.
-abbrev pub closed : Bool → Ending → Ending
-closed true end = end
-closed false Done = Write
-closed false TooLarge = TooLarge
-closed false (Line number) = Line number
-closed false Words = Words
-closed false Read = Read
-closed false Write = Write
-closed false Memory = Memory
+abbrev pub end_after_delivery : Bool → Ending → Ending
+end_after_delivery true end = end
+end_after_delivery false Done = Write
+end_after_delivery false TooLarge = TooLarge
+end_after_delivery false (Line number) = Line number
+end_after_delivery false Words = Words
+end_after_delivery false Read = Read
+end_after_delivery false Write = Write
+end_after_delivery false Memory = Memory
 
 -- A run that put so much on the output and ended so; what was handed on to the output's stream; and what was said then,
 -- of the end that comes of both, and handed on to the standard error's. Where that is the run's own end, all that `run`
@@ -34,8 +34,8 @@ pub record RunsThrough (words : List Text) (told : Option Shelved) (reads reads_
   pub whole : Bool
   pub handed_on : HandsOn put out.after out.holds whole
   pub closing : Tells
-  pub said : Said (closed whole end) (errors err.before closing status)
-  pub runs : closed whole end ≡ end →
+  pub said : Said (end_after_delivery whole end) (errors err.before closing status)
+  pub runs : end_after_delivery whole end ≡ end →
       Runs words (surrounding told reads reads_after out.before put) (errors err.before closing status)
   pub heard : Bool
   pub told_on : HandsOn closing err.after err.holds heard

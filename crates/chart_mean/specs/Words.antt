@@ -27,7 +27,7 @@ abbrev pub line_number : ℕ → Option Text → Option ℕ
 line_number default None = Some default
 line_number default (Some text) = number_within 1 highest text
 
--- the first line isn't behind the last
+-- the first line isn't after the last
 abbrev pub range_of : (first last : ℕ) → Option Range
 range_of first last = if nat_le first last then Some (record { first = first; last = last }) else None
 
@@ -40,6 +40,6 @@ request_in rows = do
   range ← range_of first last
   Some (record { file = file; range = range })
 
--- what the words behind the program's name ask for, if `clap` takes them
+-- what the words after the program's name ask for, if `clap` takes them
 abbrev pub request_of : List Text → Option Request
 request_of = read_in command request_in

@@ -25,7 +25,7 @@ option name = record (positional name) { long = Some name }
 abbrev pub flag : Text → Rule
 flag name = record (new_rule name) { long = Some name; action = Some SetTrue }
 
--- no help, and the words are those behind the program's name
+-- no help, and the words are those after the program's name
 abbrev pub plain_top : Shape → Shape
 plain_top top = record top { no_binary_name = true; disable_help_flag = true }
 

@@ -8,7 +8,7 @@ ghost use Rattle.command_line.specs.Rules as spec;
 use clap::{Arg, ArgAction, Command};
 use std::alloc::{AllocError, Global};
 
-/// A command without help, whose words are those behind the program's name.
+/// A command without help, whose words are those after the program's name.
 pub fn bare<'a>(alloc: Global, name: &'a str) -> Command<'a>
     ensures { app_of result ≡ on_top spec.plain_top (new_app name.entry.now) }
 {

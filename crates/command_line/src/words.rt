@@ -12,7 +12,7 @@ use clap::error::ErrorKind;
 use clap::{ArgMatches, Command, Error};
 use std::alloc::AllocError;
 
-/// What `clap` finds in the words behind the program's name, or nothing where it refuses them.
+/// What `clap` finds in the words after the program's name, or nothing where it refuses them.
 pub fn taken<'w>(
     command: Command<'w>,
     words: &'w [String],

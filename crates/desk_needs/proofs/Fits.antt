@@ -12,7 +12,7 @@ use Rattle.layer_ast.specs.declared.tokens.Dir.{Dir}
 use Rattle.layer_ast.specs.declared.tokens.Dir.TheVariants.{Up, Down}
 use Rattle.layer_ast.specs.declared.tokens.Kind.{Kind}
 use Rattle.layer_mean.specs.Event.{carries}
-use Rattle.layer_mean.specs.Headers.{declared}
+use Rattle.layer_mean.specs.Headers.{header_of_tag}
 use Rattle.layer_mean.specs.Tree.{Carried, part, whole, MessageTree, message, nothing, held, cut, tail, join}
 use Rattle.layer_mean.specs.Tree.{ContentTree, CellTree, Form, numbers, queue, queues, StatementTree, bind, assign}
 use Rattle.layer_mean.specs.Tree.{assign_square, push, take, branch, each, emit, StatementTrees, none, more}
@@ -87,7 +87,8 @@ module _ (layer : LayerTree) (blank : List Header) (places : ℕ) (above : are_a
 
   pushed_fits : (sorts : List Sort) (c : ContentTree) → typed.Pushed layer blank sorts c → message_misfits c.message ≡ 0
   pushed_fits sorts c pushed =
-      said_of _ (declared layer c.tag) pushed.declares (λ d is. message_fits sorts (sort_under d.ends) c.message is.1)
+      said_of _ (header_of_tag layer c.tag) pushed.declares
+      (λ d is. message_fits sorts (sort_under d.ends) c.message is.1)
 
   content_fits : (sorts : List Sort) (dir : Dir) (c : ContentTree) → typed.Content layer blank sorts dir c →
       message_misfits c.message ≡ 0

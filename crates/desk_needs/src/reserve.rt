@@ -6,7 +6,7 @@ ghost use Rattle.typed_layer.specs.View.{message_tree, row_tree, emission_tree, 
 ghost use Rattle.typed_layer.specs.View.{handler_tree, layer_tree};
 ghost use Rattle.layer_desk.specs.Need.{lifts, row_lifts, emission_lifts, in_hand, block_in_hand};
 ghost use Rattle.desk_needs.specs.Layouts.{most, layout_of};
-ghost use Rattle.desk_needs.specs.Reserved.{reserved};
+ghost use Rattle.desk_needs.specs.Reserved.{layout_reserve};
 
 use typed_layer::{Block, Emission, Handler, MessageExpression, Row, Statement, TypedLayer};
 
@@ -21,7 +21,7 @@ pub struct Reserve {
 
 /// What a desk of this layer has to be made for, beside the rows of its queues.
 pub fn reserve_for(layer: &TypedLayer) -> Reserve
-    ensures { result ≡ reserved (layout_of (layer_tree layer.now) 0) }
+    ensures { result ≡ layout_reserve (layout_of (layer_tree layer.now) 0) }
 {
     let handlers = layer.handlers.slice();
     Reserve {

@@ -65,22 +65,22 @@ status_number breached = 8
 status_number (traces_refused fault) = 9
 
 -- a cause with its line and column
-abbrev pub placed : List ℕ → At → List ℕ
-placed cause at = cause ++ codes " " ++ decimal at.line ++ codes ":" ++ decimal at.col
+abbrev pub cause_at : List ℕ → At → List ℕ
+cause_at cause at = cause ++ codes " " ++ decimal at.line ++ codes ":" ++ decimal at.col
 
 -- the cause for which a file is refused
 abbrev pub file_cause : FileFault → List ℕ
 file_cause too_large = codes "too large"
-file_cause (bad_token at) = placed (codes "token") at
-file_cause (unexpected at) = placed (codes "unexpected") at
-file_cause (unknown at) = placed (codes "unknown") at
-file_cause (twice at) = placed (codes "twice") at
-file_cause (over_limit at) = placed (codes "limit") at
-file_cause (wrong_kind at) = placed (codes "kind") at
-file_cause (arity at) = placed (codes "arity") at
-file_cause (direction at) = placed (codes "direction") at
-file_cause (header at) = placed (codes "header") at
-file_cause (initial at) = placed (codes "initial") at
+file_cause (bad_token at) = cause_at (codes "token") at
+file_cause (unexpected at) = cause_at (codes "unexpected") at
+file_cause (unknown at) = cause_at (codes "unknown") at
+file_cause (twice at) = cause_at (codes "twice") at
+file_cause (over_limit at) = cause_at (codes "limit") at
+file_cause (wrong_kind at) = cause_at (codes "kind") at
+file_cause (arity at) = cause_at (codes "arity") at
+file_cause (direction at) = cause_at (codes "direction") at
+file_cause (header at) = cause_at (codes "header") at
+file_cause (initial at) = cause_at (codes "initial") at
 file_cause (cycle place kind) = codes "cycle " ++ decimal place ++ codes " " ++ kind_word kind
 file_cause (too_many weight) = codes "too many " ++ decimal weight
 file_cause too_many_joins = codes "joins"

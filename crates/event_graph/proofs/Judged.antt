@@ -10,7 +10,8 @@ use Rattle.layer_mean.specs.Tree.{LayerTree}
 use Rattle.layer_ast.specs.declared.tokens.Dir.TheVariants.{Up, Down}
 use Rattle.layer_ast.specs.declared.tokens.Kind.TheVariants.{Cast, Send, Timer, Leave}
 use Rattle.stack_mean.specs.Graph.{Node, nodes, nodes_of, first_on_cycle, is_on_cycle}
-use Rattle.stack_mean.specs.Acceptance.{Refusal, accepted, without_cycle, cycle, too_many, too_many_joins, held_at_most}
+use Rattle.stack_mean.specs.Acceptance.{Refusal, acceptance, without_cycle, cycle, too_many, too_many_joins}
+use Rattle.stack_mean.specs.Acceptance.{held_at_most}
 use Rattle.stack_mean.specs.Acceptance.{largest, largest_weight, largest_joins, weight_limit, joins_limit}
 use Rattle.weight_laws.specs.Orderly.{IsOrderly}
 use Rattle.weight_laws.specs.Tables.{HasFewHeaders, node_number, table_of}
@@ -54,18 +55,18 @@ costs_tell stack Tasks orderly few = (largest_in_rounds stack (table_of stack) o
 costs_tell stack Joins orderly few = (largest_in_rounds stack (table_of stack) orderly (tables_tell stack few)).1
 
 pub on_cycle : (stack : List LayerTree) (n : Node) → Some n ≡ first_on_cycle stack →
-    accepted stack ≡ Err (cycle (n.at - 1) n.kind)
+    acceptance stack ≡ Err (cycle (n.at - 1) n.kind)
 on_cycle stack n found = ap (without_cycle stack) (sym found)
 
 judged_without : (stack : List LayerTree) → None ≡ first_on_cycle stack →
-    accepted stack ≡ (if nat_lt weight_limit (largest_weight stack) then Err
+    acceptance stack ≡ (if nat_lt weight_limit (largest_weight stack) then Err
     (too_many (held_at_most (largest_weight stack)))
     else if nat_lt joins_limit (largest_joins stack) then Err too_many_joins else Ok stack)
 judged_without stack none = ap (without_cycle stack) (sym none)
 
 pub too_heavy : (stack : List LayerTree) (weight : ℕ) → None ≡ first_on_cycle stack →
     weight ≡ held_at_most (largest_weight stack) →
-    65536 < weight → accepted stack ≡ Err (too_many weight)
+    65536 < weight → acceptance stack ≡ Err (too_many weight)
 too_heavy stack weight none is more =
     let above : weight_limit < largest_weight stack = omega (arith, is) in
     judged_without stack none
@@ -76,7 +77,7 @@ too_heavy stack weight none is more =
 
 light : (stack : List LayerTree) (weight : ℕ) → None ≡ first_on_cycle stack →
     weight ≡ held_at_most (largest_weight stack) → weight ≤ 65536 →
-    accepted stack ≡ (if nat_lt joins_limit (largest_joins stack) then Err too_many_joins else Ok stack)
+    acceptance stack ≡ (if nat_lt joins_limit (largest_joins stack) then Err too_many_joins else Ok stack)
 light stack weight none is few =
     let within : largest_weight stack ≤ weight_limit = omega (arith, is) in
     judged_without stack none
@@ -86,7 +87,7 @@ light stack weight none is few =
 
 pub joins_too_much : (stack : List LayerTree) (weight joins : ℕ) → None ≡ first_on_cycle stack →
     weight ≡ held_at_most (largest_weight stack) →
-    weight ≤ 65536 → joins ≡ held_at_most (largest_joins stack) → 1024 < joins → accepted stack ≡ Err too_many_joins
+    weight ≤ 65536 → joins ≡ held_at_most (largest_joins stack) → 1024 < joins → acceptance stack ≡ Err too_many_joins
 joins_too_much stack weight joins none is few joins_are more =
     let above : joins_limit < largest_joins stack = omega (arith, joins_are) in
     light stack weight none is few
@@ -94,7 +95,7 @@ joins_too_much stack weight joins none is few joins_are more =
 
 pub passes : (stack : List LayerTree) (weight joins : ℕ) → None ≡ first_on_cycle stack →
     weight ≡ held_at_most (largest_weight stack) →
-    weight ≤ 65536 → joins ≡ held_at_most (largest_joins stack) → joins ≤ 1024 → (accepted stack ≡ Ok stack) ×
+    weight ≤ 65536 → joins ≡ held_at_most (largest_joins stack) → joins ≤ 1024 → (acceptance stack ≡ Ok stack) ×
     (weight ≡ largest_weight stack)
 passes stack weight joins none is few joins_are few_joins =
     let within : largest_joins stack ≤ joins_limit = omega (arith, joins_are) in (
@@ -175,7 +176,7 @@ within_limits stack false true weight h = absurd (cc h)
 within_limits stack false false weight h = refl
 
 -- a stack is accepted as it is
-pub accepted_is : (stack : List LayerTree) → is_ok (accepted stack) ≡ true → accepted stack ≡ Ok stack
+pub accepted_is : (stack : List LayerTree) → is_ok (acceptance stack) ≡ true → acceptance stack ≡ Ok stack
 accepted_is stack h = by_cycle (first_on_cycle stack) h where
   by_cycle : (found : Option Node) → is_ok (without_cycle stack found) ≡ true → without_cycle stack found ≡ Ok stack
   by_cycle (Some n) h = absurd (cc h)

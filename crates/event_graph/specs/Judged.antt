@@ -2,7 +2,7 @@
 use Rattle.std.specs.Prelude.{◌≡◌, ℕ, List, map, slice_index, Result, Ok, Err}
 use Rattle.layer_mean.specs.Tree.{LayerTree}
 use Rattle.stack_mean.specs.Graph.{Node}
-use Rattle.stack_mean.specs.Acceptance.{accepted, cycle, too_many, too_many_joins, largest, largest_weight}
+use Rattle.stack_mean.specs.Acceptance.{acceptance, cycle, too_many, too_many_joins, largest, largest_weight}
 use Rattle.stack_mean.specs.Acceptance.{largest_joins}
 use Rattle.weight_laws.specs.Tables.{node_number}
 use Rattle.event_graph.specs.declared.error.StackError.{StackError}
@@ -22,8 +22,8 @@ largest_at costs ns = largest (map (λ n. slice_index costs (node_number n)) ns)
 -- The answer for a stack: its weight where it is accepted, the very refusal that the definition gives, or want of
 -- memory.
 abbrev pub IsJudged : List LayerTree → Result ℕ StackError → Type 0
-IsJudged stack (Ok weight) = (accepted stack ≡ Ok stack) × (weight ≡ largest_weight stack)
-IsJudged stack (Err (Cycle place kind)) = accepted stack ≡ Err (cycle place kind)
-IsJudged stack (Err (TooMany weight)) = accepted stack ≡ Err (too_many weight)
-IsJudged stack (Err TooManyJoins) = accepted stack ≡ Err too_many_joins
+IsJudged stack (Ok weight) = (acceptance stack ≡ Ok stack) × (weight ≡ largest_weight stack)
+IsJudged stack (Err (Cycle place kind)) = acceptance stack ≡ Err (cycle place kind)
+IsJudged stack (Err (TooMany weight)) = acceptance stack ≡ Err (too_many weight)
+IsJudged stack (Err TooManyJoins) = acceptance stack ≡ Err too_many_joins
 IsJudged stack (Err Memory) = Unit {0}

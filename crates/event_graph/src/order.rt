@@ -1,10 +1,10 @@
-//! An order of nodes in which each stands behind those that follow from it, where no node follows from itself.
+//! An order of nodes in which each stands after those that follow from it, where no node follows from itself.
 
 use crate::edges::{Edge, Node, number_at};
 use crate::table::{Edges, Vertex};
 use std::alloc::{AllocError, Global};
 
-/// A number to be put into the order: behind those that follow from it, or now, as they are in it.
+/// A number to be put into the order: after those that follow from it, or now, as they are in it.
 #[derive(Clone, Copy)]
 enum Open {
     Behind(u32),
@@ -43,7 +43,7 @@ impl Walk {
         }
     }
 
-    /// Meets a number, unless it was met or is outside the table: opens what follows from it, to be put in front of it.
+    /// Meets a number, unless it was met or is outside the table: opens what follows from it, to be put before it.
     fn meet(&mut self, vertices: &[Vertex], number: u32) -> Result<(), AllocError> {
         let place = number as usize;
         if place < vertices.len() && place < self.met.len() && !self.met[place] {

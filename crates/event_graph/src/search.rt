@@ -22,7 +22,8 @@ impl Search {
     /// A search of a table that has seen nothing.
     fn of(alloc: Global, vertices: &[Vertex]) -> Result<Search, AllocError>
         ensures { IfOk result
-            (λ s. search_tree s ≡ record { seen = replicate (length (map vertex_tree vertices.now)) false; last = [] }) }
+            (λ s. search_tree s ≡
+            record { seen = replicate (length (map vertex_tree vertices.now)) false; last = [] }) }
     {
         let seen = vec![in alloc; false; vertices.len()]?;
         Ok(Search {
@@ -103,7 +104,8 @@ impl Search {
     /// Sees what follows from some numbers.
     fn see_behind(&mut self, vertices: &[Vertex], numbers: &[usize]) -> Result<(), AllocError>
         ensures { OnOk result
-            (search_tree self.new ≡ search.see_behind (map vertex_tree vertices.now) (search_tree self.old) numbers.now) }
+            (search_tree self.new ≡ search.see_behind (map vertex_tree vertices.now) (search_tree self.old)
+            numbers.now) }
     {
         for number in numbers {
             self.see_vertex(vertices, *number)?;
@@ -131,7 +133,7 @@ impl Search {
     /// So many rounds; once one sees nothing, none is made.
     fn rounds(&mut self, alloc: Global, vertices: &[Vertex], most: usize) -> Result<(), AllocError>
         ensures { OnOk result
-            (search_tree self.new ≡ search.searched (map vertex_tree vertices.now) most (search_tree self.old)) }
+            (search_tree self.new ≡ search.search_after (map vertex_tree vertices.now) most (search_tree self.old)) }
     {
         for _done in 0..most {
             if self.last.is_empty() {

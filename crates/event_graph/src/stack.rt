@@ -1,7 +1,7 @@
 //! Stacks that are accepted.
 
 ghost use Rattle.std.specs.Prelude.{◌≡◌, true, is_ok};
-ghost use Rattle.stack_mean.specs.Acceptance.{accepted, largest_weight};
+ghost use Rattle.stack_mean.specs.Acceptance.{acceptance, largest_weight};
 ghost use Rattle.typed_layer.specs.Places.{typed_tree};
 ghost use Rattle.msg_core.specs.Headers.{most_places, most_fields};
 
@@ -14,7 +14,7 @@ use typed_layer::{Typed, TypedLayer};
 pub struct Stack {
     pub(crate) typed: Typed,
     pub(crate) weight: u32,
-    ghost accepted: { is_ok (accepted (typed_tree typed)) ≡ true },
+    ghost accepted: { is_ok (acceptance (typed_tree typed)) ≡ true },
     ghost heaviest: { weight ≡ largest_weight (typed_tree typed) },
 }
 
@@ -28,13 +28,14 @@ impl Stack {
 
     /// That it is accepted.
     pub fn is_accepted(&self)
-        ensures { accepted (stack_tree self.now) ≡ Ok (stack_tree self.now) }
+        ensures { acceptance (stack_tree self.now) ≡ Ok (stack_tree self.now) }
     {}
 
     /// That it has at most 24 places, and each header that its layers declare at most four numbers.
     pub fn is_within_limits(&self)
         ensures places { length (stack_tree self.now) ≤ most_places }
-        ensures fields { All (λ layer. All (λ header. header.fields ≤ most_fields) layer.headers) (stack_tree self.now) }
+        ensures fields { All (λ layer. All (λ header. header.fields ≤ most_fields) layer.headers)
+            (stack_tree self.now) }
     {}
 
     /// How many tasks follow at most from an entry, itself counted.

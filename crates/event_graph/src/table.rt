@@ -55,7 +55,7 @@ pub enum Edges {
     Emitted(Vec<Edge>),
 }
 
-/// The tags that an event of a kind can have in front of the layer at a place.
+/// The tags that an event of a kind can have before the layer at a place.
 fn tags_for(stack: &Typed, kind: Kind, at: u16) -> Tags
     ensures first { result.first ≡ 0 }
     ensures tags { range_with_len 0 result.count ≡ graph.tags_for kind (layer_at (typed_tree stack.now) at) }
@@ -239,7 +239,8 @@ fn enter(
 /// What follows from each node of a stack, at the node's number.
 pub fn table(alloc: Global, stack: &Typed, nodes: &[Node]) -> Result<Vec<Vertex>, AllocError>
     ensures { IfOk result (λ vertices. map vertex_tree vertices.items ≡
-        fold (with_node (typed_tree stack.now)) (empty_table (length (typed_tree stack.now))) (map node_tree nodes.now)) }
+        fold (with_node (typed_tree stack.now)) (empty_table (length (typed_tree stack.now)))
+        (map node_tree nodes.now)) }
 {
     let mut vertices = empty(alloc, stack.places())?;
     for node in nodes {

@@ -52,7 +52,7 @@ abbrev mutual
       number_faults scope condition ++ number_faults scope first ++ number_faults scope second
   number_faults scope _ = []
 
-  -- The faults of the mention of a queue behind the word at this place.
+  -- The faults of the mention of a queue after the word at this place.
   pub queue_faults : Scope → At → QueueTree → List TypeFault
   queue_faults scope at (queue name) = unless (declared_as is_queue scope.layer name.word) (kind at)
   queue_faults scope at (queue_at name index) =

@@ -17,16 +17,17 @@ use Rattle.fault_mean.specs.Limits.{LimitedSize, capacity_in, is_within_at, maxi
 use Rattle.fault_mean.specs.Limits.{numbers_beyond, sizes_in, most_layers, most_params, most_cells, most_handlers}
 use Rattle.fault_mean.specs.Limits.{most_names}
 use Rattle.fault_mean.specs.Places.{faults_of_layers, layer_at}
-use Rattle.fault_mean.specs.Scope.{Scope, Standing, brought, handler_names, handler_statements, head_names, head_scope}
+use Rattle.fault_mean.specs.Scope.{Scope, Standing, declared_names, handler_names, handler_statements, head_names}
+use Rattle.fault_mean.specs.Scope.{head_scope}
 use Rattle.fault_mean.specs.Scope.{is_visible, layer_scope, visible}
 use Rattle.fault_mean.specs.Uses.{Use, of_name, of_label, uses, size_uses, statement_uses}
 use Rattle.msg_core.specs.Headers.{most_places, most_declared, most_fields}
 
 -- Those of these things that are the same as one before them in the list, or as one of the earlier things.
-abbrev pub repeated : {A : Type 0} → (A → A → Bool) → List A → List A → List A
-repeated same earlier [] = []
-repeated same earlier (x ∷ rest) = (if list_any (same x) earlier then x ∷ [] else []) ++
-    repeated same (x ∷ earlier) rest
+abbrev pub repetitions : {A : Type 0} → (A → A → Bool) → List A → List A → List A
+repetitions same earlier [] = []
+repetitions same earlier (x ∷ rest) = (if list_any (same x) earlier then x ∷ [] else []) ++
+    repetitions same (x ∷ earlier) rest
 
 -- Whether two names are the same word.
 abbrev pub same_word : Name → Name → Bool
@@ -34,7 +35,7 @@ same_word a b = bytes_eq a.word b.word
 
 -- Names declared beside earlier ones, which must all differ.
 abbrev pub twice_among : List Name → List Name → List NameFault
-twice_among earlier names = map (λ name. twice name.at) (repeated same_word earlier names)
+twice_among earlier names = map (λ name. twice name.at) (repetitions same_word earlier names)
 
 -- Names beyond the first so many.
 abbrev pub too_many_of : ℕ → List Name → List NameFault
@@ -104,7 +105,7 @@ same_events a b =
 abbrev pub statement_name_faults : Standing → List NameFault
 statement_name_faults s =
     uses_faults s.scope (statement_uses s.statement)
-    ++ twice_among (visible s.scope) (brought s.statement)
+    ++ twice_among (visible s.scope) (declared_names s.statement)
     ++ flat_map size_faults (maximum_in s.statement)
 
 -- The names that the condition of a handler uses.
@@ -126,7 +127,7 @@ handler_name_faults layer handler =
 abbrev pub layer_name_faults : LayerTree → List NameFault
 layer_name_faults layer =
     declared_faults layer
-    ++ map (λ h. twice h.at) (repeated same_events [] layer.handlers)
+    ++ map (λ h. twice h.at) (repetitions same_events [] layer.handlers)
     ++ map (λ h. too_many h.at) (drop most_handlers layer.handlers)
     ++ flat_map (handler_name_faults layer) layer.handlers
 

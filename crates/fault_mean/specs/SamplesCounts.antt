@@ -14,8 +14,8 @@ use Rattle.fault_mean.specs.NameFaults.{name_fault}
 use Rattle.fault_mean.specs.Samples.{handler, small_file, timer_down}
 
 -- So many different names; the first stands at column 1, the second at column 2, and so on.
-abbrev pub numbered : ℕ → List Name
-numbered count = map (λ k. name_at (k ∷ []) 2 k) (range_with_len 1 count)
+abbrev pub numbered_names : ℕ → List Name
+numbered_names count = map (λ k. name_at (k ∷ []) 2 k) (range_with_len 1 count)
 
 -- So many things are no fault, and one more is one at its place.
 abbrev pub HasLimit : (ℕ → FileTree) → ℕ → Type 0
@@ -28,13 +28,13 @@ declaring declarations = small_file 3 declarations []
 
 -- 16 params, 16 cells, 7 headers.
 abbrev pub Params : Type 0
-Params = HasLimit (λ count. declaring (map (λ n. param n.at n 0) (numbered count))) 16
+Params = HasLimit (λ count. declaring (map (λ n. param n.at n 0) (numbered_names count))) 16
 
 abbrev pub Cells : Type 0
-Cells = HasLimit (λ count. declaring (map (λ n. int n.at n One None) (numbered count))) 16
+Cells = HasLimit (λ count. declaring (map (λ n. int n.at n One None) (numbered_names count))) 16
 
 abbrev pub Headers : Type 0
-Headers = HasLimit (λ count. declaring (map (λ n. header n.at n None Passes) (numbered count))) 7
+Headers = HasLimit (λ count. declaring (map (λ n. header n.at n None Passes) (numbered_names count))) 7
 
 -- Handlers of every kind for each of 7 headers.
 abbrev pub many_handlers : List HandlerTree
@@ -44,13 +44,13 @@ many_handlers = flat_map
       popped = Some (record { name = n; fields = None });
     })
     kinds)
-    (numbered 7)
+    (numbered_names 7)
 
 -- 64 handlers.
 abbrev pub Handlers : Type 0
 Handlers = HasLimit
     (λ count. small_file 3
-    (map (λ n. header n.at n None Passes) (numbered 7))
+    (map (λ n. header n.at n None Passes) (numbered_names 7))
     (map (λ x. record x.1 { at = at 2 x.0 }) (enumerate_from 1 (take count many_handlers))))
     64
 
@@ -62,14 +62,14 @@ lets (n ∷ rest) = more (bind n.at n (number n.at 0)) (lets rest)
 -- 64 locals, which a handler's argument and 63 names of its block are.
 abbrev pub Locals : Type 0
 Locals =
-    (name_fault (small_file 3 [] (timer_down 1 (lets (numbered 63)) ∷ [])) ≡ None)
-    × (name_fault (small_file 3 [] (timer_down 1 (lets (numbered 64)) ∷ [])) ≡ Some (too_many (at 2 64)))
+    (name_fault (small_file 3 [] (timer_down 1 (lets (numbered_names 63)) ∷ [])) ≡ None)
+    × (name_fault (small_file 3 [] (timer_down 1 (lets (numbered_names 64)) ∷ [])) ≡ Some (too_many (at 2 64)))
 
 -- 64 layers.
 abbrev pub Layers : Type 0
 Layers = HasLimit
     (λ count. record {
-      layers = map (λ n. record { at = n.at; name = n; declarations = []; handlers = [] }) (numbered count);
+      layers = map (λ n. record { at = n.at; name = n; declarations = []; handlers = [] }) (numbered_names count);
       places = record { name = name_at (1 ∷ []) 3 9; given = [] } ∷ [];
       library = [];
     })

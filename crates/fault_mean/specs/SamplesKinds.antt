@@ -23,7 +23,7 @@ TailOfPart = IsJudged
     (small_text (codes "  header h() ends;" ∷ codes "  up Cast(o, m) with h() { up Cast(o, tail(m, 0)); }" ∷ []))
     (Some (of_types (fault.kind (at 3 39))))
 
--- A message in front of a message.
+-- A message before a message.
 abbrev pub JoinOfMessages : Type 0
 JoinOfMessages = IsJudged
     (small_text (codes "  up Cast(o, m) { up Cast(o, join(m, m)); }" ∷ []))

@@ -11,7 +11,7 @@ UnknownCell = IsJudged
     (small_text (codes "  down Cast(p, m) { set z = 1; }" ∷ []))
     (Some (of_names (fault.unknown (at 2 25))))
 
--- A local in front of its `let`.
+-- A local before its `let`.
 abbrev pub BeforeLet : Type 0
 BeforeLet = IsJudged
     (small_text (codes "  down Timer(t) { let y = x; let x = 1; }" ∷ []))
@@ -29,7 +29,7 @@ InItsBound = IsJudged
     (small_text (codes "  down Timer(t) { each i below i max 2 { } }" ∷ []))
     (Some (of_names (fault.unknown (at 2 32))))
 
--- A local behind its block.
+-- A local after its block.
 abbrev pub BehindItsBlock : Type 0
 BehindItsBlock = IsJudged
     (small_text (codes "  down Timer(t) { if t { let x = 1; } let y = x; }" ∷ []))
@@ -49,7 +49,7 @@ LocalAsHeader = IsJudged
     (small_text (codes "  up Cast(o, m) with o() { }" ∷ []))
     (Some (of_names (fault.unknown (at 2 22))))
 
--- A layer's own names are visible in front of their declaration.
+-- A layer's own names are visible before their declaration.
 abbrev pub DeclaredBehind : Type 0
 DeclaredBehind = IsJudged
     (small_text (codes "  state int k = late;" ∷ codes "  param late = 1;" ∷ []))
@@ -61,7 +61,7 @@ UnknownLabel = IsJudged
     (small_text (codes "  state queue q[2] of (u: int);" ∷ codes "  down Timer(t) { let x = at(q, 0).v; }" ∷ []))
     (Some (of_names (fault.unknown (at 3 36))))
 
--- A label behind what is no queue.
+-- A label after what is no queue.
 abbrev pub LabelOfNone : Type 0
 LabelOfNone = IsJudged
     (small_text (codes "  down Timer(t) { let x = at(t, 0).u; }" ∷ []))

@@ -48,7 +48,7 @@ with_locals scope further = record scope { locals = scope.locals ++ further }
 abbrev pub popped_names : Option PoppedTree → List Name
 popped_names popped = option_map_or (λ p. names_in p.fields) popped []
 
--- The sort of the message behind a popped header: a part where the header ends.
+-- The sort of the message after a popped header: a part where the header ends.
 abbrev pub sort_behind : LayerTree → Option PoppedTree → Sort
 sort_behind layer popped = option_map_or (λ p. if declared_as is_end layer p.name.word then Part else Msg) popped Msg
 
@@ -67,7 +67,7 @@ head_scope layer handler = record {
       locals_as [] (popped_names handler.popped);
 }
 
--- The scope behind a statement in its block: only `let` adds to it.
+-- The scope after a statement in its block: only `let` adds to it.
 abbrev pub scope_behind : Scope → StatementTree → Scope
 scope_behind scope (bind at name value) = with_locals scope (locals_as [] (name ∷ []))
 scope_behind scope _ = scope
@@ -110,13 +110,13 @@ abbrev pub layer_statements : LayerTree → List Standing
 layer_statements layer = flat_map (handler_statements layer) layer.handlers
 
 -- The names that a statement declares.
-abbrev pub brought : StatementTree → List Name
-brought (bind at name value) = name ∷ []
-brought (take at q names block otherwise) = names_in (Some names)
-brought (each at name below most block) = name ∷ []
-brought _ = []
+abbrev pub declared_names : StatementTree → List Name
+declared_names (bind at name value) = name ∷ []
+declared_names (take at q names block otherwise) = names_in (Some names)
+declared_names (each at name below most block) = name ∷ []
+declared_names _ = []
 
 -- All names that a handler declares, in text order, whether or not they are visible together.
 abbrev pub handler_names : LayerTree → HandlerTree → List Name
 handler_names layer handler = head_names handler ++
-    flat_map (λ s. brought s.statement) (handler_statements layer handler)
+    flat_map (λ s. declared_names s.statement) (handler_statements layer handler)

@@ -52,7 +52,7 @@ suits Down false Part = false
 suits Down true Msg = false
 suits _ ends sort = true
 
--- The faults of a header that is named behind `with`, at the first token of its handler or emission: it is a header,
+-- The faults of a header that is named after `with`, at the first token of its handler or emission: it is a header,
 -- has so many fields, and stands where one may.
 abbrev pub with_faults : LayerTree → At → Name → ℕ → Bool → List TypeFault
 with_faults layer at name fields allowed =

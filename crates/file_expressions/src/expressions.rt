@@ -79,7 +79,7 @@ pub fn expression(found: &mut Found, scope: &Scope, e: &Expression)
     }
 }
 
-/// The mention of a queue behind the word at this place.
+/// The mention of a queue after the word at this place.
 #[cycle(types)]
 #[tactic(auto, using(file_scope::proofs::Finds::finds_both))]
 pub fn queue(found: &mut Found, scope: &Scope, at: At, q: &Queue)

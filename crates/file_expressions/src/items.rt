@@ -26,7 +26,8 @@ fn message_among(items: &[Item]) -> Option<Sort>
 /// The sort of the message of a row.
 #[tactic(auto, using(crate::proofs::Trees::message_tree))]
 fn message_in(items: &Items) -> Option<Sort>
-    ensures { result ≡ option_map (λ i. i.sort) (find (λ i. allows a_message i.sort) (items_in (items_tree items.now))) }
+    ensures { result ≡ option_map (λ i. i.sort)
+        (find (λ i. allows a_message i.sort) (items_in (items_tree items.now))) }
 {
     if allows(Wanted::Message, items.first.sort) {
         Some(items.first.sort)

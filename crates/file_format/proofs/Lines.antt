@@ -11,7 +11,8 @@ use Rattle.outside.specs.Lines.{Begins, Gains, Wrote}
 use Rattle.outside.specs.declared.sink.SinkError.{SinkError}
 use Rattle.outside.proofs.Gaining.{gains_none}
 use Rattle.std.specs.Prelude.{Result}
-use Rattle.format_mean.specs.Layout.{Begun, is_bare, feeds_before, ended, left_of, last_line, lines_at, at_least_one}
+use Rattle.format_mean.specs.Layout.{Begun, is_bare, feeds_before, line_at_feeds, left_of, last_line, lines_at}
+use Rattle.format_mean.specs.Layout.{at_least_one}
 use Rattle.format_mean.specs.Pieces.{Piece, more_feeds}
 
 -- lines that were put whole are a prefix of themselves
@@ -22,15 +23,15 @@ gains_begun a b lines g = record {
 }
 
 -- no line feed ends no line
-pub no_lines : (a : Tells) (line : List ℕ) (n : ℕ) → n ≡ 0 → Gains a a (ended line n)
-no_lines a line n is = subst (λ n. Gains a a (ended line n)) (sym is) (gains_none a)
+pub no_lines : (a : Tells) (line : List ℕ) (n : ℕ) → n ≡ 0 → Gains a a (line_at_feeds line n)
+no_lines a line n is = subst (λ n. Gains a a (line_at_feeds line n)) (sym is) (gains_none a)
 
 pub all_left : (line : List ℕ) (n : ℕ) → n ≡ 0 → line ≡ left_of line n
 all_left line n is = sym (ap (left_of line) is)
 
 -- some end one
 pub one_line : (a b : Tells) (line : List ℕ) (n : ℕ) (r : Result (Unit {0}) SinkError) → 0 < n →
-    Wrote ((line ++ replicate n 10) ∷ []) a b r → Wrote (ended line n) a b r
+    Wrote ((line ++ replicate n 10) ∷ []) a b r → Wrote (line_at_feeds line n) a b r
 one_line a b line zero r some wrote = absurd (omega (arith, some))
 one_line a b line (suc n) r some wrote = wrote
 
@@ -40,7 +41,7 @@ none_left line (suc n) some = refl
 
 -- the last line is ended by one, if it has begun
 pub last_ended : (a b : Tells) (line : List ℕ) (r : Result (Unit {0}) SinkError) → is_bare line ≡ false →
-    Wrote (ended line 1) a b r → Wrote (last_line line) a b r
+    Wrote (line_at_feeds line 1) a b r → Wrote (last_line line) a b r
 last_ended a b [] r has wrote = absurd (true≢false has)
 last_ended a b (c ∷ cs) r has wrote = wrote
 
@@ -69,7 +70,8 @@ pub bare_is : (xs : List ℕ) → nat_eq (length xs) 0 ≡ is_bare xs
 bare_is [] = refl
 bare_is (x ∷ xs) = ne_eqb (length (x ∷ xs)) 0 (λ is. omega (arith, is))
 
--- where memory runs out behind the line that a piece ends
-pub put_cut : (a b : Tells) (t : Begun) (p : Piece) (n : ℕ) → n ≡ feeds_before t p → Gains a b (ended t.line n) →
+-- where memory runs out after the line that a piece ends
+pub put_cut : (a b : Tells) (t : Begun) (p : Piece) (n : ℕ) → n ≡ feeds_before t p →
+    Gains a b (line_at_feeds t.line n) →
     Begins a b (concat (lines_at t p))
-put_cut a b t p n is gained = gains_begun a b (lines_at t p) (subst (λ n. Gains a b (ended t.line n)) is gained)
+put_cut a b t p n is gained = gains_begun a b (lines_at t p) (subst (λ n. Gains a b (line_at_feeds t.line n)) is gained)

@@ -59,7 +59,7 @@ fn goes(word: &[u8]) -> bool
     is(word, "up") || is(word, "down")
 }
 
-/// Whether a queue is named behind a word.
+/// Whether a queue is named after a word.
 fn queues(word: &[u8]) -> bool
     ensures { result ≡ spec.is_one_of word.now spec.queueing }
 {

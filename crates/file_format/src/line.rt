@@ -32,7 +32,7 @@ impl LineCursor {
         }
     }
 
-    /// Puts a token or comment behind so many line feeds: ends the line before it, or goes on with it.
+    /// Puts a token or comment after so many line feeds: ends the line before it, or goes on with it.
     pub(crate) fn put<O: Sink>(
         &mut self,
         feeds: usize,
@@ -72,7 +72,8 @@ impl LineCursor {
 /// Ends a line by so many line feeds, if there are any.
 #[tactic(auto, using(crate::proofs::Lines::no_lines, crate::proofs::Lines::all_left, crate::proofs::Lines::one_line, crate::proofs::Lines::none_left))]
 fn end_line<O: Sink>(line: &mut Vec<u8>, feeds: usize, out: &mut O) -> Result<(), SinkError>
-    ensures wrote { Wrote (spec.ended line.old.items feeds) (tells_of O.Sink out.old) (tells_of O.Sink out.new) result }
+    ensures wrote { Wrote (spec.line_at_feeds line.old.items feeds) (tells_of O.Sink out.old) (tells_of O.Sink out.new)
+        result }
     ensures left { OnOk result (line.new.items ≡ spec.left_of line.old.items feeds) }
 {
     if feeds == 0 {
@@ -94,7 +95,7 @@ fn put_ended<O: Sink>(line: &mut Vec<u8>, feeds: usize, out: &mut O) -> Result<(
     Ok(())
 }
 
-/// Puts a token or comment behind what a line has.
+/// Puts a token or comment after what a line has.
 fn put_behind(
     line: &mut Vec<u8>,
     stand: Stand,
@@ -123,7 +124,7 @@ fn push_many(line: &mut Vec<u8>, byte: u8, count: usize) -> Result<(), AllocErro
     Ok(())
 }
 
-/// How many line feeds stand in front of a token or comment behind a line that is bare or not.
+/// How many line feeds stand before a token or comment after a line that is bare or not.
 fn feeds_before(bare: bool, stand: Stand, class: Class, feeds: usize) -> usize
     ensures { result ≡ spec.feeds_of bare stand class feeds }
 {
@@ -183,7 +184,7 @@ fn depth_of(stand: Stand, class: Class) -> u8
     }
 }
 
-/// How many blanks stand in front of a token or comment in a line that has so many bytes.
+/// How many blanks stand before a token or comment in a line that has so many bytes.
 fn blanks_apart(stand: Stand, column: usize, class: Class) -> usize
     ensures { result ≡ spec.blanks_apart stand column class }
 {

@@ -4,7 +4,7 @@ ghost use Rattle.std.specs.List.{prefix_len};
 ghost use Rattle.layer_ast.specs.Spelling as spelling;
 ghost use Rattle.format_mean.specs.Pieces as spec;
 
-/// How many bytes of a comment, of a word or number, or of a sign stand behind its first.
+/// How many bytes of a comment, of a word or number, or of a sign stand after its first.
 pub(crate) fn length_behind(first: u8, behind: &[u8]) -> usize
     ensures count { result ≡ spec.length_behind first behind.now }
     ensures within { result ≤ length behind.now }
@@ -48,7 +48,7 @@ fn word_length(bytes: &[u8]) -> usize
     bytes.iter().take_while(|byte| is_word_byte(**byte)).count()
 }
 
-/// How many bytes of a sign stand behind its first: one, where an equals sign makes one sign with it.
+/// How many bytes of a sign stand after its first: one, where an equals sign makes one sign with it.
 fn sign_length(first: u8, behind: &[u8]) -> usize
     ensures count { result ≡ spec.sign_length first behind.now }
     ensures within { result ≤ length behind.now }

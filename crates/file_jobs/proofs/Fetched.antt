@@ -5,7 +5,7 @@ use Rattle.clap.specs.Walk.{Text}
 use Rattle.outside.specs.Shelf.{Shelved}
 use Rattle.event_graph.specs.declared.stack.Stack.{Stack}
 use Rattle.end_mean.specs.Status.{Ended, file_refused, no_memory}
-use Rattle.job_ends.specs.Shown.{shown}
+use Rattle.job_ends.specs.Shown.{shown_end}
 use Rattle.job_ends.specs.declared.ending.Ending.{Ending}
 use Rattle.file_jobs.specs.declared.stack.StackFile.{StackFile}
 use Rattle.file_jobs.specs.Stack.{IsText, StopsAt, Fetches, FetchesFile, Refused, JudgesStack, JudgesFile}
@@ -20,10 +20,10 @@ module _ (name : Text) (told : Option Shelved) (reads reads_after : ℕ) (text :
   pub fetched : (r : Result Stack Ending) → IsText name told reads reads_after text → JudgesStack text r →
       Fetches name told reads reads_after r
   fetched (Ok stack) t j = record { file = text; found = t.found; means = j; sound = t.sound }
-  fetched (Err ending) t j = stopped (shown ending) t j
+  fetched (Err ending) t j = stopped (shown_end ending) t j
 
   pub fetched_file : (r : Result StackFile Ending) → IsText name told reads reads_after text → JudgesFile text r →
       FetchesFile name told reads reads_after r
   fetched_file (Ok f) t j =
       record { is = record { file = text; found = t.found; means = j.means; sound = t.sound }; tree = j.tree }
-  fetched_file (Err ending) t j = stopped (shown ending) t j
+  fetched_file (Err ending) t j = stopped (shown_end ending) t j

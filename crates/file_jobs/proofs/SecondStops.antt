@@ -20,7 +20,7 @@ use Rattle.program_mean.specs.Second.{after_script, second_fault}
 use Rattle.job_ends.specs.Comes.{Around, Beside, Comes, file_name}
 use Rattle.job_ends.proofs.Comes.{longer}
 use Rattle.file_jobs.specs.Stack.{IsStack, IsText}
-use Rattle.job_ends.specs.Shown.{shown}
+use Rattle.job_ends.specs.Shown.{shown_end}
 use Rattle.job_ends.specs.declared.ending.Ending.{Ending}
 use Rattle.file_jobs.specs.Second.{IsLarge, Unread, StopsAt, Fetches, Refused, Judges, refused_as, longest_second}
 
@@ -72,7 +72,7 @@ pub fetches : {A : Type 0} (spelled : List ℕ → Result A ScriptFault) (Runs :
     Fetches spelled Runs name told reads reads_after r
 fetches spelled Runs name told reads reads_after text (Ok value) t j =
     record { text = text; found = t.found; spells = j.0; runs = j.1; sound = t.sound }
-fetches spelled Runs name told reads reads_after text (Err ending) t j = refused (shown ending) j where
+fetches spelled Runs name told reads reads_after text (Err ending) t j = refused (shown_end ending) j where
   refused : (end : Ended) → Refused spelled text end → StopsAt spelled name told reads reads_after end
   refused (second_refused (misspelled fault)) j = record { text = text; found = t.found; refused = j; sound = t.sound }
   refused (second_refused too_many_rows) j = absurd j

@@ -6,7 +6,7 @@ use Rattle.layer_mean.specs.Tree.{LayerTree}
 use Rattle.fault_mean.specs.Faults as faults
 use Rattle.fault_mean.specs.FileFault.{file_fault}
 use Rattle.file_mean.specs.Stack.{stack_of}
-use Rattle.stack_mean.specs.Acceptance.{Refusal, accepted}
+use Rattle.stack_mean.specs.Acceptance.{Refusal, acceptance}
 use Rattle.event_graph.proofs.Judged.{accepted_is}
 use Rattle.file_laws.specs.Named.{NamedStack}
 use Rattle.file_laws.proofs.Texts.{texts_are_named, texts_are_typed}
@@ -22,9 +22,9 @@ said_is (Err refusal) t is = absurd (cc is)
 -- a file that means a stack has no fault, and its own stack is accepted as that
 judged_so : (file : FileTree) (t : List LayerTree) (fault : Option faults.FileFault) → file_fault file ≡ fault →
     judged_by file fault ≡ Ok t →
-    (file_fault file ≡ None) × (accepted (stack_of file) ≡ Ok t)
+    (file_fault file ≡ None) × (acceptance (stack_of file) ≡ Ok t)
 judged_so file t (Some fault) found is = absurd (cc is)
-judged_so file t None none is = (none, said_is (accepted (stack_of file)) t is)
+judged_so file t None none is = (none, said_is (acceptance (stack_of file)) t is)
 
 pub means_sound : (text : List ℕ) (stack : List LayerTree) → Means text stack → IsSound stack
 means_sound text stack m =
@@ -34,5 +34,5 @@ means_sound text stack m =
     let same : stack_of m.file ≡ stack = cc both in record {
       typed = subst TypedStack same (texts_are_typed text m.file m.is_file judged.0);
       named = subst NamedStack same (texts_are_named text m.file m.is_file judged.0);
-      accepts = subst (λ s. accepted s ≡ Ok s) same own;
+      accepts = subst (λ s. acceptance s ≡ Ok s) same own;
     }

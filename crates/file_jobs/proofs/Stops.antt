@@ -57,7 +57,8 @@ pub large_report : (name : Text) (law : Law) (told : Option Shelved) (reads read
 large_report name law told reads reads_after h sound = let l = longer told name LONGEST_REPORT h in record {
   file = l.0;
   found = l.1;
-  refused = ap (λ b. if b then Err finding.too_large else finding.judged law (report_from running 1 (lines_of l.0)))
+  refused = ap (λ b. if b then Err finding.too_large else finding.report_finding law
+      (report_from running 1 (lines_of l.0)))
       (lt-ltb LONGEST_REPORT (length l.0) l.2);
   sound = sound;
 }

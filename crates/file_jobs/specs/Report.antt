@@ -8,7 +8,7 @@ use Rattle.audit_mean.specs.declared.law.Law.{Law}
 use Rattle.end_mean.specs.Status.{Ended, done, breached, report_refused, read_failed, no_memory}
 use Rattle.program_mean.specs.Headline.{end_found}
 use Rattle.job_ends.specs.Comes.{Audited}
-use Rattle.job_ends.specs.Shown.{shown}
+use Rattle.job_ends.specs.Shown.{shown_end}
 use Rattle.job_ends.specs.declared.ending.Ending.{Ending}
 use Rattle.file_jobs.specs.Stack.{IsMissed}
 use Rattle.file_jobs.specs.declared.judged.Output.{Output}
@@ -26,7 +26,7 @@ Refused law text _ = ⊥
 
 abbrev pub Judges : Law → List ℕ → Result Output Ending → Type 0
 Judges law text (Ok o) = Finds law text o
-Judges law text (Err ending) = Refused law text (shown ending)
+Judges law text (Err ending) = Refused law text (shown_end ending)
 
 -- The next read of this name found a report on which the law comes to this output.
 pub record IsReport (name : Text) (law : Law) (told : Option Shelved) (reads reads_after : ℕ) (o : Output) : Type 0
@@ -54,4 +54,4 @@ StopsAt name law told reads reads_after _ = ⊥
 -- The output over the report that was read, or how the audit ends.
 abbrev pub Fetches : Text → Law → Option Shelved → (reads reads_after : ℕ) → Result Output Ending → Type 0
 Fetches name law told reads reads_after (Ok o) = IsReport name law told reads reads_after o
-Fetches name law told reads reads_after (Err ending) = StopsAt name law told reads reads_after (shown ending)
+Fetches name law told reads reads_after (Err ending) = StopsAt name law told reads reads_after (shown_end ending)

@@ -9,7 +9,7 @@ use Rattle.script_text.specs.declared.error.ScriptError.{ScriptError}
 use Rattle.script_text.specs.declared.error.ScriptError.TheVariants.{TooLong, BadLine, NoMember, Memory}
 use Rattle.end_mean.specs.Status.{Ended, second_refused, read_failed, no_memory, misspelled}
 use Rattle.file_jobs.specs.Stack.{IsMissed, IsText}
-use Rattle.job_ends.specs.Shown.{shown}
+use Rattle.job_ends.specs.Shown.{shown_end}
 use Rattle.job_ends.specs.declared.ending.Ending.{Ending}
 use Rattle.file_jobs.specs.declared.second.TheConstants.{LONGEST_SECOND}
 
@@ -33,7 +33,7 @@ Unread name told reads reads_after _ = ⊥
 -- The text that was read, or how the job ends.
 abbrev pub Reads : Text → Option Shelved → (reads reads_after : ℕ) → Result (Vec ℕ Global) Ending → Type 0
 Reads name told reads reads_after (Ok text) = IsText name told reads reads_after text.items
-Reads name told reads reads_after (Err ending) = Unread name told reads reads_after (shown ending)
+Reads name told reads reads_after (Err ending) = Unread name told reads reads_after (shown_end ending)
 
 -- The next read of this name found a text that spells this, and that can be run.
 pub record IsSpelled {A : Type 0} (spelled : List ℕ → Result A ScriptFault) (Runs : A → Type 0) (name : Text)
@@ -69,7 +69,7 @@ abbrev pub Fetches : {A : Type 0} → (List ℕ → Result A ScriptFault) → (A
     Result A Ending → Type 0
 Fetches spelled Runs name told reads reads_after (Ok value) = IsSpelled spelled Runs name told reads reads_after value
 Fetches spelled Runs name told reads reads_after (Err ending) =
-    StopsAt spelled name told reads reads_after (shown ending)
+    StopsAt spelled name told reads reads_after (shown_end ending)
 
 -- What a text spells, or its fault.
 abbrev pub Refused : {A : Type 0} → (List ℕ → Result A ScriptFault) → List ℕ → Ended → Type 0
@@ -79,7 +79,7 @@ Refused spelled text _ = ⊥
 
 abbrev pub Judges : {A : Type 0} → (List ℕ → Result A ScriptFault) → (A → Type 0) → List ℕ → Result A Ending → Type 0
 Judges spelled Runs text (Ok value) = (spelled text ≡ Ok value) × Runs value
-Judges spelled Runs text (Err ending) = Refused spelled text (shown ending)
+Judges spelled Runs text (Err ending) = Refused spelled text (shown_end ending)
 
 -- How a job ends that a reader refuses.
 abbrev pub refused_as : ScriptError → Ended

@@ -12,7 +12,7 @@ use Rattle.output_mean.specs.Judged.{Means, Refuses}
 use Rattle.event_graph.specs.Answer.{stack_tree}
 use Rattle.event_graph.specs.declared.stack.Stack.{Stack}
 use Rattle.file_jobs.specs.declared.stack.StackFile.{StackFile}
-use Rattle.job_ends.specs.Shown.{shown}
+use Rattle.job_ends.specs.Shown.{shown_end}
 use Rattle.job_ends.specs.declared.ending.Ending.{Ending}
 
 -- The next read of this name found this text.
@@ -49,12 +49,12 @@ StopsAt name told reads reads_after _ = ⊥
 -- The text of the file that was read, or how the job ends.
 abbrev pub ReadsText : Text → Option Shelved → (reads reads_after : ℕ) → Result (Vec ℕ Global) Ending → Type 0
 ReadsText name told reads reads_after (Ok text) = IsText name told reads reads_after text.items
-ReadsText name told reads reads_after (Err ending) = StopsAt name told reads reads_after (shown ending)
+ReadsText name told reads reads_after (Err ending) = StopsAt name told reads reads_after (shown_end ending)
 
 -- The stack of the file that was read, or how the job ends.
 abbrev pub Fetches : Text → Option Shelved → (reads reads_after : ℕ) → Result Stack Ending → Type 0
 Fetches name told reads reads_after (Ok stack) = IsStack name told reads reads_after (stack_tree stack)
-Fetches name told reads reads_after (Err ending) = StopsAt name told reads reads_after (shown ending)
+Fetches name told reads reads_after (Err ending) = StopsAt name told reads reads_after (shown_end ending)
 
 -- The same with the tree of the file.
 pub record IsStackFile (name : Text) (told : Option Shelved) (reads reads_after : ℕ) (f : StackFile) : Type 0 where
@@ -63,7 +63,7 @@ pub record IsStackFile (name : Text) (told : Option Shelved) (reads reads_after 
 
 abbrev pub FetchesFile : Text → Option Shelved → (reads reads_after : ℕ) → Result StackFile Ending → Type 0
 FetchesFile name told reads reads_after (Ok f) = IsStackFile name told reads reads_after f
-FetchesFile name told reads reads_after (Err ending) = StopsAt name told reads reads_after (shown ending)
+FetchesFile name told reads reads_after (Err ending) = StopsAt name told reads reads_after (shown_end ending)
 
 -- The stack that the bytes of a file mean, or why they are refused.
 abbrev pub Refused : List ℕ → Ended → Type 0
@@ -73,7 +73,7 @@ Refused text _ = ⊥
 
 abbrev pub JudgesStack : List ℕ → Result Stack Ending → Type 0
 JudgesStack text (Ok stack) = Means text (stack_tree stack)
-JudgesStack text (Err ending) = Refused text (shown ending)
+JudgesStack text (Err ending) = Refused text (shown_end ending)
 
 -- The same with the tree of the file that they spell.
 pub record IsFileOf (text : List ℕ) (f : StackFile) : Type 0 where
@@ -82,4 +82,4 @@ pub record IsFileOf (text : List ℕ) (f : StackFile) : Type 0 where
 
 abbrev pub JudgesFile : List ℕ → Result StackFile Ending → Type 0
 JudgesFile text (Ok f) = IsFileOf text f
-JudgesFile text (Err ending) = Refused text (shown ending)
+JudgesFile text (Err ending) = Refused text (shown_end ending)

@@ -2,7 +2,7 @@
 
 ghost use Rattle.job_mean.specs.Job as job;
 ghost use Rattle.job_ends.specs.Comes.{Comes, around};
-ghost use Rattle.job_ends.specs.Shown.{shown};
+ghost use Rattle.job_ends.specs.Shown.{shown_end};
 
 use crate::judged::write;
 use crate::report::fetch_report;
@@ -20,7 +20,7 @@ pub fn audit_report<S: Shelf, O: Sink>(
     out: &mut O,
 ) -> Ending
     ensures { Comes (job.audit file.now law)
-        (around S.Shelf O.Sink shelf.old shelf.new out.old out.new) (shown result) }
+        (around S.Shelf O.Sink shelf.old shelf.new out.old out.new) (shown_end result) }
 {
     match fetch_report(alloc, file, law, shelf) {
         Ok(output) => write(&output, out),

@@ -8,7 +8,7 @@ ghost use Rattle.job_mean.specs.Job as job;
 ghost use Rattle.end_mean.specs.Status.{done};
 ghost use Rattle.outside.specs.Tells.{tells_of};
 ghost use Rattle.job_ends.specs.Comes.{Comes, Writes, around};
-ghost use Rattle.job_ends.specs.Shown.{shown};
+ghost use Rattle.job_ends.specs.Shown.{shown_end};
 
 use crate::judged::{Output, write};
 use crate::lines::accepted_line;
@@ -27,7 +27,7 @@ pub fn check_stack<S: Shelf, O: Sink>(
     out: &mut O,
 ) -> Ending
     ensures { Comes (job.check file.now)
-        (around S.Shelf O.Sink shelf.old shelf.new out.old out.new) (shown result) }
+        (around S.Shelf O.Sink shelf.old shelf.new out.old out.new) (shown_end result) }
 {
     match fetch_stack(alloc, file, shelf) {
         Ok(stack) => accept(alloc, places_of(stack), out),
@@ -47,7 +47,7 @@ fn places_of(stack: Stack) -> u8
 /// Writes that a stack of this many places is accepted.
 fn accept<O: Sink>(alloc: Global, places: u8, out: &mut O) -> Ending
     ensures { Writes ((codes "accepted " ++ decimal places ++ codes "\n") ∷ []) done
-        (tells_of O.Sink out.old) (tells_of O.Sink out.new) (shown result) }
+        (tells_of O.Sink out.old) (tells_of O.Sink out.new) (shown_end result) }
 {
     match accepted_line(alloc, places) {
         Ok(line) => {

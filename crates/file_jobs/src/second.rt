@@ -3,7 +3,7 @@
 ghost use Rattle.std.specs.Prelude.{◌≡◌};
 ghost use Rattle.std.specs.Option.{option_map};
 ghost use Rattle.outside.specs.Shelf.{after_read};
-ghost use Rattle.job_ends.specs.Shown.{shown};
+ghost use Rattle.job_ends.specs.Shown.{shown_end};
 ghost use Rattle.file_jobs.specs.Second.{Reads, refused_as};
 
 use job_ends::Ending;
@@ -28,7 +28,7 @@ pub fn fetch_second<S: Shelf>(alloc: Global, name: &str, shelf: &mut S) -> Resul
 
 /// How a job ends whose second file is refused.
 pub fn refusal(error: ScriptError) -> Ending
-    ensures { shown result ≡ refused_as error }
+    ensures { shown_end result ≡ refused_as error }
 {
     match error {
         ScriptError::TooLong => Ending::SecondTooLong,

@@ -37,7 +37,7 @@ pub record Under (names : Names) (locals : List Local) (sorts : List Sort) : Typ
   pub agree : Agree sorts locals names.messages
   pub free : Free sorts names.taken.messages
 
--- behind a block as before it, with more slots taken
+-- after a block as before it, with more slots taken
 under_behind : (names inner : Names) (locals : List Local) (sorts : List Sort) →
     names.taken.messages ≤ inner.taken.messages →
     Under names locals sorts → Under (after_block names inner) locals sorts

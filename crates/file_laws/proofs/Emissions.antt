@@ -15,7 +15,7 @@ use Rattle.layer_ast.specs.declared.tokens.Kind.{Kind}
 use Rattle.layer_ast.specs.declared.tokens.Kind.TheVariants as kinds
 use Rattle.layer_ast.specs.Tree as ast
 use Rattle.layer_mean.specs.Event.{carries}
-use Rattle.layer_mean.specs.Headers.{declared}
+use Rattle.layer_mean.specs.Headers.{header_of_tag}
 use Rattle.layer_mean.specs.Tree.{Carried, part, whole}
 use Rattle.fault_mean.specs.Declared.{is_header}
 use Rattle.fault_mean.specs.Earliest.{unless}
@@ -169,11 +169,13 @@ module _ (names : Names) (locals : List Local) (sorts : List Sort) (agree : Agre
       (unless_nil (length (fields_of names.place.layer x.name.word) == length args) (arity at) inner.1) in
       record {
         fields = each_map LiteralArgument Small (argument_number names) (argument_small names placed) args literal;
-        declares = some_and (declared (layer_of names.place) (tag_of names.place x.name)) _ head.declaration head.listed (
-          length-map args (argument_number names) ∙ sym count ∙ sym head.fields,
-          subst (λ ends. M m (sort_under ends)) (sym head.ends)
-              (down_is (M m) (argument_sort scope m) (declared_as is_end names.place.layer x.name.word) found suited),
-        );
+        declares = some_and (header_of_tag (layer_of names.place) (tag_of names.place x.name)) _ head.declaration
+            head.listed (
+              length-map args (argument_number names) ∙ sym count ∙ sym head.fields,
+              subst (λ ends. M m (sort_under ends)) (sym head.ends)
+                  (down_is (M m) (argument_sort scope m) (declared_as is_end names.place.layer x.name.word) found
+                  suited),
+            );
       }
 
   content_is : (at : At) (dir : Dir) (k : Kind) (m : ast.ArgumentTree) (pushed : Option ast.PushedTree) →

@@ -46,7 +46,7 @@ use Rattle.file_laws.proofs.Slots.{AreNumbers, agree_numbers, locals_are_numbers
 use Rattle.file_laws.proofs.Blocks.{Good, block_typed}
 use Rattle.file_laws.proofs.Growth.{grows_all}
 
--- room behind the sorts that are met
+-- room after the sorts that are met
 
 front_slot : (sorts : List Sort) (x : Sort) (k : ℕ) (s : Sort) → slice_get sorts k ≡ Some s →
     slice_get (sorts ++ x ∷ []) k ≡ Some s
@@ -133,7 +133,7 @@ both_numbers : (locals further : List Local) → AreNumbers locals → AreNumber
 both_numbers [] further h i = i
 both_numbers (l ∷ locals) further h i = (h.0, both_numbers locals further h.1 i)
 
--- what is met: the sort behind the popped header
+-- what is met: the sort after the popped header
 
 headed_sort : (p : Placed) (x : ast.PoppedTree) (head : Headed p x.name) →
     met_sorts (layer_of p) Up true (tag_of p x.name) ≡ (if declared_as is_end p.layer x.name.word then Part else Msg) ∷
@@ -336,7 +336,7 @@ layer_typed p placed literal types named =
     let kinds_are = nils (flat_map (declaration_type_faults layer) layer.declarations)
     (flat_map (handler_type_faults layer) layer.handlers) types in
     let a = naming.declared_faults layer in
-    let b = map (λ (h : ast.HandlerTree). twice h.at) (naming.repeated naming.same_events [] layer.handlers) in
+    let b = map (λ (h : ast.HandlerTree). twice h.at) (naming.repetitions naming.same_events [] layer.handlers) in
     let c = map (λ (h : ast.HandlerTree). too_many h.at) (drop 64 layer.handlers) in
     let one = nils (a ++ b ++ c) (flat_map (naming.handler_name_faults layer) layer.handlers) named in
     let two = nils (a ++ b) c one.0 in

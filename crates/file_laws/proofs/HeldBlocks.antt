@@ -23,7 +23,8 @@ use Rattle.fault_mean.specs.Forms.{declared_as, fields_of, queue_name, row_of}
 use Rattle.fault_mean.specs.Declared.{is_header}
 use Rattle.fault_mean.specs.Kinds.{a_number, arguments_of}
 use Rattle.fault_mean.specs.ExpressionFaults.{argument_faults, arguments_faults, number_faults, queue_faults}
-use Rattle.fault_mean.specs.Scope.{Local, Scope, Standing, brought, layer_scope, locals_as, scope_behind, standing_in}
+use Rattle.fault_mean.specs.Scope.{Local, Scope, Standing, declared_names, layer_scope, locals_as, scope_behind}
+use Rattle.fault_mean.specs.Scope.{standing_in}
 use Rattle.fault_mean.specs.Scope.{standing_inside, taken_scope, with_locals}
 use Rattle.fault_mean.specs.Sorts.{size_at}
 use Rattle.fault_mean.specs.TypeFaults.{pushes, suits, ends_with, sent_sort, pushed_faults, emission_faults}
@@ -45,17 +46,17 @@ abbrev pub total : Names → ℕ
 total names = names.taken.numbers + names.taken.messages
 
 abbrev pub declared_in : List Standing → ℕ
-declared_in statements = length (flat_map (λ (s : Standing). brought s.statement) statements)
+declared_in statements = length (flat_map (λ (s : Standing). declared_names s.statement) statements)
 
 both : (xs ys : List Standing) → declared_in (xs ++ ys) ≡ declared_in xs + declared_in ys
 both xs ys =
-    ap length (flat_map-append (λ (s : Standing). brought s.statement) xs ys)
-    ∙ length-append (flat_map (λ (s : Standing). brought s.statement) xs)
-    (flat_map (λ (s : Standing). brought s.statement) ys)
+    ap length (flat_map-append (λ (s : Standing). declared_names s.statement) xs ys)
+    ∙ length-append (flat_map (λ (s : Standing). declared_names s.statement) xs)
+    (flat_map (λ (s : Standing). declared_names s.statement) ys)
 
 mutual
   adds : (x : ast.StatementTree) (names : Names) (scope : Scope) →
-      total (behind x names) ≡ total names + length (brought x) + declared_in (standing_inside scope x)
+      total (behind x names) ≡ total names + length (declared_names x) + declared_in (standing_inside scope x)
   adds (ast.bind at name e) names scope = omega arith
   adds (ast.set at name index e) names scope = omega arith
   adds (ast.set_square at name row column e) names scope = omega arith
@@ -85,8 +86,8 @@ mutual
   adds_all (ast.more x rest) names scope =
       let one = adds x names scope in
       let two = adds_all rest (behind x names) (scope_behind scope x) in
-      let own = length-append (brought x)
-      (flat_map (λ (s : Standing). brought s.statement)
+      let own = length-append (declared_names x)
+      (flat_map (λ (s : Standing). declared_names s.statement)
       (standing_inside scope x ++ standing_in (scope_behind scope x) rest)) in
       let sum = both (standing_inside scope x) (standing_in (scope_behind scope x) rest) in
       omega (arith, one, two, own, sum)

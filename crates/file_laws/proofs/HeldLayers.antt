@@ -12,7 +12,8 @@ use Rattle.fault_mean.specs.Faults.{too_many, twice}
 use Rattle.fault_mean.specs.Forms.{items_of, labels_of}
 use Rattle.fault_mean.specs.Limits.{capacity_in, messages_inside, numbers_beyond}
 use Rattle.fault_mean.specs.NameFaults as naming
-use Rattle.fault_mean.specs.Scope.{brought, handler_names as all_names, handler_statements, head_names, head_scope}
+use Rattle.fault_mean.specs.Scope.{declared_names, handler_names as all_names, handler_statements, head_names}
+use Rattle.fault_mean.specs.Scope.{head_scope}
 use Rattle.fault_mean.specs.Scope.{layer_scope, popped_names, visible}
 use Rattle.fault_mean.specs.Uses.{of_name}
 use Rattle.file_mean.specs.Layers.{handler_names, handler_of, popped_tag}
@@ -111,7 +112,8 @@ handler_held p h b is =
     let new = names_in (Some h.names) in
     let few = names_are_few p.layer h is.1 in
     let head = length-append new (popped_names h.popped) in
-    let all = length-append (head_names h) (flat_map (λ s. brought s.statement) (handler_statements p.layer h)) in
+    let all = length-append (head_names h) (flat_map (λ s. declared_names s.statement) (handler_statements p.layer h))
+    in
     let numbers = length-append (numbers_among (carries h.kind) new) (popped_names h.popped) in
     let parts = split (carries h.kind) new in
     let sum = adds_all h.block entry (head_scope p.layer h) in
@@ -130,7 +132,7 @@ layer_held : (p : Placed) → naming.layer_name_faults p.layer ≡ [] → Parts 
 layer_held p named parts =
     let layer = p.layer in
     let a = naming.declared_faults layer in
-    let b = map (λ (h : ast.HandlerTree). twice h.at) (naming.repeated naming.same_events [] layer.handlers) in
+    let b = map (λ (h : ast.HandlerTree). twice h.at) (naming.repetitions naming.same_events [] layer.handlers) in
     let c = map (λ (h : ast.HandlerTree). too_many h.at) (drop 64 layer.handlers) in
     let one = nils (a ++ b ++ c) (flat_map (naming.handler_name_faults layer) layer.handlers) named in
     let two = nils (a ++ b) c one.0 in

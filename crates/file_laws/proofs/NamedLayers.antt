@@ -15,7 +15,7 @@ use Rattle.layer_ast.specs.declared.tokens.Kind.{Kind}
 use Rattle.layer_ast.specs.declared.tokens.Kind.TheVariants as kinds
 use Rattle.layer_ast.specs.Tree as ast
 use Rattle.layer_mean.specs.Event.{carries}
-use Rattle.layer_mean.specs.Headers.{declared}
+use Rattle.layer_mean.specs.Headers.{header_of_tag}
 use Rattle.layer_mean.specs.Tree.{CellTree, no_layer}
 use Rattle.fault_mean.specs.Declared.{declaration_of, is_header, is_param, names_in, declared_name, is_cell}
 use Rattle.fault_mean.specs.Earliest.{unless}
@@ -25,7 +25,8 @@ use Rattle.fault_mean.specs.Kinds.{allows, arguments_of}
 use Rattle.fault_mean.specs.NameFaults as naming
 use Rattle.fault_mean.specs.Scope.{Local, Scope, Standing, layer_scope, locals_as, popped_names, sort_behind}
 use Rattle.fault_mean.specs.Scope.{argument_sorts, head_scope, handler_statements, standing_in, visible}
-use Rattle.fault_mean.specs.Scope.{brought as brought_by, head_names, handler_names as all_names, layer_statements}
+use Rattle.fault_mean.specs.Scope.{declared_names as brought_by, head_names, handler_names as all_names}
+use Rattle.fault_mean.specs.Scope.{layer_statements}
 use Rattle.fault_mean.specs.Sorts.{is_initial, expression_at, size_at}
 use Rattle.fault_mean.specs.Uses.{arguments_in, of_name, statement_uses}
 use Rattle.fault_mean.specs.ExpressionFaults.{number_faults, queue_faults, arguments_faults}
@@ -39,7 +40,7 @@ use Rattle.file_mean.specs.Layers.{popped_tag, expected_of, handler_names, handl
 use Rattle.layer_ast.specs.declared.names.At.{At}
 use Rattle.fault_mean.specs.Limits.{LimitedSize, capacity_in, is_within, maximum_in, number_outside, sizes_in}
 use Rattle.fault_mean.specs.Places.{param_value}
-use Rattle.file_laws.specs.Named.{Named, NamedAll, NamedExpected, brought, slots_of, NamedHandler, NamedForm}
+use Rattle.file_laws.specs.Named.{Named, NamedAll, NamedExpected, event_number_count, slots_of, NamedHandler, NamedForm}
 use Rattle.file_laws.specs.Named.{NamedLayer, IsSize}
 use Rattle.file_laws.proofs.Lists.{nils, each_nil, each_parts, unless_nil, filter_map_each, each_both, map_nil}
 use Rattle.file_laws.proofs.Own.{declares_it, headed}
@@ -108,7 +109,7 @@ Clean p s = (statement_type_faults s.scope s.statement ≡ []) × AllByRecursion
 abbrev scope_of : Names → List Local → Scope
 scope_of names locals = record { layer = names.place.layer; locals = locals }
 
--- behind a block as before it
+-- after a block as before it
 sees_behind : (names inner : Names) (locals : List Local) → names.taken.numbers ≤ inner.taken.numbers →
     Sees names locals →
     Sees (after_block names inner) locals
@@ -364,7 +365,7 @@ front_short (x ∷ y ∷ []) two = refl
 front_short (x ∷ y ∷ z ∷ xs) two = absurd (omega (arith, two))
 
 brought_is : (k : Kind) (new : List Name) → length new ≡ length (arguments_of k) →
-    length (numbers_among (carries k) new) ≡ brought k
+    length (numbers_among (carries k) new) ≡ event_number_count k
 brought_is kinds.Cast new count = ap length (front_is new) ∙ front_short new count
 brought_is kinds.Send new count = ap length (front_is new) ∙ front_short new count
 brought_is kinds.Stable new count = count
@@ -373,7 +374,7 @@ brought_is _ new count = count
 
 popped_count : (p : Placed) (h : ast.HandlerTree) (popped : Option ast.PoppedTree) →
     option_map_or (λ x. with_faults p.layer h.at x.name (length (popped_names (Some x))) (takes_off h)) popped [] ≡ [] →
-    length (popped_names popped) ≡ option_map_or (λ d. d.fields) (declared (layer_of p) (popped_tag p popped)) 0
+    length (popped_names popped) ≡ option_map_or (λ d. d.fields) (header_of_tag (layer_of p) (popped_tag p popped)) 0
 popped_count p h None faults = refl
 popped_count p h (Some x) faults =
     let a = unless (declared_as is_header p.layer x.name.word) (kind h.at) in
@@ -443,7 +444,7 @@ handler_named p h last is =
     let fields = popped_names h.popped in
     let slots : ℕ = slots_of (layer_of p) (handler_of p h) in
     let met : entry.taken.numbers ≡
-    brought h.kind + option_map_or (λ d. d.fields) (declared (layer_of p) (popped_tag p h.popped)) 0 =
+    event_number_count h.kind + option_map_or (λ d. d.fields) (header_of_tag (layer_of p) (popped_tag p h.popped)) 0 =
     omega (
       arith,
       length-append kept fields,
@@ -585,7 +586,7 @@ layer_parts p types named within =
     let parts = nils (flat_map (declaration_type_faults layer) layer.declarations)
     (flat_map (handler_type_faults layer) layer.handlers) types in
     let a = naming.declared_faults layer in
-    let b = map (λ (h : ast.HandlerTree). twice h.at) (naming.repeated naming.same_events [] layer.handlers) in
+    let b = map (λ (h : ast.HandlerTree). twice h.at) (naming.repetitions naming.same_events [] layer.handlers) in
     let c = map (λ (h : ast.HandlerTree). too_many h.at) (drop 64 layer.handlers) in
     let one = nils (a ++ b ++ c) (flat_map (naming.handler_name_faults layer) layer.handlers) named in
     let two = nils (a ++ b) c one.0 in

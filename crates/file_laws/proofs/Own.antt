@@ -6,7 +6,7 @@ use Rattle.std.specs.Option.{option_map_or}
 use Rattle.layer_ast.specs.declared.names.Name.{Name}
 use Rattle.layer_ast.specs.declared.names.Word.{Word}
 use Rattle.layer_ast.specs.Tree as ast
-use Rattle.layer_mean.specs.Headers.{declared}
+use Rattle.layer_mean.specs.Headers.{header_of_tag}
 use Rattle.layer_mean.specs.Tree.{CellTree, HeaderTree}
 use Rattle.fault_mean.specs.Declared.{declares, declaration_of, is_cell, is_header, cells_of, headers_of}
 use Rattle.fault_mean.specs.Forms.{declared_as, is_queue, is_queue_array, is_end, items_of, fields_of}
@@ -95,13 +95,13 @@ queue_listed p name (ast.header at name_is fields end) found is = absurd (cc is)
 -- a header that a name stands for
 pub record Headed (p : Placed) (name : Name) : Type 0 where
   pub declaration : HeaderTree
-  pub listed : declared (layer_of p) (tag_of p name) ≡ Some declaration
+  pub listed : header_of_tag (layer_of p) (tag_of p name) ≡ Some declaration
   pub fields : declaration.fields ≡ length (fields_of p.layer name.word)
   pub ends : declaration.ends ≡ declared_as is_end p.layer name.word
 
 tag_listed : (p : Placed) (name : Name) (d : ast.DeclarationTree) (h : HeaderTree) → declaration_of p.layer name.word ≡
     Some d →
-    is_header d ≡ true → header_in d ≡ Some h → declared (layer_of p) (tag_of p name) ≡ Some h
+    is_header d ≡ true → header_in d ≡ Some h → header_of_tag (layer_of p) (tag_of p name) ≡ Some h
 unfolding layer_of
 tag_listed p name d h found kind made =
     let at = stood_at (declares name.word) (headers_of p.layer) (filter_map header_in p.layer.declarations) h

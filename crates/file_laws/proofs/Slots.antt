@@ -12,7 +12,7 @@ use Rattle.layer_ast.specs.declared.syntax.Sort.TheVariants.{Int, Msg, Part}
 use Rattle.fault_mean.specs.Scope.{Local, locals_as}
 use Rattle.file_laws.proofs.Messages.{sort_among, slot_among, Slot, Agree}
 
--- further locals are looked at behind the others
+-- further locals are looked at after the others
 among_both : (locals further : List Local) (word : Word) →
     sort_among (locals ++ further) word ≡ option_or (sort_among locals word) (sort_among further word)
 among_both locals further word =
@@ -103,7 +103,7 @@ free_set sorts n x free k from below =
     set_other sorts n k x (λ e. omega (arith, from, e)) ∙
     free k (omega (arith, from)) (omega (arith, below, set_length sorts n x))
 
--- a new message behind numbers, in a free slot
+-- a new message after numbers, in a free slot
 
 not_int : (sorts : List Sort) (n k : ℕ) (sort : Sort) → slice_get sorts n ≡ Some Int → slice_get sorts k ≡ Some sort →
     (sort ≡ Int → ⊥) → n ≡ k → ⊥
@@ -124,7 +124,7 @@ slot_set sorts n x (Some Part) k free h = set_other sorts n k x (not_int sorts n
 abbrev pub Hidden : List Local → Word → Type 0
 Hidden locals word = sort_among locals word ≡ None
 
--- the slot of a word behind a new message: the new one's, or else as before
+-- the slot of a word after a new message: the new one's, or else as before
 slot_first : (word new : Word) (n : ℕ) (messages : List (Word × ℕ)) (b : Bool) → bytes_eq word new ≡ b →
     slot_among ((new, n) ∷ messages) word ≡ (if b then n else slot_among messages word)
 slot_first word new n messages true is = rw is refl

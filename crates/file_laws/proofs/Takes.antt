@@ -19,7 +19,7 @@ use Rattle.fault_mean.specs.Faults.{arity, twice}
 use Rattle.fault_mean.specs.Forms.{queue_name}
 use Rattle.fault_mean.specs.Kinds.{allows, a_number, a_message}
 use Rattle.fault_mean.specs.Limits.{messages_inside}
-use Rattle.fault_mean.specs.NameFaults.{repeated, same_word, twice_among}
+use Rattle.fault_mean.specs.NameFaults.{repetitions, same_word, twice_among}
 use Rattle.fault_mean.specs.Scope.{Local, Scope, locals_as, visible}
 use Rattle.fault_mean.specs.ExpressionFaults.{queue_faults}
 use Rattle.fault_mean.specs.TypeFaults.{row_type_faults}
@@ -58,7 +58,7 @@ not_listed : (name : Name) (b : Bool) → (if b then name ∷ [] else []) ≡ []
 not_listed name true h = absurd (cc h)
 not_listed name false h = refl
 
-last_fresh : (earlier names : List Name) (o : Option Name) (l : Name) → repeated same_word earlier names ≡ [] →
+last_fresh : (earlier names : List Name) (o : Option Name) (l : Name) → repetitions same_word earlier names ≡ [] →
     (names ≡ [] → ⊥) →
     last_or o names ≡ Some l → (list_any (same_word l) earlier ≡ false) × Apart l names
 last_fresh earlier [] o l h some is = absurd (some refl)
@@ -68,7 +68,7 @@ last_fresh earlier (a ∷ []) o l h some is =
     (subst (λ x. list_any (same_word x) earlier ≡ false) e (not_listed a (list_any (same_word a) earlier) parts.0), tt)
 last_fresh earlier (a ∷ b ∷ names) o l h some is =
     let parts = nils (if list_any (same_word a) earlier then a ∷ [] else [])
-    (repeated same_word (a ∷ earlier) (b ∷ names)) h in
+    (repetitions same_word (a ∷ earlier) (b ∷ names)) h in
     let later = last_fresh (a ∷ earlier) (b ∷ names) (Some a) l parts.1 (λ e. cc e) is in
     let split = or_false (same_word l a) (list_any (same_word l) earlier) later.0 in
     (split.1, (split.0, later.1))
@@ -101,7 +101,7 @@ first_number i true is h = number_sort i.sort is where
   number_sort Part is = absurd (cc is)
 first_number i false is h = absurd (cc h)
 
--- a number in front of them
+-- a number before them
 first_local : (x : ast.ItemTree) (a l : Name) (i : ast.ItemTree) (rest : List Local) → x.sort ≡ Int →
     same_word l a ≡ false →
     LastLocal rest l.word i.sort → LastLocal (record { name = a; sort = x.sort } ∷ rest) l.word i.sort
@@ -247,7 +247,7 @@ module _ (names : Names) (locals : List Local) (sorts : List Sort) (agree : Agre
         let n = names.taken.messages in
         let further = locals_as (map (λ (i : ast.ItemTree). i.sort) items) new in
         let apart = last_fresh (visible scope) new None l.0
-        (map_nil (λ (name : Name). twice name.at) (repeated same_word (visible scope) new) fresh)
+        (map_nil (λ (name : Name). twice name.at) (repetitions same_word (visible scope) new) fresh)
         (λ e. cc e) l.1 in
         let unseen = or_false (list_any (same_word l.0) (map declared_name names.place.layer.declarations))
         (list_any (same_word l.0) (map (λ (x : Local). x.name) locals))

@@ -18,7 +18,7 @@ use Rattle.layer_ast.specs.declared.syntax.Likely.TheVariants as likely_word
 use Rattle.layer_ast.specs.declared.syntax.Shape.{Shape}
 use Rattle.layer_ast.specs.declared.syntax.Shape.TheVariants.{One, Array, Square}
 use Rattle.layer_ast.specs.Cut.{Piece, gap, one, bad, word_piece, number_piece, symbol_piece, piece, place_behind}
-use Rattle.layer_ast.specs.Cut.{Tokens, is_numeral, with_piece, cut_from, cut}
+use Rattle.layer_ast.specs.Cut.{Tokens, is_numeral, with_piece, cut_from, text_tokens}
 use Rattle.layer_ast.specs.Print as print
 use Rattle.layer_ast.specs.Printed.{Printed}
 use Rattle.layer_ast.specs.Spelling.{is_blank, is_word_byte, reserved, kinds, beside, word_token, symbol_at, number_of}
@@ -120,7 +120,7 @@ fits_said (p ∷ printed) (l ∷ lexed) h i = (subst SmallToken h.0 i.0, fits_sa
 fits_said [] (l ∷ lexed) h i = tt
 fits_said (p ∷ printed) [] h i = absurd h
 
--- what is printed in front of other tokens
+-- what is printed before other tokens
 
 mutual
   expression_said : (e : ExpressionTree) (k : List Printed) → Said (print.expression e k) → Literal e × Said k
@@ -374,13 +374,13 @@ library_said [] [] h = tt
 library_said [] (l ∷ ls) h = absurd h
 library_said (text ∷ texts) [] h = absurd h
 library_said (text ∷ texts) (l ∷ ls) h = (
-  (layer_said l [] (fits_said (print.layer l []) (cut text).tokens h.0.fits (cut_small false 0 text _))).0,
+  (layer_said l [] (fits_said (print.layer l []) (text_tokens text).tokens h.0.fits (cut_small false 0 text _))).0,
   library_said texts ls h.1,
 )
 
 pub texts_are_literal : TextsAreLiteral
 texts_are_literal text file is =
-    let said = fits_said (print.file file) (cut text).tokens is.spelled.fits (cut_small false 0 text _) in
+    let said = fits_said (print.file file) (text_tokens text).tokens is.spelled.fits (cut_small false 0 text _) in
     let a = layers_said file.layers _ said in
     let b = places_said file.places _ a.1.1.1 in
     record { layers_are = a.0; library_is = library_said _ file.library is.library; places_are = b.0 }

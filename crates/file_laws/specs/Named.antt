@@ -8,7 +8,7 @@ use Rattle.layer_ast.specs.declared.syntax.Shape.TheVariants.{One, Array, Square
 use Rattle.layer_ast.specs.declared.tokens.Kind.{Kind}
 use Rattle.layer_ast.specs.declared.tokens.Kind.TheVariants.{Stable, Ack}
 use Rattle.layer_ast.specs.Tree.{FileTree}
-use Rattle.layer_mean.specs.Headers.{declared}
+use Rattle.layer_mean.specs.Headers.{header_of_tag}
 use Rattle.layer_mean.specs.Tree.{ExpressionTree, number, local, element, square, rows, item, size, binary, apply, pick}
 use Rattle.layer_mean.specs.Tree.{MessageTree, held, cut, tail, join, ContentTree, ItemsTree, Form, numbers, queue}
 use Rattle.layer_mean.specs.Tree.{queues, StatementTree, bind, assign, assign_square, push, take, branch, each, emit}
@@ -122,13 +122,13 @@ NamedExpected layer slots _ = Unit {0}
 
 -- How many numbers an event of a kind brings; and how many a handler's scope has: those, the fields of the header that
 -- it takes off, and those of its own.
-abbrev pub brought : Kind → ℕ
-brought Stable = 2
-brought Ack = 2
-brought _ = 1
+abbrev pub event_number_count : Kind → ℕ
+event_number_count Stable = 2
+event_number_count Ack = 2
+event_number_count _ = 1
 
 abbrev pub slots_of : LayerTree → HandlerTree → ℕ
-slots_of layer h = brought h.kind + option_map_or (λ d. d.fields) (declared layer h.tag) 0 + h.numbers
+slots_of layer h = event_number_count h.kind + option_map_or (λ d. d.fields) (header_of_tag layer h.tag) 0 + h.numbers
 
 -- All that a handler names is there, and all that a layer does; an initial value names no cell, and capacities
 -- are sizes.

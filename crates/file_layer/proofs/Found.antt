@@ -6,7 +6,7 @@ use Rattle.layer_mean.specs.State.{row_at}
 use Rattle.layer_mean.specs.Tree.{Carried, part, whole}
 use Rattle.layer_mean.specs.Value.{missing, number_in, message_in}
 use Rattle.cell_store.specs.Kept.{Kept, kept_rows, kept_row, state_of}
-use Rattle.pool_message.specs.Seen.{seen, Lies, LiesIf, row_seen, RowLies}
+use Rattle.pool_message.specs.Seen.{content_seen, Lies, LiesIf, row_seen, RowLies}
 use Rattle.pool_message.specs.Moves.{Counts}
 use Rattle.pool_message.specs.declared.message.PoolMessage.{PoolMessage}
 use Rattle.pool_message.specs.declared.row.PoolRow.{PoolRow}
@@ -43,7 +43,7 @@ module _ (p : List Held) (k : Kept PoolRow) (c i r : ℕ) where
   size_found carried row m n lie is has counts =
       let lies : Lies p m = subst (LiesIf p) has (row_lies lie row is) in
       sym (ap (λ o. length (message_in carried o).body)
-      (found row is ∙ (λ j. Some (record { numbers = row.numbers; message = option_map (seen p) (has j) }))) ∙
+      (found row is ∙ (λ j. Some (record { numbers = row.numbers; message = option_map (content_seen p) (has j) }))) ∙
       counts.bytes p lies)
 
   pub size_bare : (carried : Carried) (row : PoolRow) → kept_row k c i r ≡ Some row → row.message ≡ None →
@@ -51,7 +51,7 @@ module _ (p : List Held) (k : Kept PoolRow) (c i r : ℕ) where
   size_bare carried row is has =
       none_long carried ∙ sym
       (ap (λ o. length (message_in carried o).body)
-      (found row is ∙ (λ j. Some (record { numbers = row.numbers; message = option_map (seen p) (has j) }))))
+      (found row is ∙ (λ j. Some (record { numbers = row.numbers; message = option_map (content_seen p) (has j) }))))
 
   pub size_none : (carried : Carried) → kept_row k c i r ≡ None →
       0 ≡ length (message_in carried (row_at (state_of (row_seen p) k) c i r)).body

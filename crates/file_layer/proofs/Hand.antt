@@ -7,9 +7,9 @@ use Rattle.slot_pool.specs.References.{Moved, Covers}
 use Rattle.slot_pool.proofs.References.{moved-same}
 use Rattle.msg_core.specs.Chain.{Content}
 use Rattle.msg_core.specs.Parts as parts
-use Rattle.layer_desk.specs.Laid.{lifted, changed, joined}
+use Rattle.layer_desk.specs.Laid.{lifted, front_changed, front_joined}
 use Rattle.layer_desk.specs.Spent.{Begun}
-use Rattle.pool_message.specs.Seen.{refs, seen, Lies}
+use Rattle.pool_message.specs.Seen.{refs, content_seen, Lies}
 use Rattle.pool_message.specs.Moves.{Kept, Returned, Derived, Made}
 use Rattle.pool_message.specs.declared.message.PoolMessage.{PoolMessage}
 use Rattle.pool_message.proofs.Stays.{message_stays}
@@ -21,9 +21,9 @@ use Rattle.file_layer.proofs.Steps.{rest_stays, stepped}
 
 -- The newest message in hand is the one in front.
 pub laid_top : (q : List Held) (s : Stock) (rest : List PoolMessage) (m : PoolMessage) →
-    laid q (record s { hand = rest ++ m ∷ [] }) ≡ lifted (seen q m) (laid q (record s { hand = rest }))
+    laid q (record s { hand = rest ++ m ∷ [] }) ≡ lifted (content_seen q m) (laid q (record s { hand = rest }))
 laid_top q s rest m = ap (λ hand. record (laid q (record s { hand = rest })) { hand = hand })
-    (last_first (seen q) rest m)
+    (last_first (content_seen q) rest m)
 
 module _ (b : Begun) (p q : List Held) (s : Stock) (is : InPool b p s) where
   -- Messages in hand become others.
@@ -60,7 +60,7 @@ module _ (b : Begun) (p q : List Held) (s : Stock) (is : InPool b p s) where
   -- A message that lies in the pool is kept, and the new one taken into the hand.
   pub lifted_step : (m : PoolMessage) → Covers p (refs m) → Lies p m → Kept p q (refs m) →
       InPool b q (record s { hand = s.hand ++ m ∷ [] }) ×
-      (laid q (record s { hand = s.hand ++ m ∷ [] }) ≡ lifted (seen p m) (laid p s))
+      (laid q (record s { hand = s.hand ++ m ∷ [] }) ≡ lifted (content_seen p m) (laid p s))
   lifted_step m covers lies kept =
       let stays = message_stays p q [] (refs m) kept.moved m covers lies in
       let one : refs m ≡ refs m ++ [] = sym (append-nil (refs m)) in
@@ -70,9 +70,9 @@ module _ (b : Begun) (p q : List Held) (s : Stock) (is : InPool b p s) where
 
   -- Two messages in front are joined.
   pub joined_step : (rest : List PoolMessage) (part m x : PoolMessage) → s.hand ≡ (rest ++ part ∷ []) ++ m ∷ [] →
-      Made p q (refs part ++ refs m) (parts.join (seen p part) (seen p m)) x →
+      Made p q (refs part ++ refs m) (parts.join (content_seen p part) (content_seen p m)) x →
       InPool b q (record s { hand = rest ++ x ∷ [] }) ×
-      (laid q (record s { hand = rest ++ x ∷ [] }) ≡ joined (laid p s))
+      (laid q (record s { hand = rest ++ x ∷ [] }) ≡ front_joined (laid p s))
   joined_step rest part m x at made =
       let two : refs part ++ refs m ≡ refs part ++ (refs m ++ []) = ap (λ r. refs part ++ r) (sym (append-nil (refs m)))
       in
@@ -81,10 +81,11 @@ module _ (b : Begun) (p q : List Held) (s : Stock) (is : InPool b p s) where
       subst (λ r. Moved p q r (refs x ++ [])) two (subst (Moved p q (refs part ++ refs m)) one made.moved) in
       let step = hand_step rest (part ∷ m ∷ []) (x ∷ []) (at ∙ append_assoc rest (part ∷ []) (m ∷ [])) moved
       (made.lies, tt) in
-      let before : laid p s ≡ lifted (seen p m) (lifted (seen p part) (laid p (record s { hand = rest }))) =
+      let before : laid p s ≡
+      lifted (content_seen p m) (lifted (content_seen p part) (laid p (record s { hand = rest }))) =
       ap (λ hand. laid p (record s { hand = hand })) at ∙ laid_top p s (rest ++ part ∷ []) m ∙
-      ap (lifted (seen p m)) (laid_top p s rest part) in
-      (step.0, laid_top q s rest x ∙ (λ k. lifted (made.shows k) (step.1 k)) ∙ ap joined (sym before))
+      ap (lifted (content_seen p m)) (laid_top p s rest part) in
+      (step.0, laid_top q s rest x ∙ (λ k. lifted (made.shows k) (step.1 k)) ∙ ap front_joined (sym before))
 
   -- Two messages in front are given back.
   pub gone_step : (rest : List PoolMessage) (part m : PoolMessage) → s.hand ≡ (rest ++ part ∷ []) ++ m ∷ [] →
@@ -101,7 +102,7 @@ module _ (b : Begun) (p : List Held) (s : Stock) (is : InPool b p s) where
   -- A message without bytes is taken into the hand.
   pub bare_step : (m : PoolMessage) → refs m ≡ [] → Lies p m →
       InPool b p (record s { hand = s.hand ++ m ∷ [] }) ×
-      (laid p (record s { hand = s.hand ++ m ∷ [] }) ≡ lifted (seen p m) (laid p s))
+      (laid p (record s { hand = s.hand ++ m ∷ [] }) ≡ lifted (content_seen p m) (laid p s))
   bare_step m none lies =
       let one : [] ≡ refs m ++ [] = sym none ∙ sym (append-nil (refs m)) in
       let step = hand_step b p p s is s.hand [] (m ∷ []) (sym (append-nil s.hand))
@@ -112,15 +113,15 @@ module _ (b : Begun) (p : List Held) (s : Stock) (is : InPool b p s) where
   pub changed_step : (f : Content → Content) (rest : List PoolMessage) (x y : PoolMessage) → s.hand ≡ rest ++ x ∷ [] →
       Derived f x y →
       InPool b p (record s { hand = rest ++ y ∷ [] }) ×
-      (laid p (record s { hand = rest ++ y ∷ [] }) ≡ changed f (laid p s))
+      (laid p (record s { hand = rest ++ y ∷ [] }) ≡ front_changed f (laid p s))
   changed_step f rest x y at made =
       let lies = all-behind (Lies p) rest (x ∷ []) (subst (AllByRecursion (Lies p)) at is.lies.hand) in
       let same : refs x ++ [] ≡ refs y ++ [] = ap (λ r. r ++ []) (sym made.slots) in
       let step = hand_step b p p s is rest (x ∷ []) (y ∷ []) at
       (subst (Moved p p (refs x ++ [])) same (moved-same p (refs x ++ []))) (made.lies p lies.0, tt) in
-      let before : laid p s ≡ lifted (seen p x) (laid p (record s { hand = rest })) =
+      let before : laid p s ≡ lifted (content_seen p x) (laid p (record s { hand = rest })) =
       ap (λ hand. laid p (record s { hand = hand })) at ∙ laid_top p s rest x in (
         step.0,
         laid_top p s rest y ∙ ap (λ c. lifted c (laid p (record s { hand = rest }))) (made.shows p) ∙
-            ap (changed f) (sym before),
+            ap (front_changed f) (sym before),
       )

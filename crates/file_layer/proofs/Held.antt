@@ -12,7 +12,7 @@ use Rattle.layer_mean.specs.Value.{missing, message_in}
 use Rattle.cell_store.specs.Kept.{nothing_kept, queues_kept, kept_at, kept_rows, kept_row}
 use Rattle.layer_desk.specs.Laid.{lifted}
 use Rattle.layer_desk.specs.Spent.{Begun}
-use Rattle.pool_message.specs.Seen.{bodiless, refs, seen, Lies, refs_if, LiesIf, row_refs, row_seen, RowLies}
+use Rattle.pool_message.specs.Seen.{bodiless, refs, content_seen, Lies, refs_if, LiesIf, row_refs, row_seen, RowLies}
 use Rattle.pool_message.specs.Moves.{Kept as is_kept}
 use Rattle.pool_message.specs.declared.message.PoolMessage.{PoolMessage}
 use Rattle.pool_message.specs.declared.row.PoolRow.{PoolRow}
@@ -38,16 +38,19 @@ times_get f i (y ∷ xs) (suc k) d none = let rest = times_get f i xs k d none i
 
 -- What is seen of the message that a row has or lacks.
 message_seen : (p : List Held) (carried : Carried) (o : Option PoolRow) (m : PoolMessage) → message_of o ≡ Some m →
-    message_in carried (option_map (row_seen p) o) ≡ seen p m
+    message_in carried (option_map (row_seen p) o) ≡ content_seen p m
 message_seen p carried None m is = absurd (cc)
-message_seen p carried (Some row) m is = ap (λ x. option_map_or (λ c. c) (option_map (seen p) x) (missing carried)) is
+message_seen p carried (Some row) m is =
+    ap (λ x. option_map_or (λ c. c) (option_map (content_seen p) x) (missing carried)) is
 
 message_missing : (p : List Held) (carried : Carried) (o : Option PoolRow) → message_of o ≡ None →
     message_in carried (option_map (row_seen p) o) ≡ missing carried
 message_missing p carried None is = refl
-message_missing p carried (Some row) is = ap (λ x. option_map_or (λ c. c) (option_map (seen p) x) (missing carried)) is
+message_missing p carried (Some row) is =
+    ap (λ x. option_map_or (λ c. c) (option_map (content_seen p) x) (missing carried)) is
 
-pub missing_seen : (p : List Held) (carried : Carried) → seen p (bodiless (missing carried).headers) ≡ missing carried
+pub missing_seen : (p : List Held) (carried : Carried) → content_seen p (bodiless (missing carried).headers) ≡
+    missing carried
 missing_seen p part = refl
 missing_seen p (whole blank) = refl
 
@@ -109,7 +112,7 @@ module _ (b : Begun) (p : List Held) (s : Stock) (is : InPool b p s) (fits : Sto
         step.1,
         step.2 ∙
             ap (λ x. lifted x (laid p s))
-            (ap (seen p) stands.is ∙ missing_seen p carried ∙
+            (ap (content_seen p) stands.is ∙ missing_seen p carried ∙
             sym (ap (message_in carried) (row_at_seen (row_seen p) s.kept c i r) ∙
             message_missing p carried (kept_row s.kept c i r) there)),
       )

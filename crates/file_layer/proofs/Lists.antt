@@ -105,7 +105,7 @@ read_there xs k d o x is some = item_within xs k d (item_there xs k x.now (sym i
 pub items_are : {A : Type 0} (b : Buffer A) (xs : List A) (n : ℕ) → b ≡ buffer xs n → b.items ≡ xs
 items_are b xs n is = ap (λ c. c.items) is
 
--- The last one, behind those in front of it.
+-- The last one, after those before it.
 last_at : {A : Type 0} (xs : List A) (n : ℕ) (x : A) → n + 1 ≡ length xs → slice_get xs n ≡ Some x →
     xs ≡ take n xs ++ x ∷ []
 last_at [] n x long is = absurd (cc)

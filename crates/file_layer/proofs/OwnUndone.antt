@@ -6,7 +6,7 @@ use Rattle.std.proofs.lemmas.List.{length-map, map-id, set-get_or, set-set}
 use Rattle.layer_ast.specs.declared.syntax.Shape.TheVariants.{One}
 use Rattle.layer_mean.specs.State as state
 use Rattle.layer_mean.specs.State.{State, Contents, no_cell, numbers_in, cell_at, number_at, rows_at, row_at, has_room}
-use Rattle.layer_mean.specs.State.{written, with_number, with_rows, with_row, without_front}
+use Rattle.layer_mean.specs.State.{with_element, with_number, with_rows, with_row, without_front}
 use Rattle.layer_mean.specs.declared.run.Row.{Row}
 use Rattle.cell_store.specs.Kept.{KeptCell, numbers, queues, Kept, kept_rows, kept_row, with_last, with_first}
 use Rattle.cell_store.specs.Kept.{without_first, without_last, first_row, last_row, contents_seen, state_of}
@@ -111,14 +111,16 @@ module _ (k : Kept Row) (c i : ℕ) where
             ap (state_of as_seen) undone.1,
       )
 
-written_back : (cell : Contents) (i v : ℕ) → written i (slice_index (numbers_in cell) i) (written i v cell) ≡ cell
+written_back : (cell : Contents) (i v : ℕ) → with_element i (slice_index (numbers_in cell) i) (with_element i v cell) ≡
+    cell
 written_back (state.numbers ns) i v =
     ap (λ ns. state.numbers ns) (set-set ns i v (slice_index ns i) ∙ set-get_or ns i 0)
 written_back (state.queues qs) i v = refl
 
 -- Cells with the number of one written, and written back.
-cells_back : (cells : List Contents) (c i v : ℕ) → let wrote = set cells c (written i v (get_or cells c no_cell)) in
-    set wrote c (written i (slice_index (numbers_in (get_or cells c no_cell)) i) (get_or wrote c no_cell)) ≡ cells
+cells_back : (cells : List Contents) (c i v : ℕ) →
+    let wrote = set cells c (with_element i v (get_or cells c no_cell)) in
+    set wrote c (with_element i (slice_index (numbers_in (get_or cells c no_cell)) i) (get_or wrote c no_cell)) ≡ cells
 cells_back [] c i v = refl
 cells_back (cell ∷ cells) zero i v = ap (λ x. x ∷ cells) (written_back cell i v)
 cells_back (cell ∷ cells) (suc c) i v = ap (λ xs. cell ∷ xs) (cells_back cells c i v)

@@ -1,4 +1,4 @@
--- The first event that is taken, and those behind it.
+-- The first event that is taken, and those after it.
 use Rattle.std.proofs.Common.{◌≡◌, List, [], ◌∷◌, ◌++◌, refl}
 use Rattle.slot_pool.specs.Held.{Held}
 use Rattle.layer_ast.specs.declared.tokens.Dir.{Dir}

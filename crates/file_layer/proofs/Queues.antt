@@ -12,7 +12,8 @@ use Rattle.slot_pool.proofs.Times.{times-append}
 use Rattle.slot_pool.proofs.References.{moved-same, moved-before}
 use Rattle.msg_core.specs.Chain.{Content}
 use Rattle.layer_mean.specs.State as state
-use Rattle.layer_mean.specs.State.{State, numbers_in, queues_in, cell_at, number_at, has_room, rows_at, row_at, filled}
+use Rattle.layer_mean.specs.State.{State, numbers_in, queues_in, cell_at, number_at, has_room, rows_at, row_at}
+use Rattle.layer_mean.specs.State.{with_queue}
 use Rattle.layer_mean.specs.State.{with_rows, with_row, without_front}
 use Rattle.layer_mean.specs.declared.run.Row.{Row}
 use Rattle.layer_desk.specs.Laid.{Laid, lifted, queued, queued_first}
@@ -20,7 +21,7 @@ use Rattle.layer_desk.specs.Spent.{Begun}
 use Rattle.cell_store.specs.Kept.{KeptCell, numbers, queues, Kept, nothing_kept, numbers_kept, queues_kept, kept_at}
 use Rattle.cell_store.specs.Kept.{kept_number, kept_rows, kept_row, keeps_room, rows_set, with_kept_rows, with_last}
 use Rattle.cell_store.specs.Kept.{without_first, contents_seen, state_of}
-use Rattle.pool_message.specs.Seen.{bodiless, refs, seen, Lies, row_refs, row_seen, RowLies}
+use Rattle.pool_message.specs.Seen.{bodiless, refs, content_seen, Lies, row_refs, row_seen, RowLies}
 use Rattle.pool_message.specs.Moves.{Returned}
 use Rattle.pool_message.specs.declared.message.PoolMessage.{PoolMessage}
 use Rattle.pool_message.specs.declared.row.PoolRow.{PoolRow}
@@ -48,7 +49,7 @@ module _ (see : PoolRow → Row) where
   rows_seen k c i = ap (λ cell. get_or (queues_in cell) i []) (cell_seen k c) ∙ queue_seen i (kept_at k c)
 
   filled_seen : (i : ℕ) (rows : List PoolRow) (cell : KeptCell PoolRow) →
-      filled i (map see rows) (contents_seen see cell) ≡ contents_seen see (rows_set i rows cell)
+      with_queue i (map see rows) (contents_seen see cell) ≡ contents_seen see (rows_set i rows cell)
   filled_seen i rows (numbers shape ns) = refl
   filled_seen i rows (queues shape capacity qs) = ap (λ s. state.queues s) (sym (map-set (map see) qs i rows))
 
@@ -58,7 +59,7 @@ module _ (see : PoolRow → Row) where
       ap (λ cells. record (state_of see k) { cells = cells })
       (map-set (contents_seen see) k.cells c (rows_set i rows (kept_at k c)) ∙
       ap (set (map (contents_seen see) k.cells) c)
-      (sym (filled_seen i rows (kept_at k c)) ∙ ap (filled i (map see rows)) (sym (cell_seen k c))))
+      (sym (filled_seen i rows (kept_at k c)) ∙ ap (with_queue i (map see rows)) (sym (cell_seen k c))))
 
   pub state_last : (k : Kept PoolRow) (c i : ℕ) (row : PoolRow) → state_of see (with_last k c i row) ≡
       with_row (state_of see k) c i (see row)
@@ -153,7 +154,7 @@ module _ (b : Begun) (p : List Held) (s : Stock) (is : InPool b p s) (c i : ℕ)
       } in
       let step = queued_step (record s { hand = rest }) (refs m) out left within
       (record { numbers = ns; message = Some m }) refl (all-behind (Lies p) rest (m ∷ []) lie).0 in
-      let before : laid p s ≡ lifted (seen p m) (laid p (record s { hand = rest })) =
+      let before : laid p s ≡ lifted (content_seen p m) (laid p (record s { hand = rest })) =
       ap (λ hand. laid p (record s { hand = hand })) at ∙ laid_top p s rest m in
       (step.0, step.1 ∙ ap (queued_first c i ns) (sym before))
 
@@ -207,7 +208,7 @@ module _ (b : Begun) (p q : List Held) (s : Stock) (is : InPool b p s) (c i : �
       record (laid p s) {
         state = without_front (laid p s).state c i;
         scope =
-            record (laid p s).scope { messages = set (laid p s).scope.messages k (seen p m) };
+            record (laid p s).scope { messages = set (laid p s).scope.messages k (content_seen p m) };
       })
   row_bound k old m there same lies gone =
       let bare : PoolMessage = bodiless [] in
@@ -247,16 +248,17 @@ module _ (b : Begun) (p q : List Held) (s : Stock) (is : InPool b p s) (c i : �
               sent = stays.0.sent;
             }),
         ap (λ ms. in_scope ms (laid q u))
-            (ap (map (seen q)) (sym (set-set s.messages k bare m)) ∙ map-set (seen q) (set s.messages k bare) k m) ∙
-            ap (λ l. in_scope (set l.scope.messages k (seen q m)) l) stays.1 ∙
+            (ap (map (content_seen q)) (sym (set-set s.messages k bare m)) ∙
+            map-set (content_seen q) (set s.messages k bare) k m) ∙
+            ap (λ l. in_scope (set l.scope.messages k (content_seen q m)) l) stays.1 ∙
             (λ j. record {
               state = state_first (row_seen p) s.kept c i j;
               scope = record {
                 numbers = s.numbers;
                 messages =
-                    (ap (λ ms. set ms k (seen q m)) (map-set (seen p) s.messages k bare) ∙
-                    set-set (map (seen p) s.messages) k (seen p bare) (seen q m) ∙
-                    ap (set (map (seen p) s.messages) k) kept.1) j;
+                    (ap (λ ms. set ms k (content_seen q m)) (map-set (content_seen p) s.messages k bare) ∙
+                    set-set (map (content_seen p) s.messages) k (content_seen p bare) (content_seen q m) ∙
+                    ap (set (map (content_seen p) s.messages) k) kept.1) j;
               };
               arrived = (laid p s).arrived;
               hand = (laid p s).hand;

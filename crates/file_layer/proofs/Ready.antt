@@ -10,10 +10,10 @@ use Rattle.slot_pool.proofs.Times.{times-append}
 use Rattle.msg_core.specs.Chain.{Content, plain}
 use Rattle.msg_core.specs.Parts as parts
 use Rattle.msg_core.specs.Parts.{longest_body}
-use Rattle.layer_desk.specs.Laid.{lifted, joined}
+use Rattle.layer_desk.specs.Laid.{lifted, front_joined}
 use Rattle.layer_desk.specs.Need.{Layout}
 use Rattle.layer_desk.specs.Spent.{Begun}
-use Rattle.pool_message.specs.Seen.{bodiless, refs, seen, Lies}
+use Rattle.pool_message.specs.Seen.{bodiless, refs, content_seen, Lies}
 use Rattle.pool_message.specs.Moves.{Kept, Returned, Derived, Made}
 use Rattle.pool_message.specs.declared.message.PoolMessage.{PoolMessage}
 use Rattle.file_layer.specs.Stock.{Stock, stock_refs, laid}
@@ -51,7 +51,7 @@ module _ (b : Begun) (p q : List Held) (s : Stock) (is : InPool b p s) (fits : S
   -- The message in front becomes another with no more headers.
   pub changed_fits : (f : Content → Content) (rest : List PoolMessage) (x y : PoolMessage) (hand : List PoolMessage) →
       s.hand ≡ rest ++ x ∷ [] →
-      hand ≡ rest ++ y ∷ [] → Derived f x y → length (f (seen [] x)).headers ≤ length x.headers →
+      hand ≡ rest ++ y ∷ [] → Derived f x y → length (f (content_seen [] x)).headers ≤ length x.headers →
       InPool b p (record s { hand = hand }) × StockFits b.layout (record s { hand = hand })
   changed_fits f rest x y hand at new made few =
       let short = subst (AllByRecursion IsShort) at fits.hand_short in
@@ -70,11 +70,11 @@ module _ (b : Begun) (p q : List Held) (s : Stock) (is : InPool b p s) (fits : S
       length s.hand + 1 ≤ b.layout.hand → IsShort m →
       Covers p (refs m) → Lies p m → Kept p q (refs m) →
       InPool b q (record s { hand = hand }) × StockFits b.layout (record s { hand = hand }) ×
-      (laid q (record s { hand = hand }) ≡ lifted (seen p m) (laid p s))
+      (laid q (record s { hand = hand }) ≡ lifted (content_seen p m) (laid p s))
   lifted_fits m hand new few short covers lies kept =
       let step = lifted_step b p q s is m covers lies kept in
       subst (λ hand. InPool b q (record s { hand = hand }) × StockFits b.layout (record s { hand = hand }) ×
-      (laid q (record s { hand = hand }) ≡ lifted (seen p m) (laid p s)))
+      (laid q (record s { hand = hand }) ≡ lifted (content_seen p m) (laid p s)))
       (sym new) (
         step.0,
         fits_hand b.layout s (s.hand ++ m ∷ []) fits (omega (arith, length-append s.hand (m ∷ [])))
@@ -98,19 +98,19 @@ module _ (b : Begun) (p q : List Held) (s : Stock) (is : InPool b p s) (fits : S
       slice_get s.messages k ≡ Some m → n ≡ m → hand ≡ s.hand ++ n ∷ [] →
       length s.hand + 1 ≤ b.layout.hand → Kept p q (refs m) →
       InPool b q (record s { hand = hand }) × StockFits b.layout (record s { hand = hand }) ×
-      (laid q (record s { hand = hand }) ≡ lifted (get_or (map (seen p) s.messages) k d) (laid p s))
+      (laid q (record s { hand = hand }) ≡ lifted (get_or (map (content_seen p) s.messages) k d) (laid p s))
   scope_lifted k m n hand d there same new few kept =
       let own = scope_there k m there in
       let step = lifted_fits m hand (new ∙ ap (λ x. s.hand ++ x ∷ []) same) few own.2 own.0 own.1 kept in
-      (step.0, step.1, step.2 ∙ ap (λ c. lifted c (laid p s)) (sym (seen_at (seen p) s.messages k m d there)))
+      (step.0, step.1, step.2 ∙ ap (λ c. lifted c (laid p s)) (sym (seen_at (content_seen p) s.messages k m d there)))
 
   pub nothing_lifted : (k : ℕ) (m : PoolMessage) (hand : List PoolMessage) → slice_get s.messages k ≡ None →
       m ≡ bodiless [] → hand ≡ s.hand ++ m ∷ [] →
-      laid p (record s { hand = hand }) ≡ lifted (get_or (map (seen p) s.messages) k (plain [])) (laid p s)
+      laid p (record s { hand = hand }) ≡ lifted (get_or (map (content_seen p) s.messages) k (plain [])) (laid p s)
   nothing_lifted k m hand there bare new =
       ap (λ hand. laid p (record s { hand = hand })) (new ∙ ap (λ x. s.hand ++ x ∷ []) bare) ∙
       (bare_step b p s is (bodiless []) refl tt).1 ∙
-      ap (λ c. lifted c (laid p s)) (sym (seen_none (seen p) s.messages k (plain []) there))
+      ap (λ c. lifted c (laid p s)) (sym (seen_none (content_seen p) s.messages k (plain []) there))
 
   module _ (rest : List PoolMessage) (part m : PoolMessage) (at : s.hand ≡ (rest ++ part ∷ []) ++ m ∷ []) where
     -- The two in front lie in the pool, and are covered.
@@ -138,17 +138,17 @@ module _ (b : Begun) (p q : List Held) (s : Stock) (is : InPool b p s) (fits : S
 
     -- They are joined.
     pub joined_fits : (x : PoolMessage) (hand : List PoolMessage) → hand ≡ rest ++ x ∷ [] →
-        Made p q (refs part ++ refs m) (parts.join (seen p part) (seen p m)) x →
+        Made p q (refs part ++ refs m) (parts.join (content_seen p part) (content_seen p m)) x →
         InPool b q (record s { hand = hand }) × StockFits b.layout (record s { hand = hand }) ×
-        (laid q (record s { hand = hand }) ≡ joined (laid p s))
+        (laid q (record s { hand = hand }) ≡ front_joined (laid p s))
     joined_fits x hand new made =
         let step = joined_step b p q s is rest part m x at made in
         let one : IsShort m = (all-behind IsShort (rest ++ part ∷ []) (m ∷ []) shorts).0 in
         let headers = ap (λ (c : Content). length c.headers) made.shows in let same =
-        ap length (join_headers (seen p part) (seen p m)) in
+        ap length (join_headers (content_seen p part) (content_seen p m)) in
         let long = ap length at in let all = fits.hand in
         subst (λ hand. InPool b q (record s { hand = hand }) × StockFits b.layout (record s { hand = hand }) ×
-        (laid q (record s { hand = hand }) ≡ joined (laid p s)))
+        (laid q (record s { hand = hand }) ≡ front_joined (laid p s)))
         (sym new) (
           step.0,
           fits_hand b.layout s (rest ++ x ∷ []) fits
@@ -180,11 +180,11 @@ pub bare_fits : (b : Begun) (p : List Held) (s : Stock) → InPool b p s → Sto
     (m : PoolMessage) (hand : List PoolMessage) →
     hand ≡ s.hand ++ m ∷ [] → length s.hand + 1 ≤ b.layout.hand → IsShort m → refs m ≡ [] → Lies p m →
     InPool b p (record s { hand = hand }) × StockFits b.layout (record s { hand = hand }) ×
-    (laid p (record s { hand = hand }) ≡ lifted (seen p m) (laid p s))
+    (laid p (record s { hand = hand }) ≡ lifted (content_seen p m) (laid p s))
 bare_fits b p s is fits m hand new few short none lies =
     let step = bare_step b p s is m none lies in
     subst (λ hand. InPool b p (record s { hand = hand }) × StockFits b.layout (record s { hand = hand }) ×
-    (laid p (record s { hand = hand }) ≡ lifted (seen p m) (laid p s)))
+    (laid p (record s { hand = hand }) ≡ lifted (content_seen p m) (laid p s)))
     (sym new) (
       step.0,
       fits_hand b.layout s (s.hand ++ m ∷ []) fits (omega (arith, length-append s.hand (m ∷ [])))

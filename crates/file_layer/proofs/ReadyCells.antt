@@ -8,7 +8,7 @@ use Rattle.std.proofs.lemmas.Bool.{ltb-true, lt-ltb}
 use Rattle.slot_pool.specs.Held.{Held}
 use Rattle.slot_pool.specs.Times.{times}
 use Rattle.slot_pool.proofs.References.{moved-same}
-use Rattle.layer_mean.specs.State.{has_room, written, with_number}
+use Rattle.layer_mean.specs.State.{has_room, with_element, with_number}
 use Rattle.layer_mean.specs.declared.run.Row.{Row}
 use Rattle.layer_desk.specs.Laid.{assigned, queued, queued_first}
 use Rattle.layer_desk.specs.Need.{Layout}
@@ -146,7 +146,7 @@ room_for_row see k c i capacity is enough =
     lt-ltb (length (kept_rows k c i)) (kept_capacity k c) (omega arith) in
     λ j. below j && fits j
 
--- A row of numbers alone, or one with the message in front of the hand, is put at the back of a queue.
+-- A row of numbers alone, or one with the message before the hand, is put at the back of a queue.
 module _ (b : Begun) (p : List Held) (s : Stock) (is : InPool b p s) (fits : StockFits b.layout s) (c i : ℕ)
     (room : keeps_room s.kept c i (kept_capacity s.kept c) ≡ true) (ns : List ℕ) (k : Kept PoolRow) where
   pub alone_fits : k ≡ with_last s.kept c i (record { numbers = ns; message = None }) →
@@ -199,7 +199,7 @@ pub set_capacity : (i v : ℕ) (cell : KeptCell PoolRow) → capacity_of (number
 set_capacity i v (numbers shape ns) = refl
 set_capacity i v (queues shape capacity qs) = refl
 
-written_seen : (see : PoolRow → Row) (i v : ℕ) (cell : KeptCell PoolRow) → written i v (contents_seen see cell) ≡
+written_seen : (see : PoolRow → Row) (i v : ℕ) (cell : KeptCell PoolRow) → with_element i v (contents_seen see cell) ≡
     contents_seen see (number_set i v cell)
 written_seen see i v (numbers shape ns) = refl
 written_seen see i v (queues shape capacity qs) = refl
@@ -210,7 +210,7 @@ state_number see k c i v =
     ap (λ cells. record (state_of see k) { cells = cells })
     (map-set (contents_seen see) k.cells c (number_set i v (kept_at k c)) ∙
     ap (set (map (contents_seen see) k.cells) c)
-    (sym (written_seen see i v (kept_at k c)) ∙ ap (written i v) (sym (cell_seen see k c))))
+    (sym (written_seen see i v (kept_at k c)) ∙ ap (with_element i v) (sym (cell_seen see k c))))
 
 pub number_fits : (b : Begun) (p : List Held) (s : Stock) → InPool b p s → StockFits b.layout s →
     (c i v : ℕ) (k : Kept PoolRow) → k ≡ with_kept_number s.kept c i v →

@@ -8,7 +8,7 @@ use Rattle.slot_pool.specs.References.{Covers}
 use Rattle.layer_desk.specs.Laid.{Laid}
 use Rattle.layer_desk.specs.Need.{Layout}
 use Rattle.layer_desk.specs.Spent.{Begun}
-use Rattle.pool_message.specs.Seen.{bodiless, refs_if, seen}
+use Rattle.pool_message.specs.Seen.{bodiless, refs_if, content_seen}
 use Rattle.pool_message.specs.Moves.{Returned}
 use Rattle.pool_message.specs.Piled.{pile_refs}
 use Rattle.pool_message.specs.declared.message.PoolMessage.{PoolMessage}
@@ -88,7 +88,7 @@ arrived_in b p s is fits empty short =
           subst (InPool b p) same is,
           subst (StockFits b.layout) same fits,
           ap (λ ms. record (laid p s) { scope = record { numbers = s.numbers; messages = ms }; arrived = None })
-              (map-append (seen p) s.messages []),
+              (map-append (content_seen p) s.messages []),
         )
     go (Some m) at short =
         let step = arrived_bound b p s is m at in (

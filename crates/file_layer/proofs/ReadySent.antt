@@ -17,7 +17,7 @@ use Rattle.layer_desk.specs.Spent.{Begun}
 use Rattle.layer_mean.specs.declared.envelope.Envelope.{Envelope}
 use Rattle.pool_message.specs.Moves.{Kept, Returned, Derived}
 use Rattle.pool_message.specs.Piled.{pile_refs}
-use Rattle.pool_message.specs.Seen.{bodiless, refs, seen}
+use Rattle.pool_message.specs.Seen.{bodiless, refs, content_seen}
 use Rattle.pool_message.specs.declared.event.PoolEvent.{PoolEvent}
 use Rattle.pool_message.specs.declared.message.PoolMessage.{PoolMessage}
 use Rattle.pool_message.specs.Sent.{sent_refs, sent_behind, pool_event}
@@ -140,14 +140,15 @@ module _ (b : Begun) (p : List Held) (s : Stock) (is : InPool b p s) (fits : Sto
       InPool b q (record s { sent = s.sent ++ (dir, pool_event e (Some (sent_behind dir header m))) ∷ [] }) ×
       StockFits b.layout (record s { sent = s.sent ++ (dir, pool_event e (Some (sent_behind dir header m))) ∷ [] }) ×
       (laid q (record s { sent = s.sent ++ (dir, pool_event e (Some (sent_behind dir header m))) ∷ [] }) ≡
-      sends dir (event_in e (Some (sent_as dir header (get_or (map (seen p) s.messages) k (plain []))))) (laid p s))
+      sends dir (event_in e (Some (sent_as dir header (get_or (map (content_seen p) s.messages) k (plain [])))))
+      (laid p s))
   local_fits q k m there kept =
       let own = scope_there b p q s is fits k m there in
       let step = kept_sent b p s is q dir e header m own.0 own.1 kept in (
         step.0,
         longer_fits b.layout s fits places s.arrived (dir, pool_event e (Some (sent_behind dir header m))),
         step.1 ∙ ap (λ c. sends dir (event_in e (Some (sent_as dir header c))) (laid p s))
-            (sym (seen_at (seen p) s.messages k m (plain []) there)),
+            (sym (seen_at (content_seen p) s.messages k m (plain []) there)),
       )
 
   pub nothing_fits : (k : ℕ) → slice_get s.messages k ≡ None →
@@ -156,13 +157,14 @@ module _ (b : Begun) (p : List Held) (s : Stock) (is : InPool b p s) (fits : Sto
       StockFits b.layout (record s
       { sent = s.sent ++ (dir, pool_event e (Some (sent_behind dir header (bodiless [])))) ∷ [] }) ×
       (laid p (record s { sent = s.sent ++ (dir, pool_event e (Some (sent_behind dir header (bodiless [])))) ∷ [] }) ≡
-      sends dir (event_in e (Some (sent_as dir header (get_or (map (seen p) s.messages) k (plain []))))) (laid p s))
+      sends dir (event_in e (Some (sent_as dir header (get_or (map (content_seen p) s.messages) k (plain [])))))
+      (laid p s))
   nothing_fits k there =
       let step = bare_sent b p s is dir e header in (
         step.0,
         longer_fits b.layout s fits places s.arrived (dir, pool_event e (Some (sent_behind dir header (bodiless [])))),
         step.1 ∙ ap (λ c. sends dir (event_in e (Some (sent_as dir header c))) (laid p s))
-            (sym (seen_none (seen p) s.messages k (plain []) there)),
+            (sym (seen_none (content_seen p) s.messages k (plain []) there)),
       )
 
   -- A message of the scope is sent, and all others of the scope are given back.
@@ -178,7 +180,7 @@ module _ (b : Begun) (p : List Held) (s : Stock) (is : InPool b p s) (fits : Sto
       (laid q (record s { messages = []; sent = s.sent ++ (dir, pool_event e (Some (sent_behind dir header m))) ∷ [] })
       ≡
       without_messages (sends dir
-      (event_in e (Some (sent_as dir header (get_or (map (seen p) s.messages) k (plain []))))) (laid p s)))
+      (event_in e (Some (sent_as dir header (get_or (map (content_seen p) s.messages) k (plain []))))) (laid p s)))
   last_fits q k m there gone =
       let u : Stock = record s {
         messages = set s.messages k (bodiless []);
@@ -202,5 +204,5 @@ module _ (b : Begun) (p : List Held) (s : Stock) (is : InPool b p s) (fits : Sto
         },
         step.1 ∙ ap without_messages goes.1 ∙
             ap (λ c. without_messages (sends dir (event_in e (Some (sent_as dir header c))) (laid p s)))
-            (sym (seen_at (seen p) s.messages k m (plain []) there)),
+            (sym (seen_at (content_seen p) s.messages k m (plain []) there)),
       )

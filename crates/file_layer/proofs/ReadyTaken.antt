@@ -18,7 +18,7 @@ use Rattle.typed_layer.specs.declared.tree.Carried.{Carried as TypedCarried}
 use Rattle.typed_layer.specs.declared.tree.Carried.TheVariants.{Part, Whole}
 use Rattle.layer_desk.specs.Laid.{Laid, is_found, with_found, taken_row}
 use Rattle.layer_desk.specs.Spent.{Begun}
-use Rattle.pool_message.specs.Seen.{refs, seen, Lies, refs_if, LiesIf, row_refs, row_seen, RowLies}
+use Rattle.pool_message.specs.Seen.{refs, content_seen, Lies, refs_if, LiesIf, row_refs, row_seen, RowLies}
 use Rattle.pool_message.specs.Moves.{Returned}
 use Rattle.pool_message.specs.declared.message.PoolMessage.{PoolMessage}
 use Rattle.pool_message.specs.declared.row.PoolRow.{PoolRow}
@@ -109,12 +109,13 @@ module _ (p : List Held) (carried : Carried) where
   message_short (Some x) m is short = subst IsShort (sym is) short
 
   message_is : (row : PoolRow) (m : PoolMessage) (o : Option PoolMessage) → row.message ≡ o → IsMessageOf carried o m →
-      seen p m ≡ message_in carried (Some (row_seen p row))
+      content_seen p m ≡ message_in carried (Some (row_seen p row))
   message_is row m None at is =
-      ap (seen p) is.is ∙ missing_seen p carried ∙
-      sym (ap (λ x. option_map_or (λ c. c) (option_map (seen p) x) (missing carried)) at)
+      ap (content_seen p) is.is ∙ missing_seen p carried ∙
+      sym (ap (λ x. option_map_or (λ c. c) (option_map (content_seen p) x) (missing carried)) at)
   message_is row m (Some x) at is =
-      ap (seen p) is ∙ sym (ap (λ y. option_map_or (λ c. c) (option_map (seen p) y) (missing carried)) at)
+      ap (content_seen p) is ∙
+      sym (ap (λ y. option_map_or (λ c. c) (option_map (content_seen p) y) (missing carried)) at)
 
 module _ (b : Begun) (p q : List Held) (s : Stock) (is : InPool b p s) (fits : StockFits b.layout s) (c i : ℕ)
     (row : PoolRow) (one : first_row s.kept c i ≡ Some row) where
@@ -166,7 +167,7 @@ module _ (b : Begun) (p q : List Held) (s : Stock) (is : InPool b p s) (fits : S
               with_message k (message_in carried (Some (row_seen p row))) (laid p s).scope;
         })
 
-    seen_message : seen p m ≡ message_in carried (Some (row_seen p row))
+    seen_message : content_seen p m ≡ message_in carried (Some (row_seen p row))
     seen_message = message_is p carried row m row.message refl is_message
 
     bound_step : Returned p q (refs (get_or s.messages k m)) → Behind bound
@@ -190,10 +191,10 @@ module _ (b : Begun) (p q : List Held) (s : Stock) (is : InPool b p s) (fits : S
           message_refs p carried row.message m is_message) gone in
           let step = row_gone b p q s is c i within row (drop 1 (kept_rows s.kept c i)) at back in
           let same = set_outside s.messages k m past in
-          let none : map (seen p) s.messages ≡
-          set (map (seen p) s.messages) k (message_in carried (Some (row_seen p row))) =
-          sym (set_outside (map (seen p) s.messages) k (message_in carried (Some (row_seen p row)))
-          (subst (λ n. n ≤ k) (sym (length-map s.messages (seen p))) past)) in (
+          let none : map (content_seen p) s.messages ≡
+          set (map (content_seen p) s.messages) k (message_in carried (Some (row_seen p row))) =
+          sym (set_outside (map (content_seen p) s.messages) k (message_in carried (Some (row_seen p row)))
+          (subst (λ n. n ≤ k) (sym (length-map s.messages (content_seen p))) past)) in (
             subst (λ ms. InPool b q (record fewer { messages = ms })) (sym same) step.1,
             ap (λ ms. laid q (record fewer { messages = ms })) same ∙ step.2 ∙
                 ap (λ ms. record (laid p s) {
@@ -238,7 +239,7 @@ module _ (b : Begun) (p q : List Held) (s : Stock) (is : InPool b p s) (fits : S
                 scope =
                     with_message k (message_in carried (Some (row_seen p row))) l;
               })
-              (sym (slots_beside taken.numbers row.numbers s.numbers (map (seen p) s.messages))) ∙
+              (sym (slots_beside taken.numbers row.numbers s.numbers (map (content_seen p) s.messages))) ∙
               sym (ap (λ o. with_found c i taken o (laid p s))
               (row_at_seen (row_seen p) s.kept c i 0 ∙ ap (option_map (row_seen p)) one) ∙
               ap (λ t. record (laid p s) {
@@ -270,7 +271,7 @@ module _ (b : Begun) (p q : List Held) (s : Stock) (is : InPool b p s) (fits : S
         fits_scope b.layout fewer filled s.messages s.arrived fewer_fits (omega arith) fits.messages fits.short,
         ap (λ (l : Laid). record l { scope = record { numbers = filled; messages = l.scope.messages } }) step.2 ∙
             ap (λ l. record (laid p s) { state = without_front (laid p s).state c i; scope = l })
-            (sym (slots_beside taken.numbers row.numbers s.numbers (map (seen p) s.messages))) ∙
+            (sym (slots_beside taken.numbers row.numbers s.numbers (map (content_seen p) s.messages))) ∙
             sym (ap (λ o. with_found c i taken o (laid p s))
             (row_at_seen (row_seen p) s.kept c i 0 ∙ ap (option_map (row_seen p)) one) ∙
             ap (λ t. record (laid p s) {

@@ -6,7 +6,7 @@ use Rattle.slot_pool.proofs.References.{moved-same}
 use Rattle.msg_core.specs.Chain.{popped}
 use Rattle.layer_desk.specs.Laid.{header_popped}
 use Rattle.layer_desk.specs.Spent.{Begun}
-use Rattle.pool_message.specs.Seen.{refs, seen, Lies, refs_if, seen_if, LiesIf}
+use Rattle.pool_message.specs.Seen.{refs, content_seen, Lies, refs_if, seen_if, LiesIf}
 use Rattle.pool_message.specs.Moves.{Returned}
 use Rattle.pool_message.specs.Piled.{pile_refs}
 use Rattle.pool_message.specs.declared.message.PoolMessage.{PoolMessage}
@@ -56,11 +56,14 @@ module _ (b : Begun) (p : List Held) (s : Stock) (is : InPool b p s) where
   popped_step m same lies shows =
       (arrived_step m same lies, ap (λ a. record (laid p s) { arrived = a }) shows)
 
-  -- A message comes into the scope behind the others: one without bytes, or the one that arrived.
+  -- A message comes into the scope after the others: one without bytes, or the one that arrived.
   pub bare_bound : (m : PoolMessage) → refs m ≡ [] → Lies p m →
       InPool b p (record s { messages = s.messages ++ m ∷ [] }) ×
       (laid p (record s { messages = s.messages ++ m ∷ [] }) ≡
-      record (laid p s) { scope = record { numbers = s.numbers; messages = map (seen p) s.messages ++ seen p m ∷ [] } })
+      record (laid p s) {
+        scope =
+            record { numbers = s.numbers; messages = map (content_seen p) s.messages ++ content_seen p m ∷ [] };
+      })
   bare_bound m none lies = (
     stepped b p p s s (record s { messages = s.messages ++ m ∷ [] }) [] [] is (none_out s)
         (subst (TakesOut (record s { messages = s.messages ++ m ∷ [] }) s) (append-nil (refs m) ∙ none)
@@ -73,14 +76,14 @@ module _ (b : Begun) (p : List Held) (s : Stock) (is : InPool b p s) where
           sent = is.lies.sent;
         }),
     ap (λ ms. record (laid p s) { scope = record { numbers = s.numbers; messages = ms } })
-        (map-append (seen p) s.messages (m ∷ [])),
+        (map-append (content_seen p) s.messages (m ∷ [])),
   )
 
   pub arrived_bound : (m : PoolMessage) → s.arrived ≡ Some m →
       InPool b p (record s { messages = s.messages ++ m ∷ []; arrived = None }) ×
       (laid p (record s { messages = s.messages ++ m ∷ []; arrived = None }) ≡
       record (laid p s) {
-        scope = record { numbers = s.numbers; messages = map (seen p) s.messages ++ seen p m ∷ [] };
+        scope = record { numbers = s.numbers; messages = map (content_seen p) s.messages ++ content_seen p m ∷ [] };
         arrived = None;
       })
   arrived_bound m at =
@@ -98,7 +101,7 @@ module _ (b : Begun) (p : List Held) (s : Stock) (is : InPool b p s) where
               sent = is.lies.sent;
             }),
         ap (λ ms. record (laid p t) { scope = record { numbers = s.numbers; messages = ms } })
-            (map-append (seen p) s.messages (m ∷ [])),
+            (map-append (content_seen p) s.messages (m ∷ [])),
       )
 
 module _ (b : Begun) (p q : List Held) (s : Stock) (is : InPool b p s) where

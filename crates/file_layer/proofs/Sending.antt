@@ -14,7 +14,8 @@ use Rattle.layer_desk.specs.Laid.{lifted, sends, sends_first, passes_on}
 use Rattle.layer_mean.specs.Envelope.{event_in}
 use Rattle.layer_desk.specs.Spent.{Begun}
 use Rattle.layer_mean.specs.declared.envelope.Envelope.{Envelope}
-use Rattle.pool_message.specs.Seen.{bodiless, refs, seen, Lies, refs_if, seen_if, LiesIf, event_refs, event_seen}
+use Rattle.pool_message.specs.Seen.{bodiless, refs, content_seen, Lies, refs_if, seen_if, LiesIf, event_refs}
+use Rattle.pool_message.specs.Seen.{event_seen}
 use Rattle.pool_message.specs.Seen.{EventLies}
 use Rattle.pool_message.specs.Moves.{Kept, Derived}
 use Rattle.pool_message.specs.Sent.{sent_behind, pool_event}
@@ -80,7 +81,7 @@ module _ (b : Begun) (p : List Held) (s : Stock) (is : InPool b p s) where
       Lies p m → Kept p q (refs m) →
       InPool b q (record s { sent = s.sent ++ (dir, pool_event e (Some (sent_behind dir header m))) ∷ [] }) ×
       (laid q (record s { sent = s.sent ++ (dir, pool_event e (Some (sent_behind dir header m))) ∷ [] }) ≡
-      sends dir (event_in e (Some (sent_as dir header (seen p m)))) (laid p s))
+      sends dir (event_in e (Some (sent_as dir header (content_seen p m)))) (laid p s))
   kept_sent q dir e header m covers lies kept =
       let made : Derived (sent_as dir header) m (sent_behind dir header m) = is_derived dir header m in
       let event : PoolEvent = pool_event e (Some (sent_behind dir header m)) in
@@ -99,7 +100,7 @@ module _ (b : Begun) (p : List Held) (s : Stock) (is : InPool b p s) where
             }),
         laid_sent q s dir event ∙ ap (λ c. sends dir (event_in e (Some c)) (laid q s))
             (made.shows q ∙ ap (sent_as dir header) stays.1) ∙
-            ap (sends dir (event_in e (Some (sent_as dir header (seen p m))))) rest.1,
+            ap (sends dir (event_in e (Some (sent_as dir header (content_seen p m))))) rest.1,
       )
 
   -- An event is sent with a message of the scope, in whose place stands one without bytes.
@@ -115,7 +116,7 @@ module _ (b : Begun) (p : List Held) (s : Stock) (is : InPool b p s) where
         sent = s.sent ++
             (dir, pool_event e (Some (sent_behind dir header m))) ∷ [];
       }) ≡
-      sends dir (event_in e (Some (sent_as dir header (seen p m))))
+      sends dir (event_in e (Some (sent_as dir header (content_seen p m))))
       (laid p (record s { messages = set s.messages k (bodiless []) })))
   scope_sent dir e header k m there =
       let made : Derived (sent_as dir header) m (sent_behind dir header m) = is_derived dir header m in
@@ -136,7 +137,7 @@ module _ (b : Begun) (p : List Held) (s : Stock) (is : InPool b p s) where
       (made.lies p (all-at (Lies p) s.messages k m there is.lies.messages)) in
       (step.0, step.1 ∙ ap (λ c. sends dir (event_in e (Some c)) (laid p t)) (made.shows p))
 
-  -- An event is sent with the message in front of the hand.
+  -- An event is sent with the message before the hand.
   pub sent_first : (dir : Dir) (e : Envelope) (header : Header) (rest : List PoolMessage) (x y : PoolMessage) →
       s.hand ≡ rest ++ x ∷ [] →
       Derived (sent_as dir header) x y →
@@ -161,7 +162,7 @@ module _ (b : Begun) (p : List Held) (s : Stock) (is : InPool b p s) where
       } in
       let step = sent_step (record s { hand = rest }) (refs y) out left dir (pool_event e (Some y)) refl
       (made.lies p (all-behind (Lies p) rest (x ∷ []) lie).0) in
-      let before : laid p s ≡ lifted (seen p x) (laid p (record s { hand = rest })) =
+      let before : laid p s ≡ lifted (content_seen p x) (laid p (record s { hand = rest })) =
       ap (λ hand. laid p (record s { hand = hand })) at ∙ laid_top p s rest x in (
         step.0,
         step.1 ∙ ap (λ c. sends dir (event_in e (Some c)) (laid p (record s { hand = rest }))) (made.shows p) ∙

@@ -4,7 +4,7 @@ use Rattle.slot_pool.specs.Held.{Held}
 use Rattle.slot_pool.specs.References.{Moved, Covers}
 use Rattle.slot_pool.specs.Times.{times}
 use Rattle.slot_pool.proofs.Times.{times-append}
-use Rattle.pool_message.specs.Seen.{refs, seen, Lies, refs_if}
+use Rattle.pool_message.specs.Seen.{refs, content_seen, Lies, refs_if}
 use Rattle.pool_message.specs.Sent.{sent_refs}
 use Rattle.pool_message.proofs.Lists.{each_stays}
 use Rattle.pool_message.proofs.Stays.{message_stays, any_stays, sent_stay}
@@ -29,10 +29,12 @@ module _ (p q : List Held) (a b : List ℕ) (moved : Moved p q a b) where
       let of = part (kept_refs s.kept) (flat_map refs s.messages) (refs_if s.arrived) (flat_map refs s.hand)
       (sent_refs s.sent) covers in
       let kept = cells_stay p q a b moved s.kept.cells (of (kept_refs s.kept) (λ i. omega arith)) lies.kept in
-      let messages = each_stays refs (Lies p) (Lies q) (seen p) (seen q) p a (message_stays p q a b moved) s.messages
+      let messages = each_stays refs (Lies p) (Lies q) (content_seen p) (content_seen q) p a
+      (message_stays p q a b moved) s.messages
       (of (flat_map refs s.messages) (λ i. omega arith)) lies.messages in
       let arrived = any_stays p q a b moved s.arrived (of (refs_if s.arrived) (λ i. omega arith)) lies.arrived in
-      let hand = each_stays refs (Lies p) (Lies q) (seen p) (seen q) p a (message_stays p q a b moved) s.hand
+      let hand = each_stays refs (Lies p) (Lies q) (content_seen p) (content_seen q) p a (message_stays p q a b moved)
+      s.hand
       (of (flat_map refs s.hand) (λ i. omega arith)) lies.hand in
       let sent = sent_stay p q a b moved s.sent (of (sent_refs s.sent) (λ i. omega arith)) lies.sent in (
         record { kept = kept.0; messages = messages.0; arrived = arrived.0; hand = hand.0; sent = sent.0 },

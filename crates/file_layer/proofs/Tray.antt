@@ -8,7 +8,7 @@ use Rattle.file_layer.specs.Fits.{StockFits, SentGrows}
 use Rattle.file_layer.specs.Ready.{stock_of, layout_of, IsReady}
 use Rattle.file_layer.specs.declared.desk.FileDesk.{FileDesk}
 
--- A desk that is in order stays so where its tray has as many places as before, and sends behind what was sent.
+-- A desk that is in order stays so where its tray has as many places as before, and sends after what was sent.
 pub tray_ready : (b : Begun) (p q : List Held) (d : FileDesk) (t new : OnTray) → IsReady b p d → new ≡ t →
     InPool b q (stock_of (record d { tray = t })) →
     StockFits b.layout (stock_of (record d { tray = t })) → t.messages.capacity ≡ d.tray.messages.capacity →

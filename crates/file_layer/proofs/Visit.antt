@@ -1,4 +1,4 @@
--- A visit at a desk: it is ready where only rows lay on it, and behind the visit it is so again.
+-- A visit at a desk: it is ready where only rows lay on it, and after the visit it is so again.
 use Rattle.std.proofs.Common.{◌≡◌, ℕ, ◌+◌, ◌≤◌, List, [], ◌∷◌, ◌++◌, Option, Some, None, map, reverse, length, flat_map}
 use Rattle.std.proofs.Common.{refl, sym, ap, subst, ◌∙◌, arith}
 use Rattle.std.specs.List.{AllByRecursion}
@@ -19,7 +19,7 @@ use Rattle.layer_desk.specs.Need.{Layout, visit_need, most_above}
 use Rattle.layer_desk.specs.Spent.{Begun, Suffices}
 use Rattle.layer_stage.specs.Room.{slots_needed, places_needed, headers_met, most_counted, CountsWithin}
 use Rattle.layer_stage.proofs.Needs.{slots_at_a_desk, places_at_a_desk, headers_at_a_desk}
-use Rattle.pool_message.specs.Seen.{refs, seen, Lies, refs_if, seen_if, event_refs, event_seen, EventLies}
+use Rattle.pool_message.specs.Seen.{refs, content_seen, Lies, refs_if, seen_if, event_refs, event_seen, EventLies}
 use Rattle.pool_message.specs.Sent.{sent_refs, SentLie, most_sent}
 use Rattle.pool_message.specs.declared.event.PoolEvent.{PoolEvent}
 use Rattle.pool_message.specs.declared.message.PoolMessage.{PoolMessage}
@@ -128,7 +128,7 @@ module _ (layer : LayerTree) (p : List Held) (d : FileDesk) (rest : IsAtRest lay
       }
 
 -- What shows nothing is nothing.
-no_messages : (q : List Held) (ms : List PoolMessage) → map (seen q) ms ≡ [] → ms ≡ []
+no_messages : (q : List Held) (ms : List PoolMessage) → map (content_seen q) ms ≡ [] → ms ≡ []
 no_messages q [] none = refl
 no_messages q (m ∷ ms) none = absurd (cc)
 
@@ -137,18 +137,18 @@ no_message q None none = refl
 no_message q (Some m) none = absurd (cc)
 
 empty_hand : (q : List Held) (ms : List PoolMessage) (old : List PoolMessage) (p : List Held) → old ≡ [] →
-    reverse (map (seen q) ms) ≡ reverse (map (seen p) old) → ms ≡ []
+    reverse (map (content_seen q) ms) ≡ reverse (map (content_seen p) old) → ms ≡ []
 empty_hand q [] old p none same = refl
 empty_hand q (m ∷ ms) old p none same =
     let long = ap length same in
-    let one = length-reverse (map (seen q) (m ∷ ms)) in let two = length-reverse (map (seen p) old) in
-    let three = length-map old (seen p) in let four = ap length none in absurd (omega arith)
+    let one = length-reverse (map (content_seen q) (m ∷ ms)) in let two = length-reverse (map (content_seen p) old) in
+    let three = length-map old (content_seen p) in let four = ap length none in absurd (omega arith)
 
 module _ (layer : LayerTree) (p q : List Held) (d e : FileDesk) (rest : IsAtRest layer p d) (event : PoolEvent)
     (out : Buffer (Dir × PoolEvent))
     (ready : IsReady (begun_at p (begins event.message out d)) q e)
     (shown : Laid) (is : laid q (stock_of e) ≡ shown) (scope : shown.scope ≡ no_scope) (arrived : shown.arrived ≡ None)
-    (hand : shown.hand ≡ reverse (map (seen p) d.hand.items)) where
+    (hand : shown.hand ≡ reverse (map (content_seen p) d.hand.items)) where
   pub messages_gone : e.tray.messages.items ≡ []
   messages_gone = no_messages q e.tray.messages.items
       (ap (λ (l : Laid). l.scope.messages) is ∙ ap (λ (l : Scope). l.messages) scope)

@@ -14,7 +14,7 @@ entry_numbers e fields count = with_room count 0 (arguments (event_in e None) ++
 abbrev pub with_numbers : List ℕ → Laid → Laid
 with_numbers numbers l = record l { scope = record { numbers = numbers; messages = l.scope.messages } }
 
--- The message that arrived behind those of the scope.
+-- The message that arrived after those of the scope.
 abbrev pub with_arrived : Laid → Laid
 with_arrived l = record l {
   scope = record { numbers = l.scope.numbers; messages = l.scope.messages ++ option_to_list l.arrived };

@@ -5,7 +5,7 @@ use Rattle.slot_pool.specs.Held.{Held}
 use Rattle.layer_mean.specs.Tree.{LayerTree}
 use Rattle.layer_mean.specs.Visit.{fresh}
 use Rattle.desk_needs.specs.Layouts as room
-use Rattle.desk_needs.specs.Reserved.{reserved}
+use Rattle.desk_needs.specs.Reserved.{layout_reserve}
 use Rattle.desk_needs.specs.declared.reserve.Reserve.{Reserve}
 use Rattle.cell_store.specs.Kept.{state_of}
 use Rattle.cell_store.specs.Fresh.{kept_fresh}
@@ -37,5 +37,5 @@ pub record IsFresh (layer : LayerTree) (me n ltime : ℕ) (d : FileDesk) : Type 
 
 -- What is reserved for a layer's desk, which keeps few rows, and few messages beside them.
 pub record IsReserved (layer : LayerTree) (r : Reserve) : Type 0 where
-  pub is : r ≡ reserved (room.layout_of layer 0)
+  pub is : r ≡ layout_reserve (room.layout_of layer 0)
   pub few : KeepsFew (room.layout_of layer 0)

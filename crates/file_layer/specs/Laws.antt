@@ -7,7 +7,7 @@ use Rattle.slot_pool.specs.Held.{Held}
 use Rattle.layer_ast.specs.declared.tokens.Dir.{Dir}
 use Rattle.layer_desk.specs.Need.{Layout}
 use Rattle.layer_desk.specs.Spent.{Begun}
-use Rattle.pool_message.specs.Seen.{seen, event_seen}
+use Rattle.pool_message.specs.Seen.{content_seen, event_seen}
 use Rattle.pool_message.specs.Sent.{sent_seen}
 use Rattle.layer_mean.specs.declared.run.Event.{Event}
 use Rattle.pool_message.specs.declared.event.PoolEvent.{PoolEvent}
@@ -19,7 +19,8 @@ pub hand_left : (b : Begun) (p : List Held) (d : FileDesk) → IsReady b p d →
     (room_of p d).hand + length (laid p (stock_of d)).hand ≡ b.layout.hand
 hand_left b p d is =
     let made = ap (λ (l : Layout). l.hand) is.layout in let few = is.fits.hand in
-    let turned = length-reverse (map (seen p) d.hand.items) in let shown = length-map d.hand.items (seen p) in
+    let turned = length-reverse (map (content_seen p) d.hand.items) in let shown =
+    length-map d.hand.items (content_seen p) in
     omega arith
 
 pub places_left : (b : Begun) (p : List Held) (d : FileDesk) → IsReady b p d →

@@ -14,7 +14,7 @@ use Rattle.file_layer.specs.Fits.{IsShortIf}
 use Rattle.file_layer.specs.Layer.{place_of, tree_of, state_in, most_of, taken_by}
 use Rattle.file_layer.specs.declared.layer.FileLayer.{FileLayer}
 
--- The last row of queue i of cell c, where there is one; a state without it, and one with a row in front of those of a
+-- The last row of queue i of cell c, where there is one; a state without it, and one with a row before those of a
 -- queue.
 abbrev pub last_row_at : State → ℕ → ℕ → Option Row
 last_row_at s c i = row_at s c i (length (rows_at s c i) - 1)

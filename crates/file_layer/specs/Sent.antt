@@ -6,7 +6,7 @@ use Rattle.layer_ast.specs.declared.tokens.Dir.TheVariants.{Up, Down}
 use Rattle.pool_message.specs.Piled.{with_header_last}
 use Rattle.pool_message.specs.declared.message.PoolMessage.{PoolMessage}
 
--- The last of a list as it is sent: going up as it is, and going down behind a header.
+-- The last of a list as it is sent: going up as it is, and going down after a header.
 abbrev pub last_behind : Dir → Header → List PoolMessage → List PoolMessage
 last_behind Up header ms = ms
 last_behind Down header ms = with_header_last header ms

@@ -4,7 +4,7 @@ use Rattle.std.specs.List.{flat_map, AllByRecursion}
 use Rattle.slot_pool.specs.Held.{Held}
 use Rattle.layer_ast.specs.declared.tokens.Dir.{Dir}
 use Rattle.cell_store.specs.Kept.{KeptCell, Kept, queues_kept, state_of}
-use Rattle.pool_message.specs.Seen.{refs, seen, Lies, refs_if, seen_if, LiesIf, row_refs, row_seen, RowLies}
+use Rattle.pool_message.specs.Seen.{refs, content_seen, Lies, refs_if, seen_if, LiesIf, row_refs, row_seen, RowLies}
 use Rattle.pool_message.specs.Sent.{sent_refs, sent_seen, SentLie}
 use Rattle.pool_message.specs.declared.event.PoolEvent.{PoolEvent}
 use Rattle.pool_message.specs.declared.message.PoolMessage.{PoolMessage}
@@ -39,9 +39,9 @@ stock_refs s = kept_refs s.kept ++
 abbrev pub laid : List Held → Stock → Laid
 laid p s = record {
   state = state_of (row_seen p) s.kept;
-  scope = record { numbers = s.numbers; messages = map (seen p) s.messages };
+  scope = record { numbers = s.numbers; messages = map (content_seen p) s.messages };
   arrived = seen_if p s.arrived;
-  hand = reverse (map (seen p) s.hand);
+  hand = reverse (map (content_seen p) s.hand);
   sent = sent_seen p s.sent;
 }
 

@@ -23,7 +23,7 @@ pub struct FileDesk {
     pub(crate) numbers: Vec<u32>,
     pub(crate) tray: Tray,
     pub(crate) hand: Messages,
-    /// How many events had been sent when the visit began, and how many there may be behind it.
+    /// How many events had been sent when the visit began, and how many there may be after it.
     pub(crate) first: usize,
     pub(crate) places: usize,
 }

@@ -35,7 +35,7 @@ fn put_arguments(numbers: &mut Vec<u32>, envelope: Envelope)
     }
 }
 
-/// Puts some numbers behind others.
+/// Puts some numbers after others.
 fn put_fields(numbers: &mut Vec<u32>, fields: &Fields)
     requires { length numbers.old.items + 4 ≤ vec_capacity numbers.old }
     ensures numbers { numbers.new.items ≡ numbers.old.items ++ fields.now }
@@ -94,7 +94,7 @@ fn bind_arrived<K: Start>(desk: &mut FileDesk, pool: &Pool)
     desk.tray.bind();
 }
 
-/// Puts so many messages without bytes behind those of the scope.
+/// Puts so many messages without bytes after those of the scope.
 fn bind_bare<K: Start>(desk: &mut FileDesk, pool: &Pool, count: u8)
     requires ready { IsReady K.begun pool.now desk.old }
     requires room { length desk.old.tray.messages.items + count ≤ desk.old.tray.messages.capacity }

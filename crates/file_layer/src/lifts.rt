@@ -3,7 +3,7 @@
 ghost use Rattle.std.specs.Prelude.{◌≡◌, [], ◌∷◌, ◌++◌, slice_index_or, IfSome, IfNone, OnOk};
 ghost use Rattle.msg_core.specs.Chain.{plain};
 ghost use Rattle.msg_core.specs.Parts as parts;
-ghost use Rattle.layer_desk.specs.Laid.{lifted, changed, joined};
+ghost use Rattle.layer_desk.specs.Laid.{lifted, front_changed, front_joined};
 ghost use Rattle.layer_desk.specs.Need.{one_slot, one_in_hand};
 ghost use Rattle.layer_desk.specs.Spent.{Spent, Lifted};
 ghost use Rattle.file_layer.specs.Stock.{laid};
@@ -65,7 +65,7 @@ pub(crate) fn cut<K: Start>(desk: &mut FileDesk, pool: &Pool, from: u32, count: 
     requires { IsReady K.begun pool.now desk.old }
     ensures ready { IsReady K.begun pool.now desk.new }
     ensures shown { laid pool.now (stock_of desk.new) ≡
-        changed (λ m. parts.cut m from count) (laid pool.now (stock_of desk.old)) }
+        front_changed (λ m. parts.cut m from count) (laid pool.now (stock_of desk.old)) }
     ensures free { room_of pool.now desk.new ≡ room_of pool.now desk.old }
 {
     if let Some(message) = take_last(&mut desk.hand) {
@@ -77,7 +77,7 @@ pub(crate) fn tail<K: Start>(desk: &mut FileDesk, pool: &Pool, from: u32)
     requires { IsReady K.begun pool.now desk.old }
     ensures ready { IsReady K.begun pool.now desk.new }
     ensures shown { laid pool.now (stock_of desk.new) ≡
-        changed (λ m. parts.tail m from) (laid pool.now (stock_of desk.old)) }
+        front_changed (λ m. parts.tail m from) (laid pool.now (stock_of desk.old)) }
     ensures free { room_of pool.now desk.new ≡ room_of pool.now desk.old }
 {
     if let Some(message) = take_last(&mut desk.hand) {
@@ -88,7 +88,7 @@ pub(crate) fn tail<K: Start>(desk: &mut FileDesk, pool: &Pool, from: u32)
 pub(crate) fn join<K: Start>(desk: &mut FileDesk, pool: &mut Pool) -> Result<(), NoRoom>
     requires { IsReady K.begun pool.old desk.old }
     ensures ready { IsReady K.begun pool.new desk.new }
-    ensures shown { OnOk result (laid pool.new (stock_of desk.new) ≡ joined (laid pool.old (stock_of desk.old))) }
+    ensures shown { OnOk result (laid pool.new (stock_of desk.new) ≡ front_joined (laid pool.old (stock_of desk.old))) }
     ensures spent { Spent (room_of pool.old desk.old) (room_of pool.new desk.new) one_slot result }
 {
     let Some(second) = take_last(&mut desk.hand) else {

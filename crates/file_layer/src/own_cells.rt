@@ -15,7 +15,7 @@ impl FileLayer {
     ghost use Rattle.layer_mean.specs.State.{flat_index, has_room, row_at, with_number, with_row, without_front};
     ghost use Rattle.cell_store.specs.Frames.{capacity_in};
     ghost use Rattle.pool_message.specs.Moves.{CanKeep, Kept};
-    ghost use Rattle.pool_message.specs.Seen.{seen, refs_if, row_refs, row_seen};
+    ghost use Rattle.pool_message.specs.Seen.{content_seen, refs_if, row_refs, row_seen};
     ghost use Rattle.file_layer.specs.Layer.{tree_of, refs_of, state_in, IsInOrder};
     ghost use Rattle.file_layer.specs.OwnCells.{last_row_at, without_back, with_front_row, message_if, capacity_at};
     ghost use Rattle.file_layer.specs.OwnCells.{HasRoom, CanBeOwn, row_refs_if, AreTogether, IsAsBefore};
@@ -63,7 +63,7 @@ impl FileLayer {
     pub fn held(&self, pool: &mut Pool, cell: u8, index: u32, row: u32) -> Option<PoolMessage>
         requires there { Covers pool.old (refs_of self.now) }
         requires room { CanKeep pool.old (refs_of self.now) }
-        ensures same { (p : List Held) → option_map (seen p) result ≡
+        ensures same { (p : List Held) → option_map (content_seen p) result ≡
             message_if (row_at (state_in p self.now) cell index row) }
         ensures own { (p : List Held) → IsInOrder p self.now → CanBeOwn p result }
         ensures among { (i : ℕ) → times i (refs_if result) ≤ times i (refs_of self.now) }
@@ -87,7 +87,7 @@ impl FileLayer {
         self.desk.cells.push(cell, index, row);
     }
 
-    /// Puts a row in front of a queue.
+    /// Puts a row before a queue.
     pub fn put_front(&mut self, cell: u8, index: u32, row: PoolRow)
         requires room { HasRoom self.old cell index }
         ensures state { (p : List Held) →
@@ -99,7 +99,7 @@ impl FileLayer {
         self.desk.cells.put_front(cell, index, row);
     }
 
-    /// Takes the front row of a queue, which has room behind it.
+    /// Takes the front row of a queue, which has room after it.
     pub fn take_row(&mut self, cell: u8, index: u32) -> Option<PoolRow>
         ensures row { (p : List Held) → option_map (row_seen p) result ≡ row_at (state_in p self.old) cell index 0 }
         ensures own { (p : List Held) → IsInOrder p self.old → IfSome result (λ row. CanBeOwn p row.message) }
@@ -112,7 +112,7 @@ impl FileLayer {
         self.desk.cells.take(cell, index)
     }
 
-    /// Takes the last row of a queue, which has room behind it.
+    /// Takes the last row of a queue, which has room after it.
     pub fn take_back(&mut self, cell: u8, index: u32) -> Option<PoolRow>
         ensures row { (p : List Held) → option_map (row_seen p) result ≡ last_row_at (state_in p self.old) cell index }
         ensures own { (p : List Held) → IsInOrder p self.old → IfSome result (λ row. CanBeOwn p row.message) }

@@ -14,8 +14,8 @@ use pool_message::{MessagePlace, PoolEvent};
 use typed_layer::TypedLayer;
 
 /// Whether an event passes a layer as it is but for its header: the layer has no handler for it, and it goes down, or
-/// up behind the header
-/// `none` or behind nothing.
+/// up after the header
+/// `none` or after nothing.
 pub(crate) fn lets_pass(layer: &TypedLayer, direction: Dir, event: &PoolEvent) -> bool
     ensures { (p : List Held) → result ≡ is_passed (layer_tree layer.now) direction (event_seen p event.now) }
 {

@@ -96,7 +96,7 @@ pub(crate) fn send_first<K: Start>(
     Ok(())
 }
 
-/// A message without bytes, going down behind a header.
+/// A message without bytes, going down after a header.
 fn nothing_behind(direction: Dir, header: Header) -> PoolMessage
     ensures { result ≡ sent_behind direction header (bodiless []) }
 {
@@ -108,7 +108,7 @@ fn nothing_behind(direction: Dir, header: Header) -> PoolMessage
     message
 }
 
-/// Sends an event with a message without bytes, going down behind a header.
+/// Sends an event with a message without bytes, going down after a header.
 #[inline(never)]
 fn send_nothing(tray: &mut Tray, direction: Dir, envelope: Envelope, header: Header)
     requires { length tray.old.sent.items < tray.old.sent.capacity }
@@ -122,7 +122,7 @@ fn send_nothing(tray: &mut Tray, direction: Dir, envelope: Envelope, header: Hea
     place.close();
 }
 
-/// Sends an event with the message of the scope that isn't there, which has no bytes, going down behind a header.
+/// Sends an event with the message of the scope that isn't there, which has no bytes, going down after a header.
 fn send_missing<K: Start>(
     desk: &mut FileDesk,
     pool: &Pool,
@@ -177,7 +177,7 @@ pub(crate) fn send_local<K: Start>(
     }
 }
 
-/// Sends an event with a message of the scope, going down behind a header, and gives all others of the scope back.
+/// Sends an event with a message of the scope, going down after a header, and gives all others of the scope back.
 fn send_last_local<K: Start>(
     desk: &mut FileDesk,
     pool: &mut Pool,

@@ -25,7 +25,7 @@ use slot_pool::Pool;
 use typed_layer::TypedLayer;
 
 /// Lays the first event on the desk, with its message, and says its direction and its envelope. What the desk sends
-/// comes behind the others.
+/// comes after the others.
 fn begin(desk: &mut FileDesk, events: &mut Events) -> (Dir, Envelope)
     requires some { 0 < length events.old.items }
     requires idle { (desk.old.tray.arrived ≡ None) × (desk.old.tray.messages.items ≡ []) }
@@ -54,7 +54,7 @@ fn end(desk: &mut FileDesk, events: &mut Events)
     desk.tray.end(events);
 }
 
-/// The layer at a place takes the first of the events at its desk. That one goes, and what the layer sends comes behind
+/// The layer at a place takes the first of the events at its desk. That one goes, and what the layer sends comes after
 /// the others.
 pub(crate) fn visit(
     place: u8,

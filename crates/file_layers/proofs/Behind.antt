@@ -1,4 +1,4 @@
--- The names behind statements: those in front of them stay visible, and new ones stand in front of them.
+-- The names after statements: those before them stay visible, and new ones stand before them.
 use Rattle.std.proofs.Common.{◌≡◌, ℕ, ◌-◌, List, [], ◌∷◌, ◌++◌, drop, length, refl, sym, ap, ◌∙◌, arith, append_assoc}
 use Rattle.std.proofs.Common.{length-append}
 use Rattle.std.proofs.Math.Seq.{drop-append_seam}

@@ -23,7 +23,7 @@ use Rattle.typed_layer.specs.View.{blank_headers}
 use Rattle.typed_layer.specs.declared.tree.Blank.{Blank}
 use Rattle.typed_layer.specs.declared.tree.TypedLayer.{TypedLayer}
 use Rattle.file_laws.specs.Bounds.{HoldsFile, HoldsLayer, HoldsPlaced, placed_at}
-use Rattle.file_numbers.specs.Placed.{placed}
+use Rattle.file_numbers.specs.Placed.{placement}
 use Rattle.file_numbers.proofs.Finds.{find_map}
 use Rattle.file_numbers.proofs.Lists.{trees_more}
 
@@ -61,7 +61,7 @@ layer_called file place o called none is library =
 placed_same : (file : FileTree) (number : ℕ) (place : PlaceTree) (layer : LayerTree) (given : List Given)
     (blank : Blank) →
     map given_tree given ≡ place.given → blank_headers blank ≡ blank_above number (length file.places) →
-    placed layer given blank ≡
+    placement layer given blank ≡
     record { layer = layer; given = place.given; blank = blank_above number (length file.places) }
 placed_same file number place layer given blank gives above = λ i.
     record { layer = layer; given = gives i; blank = above i }
@@ -71,7 +71,7 @@ pub holds_layer : (file : FileTree) (number : ℕ) (place : PlaceTree) (layer : 
     (blank : Blank) →
     Some layer ≡ layer_at file place → map given_tree given ≡ place.given →
     blank_headers blank ≡ blank_above number (length file.places) → HoldsPlaced (placed_at file number place) →
-    HoldsLayer (placed layer given blank)
+    HoldsLayer (placement layer given blank)
 holds_layer file number place layer given blank named gives above holds =
     let at : LayerTree → Placed = λ l.
     record { layer = l; given = place.given; blank = blank_above number (length file.places) } in
@@ -81,7 +81,7 @@ holds_layer file number place layer given blank named gives above holds =
 pub placed_is : (file : FileTree) (number : ℕ) (place : PlaceTree) (layer : LayerTree) (given : List Given)
     (blank : Blank) →
     Some layer ≡ layer_at file place → map given_tree given ≡ place.given →
-    blank_headers blank ≡ blank_above number (length file.places) → layer_of (placed layer given blank) ≡
+    blank_headers blank ≡ blank_above number (length file.places) → layer_of (placement layer given blank) ≡
     placed_layer file number place
 placed_is file number place layer given blank named gives above =
     let at : LayerTree → Placed = λ l.

@@ -1,9 +1,9 @@
--- The names behind a block of a statement.
+-- The names after a block of a statement.
 use Rattle.layer_ast.specs.Tree.{StatementTrees}
 use Rattle.file_mean.specs.Names.{Names}
 use Rattle.file_mean.specs.Statements.{after_block, behind_all}
 
--- The names behind a block: those in front of its statement, with the slots that are taken at the end of the block,
+-- The names after a block: those before its statement, with the slots that are taken at the end of the block,
 -- which begins with these.
 abbrev pub past : Names → Names → StatementTrees → Names
 past names inner block = after_block names (behind_all block inner)

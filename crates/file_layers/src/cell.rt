@@ -16,7 +16,7 @@ ghost use Rattle.file_laws.specs.Bounds.{HoldsDeclaration};
 ghost use Rattle.file_numbers.specs.Place.{placed_of};
 ghost use Rattle.msg_core.specs.Headers.{most_fields};
 
-use file_numbers::{Names, PlacedLayer, field_count, number, numbers_of};
+use file_numbers::{PlacedLayer, VisibleNames, field_count, number, numbers_of};
 use file_scope::items;
 use layer_ast as ast;
 use layer_ast::{Declaration, Ending, Word};
@@ -87,7 +87,7 @@ fn initial_value(
     match initial {
         None => Ok(Expression::Number(0)),
         Some(e) => {
-            let names = Names::own(alloc, place);
+            let names = VisibleNames::own(alloc, place);
             let initial = number(alloc, &names, e);
             drop(names);
             initial

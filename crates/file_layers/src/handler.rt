@@ -20,7 +20,7 @@ ghost use Rattle.msg_core.specs.Headers.{most_declared};
 
 use crate::made::made;
 use crate::statement::block;
-use file_numbers::{Names, PlacedLayer, carries, number, numbers_of};
+use file_numbers::{PlacedLayer, VisibleNames, carries, number, numbers_of};
 use file_scope::{listed, written};
 use layer_ast as ast;
 use layer_ast::{Name, Popped};
@@ -70,7 +70,7 @@ fn enter<'a>(
     alloc: Global,
     place: &'a PlacedLayer<'a>,
     h: &ast::Handler,
-) -> Result<Names<'a>, AllocError>
+) -> Result<VisibleNames<'a>, AllocError>
     requires { length (scope.head_names (written.handler_tree h.now)) ≤ most_names }
     ensures { IfOk result
         (λ names. names_of names ≡ spec.handler_names (placed_of place.now) (written.handler_tree h.now)) }
@@ -79,14 +79,18 @@ fn enter<'a>(
     let count = numbers_of(carries(h.kind), event.len());
     let (numbers, message) = event.split_at(count);
     let numbers = with_fields(alloc, numbers, &h.popped)?;
-    let mut names = Names::own(alloc, place);
+    let mut names = VisibleNames::own(alloc, place);
     names.bring_numbers(&numbers)?;
     names.bring_messages(message)?;
     Ok(names)
 }
 
 /// When a handler goes as predicted.
-fn expected(alloc: Global, names: &Names, expected: &ast::Expected) -> Result<Expected, AllocError>
+fn expected(
+    alloc: Global,
+    names: &VisibleNames,
+    expected: &ast::Expected,
+) -> Result<Expected, AllocError>
     ensures { IfOk result
         (λ x. expected_tree x ≡ spec.expected_of (names_of names.now) (written.expected_tree expected.now)) }
 {
@@ -106,7 +110,11 @@ struct Entered {
 }
 
 /// The block of a handler, before which these names are visible.
-fn whole_block(alloc: Global, names: &mut Names, b: &ast::Block) -> Result<Entered, AllocError>
+fn whole_block(
+    alloc: Global,
+    names: &mut VisibleNames,
+    b: &ast::Block,
+) -> Result<Entered, AllocError>
     requires numbers { IsByte
         ((behind_all (written.block_tree b.now) (names_of names.old)).taken.numbers -
         (names_of names.old).taken.numbers) }

@@ -6,7 +6,7 @@ ghost use Rattle.file_mean.specs.Layers as spec;
 ghost use Rattle.typed_layer.specs.View.{layer_tree};
 ghost use Rattle.file_laws.specs.Bounds.{HoldsLayer};
 ghost use Rattle.file_numbers.specs.Place.{placed_of};
-ghost use Rattle.file_numbers.specs.Placed.{placed, words_of};
+ghost use Rattle.file_numbers.specs.Placed.{placement, words_of};
 
 use crate::cell::{cells, headers};
 use crate::handler::handlers;
@@ -52,8 +52,9 @@ pub fn layer(
     given: &[Given],
     blank: Blank,
 ) -> Result<TypedLayer, AllocError>
-    requires { HoldsLayer (placed (written.layer_tree layer.now) given.now blank) }
-    ensures { IfOk result (λ x. layer_tree x ≡ spec.layer_of (placed (written.layer_tree layer.now) given.now blank)) }
+    requires { HoldsLayer (placement (written.layer_tree layer.now) given.now blank) }
+    ensures { IfOk result
+        (λ x. layer_tree x ≡ spec.layer_of (placement (written.layer_tree layer.now) given.now blank)) }
 {
     let own = own_words(alloc, &layer.declarations)?;
     let place = PlacedLayer::of(alloc, layer, &own, given, blank)?;

@@ -15,7 +15,9 @@ ghost use Rattle.file_numbers.specs.Scope.{names_of};
 ghost use Rattle.msg_core.specs.Headers.{most_fields};
 
 use crate::made::made;
-use file_numbers::{Names, argument_message, carries, few, fields, last, numbers, numbers_of};
+use file_numbers::{
+    VisibleNames, argument_message, carries, few, fields, last, numbers, numbers_of,
+};
 use file_scope::written;
 use layer_ast as ast;
 use layer_ast::{Arguments, Dir, Kind, Name, Pushed, Queue};
@@ -25,7 +27,7 @@ use typed_layer::{Carried, Content, Emission, MessageExpression, Row, Taken, Tak
 /// The last of some arguments as a message, where one is carried.
 fn last_message(
     alloc: Global,
-    names: &Names,
+    names: &VisibleNames,
     has_message: bool,
     arguments: &Arguments,
 ) -> Result<Option<MessageExpression>, AllocError>
@@ -41,7 +43,7 @@ fn last_message(
 }
 
 /// The tag of the header that an emission puts on; without one it is 0.
-fn pushed_tag(names: &Names, pushed: &Option<Pushed>) -> u8
+fn pushed_tag(names: &VisibleNames, pushed: &Option<Pushed>) -> u8
     ensures { result ≡ spec.pushed_tag (names_of names.now) (option_map written.pushed_tree pushed.now) }
 {
     match pushed {
@@ -53,7 +55,7 @@ fn pushed_tag(names: &Names, pushed: &Option<Pushed>) -> u8
 /// The message of an emission that carries this one, and its header.
 fn content(
     alloc: Global,
-    names: &Names,
+    names: &VisibleNames,
     message: MessageExpression,
     pushed: &Option<Pushed>,
 ) -> Result<Content, AllocError>
@@ -79,7 +81,7 @@ fn content(
 /// An emission.
 pub fn emission(
     alloc: Global,
-    names: &Names,
+    names: &VisibleNames,
     direction: Dir,
     kind: Kind,
     arguments: &Arguments,
@@ -111,7 +113,7 @@ pub fn emission(
 }
 
 /// Whether the rows of a queue carry a message.
-fn has_message(names: &Names, queue: &Queue) -> bool
+fn has_message(names: &VisibleNames, queue: &Queue) -> bool
     ensures { result ≡ is_some (values.queue_carries (names_of names.now) (written.queue_tree queue.now)) }
 {
     names.place.carried(&queue.name).is_some()
@@ -120,7 +122,7 @@ fn has_message(names: &Names, queue: &Queue) -> bool
 /// The row that is pushed on a queue.
 pub fn pushed_row(
     alloc: Global,
-    names: &Names,
+    names: &VisibleNames,
     queue: &Queue,
     items: &Arguments,
 ) -> Result<Row, AllocError>
@@ -181,7 +183,7 @@ fn taken_row(
 
 /// Makes the names visible that the parts of a taken row get.
 #[tactic(auto, using(crate::proofs::Rows::numbers_are, crate::proofs::Rows::message_is))]
-fn bring_row(names: &mut Names, has_message: bool, new: &[Name]) -> Result<(), AllocError>
+fn bring_row(names: &mut VisibleNames, has_message: bool, new: &[Name]) -> Result<(), AllocError>
     requires numbers { (names_of names.old).taken.numbers + length (numbers_among has_message new.now) ≤ 256 }
     requires message { (names_of names.old).taken.messages + length (option_to_list (message_among has_message new.now))
         ≤ 256 }
@@ -199,7 +201,7 @@ fn bring_row(names: &mut Names, has_message: bool, new: &[Name]) -> Result<(), A
 /// Takes slots for a row that is taken from a queue, and makes the names of its parts visible.
 pub fn take_row(
     alloc: Global,
-    names: &mut Names,
+    names: &mut VisibleNames,
     queue: &Queue,
     new: &ast::Names,
 ) -> Result<Taken, AllocError>

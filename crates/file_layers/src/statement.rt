@@ -18,7 +18,7 @@ ghost use Rattle.msg_core.specs.Headers.{most_fields};
 
 use crate::made::made;
 use crate::row::{emission, pushed_row, take_row};
-use file_numbers::{Names, number, queue_index};
+use file_numbers::{VisibleNames, number, queue_index};
 use layer_ast as ast;
 use layer_ast::{Arguments, Dir, Kind, Likely, Name, Pushed, Queue, Size};
 use std::alloc::{AllocError, Global};
@@ -28,7 +28,7 @@ use typed_layer::{Block, Expression, Statement, Taken};
 #[tactic(auto, using(crate::proofs::Views::bind_tree))]
 fn bind(
     alloc: Global,
-    names: &mut Names,
+    names: &mut VisibleNames,
     name: &Name,
     value: &ast::Expression,
 ) -> Result<Statement, AllocError>
@@ -48,7 +48,7 @@ fn bind(
 #[tactic(auto, using(crate::proofs::Views::set_tree, crate::proofs::Views::set_element_tree))]
 fn set(
     alloc: Global,
-    names: &Names,
+    names: &VisibleNames,
     name: &Name,
     index: &Option<ast::Expression>,
     value: &ast::Expression,
@@ -73,7 +73,7 @@ fn set(
 #[tactic(auto, using(crate::proofs::Views::set_square_tree))]
 fn set_square(
     alloc: Global,
-    names: &Names,
+    names: &VisibleNames,
     name: &Name,
     row: &ast::Expression,
     column: &ast::Expression,
@@ -100,7 +100,7 @@ fn set_square(
 #[tactic(auto, using(crate::proofs::Views::emit_tree))]
 fn emit(
     alloc: Global,
-    names: &Names,
+    names: &VisibleNames,
     direction: Dir,
     kind: Kind,
     arguments: &Arguments,
@@ -123,7 +123,7 @@ fn emit(
 
 /// A block, whose names are visible in it alone.
 #[cycle(blocks)]
-pub fn block(alloc: Global, names: &mut Names, b: &ast::Block) -> Result<Block, AllocError>
+pub fn block(alloc: Global, names: &mut VisibleNames, b: &ast::Block) -> Result<Block, AllocError>
     requires { HoldsBlock (spec.statements_of (names_of names.old) (written.block_tree b.now)) }
     ensures is { IfOk result (λ x. block_tree x ≡ spec.statements_of (names_of names.old) (written.block_tree b.now)) }
     ensures names { OnOk result
@@ -139,7 +139,7 @@ pub fn block(alloc: Global, names: &mut Names, b: &ast::Block) -> Result<Block, 
 #[cycle(blocks)]
 fn statements(
     alloc: Global,
-    names: &mut Names,
+    names: &mut VisibleNames,
     all: &[ast::Statement],
 ) -> Result<Vec<Statement>, AllocError>
     requires { HoldsBlock (spec.statements_of (names_of names.old) (written.statement_trees all.now)) }
@@ -158,7 +158,11 @@ fn statements(
 
 /// A statement.
 #[cycle(blocks)]
-fn statement(alloc: Global, names: &mut Names, s: &ast::Statement) -> Result<Statement, AllocError>
+fn statement(
+    alloc: Global,
+    names: &mut VisibleNames,
+    s: &ast::Statement,
+) -> Result<Statement, AllocError>
     requires { HoldsStatement (spec.statement_of (names_of names.old) (written.statement_tree s.now)) }
     ensures is { IfOk result
         (λ x. statement_tree x ≡ spec.statement_of (names_of names.old) (written.statement_tree s.now)) }
@@ -238,7 +242,7 @@ fn statement(alloc: Global, names: &mut Names, s: &ast::Statement) -> Result<Sta
 #[tactic(auto, using(crate::proofs::Views::push_tree))]
 fn push(
     alloc: Global,
-    names: &mut Names,
+    names: &mut VisibleNames,
     otherwise: &ast::Block,
     queue: &Queue,
     items: &Arguments,
@@ -274,7 +278,7 @@ fn push(
 #[cycle(blocks)]
 fn taken_block(
     alloc: Global,
-    names: &mut Names,
+    names: &mut VisibleNames,
     first: &ast::Block,
     queue: &Queue,
     new: &ast::Names,
@@ -346,7 +350,7 @@ fn branch(likely: Likely, condition: Expression, first: Block, otherwise: Block)
 #[cycle(blocks)]
 fn when(
     alloc: Global,
-    names: &mut Names,
+    names: &mut VisibleNames,
     first: &ast::Block,
     likely: Likely,
     condition: &ast::Expression,
@@ -368,7 +372,7 @@ fn when(
 #[tactic(auto, using(crate::proofs::Views::each_tree))]
 fn each(
     alloc: Global,
-    names: &mut Names,
+    names: &mut VisibleNames,
     first: &ast::Block,
     name: &Name,
     below: &ast::Expression,

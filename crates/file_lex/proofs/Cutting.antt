@@ -34,7 +34,7 @@ passed number zero bytes at le = refl
 passed number (suc n) [] at le = absurd (omega arith)
 passed number (suc n) (b ∷ bytes) at le = passed number n bytes (place_behind b at) (omega arith)
 
--- a piece that is taken stands in front of the tokens behind it
+-- a piece that is taken stands before the tokens after it
 taken : (p : Piece) (at : At) (old new : List Lexed) (n : ℕ) (rest : Bool → ℕ → Tokens) → GoesOn p at old new (Some n) →
     in_front old (with_piece p at rest) ≡ in_front new (rest (is_number p) n)
 taken (gap behind) at old new n rest h = let e : n ≡ behind = cc in rw (h.0, e) refl
@@ -170,7 +170,7 @@ turn whole most size rest first behind after behind_number number at next past_i
     goes_on whole most size first behind behind_number at old new p is c' n le h
     )
 
--- behind a byte that is no blank the column is the next one
+-- after a byte that is no blank the column is the next one
 pub next_column : (b : ℕ) (at : At) → is_blank b ≡ false → record at { col = at.col + 1 } ≡ place_behind b at
 next_column b at no_blank = no_feed (nat_eq b 10) refl
   where

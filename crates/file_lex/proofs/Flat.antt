@@ -48,7 +48,7 @@ not_true : (t : Bool) → not t ≡ true → t ≡ false
 not_true true is = cc
 not_true false is = refl
 
--- the place behind such bytes
+-- the place after such bytes
 pub past_flat : (bytes : List ℕ) (at : At) → is_flat bytes ≡ true →
     past bytes at ≡ record at { col = at.col + length bytes }
 past_flat [] at flat = ap (λ n. record at { col = n }) (omega arith)

@@ -6,7 +6,7 @@ use Rattle.std.specs.Borrow.{Bor}
 use Rattle.std.specs.Option.{option_map, option_and_then}
 use Rattle.std.specs.Str.{bytes_eq}
 use Rattle.layer_ast.specs.Spelling.{beside}
-use Rattle.file_lex.specs.Tables.{shown, shown_groups, beside_in_group}
+use Rattle.file_lex.specs.Tables.{shown_table, shown_groups, beside_in_group}
 
 -- whether a spelling begins with a byte
 abbrev first_is : ℕ → List ℕ → Bool
@@ -135,14 +135,14 @@ grouped_is groups table same covered (b ∷ bs) some =
 -- a search in a grouped table, as the lexer keeps it
 find_group : {X : Type 0} (groups : List (ℕ × Bor (List (Bor (List ℕ) × X)))) (b : ℕ) (word : List ℕ) →
     option_and_then (λ g. beside g.1 word) (find (λ g. nat_eq b g.0) (shown_groups groups))
-    ≡ option_and_then (λ entries. beside (shown entries) word)
+    ≡ option_and_then (λ entries. beside (shown_table entries) word)
     (option_map (λ g. g.1.now) (find (λ g. nat_eq b g.0) groups))
 find_group [] b word = refl
 find_group (group ∷ groups) b word =
     elim (nat_eq b group.0) as (λ t.
     option_and_then (λ g. beside g.1 word)
-    (cond t (Some (group.0, shown group.1.now)) (find (λ g. nat_eq b g.0) (shown_groups groups)))
-    ≡ option_and_then (λ entries. beside (shown entries) word)
+    (cond t (Some (group.0, shown_table group.1.now)) (find (λ g. nat_eq b g.0) (shown_groups groups)))
+    ≡ option_and_then (λ entries. beside (shown_table entries) word)
     (option_map (λ g. g.1.now) (cond t (Some group) (find (λ g. nat_eq b g.0) groups)))
     ) [ true ↦ refl | false ↦ find_group groups b word ]
 
@@ -150,22 +150,22 @@ find_group (group ∷ groups) b word =
 pub in_group : {X : Type 0} (groups : List (ℕ × Bor (List (Bor (List ℕ) × X)))) (b : ℕ) (bs : List ℕ)
     (found : Option (Bor (List (Bor (List ℕ) × X)))) →
     option_map (λ g. g.now) found ≡ option_map (λ g. g.1.now) (find (λ g. nat_eq b g.0) groups) →
-    option_and_then (λ entries. beside (shown entries) (b ∷ bs)) (option_map (λ g. g.now) found)
+    option_and_then (λ entries. beside (shown_table entries) (b ∷ bs)) (option_map (λ g. g.now) found)
     ≡ beside_in_group (shown_groups groups) (b ∷ bs)
 unfolding beside_in_group
 in_group groups b bs found same =
-    ap (option_and_then (λ entries. beside (shown entries) (b ∷ bs))) same ∙ sym (find_group groups b (b ∷ bs))
+    ap (option_and_then (λ entries. beside (shown_table entries) (b ∷ bs))) same ∙ sym (find_group groups b (b ∷ bs))
 
 -- what the search for a word answers, where it has a first byte
 pub found_in_group : {X : Type 0} (groups : List (ℕ × Bor (List (Bor (List ℕ) × X)))) (word : List ℕ) (b : ℕ)
     (bs : List ℕ)
     (found : Option (Bor (List (Bor (List ℕ) × X)))) (result : Option X) → word ≡ b ∷ bs →
     option_map (λ g. g.now) found ≡ option_map (λ g. g.1.now) (find (λ g. nat_eq b g.0) groups) →
-    result ≡ option_and_then (λ entries. beside (shown entries) word) (option_map (λ g. g.now) found) →
+    result ≡ option_and_then (λ entries. beside (shown_table entries) word) (option_map (λ g. g.now) found) →
     result ≡ beside_in_group (shown_groups groups) word
 found_in_group groups word b bs found result split same is =
     is
-    ∙ (ap (λ w. option_and_then (λ entries. beside (shown entries) w) (option_map (λ g. g.now) found)) split
+    ∙ (ap (λ w. option_and_then (λ entries. beside (shown_table entries) w) (option_map (λ g. g.now) found)) split
     ∙ (in_group groups b bs found same ∙ ap (beside_in_group (shown_groups groups)) (sym split)))
 
 -- and where it has none

@@ -57,7 +57,7 @@ piece_more to_end old now new (one token _) at more so_far h first =
       inner = λ part. still_in so_far.added l (so_far.inner part) (λ begins. omega (arith, first part begins, count));
     }
 
--- where tokens may be a whole part, as these are behind them
+-- where tokens may be a whole part, as these are after them
 abbrev Ends : List Lexed → List Lexed → Type 0
 Ends added [] = Unit {0}
 Ends added (l ∷ _) = (begins_part l.token ≡ true) × (0 < length added)
@@ -110,7 +110,7 @@ part_cut old now added t whole grown same inner ends =
           ap (unless_bad (drop (part_length whole.tokens) whole.tokens)) bad_at);
     }
 
--- what begins a part ends the part in front of it
+-- what begins a part ends the part before it
 begins_next : (p : Piece) (at : At) (rest : Bool → ℕ → Tokens) (added : List Lexed) → begins_at p ≡ true →
     0 < length added →
     Ends added (with_piece p at rest).tokens
@@ -121,7 +121,7 @@ begins_next (gap n) at rest added begins lt = cc
 begins_next bad at rest added begins lt = cc
 
 module _ (to_end : Bool) (old now : List Lexed) (left : Left) where
-  -- the whole of what is left, its tokens behind the old ones
+  -- the whole of what is left, its tokens after the old ones
   abbrev whole : Tokens
   whole = in_front old (left_of left)
 
@@ -136,7 +136,7 @@ module _ (to_end : Bool) (old now : List Lexed) (left : Left) where
     ended = ended;
   }
 
-  -- in front of the next part
+  -- before the next part
   pub at_next : (next : Left) (first : ℕ) (after : List ℕ) (p : Piece) →
       Cutting whole 4294967295 size next.text.now next.behind_number next.at now → InPart to_end old now →
       next.text.now ≡ first ∷ after → p ≡ piece next.behind_number first after → begins_at p ≡ true →
@@ -210,7 +210,7 @@ not_bad [] (Some at) t is = cc
 not_bad [] None t is = cc
 not_bad (l ∷ tokens) bad_at t is = cc
 
--- a part and what stands behind it make up the whole
+-- a part and what stands after it make up the whole
 pub made_up : (old new : List Lexed) (whole behind : Tokens) → CutsPart old new whole (Some behind) →
     in_front new behind ≡ in_front old whole
 made_up old new whole behind c =

@@ -10,7 +10,7 @@ both_true true false is = cc
 both_true false t is = cc
 
 module _ {X : Type 0} where
-  -- what a first group says of those behind it
+  -- what a first group says of those after it
   first_and_rest : (base : ℕ) (g : ℕ × X) (gs : List (ℕ × X)) → are_in_row base (g ∷ gs) ≡ true →
       (g.0 ≡ base) × (are_in_row (suc base) gs ≡ true)
   first_and_rest base g gs row =
@@ -37,7 +37,7 @@ module _ {X : Type 0} where
       ap (λ t. cond t (Some g) (find (λ j. nat_eq b j.0) gs)) (ne_eqb b g.0 (λ same. omega (arith, same, h.0, is)))
       ∙ group_at (suc base) b k gs d h.1 (omega (arith, is)) (omega (arith, within))
 
-  -- and behind the last there is none
+  -- and after the last there is none
   pub group_past : (base b k : ℕ) (groups : List (ℕ × X)) → are_in_row base groups ≡ true → b ≡ base + k →
       length groups ≤ k → find (λ g. nat_eq b g.0) groups ≡ None
   group_past base b k [] row is past = refl

@@ -14,7 +14,7 @@ begins_part (token.Sign sign.Layer) = true
 begins_part (token.Sign sign.Stack) = true
 begins_part _ = false
 
--- how many tokens the first part has: one, and those behind it up to the next at which a part begins
+-- how many tokens the first part has: one, and those after it up to the next at which a part begins
 abbrev pub part_length : List Lexed → ℕ
 part_length [] = 0
 part_length (_ ∷ tokens) = suc (prefix_len (λ l. not (begins_part l.token)) tokens)
@@ -23,16 +23,16 @@ part_length (_ ∷ tokens) = suc (prefix_len (λ l. not (begins_part l.token)) t
 abbrev pub first_part : Tokens → List Lexed
 first_part t = take (part_length t.tokens) t.tokens
 
--- tokens and the bad one behind them, or none where the bad one comes at once
+-- tokens and the bad one after them, or none where the bad one comes at once
 abbrev pub unless_bad : List Lexed → Option At → Option Tokens
 unless_bad [] (Some _) = None
 unless_bad tokens bad_at = Some record { tokens = tokens; bad_at = bad_at }
 
--- what stands behind the first part, or none where that has a bad token
+-- what stands after the first part, or none where that has a bad token
 abbrev pub behind_part : Tokens → Option Tokens
 behind_part t = unless_bad (drop (part_length t.tokens) t.tokens) t.bad_at
 
--- the first part of some tokens was added to others, and this is what stands behind it
+-- the first part of some tokens was added to others, and this is what stands after it
 pub record CutsPart (old new : List Lexed) (whole : Tokens) (behind : Option Tokens) : Type 0 where
   pub added : new ≡ old ++ first_part whole
   pub rest : behind ≡ behind_part whole

@@ -35,7 +35,7 @@ IsFront text _ = Unit
 abbrev pub tokens_of : Tokens → Parts
 tokens_of c = record { tokens = c.tokens.items; bad_at = c.bad_at }
 
--- how many bytes of a piece stand behind its first
+-- how many bytes of a piece stand after its first
 abbrev pub more_of : Found → ℕ
 more_of (gap behind) = behind
 more_of (one _ behind) = behind
@@ -51,7 +51,7 @@ abbrev pub is_number : Found → Bool
 is_number (one token _) = is_numeral token
 is_number _ = false
 
--- the place behind bytes
+-- the place after bytes
 abbrev pub past : List ℕ → At → At
 past bytes at = fold (λ at b. place_behind b at) at bytes
 
@@ -85,7 +85,7 @@ pub record IsBehind (old new : List Lexed) (left next : Left) : Type 0 where
   pub fewer : length next.text.now + length new ≤ length left.text.now + length old
   pub ended : (left_of next).tokens ≡ [] → next.text.now ≡ []
 
--- what cutting comes to: the front of what is left was cut, all of it or its first part, or there is a bad token behind
+-- what cutting comes to: the front of what is left was cut, all of it or its first part, or there is a bad token after
 -- it
 pub record StopsBefore (old new : List Lexed) (left : Left) (to_end : Bool) (next : Left) : Type 0 where
   pub all : to_end ≡ true → in_front new record { tokens = []; bad_at = None } ≡ in_front old (left_of left)

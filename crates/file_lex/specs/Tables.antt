@@ -5,12 +5,12 @@ use Rattle.std.specs.Option.{option_and_then}
 use Rattle.layer_ast.specs.Spelling.{beside}
 
 -- a table with its spellings as they are, and not as references to them
-abbrev pub shown : {X : Type 0} → List (Bor (List ℕ) × X) → List (List ℕ × X)
-shown table = map (λ entry. (entry.0.now, entry.1)) table
+abbrev pub shown_table : {X : Type 0} → List (Bor (List ℕ) × X) → List (List ℕ × X)
+shown_table table = map (λ entry. (entry.0.now, entry.1)) table
 
 -- a grouped table in the same way
 abbrev pub shown_groups : {X : Type 0} → List (ℕ × Bor (List (Bor (List ℕ) × X))) → List (ℕ × List (List ℕ × X))
-shown_groups groups = map (λ group. (group.0, shown group.1.now)) groups
+shown_groups groups = map (λ group. (group.0, shown_table group.1.now)) groups
 
 -- whether the bytes of groups follow one another, from this one on
 abbrev pub are_in_row : {X : Type 0} → ℕ → List (ℕ × X) → Bool

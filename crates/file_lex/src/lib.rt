@@ -2,7 +2,7 @@
 #![tactic(auto)]
 
 ghost use Rattle.std.specs.Prelude.{◌≡◌, ℕ, List, [], ◌∷◌, ◌+◌, ◌<◌, ◌≤◌, length, nat_eq, true, None, IfOk, IfSome};
-ghost use Rattle.layer_ast.specs.Cut.{cut as cut_of, place_behind as next_place};
+ghost use Rattle.layer_ast.specs.Cut.{text_tokens as cut_of, place_behind as next_place};
 ghost use Rattle.layer_ast.specs.Stops.{end_of as end};
 ghost use Rattle.std.specs.Option.{option_map};
 ghost use Rattle.file_lex.specs.Parts.{CutsPart};
@@ -20,14 +20,14 @@ use words::{is_part_word, push_word};
 /// How many bytes of a text most have for each token; where there are more tokens, their room grows.
 const BYTES_A_TOKEN: usize = 2;
 
-/// The tokens of a text in front of its first bad one, and the place of that one.
+/// The tokens of a text before its first bad one, and the place of that one.
 #[derive(Drop)]
 pub struct Tokens {
     pub tokens: Vec<Lexed>,
     pub bad_at: Option<At>,
 }
 
-/// What is left of a text behind some of its tokens: its bytes, the place of the first, and whether a number stands in
+/// What is left of a text after some of its tokens: its bytes, the place of the first, and whether a number stands in
 /// front of it.
 #[derive(Clone, Copy)]
 pub struct Left<'a> {
@@ -60,7 +60,7 @@ impl<'a> Left<'a> {
     }
 }
 
-/// Where cutting came to an end: in front of what is left, or at a bad token.
+/// Where cutting came to an end: before what is left, or at a bad token.
 #[derive(Clone, Copy)]
 enum Stop<'a> {
     Before(Left<'a>),
@@ -80,9 +80,9 @@ pub fn cut(alloc: Global, text: &[u8]) -> Result<Tokens, AllocError>
     Ok(Tokens { tokens, bad_at })
 }
 
-/// Cuts off the next part of a text, one layer or the stack: adds the first token that is left, and those behind it up
+/// Cuts off the next part of a text, one layer or the stack: adds the first token that is left, and those after it up
 /// to the next word
-/// `layer` or `stack` or the end. The result is what is left then, or none where the part has a bad token, behind those
+/// `layer` or `stack` or the end. The result is what is left then, or none where the part has a bad token, after those
 /// that were added.
 pub fn cut_part<'a>(tokens: &mut Vec<Lexed>, left: Left<'a>) -> Result<Option<Left<'a>>, AllocError>
     requires { HasRoom left }
@@ -153,7 +153,7 @@ fn begins_part(piece: &Piece, text: &[u8]) -> bool
 }
 
 /// Adds the token of a piece at the front of a text to the tokens. The result is how many bytes of the piece stand
-/// behind its first, or none where the piece is bad.
+/// after its first, or none where the piece is bad.
 fn take_piece(
     tokens: &mut Vec<Lexed>,
     piece: Piece,
@@ -197,7 +197,7 @@ fn is_number(piece: &Piece) -> bool
     }
 }
 
-/// The place behind bytes.
+/// The place after bytes.
 fn place_past(bytes: &[u8], at: At) -> At
     requires line { at.line + length bytes.now < 4294967296 }
     requires col { at.col + length bytes.now < 4294967296 }

@@ -9,7 +9,7 @@ ghost use Rattle.file_lex.specs.Pieces.{found, more_of, is_flat, IsFront};
 
 use layer_ast::{LONGEST_WORD, Sign};
 
-/// What a text begins with, and how many bytes of it stand behind its first.
+/// What a text begins with, and how many bytes of it stand after its first.
 #[derive(Clone, Copy)]
 pub enum Piece {
     Gap { behind: usize },
@@ -19,7 +19,7 @@ pub enum Piece {
     Bad,
 }
 
-/// The piece that a text begins with, given also as its first byte, which is no blank, and the bytes behind that. It
+/// The piece that a text begins with, given also as its first byte, which is no blank, and the bytes after that. It
 /// stands in one line.
 #[tactic(auto, unfolding(layer_ast::specs::Cut::piece), using(crate::proofs::Flat::line_flat))]
 pub fn piece_at(behind_number: bool, first: u8, behind: &[u8], text: &[u8]) -> Piece
@@ -93,7 +93,7 @@ fn digits_length(bytes: &[u8]) -> usize
         .count()
 }
 
-/// The first byte of a text and so many behind it.
+/// The first byte of a text and so many after it.
 pub fn front(text: &[u8], more: usize) -> &[u8]
     requires { more < length text.now }
     ensures { result.now ≡ take (suc more) text.now }

@@ -4,7 +4,7 @@ ghost use Rattle.std.specs.Option.{option_map};
 ghost use Rattle.std.specs.Str.{bytes_eq};
 ghost use Rattle.layer_ast.specs.Spelling.{word_token as token_of, beside, reserved, kinds};
 ghost use Rattle.file_lex.specs.Parts.{begins_part};
-ghost use Rattle.file_lex.specs.Tables.{shown, shown_groups, beside_in_group, are_in_row};
+ghost use Rattle.file_lex.specs.Tables.{shown_table, shown_groups, beside_in_group, are_in_row};
 ghost use Rattle.layer_ast.specs.WordBytes.{longest_word};
 
 use layer_ast::{At, Kind, Lexed, Sign, Token, Word};
@@ -215,7 +215,7 @@ fn group_of<'a, T: Copy>(
 
 /// What stands beside a word in a table.
 fn found_in<T: Copy>(table: &[(&[u8], T)], word: &[u8]) -> Option<T>
-    ensures { result ≡ beside (shown table.now) word.now }
+    ensures { result ≡ beside (shown_table table.now) word.now }
 {
     first_in(table, word)
 }

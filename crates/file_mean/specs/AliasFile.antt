@@ -1,4 +1,4 @@
--- A file whose layer writes to an element of an array in front of a condition that reads one, perhaps the same.
+-- A file whose layer writes to an element of an array before a condition that reads one, perhaps the same.
 use Rattle.std.specs.Prelude.{ℕ, List, [], ◌∷◌, ◌++◌, codes, false, Some}
 use Rattle.layer_ast.specs.declared.tokens.Dir.TheVariants.{Down}
 use Rattle.layer_ast.specs.declared.tokens.Kind.TheVariants as kind

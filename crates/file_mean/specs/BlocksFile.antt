@@ -1,4 +1,4 @@
--- A file whose handler declares one name in two blocks and once more behind them.
+-- A file whose handler declares one name in two blocks and once more after them.
 use Rattle.std.specs.Prelude.{ℕ, List, [], ◌∷◌, ◌++◌, codes, false, Some}
 use Rattle.layer_ast.specs.declared.tokens.Dir.TheVariants.{Up}
 use Rattle.layer_ast.specs.declared.tokens.Kind.TheVariants as kind

@@ -35,8 +35,8 @@ abbrev pub file : FileTree
 file = file_of text
 
 -- Its handler of acknowledgements, and that of casts on their way down.
-abbrev pub acknowledged : mean.HandlerTree
-acknowledged = record {
+abbrev pub acknowledgement_handler : mean.HandlerTree
+acknowledgement_handler = record {
   direction = Up;
   kind = kind.Ack;
   tag = 0;
@@ -58,8 +58,8 @@ acknowledged = record {
       mean.none);
 }
 
-abbrev pub sent : mean.HandlerTree
-sent = record {
+abbrev pub cast_handler : mean.HandlerTree
+cast_handler = record {
   direction = Down;
   kind = kind.Cast;
   tag = 0;
@@ -107,6 +107,6 @@ stack =
           ∷ [];
       headers = record { name = codes "last"; fields = 0; ends = false } ∷
           record { name = codes "some"; fields = 0; ends = true } ∷ [];
-      handlers = acknowledged ∷ sent ∷ [];
+      handlers = acknowledgement_handler ∷ cast_handler ∷ [];
     }
     ∷ []

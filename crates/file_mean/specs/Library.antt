@@ -2,7 +2,7 @@
 use Rattle.std.specs.Prelude.{◌≡◌, ℕ, List, [], ◌∷◌, map, filter, filter_map, Bool, not, bytes_eq, None}
 use Rattle.std.specs.List.{AllZip, list_any}
 use Rattle.layer_ast.specs.declared.names.Word.{Word}
-use Rattle.layer_ast.specs.Cut.{cut}
+use Rattle.layer_ast.specs.Cut.{text_tokens}
 use Rattle.layer_ast.specs.Print as printed
 use Rattle.layer_ast.specs.Spells.{Fits, Spells}
 use Rattle.layer_ast.specs.Tree.{LayerTree, FileTree}
@@ -10,8 +10,8 @@ use Rattle.file_library.specs.Library.{library_text}
 
 -- A text spells a layer: it has no bad token, and its tokens are the layer's and stand where the layer says.
 pub record SpellsLayer (text : List ℕ) (layer : LayerTree) : Type 0 where
-  pub good : (cut text).bad_at ≡ None
-  pub fits : Fits (printed.layer layer []) (cut text).tokens
+  pub good : (text_tokens text).bad_at ≡ None
+  pub fits : Fits (printed.layer layer []) (text_tokens text).tokens
 
 -- Whether no layer of a file has a name.
 abbrev pub lacks : FileTree → Word → Bool

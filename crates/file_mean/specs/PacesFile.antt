@@ -27,8 +27,8 @@ abbrev pub file : FileTree
 file = file_of text
 
 -- The layer at a place where `keep` is this number.
-abbrev pub paced : ℕ → mean.LayerTree
-paced keep = record {
+abbrev pub pace_layer : ℕ → mean.LayerTree
+pace_layer keep = record {
   name = codes "pace";
   cells =
       record { name = codes "low"; form = mean.numbers One (mean.binary Add (mean.number keep) mean.me) }
@@ -61,4 +61,4 @@ paced keep = record {
 
 -- The stack that it means.
 abbrev pub stack : List mean.LayerTree
-stack = paced 8 ∷ paced 4 ∷ []
+stack = pace_layer 8 ∷ pace_layer 4 ∷ []

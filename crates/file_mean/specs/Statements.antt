@@ -59,13 +59,13 @@ taken_row names q new = record {
   message = option_map (λ carried. (names.taken.messages, carried)) (queue_carries names q);
 }
 
--- The names behind a block, from those in front of it and those at its end: what it declared is visible no longer, and
+-- The names after a block, from those before it and those at its end: what it declared is visible no longer, and
 -- has its slots.
 abbrev pub after_block : Names → Names → Names
 after_block names inner = record names { taken = inner.taken }
 
 abbrev mutual
-  -- The names behind a statement: those that it declares for the rest of its block are visible, and of all that it
+  -- The names after a statement: those that it declares for the rest of its block are visible, and of all that it
   -- declares the slots are taken.
   pub behind : ast.StatementTree → Names → Names
   behind (ast.bind at name value) names = with_numbers (name ∷ []) names
@@ -80,7 +80,7 @@ abbrev mutual
       after_block names (behind_all block (with_numbers (name ∷ []) names))
   behind _ names = names
 
-  -- The names behind the statements of a block.
+  -- The names after the statements of a block.
   pub behind_all : ast.StatementTrees → Names → Names
   behind_all ast.none names = names
   behind_all (ast.more statement rest) names = behind_all rest (behind statement names)
@@ -90,7 +90,7 @@ abbrev pub index_of : Names → Option ast.ExpressionTree → ExpressionTree
 index_of names index = option_map_or (number_of names) index (number 0)
 
 abbrev mutual
-  -- A statement. A second block's slots come behind those of the first.
+  -- A statement. A second block's slots come after those of the first.
   pub statement_of : Names → ast.StatementTree → StatementTree
   statement_of names (ast.bind at name value) = bind names.taken.numbers (number_of names value)
   statement_of names (ast.set at name index value) =

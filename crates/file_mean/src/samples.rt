@@ -27,7 +27,7 @@ pub fn paces_file()
     ensures means { stack_of paces.file ≡ paces.stack }
 {}
 
-/// One name that a handler declares in two blocks, and once more behind them.
+/// One name that a handler declares in two blocks, and once more after them.
 pub fn blocks_file()
     ensures spelled { IsFile blocks.text blocks.file }
     ensures means { stack_of blocks.file ≡ blocks.stack }
@@ -39,7 +39,7 @@ pub fn queues_file()
     ensures means { stack_of queues.file ≡ queues.stack }
 {}
 
-/// A square array, a choice, parts in front of messages, and an event of two numbers.
+/// A square array, a choice, parts before messages, and an event of two numbers.
 pub fn forms_file()
     ensures spelled { IsFile forms.text forms.file }
     ensures means { stack_of forms.file ≡ forms.stack }

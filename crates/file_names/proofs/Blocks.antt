@@ -16,7 +16,7 @@ use Rattle.fault_mean.specs.Forms.{queue_name, row_of}
 use Rattle.fault_mean.specs.Faults.{NameFault}
 use Rattle.fault_mean.specs.Limits.{maximum_in}
 use Rattle.fault_mean.specs.NameFaults.{size_faults, statement_name_faults, twice_among, uses_faults}
-use Rattle.fault_mean.specs.Scope.{Scope, Local, brought, locals_as, scope_behind, standing_in, standing_inside}
+use Rattle.fault_mean.specs.Scope.{Scope, Local, declared_names, locals_as, scope_behind, standing_in, standing_inside}
 use Rattle.fault_mean.specs.Scope.{visible, with_locals}
 use Rattle.fault_mean.specs.Uses.{statement_uses}
 use Rattle.file_names.specs.Blocks.{block_faults, inner_faults, statement_faults}
@@ -60,7 +60,7 @@ pub statement_parts : (scope : Scope) (x : StatementTree) (a b c : Found) →
     Finds a (statement_faults scope x) c
 statement_parts scope x a b c uses inner =
     let u = uses_faults scope (statement_uses x) in
-    let t = twice_among (visible scope) (brought x) in
+    let t = twice_among (visible scope) (declared_names x) in
     let m = flat_map size_faults (maximum_in x) in
     let rest = flat_map statement_name_faults (standing_inside scope x) in
     subst (λ l. Finds a l c)

@@ -12,7 +12,7 @@ use Rattle.file_scope.specs.Found.{fault_key}
 use Rattle.file_scope.specs.declared.found.Found.{Found}
 use Rattle.file_scope.proofs.Finds.{finds_both}
 use Rattle.file_scope.proofs.Firsts.{first_is}
-use Rattle.file_names.specs.Found.{Finds, name_shown, named}
+use Rattle.file_names.specs.Found.{Finds, name_shown, shown_name_fault}
 use Rattle.file_scope.proofs.Layers.{mapped}
 
 pub file_parts : (file : FileTree) (a b c d e f : Found) →
@@ -37,7 +37,7 @@ shown_key (unknown at) = refl
 shown_key (twice at) = refl
 shown_key (too_many at) = refl
 
-shown_back : (o : Option NameFault) → option_map named (option_map name_shown o) ≡ o
+shown_back : (o : Option NameFault) → option_map shown_name_fault (option_map name_shown o) ≡ o
 shown_back None = refl
 shown_back (Some (unknown at)) = refl
 shown_back (Some (twice at)) = refl
@@ -45,7 +45,8 @@ shown_back (Some (too_many at)) = refl
 
 pub first_named : (file : FileTree) (start judged : Found) → start.first ≡ None → start.moved ≡ None →
     Finds start (name_faults file) judged →
-    option_map named judged.first ≡ name_fault file
+    option_map shown_name_fault judged.first ≡ name_fault file
 first_named file start judged first moved finds =
-    ap (option_map named) (first_is name_shown name_key start judged (name_faults file) shown_key first moved finds)
+    ap (option_map shown_name_fault)
+    (first_is name_shown name_key start judged (name_faults file) shown_key first moved finds)
     ∙ shown_back (earliest name_key (name_faults file))

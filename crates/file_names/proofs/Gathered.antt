@@ -9,9 +9,10 @@ use Rattle.layer_ast.specs.Tree.{StatementTree, StatementTrees}
 use Rattle.layer_ast.specs.View.{statement_tree, trees}
 use Rattle.layer_ast.specs.declared.names.Name.{Name}
 use Rattle.layer_ast.specs.declared.syntax.Statement.{Statement}
-use Rattle.fault_mean.specs.Scope.{Standing, Scope, brought, scope_behind, standing_in, standing_inside, taken_scope}
+use Rattle.fault_mean.specs.Scope.{Standing, Scope, declared_names, scope_behind, standing_in, standing_inside}
+use Rattle.fault_mean.specs.Scope.{taken_scope}
 use Rattle.fault_mean.specs.Scope.{with_locals, locals_as}
-use Rattle.file_names.specs.Gathered.{Gathers, maximum_words, noted, statements_in, statements_inside}
+use Rattle.file_names.specs.Gathered.{Gathers, maximum_words, noted_words, statements_in, statements_inside}
 use Rattle.file_scope.proofs.Layers.{mapped}
 use Rattle.file_scope.proofs.Lists.{trees_more}
 
@@ -23,12 +24,12 @@ pub gathers_both : (a b c : List Name) (l m n : List (List ℕ)) (xs ys : List S
     Gathers a l xs b m → Gathers b m ys c n → Gathers a l (xs ++ ys) c n
 unfolding Gathers
 gathers_both a b c l m n xs ys left right = (
-  right.0 ∙ (ap (λ z. z ++ flat_map brought ys) left.0
-      ∙ (append_assoc a (flat_map brought xs) (flat_map brought ys) ∙
-      ap (λ z. a ++ z) (sym (flat_map-append brought xs ys)))),
-  right.1 ∙ (ap (λ z. fold noted z (flat_map maximum_words ys)) left.1
-      ∙ (sym (fold-append noted l (flat_map maximum_words xs) (flat_map maximum_words ys))
-      ∙ ap (fold noted l) (sym (flat_map-append maximum_words xs ys)))),
+  right.0 ∙ (ap (λ z. z ++ flat_map declared_names ys) left.0
+      ∙ (append_assoc a (flat_map declared_names xs) (flat_map declared_names ys) ∙
+      ap (λ z. a ++ z) (sym (flat_map-append declared_names xs ys)))),
+  right.1 ∙ (ap (λ z. fold noted_words z (flat_map maximum_words ys)) left.1
+      ∙ (sym (fold-append noted_words l (flat_map maximum_words xs) (flat_map maximum_words ys))
+      ∙ ap (fold noted_words l) (sym (flat_map-append maximum_words xs ys)))),
 )
 
 statements_more : (xs : List StatementTree) (x : StatementTree) →
@@ -56,12 +57,13 @@ gathers_more a b c d l m n o xs i x within is so_far own inner =
 -- words of one thing more
 pub words_more : {X A : Type 0} (tree : X → A) (f : A → List (List ℕ)) (start before after : List (List ℕ))
     (xs : List X) (i : ℕ) (x : X) →
-    i < length xs → x ≡ get_or xs i x → before ≡ fold noted start (flat_map f (map tree (take i xs))) →
-    after ≡ fold noted before (f (tree x)) → after ≡ fold noted start (flat_map f (map tree (take (i + 1) xs)))
+    i < length xs → x ≡ get_or xs i x → before ≡ fold noted_words start (flat_map f (map tree (take i xs))) →
+    after ≡ fold noted_words before (f (tree x)) →
+    after ≡ fold noted_words start (flat_map f (map tree (take (i + 1) xs)))
 words_more tree f start before after xs i x within is so_far now =
-    now ∙ (ap (λ z. fold noted z (f (tree x))) so_far
-    ∙ (sym (fold-append noted start (flat_map f (map tree (take i xs))) (f (tree x)))
-    ∙ ap (fold noted start)
+    now ∙ (ap (λ z. fold noted_words z (f (tree x))) so_far
+    ∙ (sym (fold-append noted_words start (flat_map f (map tree (take i xs))) (f (tree x)))
+    ∙ ap (fold noted_words start)
     (sym (ap (flat_map f) (trees_more tree xs i x within is)
     ∙ (flat_map-append f (map tree (take i xs)) (tree x ∷ [])
     ∙ ap (λ l. flat_map f (map tree (take i xs)) ++ l) (append-nil (f (tree x))))))))

@@ -3,10 +3,10 @@ use Rattle.std.proofs.Common.{◌≡◌, ℕ, List, ◌++◌, fold, ap, ◌∙�
 use Rattle.layer_ast.specs.Tree.{HandlerTree, LayerTree}
 use Rattle.layer_ast.specs.declared.names.Name.{Name}
 use Rattle.fault_mean.specs.NameFaults.{expected_uses, handler_name_faults, too_many_of, uses_faults}
-use Rattle.fault_mean.specs.Scope.{Scope, brought, handler_names, head_names, head_scope, layer_scope}
+use Rattle.fault_mean.specs.Scope.{Scope, declared_names, handler_names, head_names, head_scope, layer_scope}
 use Rattle.file_names.specs.Blocks.{block_faults}
 use Rattle.file_names.specs.Found.{Finds, name_shown}
-use Rattle.file_names.specs.Gathered.{Gathers, maxima_of, noted, statements_in}
+use Rattle.file_names.specs.Gathered.{Gathers, maxima_of, noted_words, statements_in}
 use Rattle.file_names.specs.Handlers.{block_part, head_part}
 use Rattle.file_scope.specs.declared.found.Found.{Found}
 use Rattle.file_scope.proofs.Finds.{finds_both}
@@ -16,12 +16,13 @@ pub gathered : (layer : LayerTree) (handler : HandlerTree) (names : List Name) (
     (a b c : Found) →
     Finds a (block_part layer handler) b → Gathers (head_names handler) old (statements_in handler.block) names new →
     Finds b (too_many_of 64 names) c →
-    Finds a (handler_name_faults layer handler) c × (new ≡ fold noted old (maxima_of handler))
+    Finds a (handler_name_faults layer handler) c × (new ≡ fold noted_words old (maxima_of handler))
 unfolding Gathers
 gathered layer handler names old new a b c inside gathers many = (
   finds_both name_shown a b c (block_part layer handler) (too_many_of 64 (handler_names layer handler)) inside
       (subst (λ l. Finds b (too_many_of 64 l) c)
-      (gathers.0 ∙ ap (λ l. head_names handler ++ l) (said_in brought (head_scope layer handler) handler.block)) many),
+      (gathers.0 ∙ ap (λ l. head_names handler ++ l) (said_in declared_names (head_scope layer handler) handler.block))
+      many),
   gathers.1,
 )
 

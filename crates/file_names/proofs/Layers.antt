@@ -7,7 +7,8 @@ use Rattle.layer_ast.specs.View.{handler_tree}
 use Rattle.layer_ast.specs.declared.syntax.Handler.{Handler}
 use Rattle.fault_mean.specs.Faults.{NameFault, too_many, twice}
 use Rattle.fault_mean.specs.Declared.{declared_name, is_cell, is_header, is_param}
-use Rattle.fault_mean.specs.NameFaults.{declared_faults, handler_name_faults, layer_name_faults, names_where, repeated}
+use Rattle.fault_mean.specs.NameFaults.{declared_faults, handler_name_faults, layer_name_faults, names_where}
+use Rattle.fault_mean.specs.NameFaults.{repetitions}
 use Rattle.fault_mean.specs.NameFaults.{same_events, too_many_of, twice_among}
 use Rattle.fault_mean.specs.Scope.{Scope, layer_scope}
 use Rattle.file_names.specs.Declarations.{declaration_faults}
@@ -55,7 +56,7 @@ declared_parts layer scope a b c d e f is once params cells headers each =
 
 -- a layer's declarations, and its handlers in pairs, by their number and one by one
 pub layer_parts : (layer : LayerTree) (a b c d e : Found) → Finds a (declared_faults layer) b →
-    Finds b (map (λ (h : HandlerTree). twice h.at) (repeated same_events [] layer.handlers)) c →
+    Finds b (map (λ (h : HandlerTree). twice h.at) (repetitions same_events [] layer.handlers)) c →
     Finds c (map (λ (h : HandlerTree). too_many h.at) (drop 64 layer.handlers)) d →
     Finds d (flat_map (handler_name_faults layer) layer.handlers) e → Finds a (layer_name_faults layer) e
 layer_parts layer a b c d e declared once few each =

@@ -12,7 +12,7 @@ use Rattle.layer_ast.specs.View.{handler_tree}
 use Rattle.layer_ast.specs.declared.syntax.Handler.{Handler}
 use Rattle.fault_mean.specs.Earliest.{unless}
 use Rattle.fault_mean.specs.Faults.{twice}
-use Rattle.fault_mean.specs.NameFaults.{repeated, same_events, same_popped}
+use Rattle.fault_mean.specs.NameFaults.{repetitions, same_events, same_popped}
 use Rattle.file_scope.specs.declared.found.Found.{Found}
 use Rattle.file_scope.proofs.Lists.{any_map, trees_more}
 use Rattle.file_names.specs.Events.{IsSeen, event_code, popped_code}
@@ -67,9 +67,9 @@ pub event_next : {S : Type 0} (a b c : Found) (xs : List Handler) (i : ℕ) (x :
     (is_new : Bool) → i < length xs → x ≡ get_or xs i x → code ≡ event_code (handler_tree x) →
     IsSeen seen (map handler_tree (take i xs)) → is_new ≡ not (contains bytes_eq seen code) →
     Updates bytes_eq seen new code true →
-    Finds a (map (λ (h : HandlerTree). twice h.at) (repeated same_events [] (map handler_tree (take i xs)))) b →
+    Finds a (map (λ (h : HandlerTree). twice h.at) (repetitions same_events [] (map handler_tree (take i xs)))) b →
     Finds b (unless is_new (twice x.at)) c →
-    Finds a (map (λ (h : HandlerTree). twice h.at) (repeated same_events [] (map handler_tree (take (i + 1) xs)))) c
+    Finds a (map (λ (h : HandlerTree). twice h.at) (repetitions same_events [] (map handler_tree (take (i + 1) xs)))) c
     × IsSeen new (map handler_tree (take (i + 1) xs))
 event_next a b c xs i x code seen new is_new within is codes sees added updates so_far now = (
   repeated_next a b c xs i x (contains bytes_eq seen code) within is

@@ -12,7 +12,7 @@ use Rattle.fault_mean.specs.Limits.{LimitedSize, capacity_in, is_within, is_with
 use Rattle.fault_mean.specs.Places.{param_value}
 use Rattle.fault_mean.specs.Scope.{Standing, handler_statements, head_scope, layer_statements}
 use Rattle.file_scope.specs.Words.{place_of}
-use Rattle.file_names.specs.Gathered.{capacity_words, maxima_of, maximum_words, noted, size_words, sizes_of}
+use Rattle.file_names.specs.Gathered.{capacity_words, maxima_of, maximum_words, noted_words, size_words, sizes_of}
 use Rattle.file_names.specs.Gathered.{statements_in}
 use Rattle.file_names.specs.declared.sizes.Sizes.{Sizes}
 use Rattle.file_names.proofs.Gathered.{said_in}
@@ -40,7 +40,7 @@ there-passes test word (w ∷ words) is =
         behind true b c e = e
 
 noted_once : (test : List ℕ → Bool) (words : List (List ℕ)) (word : List ℕ) →
-    list_all test (noted words word) ≡ (list_all test words && test word)
+    list_all test (noted_words words word) ≡ (list_all test words && test word)
 noted_once test words word = go (is_some (place_of word words)) refl where
   one : (b : Bool) → (b && true) ≡ b
   one true = refl
@@ -52,13 +52,13 @@ noted_once test words word = go (is_some (place_of word words)) refl where
   go false is = list_all-append test words (word ∷ []) ∙ ap (λ b. list_all test words && b) (one (test word))
 
 noted_all : (test : List ℕ → Bool) (words more : List (List ℕ)) →
-    list_all test (fold noted words more) ≡ (list_all test words && list_all test more)
+    list_all test (fold noted_words words more) ≡ (list_all test words && list_all test more)
 noted_all test words [] = go (list_all test words) where
   go : (b : Bool) → b ≡ (b && true)
   go true = refl
   go false = refl
 noted_all test words (w ∷ more) =
-    noted_all test (noted words w) more
+    noted_all test (noted_words words w) more
     ∙ (ap (λ b. b && list_all test more) (noted_once test words w) ∙
     go (list_all test words) (test w) (list_all test more)) where
       go : (a b c : Bool) → ((a && b) && c) ≡ (a && (b && c))

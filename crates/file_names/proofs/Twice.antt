@@ -14,7 +14,7 @@ use Rattle.layer_ast.specs.View.{handler_tree}
 use Rattle.fault_mean.specs.Declared.{declared_name}
 use Rattle.fault_mean.specs.Earliest.{unless}
 use Rattle.fault_mean.specs.Faults.{NameFault, twice}
-use Rattle.fault_mean.specs.NameFaults.{repeated, same_events, same_word, twice_among}
+use Rattle.fault_mean.specs.NameFaults.{repetitions, same_events, same_word, twice_among}
 use Rattle.fault_mean.specs.Scope as names
 use Rattle.file_names.specs.Found.{Finds, name_shown}
 use Rattle.file_names.specs.Scope.{Declares}
@@ -44,8 +44,8 @@ either_side x (y ∷ xs) =
     ∙ ap (λ b. bytes_eq y.word x.word || b) (either_side x xs)
 
 pub repeated_more : {A : Type 0} (same : A → A → Bool) (earlier xs : List A) (x : A) →
-    repeated same earlier (xs ++ x ∷ []) ≡
-    repeated same earlier xs ++ (if list_any (same x) earlier || list_any (same x) xs then x ∷ [] else [])
+    repetitions same earlier (xs ++ x ∷ []) ≡
+    repetitions same earlier xs ++ (if list_any (same x) earlier || list_any (same x) xs then x ∷ [] else [])
 repeated_more {A} same earlier [] x = go (list_any (same x) earlier) where
   go : (b : Bool) → (if b then x ∷ [] else []) ++ [] ≡ (if b || false then x ∷ [] else [])
   go true = refl
@@ -53,8 +53,8 @@ repeated_more {A} same earlier [] x = go (list_any (same x) earlier) where
 repeated_more {A} same earlier (y ∷ xs) x =
     let hit : List A = if list_any (same y) earlier then y ∷ [] else [] in
     ap (λ l. hit ++ l) (repeated_more same (y ∷ earlier) xs x)
-    ∙ (sym (append_assoc hit (repeated same (y ∷ earlier) xs) _)
-    ∙ ap (λ b. (hit ++ repeated same (y ∷ earlier) xs) ++ (if b then x ∷ [] else []))
+    ∙ (sym (append_assoc hit (repetitions same (y ∷ earlier) xs) _)
+    ∙ ap (λ b. (hit ++ repetitions same (y ∷ earlier) xs) ++ (if b then x ∷ [] else []))
     (go (same x y) (list_any (same x) earlier) (list_any (same x) xs))) where
       go : (a b c : Bool) → ((a || b) || c) ≡ (b || (a || c))
       go true true c = refl
@@ -68,7 +68,7 @@ once_more : (earlier xs : List Name) (x : Name) (known : Bool) →
     twice_among earlier (xs ++ x ∷ []) ≡ twice_among earlier xs ++ unless (not known) (twice x.at)
 once_more earlier xs x known is =
     ap (map (λ name. twice name.at)) (repeated_more same_word earlier xs x)
-    ∙ (map-append (λ name. twice name.at) (repeated same_word earlier xs) _
+    ∙ (map-append (λ name. twice name.at) (repetitions same_word earlier xs) _
     ∙ (ap (λ b. twice_among earlier xs ++ map (λ name. twice name.at) (if b then x ∷ [] else []))
     (ap (λ b. b || list_any (same_word x) xs) (either_side x earlier)
     ∙ (ap (λ b. list_any (λ name. bytes_eq name.word x.word) earlier || b) (either_side x xs) ∙ sym is))
@@ -108,20 +108,21 @@ seen_next xs i x seen new within is sees pushed =
 pub repeated_next : (a b c : Found) (xs : List Handler) (i : ℕ) (x : Handler) (known : Bool) →
     i < length xs → x ≡ get_or xs i x →
     known ≡ list_any (λ h. same_events (handler_tree x) (handler_tree h)) (take i xs) →
-    Finds a (map (λ (h : HandlerTree). twice h.at) (repeated same_events [] (map handler_tree (take i xs)))) b →
+    Finds a (map (λ (h : HandlerTree). twice h.at) (repetitions same_events [] (map handler_tree (take i xs)))) b →
     Finds b (unless (not known) (twice x.at)) c →
-    Finds a (map (λ (h : HandlerTree). twice h.at) (repeated same_events [] (map handler_tree (take (i + 1) xs)))) c
+    Finds a (map (λ (h : HandlerTree). twice h.at) (repetitions same_events [] (map handler_tree (take (i + 1) xs)))) c
 repeated_next a b c xs i x known within is knows so_far now =
     let g : HandlerTree → NameFault = λ h. twice h.at in
     let before = map handler_tree (take i xs) in
     subst (λ l. Finds a l c)
-    (sym (ap (λ l. map g (repeated same_events [] l)) (trees_more handler_tree xs i x within is)
+    (sym (ap (λ l. map g (repetitions same_events [] l)) (trees_more handler_tree xs i x within is)
     ∙ (ap (map g) (repeated_more same_events [] before (handler_tree x))
-    ∙ (map-append g (repeated same_events [] before) _
-    ∙ ap (λ l. map g (repeated same_events [] before) ++ l)
+    ∙ (map-append g (repetitions same_events [] before) _
+    ∙ ap (λ l. map g (repetitions same_events [] before) ++ l)
     (ap (λ b. map g (if b then handler_tree x ∷ [] else []))
     (any_map handler_tree (same_events (handler_tree x)) (take i xs) ∙ sym knows) ∙ go known)))))
-    (finds_both name_shown a b c (map g (repeated same_events [] before)) (unless (not known) (twice x.at)) so_far now)
+    (finds_both name_shown a b c (map g (repetitions same_events [] before)) (unless (not known) (twice x.at)) so_far
+    now)
   where
     go : (b : Bool) → map (λ (h : HandlerTree). twice h.at) (if b then handler_tree x ∷ [] else []) ≡
         unless (not b) (twice x.at)

@@ -25,6 +25,6 @@ abbrev pub Finds : Found → List NameFault → Found → Type 0
 Finds = FindsBy name_shown
 
 -- The fault of names that is shown as a place and a rank.
-abbrev pub named : Fault → NameFault
-named fault = if fault.rank == 0 then unknown fault.at else if fault.rank ==
+abbrev pub shown_name_fault : Fault → NameFault
+shown_name_fault fault = if fault.rank == 0 then unknown fault.at else if fault.rank ==
     1 then twice fault.at else too_many fault.at

@@ -4,7 +4,7 @@ use Rattle.layer_ast.specs.declared.names.Name.{Name}
 use Rattle.layer_ast.specs.Tree.{SizeTree, fixed, sized, StatementTree, push, take, when, choose, each, StatementTrees}
 use Rattle.layer_ast.specs.Tree.{none, more, DeclarationTree, HandlerTree, LayerTree}
 use Rattle.fault_mean.specs.Limits.{LimitedSize, capacity_in, maximum_in}
-use Rattle.fault_mean.specs.Scope.{brought}
+use Rattle.fault_mean.specs.Scope.{declared_names}
 use Rattle.file_scope.specs.Words.{place_of}
 use Rattle.file_names.specs.declared.sizes.Sizes.{Sizes}
 
@@ -24,8 +24,8 @@ abbrev mutual
   statements_in (more statement rest) = statement ∷ (statements_inside statement ++ statements_in rest)
 
 -- Words with another one, unless it is there.
-abbrev pub noted : List (List ℕ) → List ℕ → List (List ℕ)
-noted words word = if is_some (place_of word words) then words else words ++ word ∷ []
+abbrev pub noted_words : List (List ℕ) → List ℕ → List (List ℕ)
+noted_words words word = if is_some (place_of word words) then words else words ++ word ∷ []
 
 -- The names of those sizes that are names.
 abbrev pub size_words : SizeTree → List (List ℕ)
@@ -47,11 +47,12 @@ maxima_of handler = flat_map maximum_words (statements_in handler.block)
 -- What statements add to names and to words: the names that they declare, and the names of their maxima.
 unfoldable pub Gathers : List Name → List (List ℕ) → List StatementTree → List Name → List (List ℕ) → Type 0
 Gathers names maxima statements names' maxima' =
-    (names' ≡ names ++ flat_map brought statements) × (maxima' ≡ fold noted maxima (flat_map maximum_words statements))
+    (names' ≡ names ++ flat_map declared_names statements) ×
+    (maxima' ≡ fold noted_words maxima (flat_map maximum_words statements))
 
 -- The names that are capacities and maxima in a layer, each once.
 abbrev pub sizes_of : LayerTree → Sizes
 sizes_of layer = record {
-  capacities = fold noted [] (flat_map capacity_words layer.declarations);
-  maxima = fold noted [] (flat_map maxima_of layer.handlers);
+  capacities = fold noted_words [] (flat_map capacity_words layer.declarations);
+  maxima = fold noted_words [] (flat_map maxima_of layer.handlers);
 }

@@ -1,4 +1,4 @@
--- The faults of items behind which others follow.
+-- The faults of items after which others follow.
 use Rattle.std.specs.Prelude.{List}
 use Rattle.layer_ast.specs.Tree.{ItemTree}
 use Rattle.fault_mean.specs.Earliest.{unless}

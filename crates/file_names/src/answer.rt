@@ -5,7 +5,7 @@ ghost use Rattle.layer_ast.specs.View.{file_tree};
 ghost use Rattle.fault_mean.specs.NameFaults.{name_fault};
 ghost use Rattle.file_scope.specs.Words.{own_words};
 ghost use Rattle.file_names.specs.Answer.{Resolves, error_of, resolved_tree};
-ghost use Rattle.file_names.specs.Found.{named};
+ghost use Rattle.file_names.specs.Found.{shown_name_fault};
 
 use crate::error::NameError;
 use crate::file::first_fault;
@@ -41,7 +41,7 @@ impl Resolved {
 
 /// A fault of names as an error.
 fn refusal(fault: Fault) -> NameError
-    ensures { result ≡ error_of (named fault) }
+    ensures { result ≡ error_of (shown_name_fault fault) }
 {
     match fault.rank {
         0 => NameError::Unknown(fault.at),

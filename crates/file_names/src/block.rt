@@ -32,7 +32,7 @@ pub fn block(
     Ok(())
 }
 
-/// Statements one behind the other.
+/// Statements one after the other.
 #[cycle(blocks)]
 fn statements(
     alloc: Global,

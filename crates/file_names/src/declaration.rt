@@ -93,7 +93,8 @@ fn declaration(
     scope: &Scope,
     d: &Declaration,
 ) -> Result<(), AllocError>
-    ensures { OnOk result (Finds found.old (declaration_faults (scope_of scope.now) (declaration_tree d.now)) found.new) }
+    ensures { OnOk result
+        (Finds found.old (declaration_faults (scope_of scope.now) (declaration_tree d.now)) found.new) }
 {
     used(found, scope, d);
     capacity(found, d);
@@ -111,7 +112,8 @@ pub fn declarations(
     all: &[Declaration],
 ) -> Result<(), AllocError>
     ensures { OnOk result
-        (Finds found.old (flat_map (declaration_faults (scope_of scope.now)) (map declaration_tree all.now)) found.new) }
+        (Finds found.old (flat_map (declaration_faults (scope_of scope.now)) (map declaration_tree all.now))
+        found.new) }
 {
     for d in all {
         declaration(alloc, found, scope, d)?;

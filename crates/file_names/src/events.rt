@@ -3,7 +3,7 @@
 ghost use Rattle.std.specs.Prelude.{◌≡◌, ◌++◌, [], map, option_map, OnOk, IfOk};
 ghost use Rattle.layer_ast.specs.View.{handler_tree, popped_tree};
 ghost use Rattle.fault_mean.specs.Faults as fault;
-ghost use Rattle.fault_mean.specs.NameFaults.{repeated, same_events};
+ghost use Rattle.fault_mean.specs.NameFaults.{repetitions, same_events};
 ghost use Rattle.file_names.specs.Events.{event_code, popped_code};
 ghost use Rattle.file_names.specs.Found.{Finds};
 
@@ -14,7 +14,7 @@ use std::alloc::{AllocError, Global};
 use std::hash::{Hash, Hasher};
 use std::marker::Model;
 
-/// What a handler takes, as the key of a table: its direction and its kind, and behind them the header that it takes
+/// What a handler takes, as the key of a table: its direction and its kind, and after them the header that it takes
 /// off.
 #[derive(Drop)]
 struct Event(Vec<u8>);
@@ -94,7 +94,7 @@ pub fn handlers_twice(
     handlers: &[Handler],
 ) -> Result<(), AllocError>
     ensures { OnOk result
-        (Finds found.old (map (λ h. fault.twice h.at) (repeated same_events [] (map handler_tree handlers.now)))
+        (Finds found.old (map (λ h. fault.twice h.at) (repetitions same_events [] (map handler_tree handlers.now)))
         found.new) }
 {
     let mut seen = IndexSet::new(alloc);

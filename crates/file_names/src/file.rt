@@ -5,7 +5,7 @@ ghost use Rattle.layer_ast.specs.View.{file_tree, layer_tree, place_tree};
 ghost use Rattle.fault_mean.specs.Faults.{name_fault_at};
 ghost use Rattle.fault_mean.specs.NameFaults.{layer_name_faults, name_fault, name_faults, too_many_of, twice_among};
 ghost use Rattle.fault_mean.specs.Places.{faults_of_layers};
-ghost use Rattle.file_names.specs.Found.{Finds, named};
+ghost use Rattle.file_names.specs.Found.{Finds, shown_name_fault};
 ghost use Rattle.file_names.specs.Tables.{IsTables};
 ghost use Rattle.fault_mean.specs.Limits.{most_layers};
 ghost use Rattle.msg_core.specs.Headers.{most_places};
@@ -65,7 +65,7 @@ fn all(alloc: Global, found: &mut Found, file: &File, tables: &Tables) -> Result
 #[tactic(auto, using(crate::proofs::Files::first_named))]
 pub fn first_fault(alloc: Global, file: &File, tables: &Tables) -> Result<Option<Fault>, AllocError>
     requires { IsTables tables.now (file_tree file.now) }
-    ensures { IfOk result (λ first. option_map named first ≡ name_fault (file_tree file.now)) }
+    ensures { IfOk result (λ first. option_map shown_name_fault first ≡ name_fault (file_tree file.now)) }
 {
     let mut found = Found::new();
     all(alloc, &mut found, file, tables)?;

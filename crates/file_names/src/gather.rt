@@ -53,7 +53,7 @@ pub fn block(names: &mut Vec<Name>, maxima: &mut Words, b: &Block) -> Result<(),
     statements(names, maxima, &b.statements)
 }
 
-/// The same of statements one behind the other.
+/// The same of statements one after the other.
 #[cycle(gather)]
 #[tactic(auto, using(crate::proofs::Gathered::gathers_none, crate::proofs::Gathered::gathers_more))]
 fn statements(

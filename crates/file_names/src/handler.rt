@@ -5,7 +5,7 @@ ghost use Rattle.layer_ast.specs.View.{handler_tree, layer_tree};
 ghost use Rattle.fault_mean.specs.NameFaults.{handler_name_faults};
 ghost use Rattle.fault_mean.specs.Scope as spec;
 ghost use Rattle.file_names.specs.Found.{Finds};
-ghost use Rattle.file_names.specs.Gathered.{maxima_of, noted};
+ghost use Rattle.file_names.specs.Gathered.{maxima_of, noted_words};
 ghost use Rattle.file_names.specs.Handlers.{block_part, head_part};
 ghost use Rattle.file_scope.specs.Scope.{scope_of};
 ghost use Rattle.file_scope.specs.Words.{own_words};
@@ -70,7 +70,7 @@ fn handler(
     requires { own.now ≡ own_words (layer_tree layer.now) }
     ensures { OnOk result
         (Finds found.old (handler_name_faults (layer_tree layer.now) (handler_tree handler.now)) found.new ×
-        (maxima.new ≡ fold noted maxima.old (maxima_of (handler_tree handler.now)))) }
+        (maxima.new ≡ fold noted_words maxima.old (maxima_of (handler_tree handler.now)))) }
 {
     inside(alloc, found, layer, own, handler)?;
     let mut names = head_names(alloc, handler)?;
@@ -90,7 +90,8 @@ pub fn handlers(
     requires { own.now ≡ own_words (layer_tree layer.now) }
     ensures { OnOk result
         (Finds found.old (flat_map (handler_name_faults (layer_tree layer.now)) (layer_tree layer.now).handlers)
-        found.new) × IfOk result (λ maxima. maxima ≡ fold noted [] (flat_map maxima_of (layer_tree layer.now).handlers)) }
+        found.new) × IfOk result
+        (λ maxima. maxima ≡ fold noted_words [] (flat_map maxima_of (layer_tree layer.now).handlers)) }
 {
     let mut maxima = Words::new(alloc);
     for h in &layer.handlers {

@@ -29,7 +29,8 @@ pub fn popped(found: &mut Found, scope: &Scope, popped: &Option<Popped>)
 /// The uses in the condition of a handler.
 #[tactic(auto, using(file_scope::proofs::Finds::finds_none))]
 pub fn expected(found: &mut Found, scope: &Scope, expected: &Expected)
-    ensures { Finds found.old (uses_faults (scope_of scope.now) (expected_uses (expected_tree expected.now))) found.new }
+    ensures { Finds found.old (uses_faults (scope_of scope.now) (expected_uses (expected_tree expected.now)))
+        found.new }
 {
     match expected {
         Expected::Common(condition) => uses::expression(found, scope, condition),

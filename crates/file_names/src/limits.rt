@@ -78,7 +78,7 @@ fn numbers(alloc: Global, items: &[Item]) -> Result<Vec<Name>, AllocError>
     Ok(all)
 }
 
-/// Items behind which others follow: none may be a message.
+/// Items after which others follow: none may be a message.
 #[tactic(auto, using(file_scope::proofs::Finds::finds_none, file_scope::proofs::Finds::part_more))]
 fn front(found: &mut Found, items: &[Item])
     ensures { Finds found.old (flat_map followed_faults (map item_tree items.now)) found.new }

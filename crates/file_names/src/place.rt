@@ -34,7 +34,8 @@ fn each_once(alloc: Global, found: &mut Found, given: &[Given]) -> Result<(), Al
 /// The params that a place gives, which must be params of its layer.
 #[tactic(auto, using(file_scope::proofs::Finds::finds_none, file_scope::proofs::Finds::part_more))]
 fn are_params(found: &mut Found, scope: &Scope, given: &[Given])
-    ensures { Finds found.old (flat_map (given_faults (scope_of scope.now).layer) (map given_tree given.now)) found.new }
+    ensures { Finds found.old (flat_map (given_faults (scope_of scope.now).layer) (map given_tree given.now))
+        found.new }
 {
     for one in given {
         let holds = is_param(scope, &one.name.word);

@@ -239,7 +239,8 @@ pub fn optional(found: &mut Found, scope: &Scope, e: &Option<Expression>)
 /// The uses in a statement, without those in its blocks.
 #[tactic(auto, using(file_scope::proofs::Finds::finds_none, file_scope::proofs::Finds::finds_both, file_scope::proofs::Finds::finds_row))]
 pub fn statement(found: &mut Found, scope: &Scope, s: &Statement)
-    ensures { Finds found.old (uses_faults (scope_of scope.now) (used.statement_uses (statement_tree s.now))) found.new }
+    ensures { Finds found.old (uses_faults (scope_of scope.now) (used.statement_uses (statement_tree s.now)))
+        found.new }
 {
     match s {
         Statement::Let { value, .. } => expression(found, scope, value),

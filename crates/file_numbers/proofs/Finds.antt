@@ -93,7 +93,7 @@ found_holds P test (y ∷ xs) x all e = go (test y) e (found_holds P test xs x a
 pub position_within : {X : Type 0} (p : X → Bool) (xs : List X) (k : ℕ) → Some k ≡ position p xs → k < length xs
 position_within p xs k e = place_within p xs k (sym (e ∙ place_is p xs))
 
--- the place of an element behind another
+-- the place of an element after another
 pub position_behind : {X : Type 0} (p : X → Bool) (x : X) (xs : List X) → p x ≡ false →
     position p (x ∷ xs) ≡ option_map (λ k. suc k) (position p xs)
 position_behind p x xs fails =

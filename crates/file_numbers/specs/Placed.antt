@@ -16,8 +16,8 @@ abbrev pub words_of : List DeclarationTree → List (List ℕ)
 words_of declarations = map (λ d. (declared_name d).word) declarations
 
 -- A layer at a place with these params and these places above.
-abbrev pub placed : LayerTree → List Given → Blank → Placed
-placed layer given blank = record { layer = layer; given = map given_tree given; blank = blank_headers blank }
+abbrev pub placement : LayerTree → List Given → Blank → Placed
+placement layer given blank = record { layer = layer; given = map given_tree given; blank = blank_headers blank }
 
 -- Each declaration is one that members can keep there.
 abbrev pub HoldDeclarations : Placed → Type 0

@@ -1,9 +1,9 @@
 -- The names of a statement that a value of the program shows.
 use Rattle.file_mean.specs.Names as spec
 use Rattle.file_numbers.specs.Place.{placed_of}
-use Rattle.file_numbers.specs.declared.scope.Names.{Names}
+use Rattle.file_numbers.specs.declared.scope.VisibleNames.{VisibleNames}
 
-abbrev pub names_of : Names → spec.Names
+abbrev pub names_of : VisibleNames → spec.Names
 names_of n = record {
   place = placed_of n.place.now;
   numbers = n.numbers.names;

@@ -12,7 +12,7 @@ ghost use Rattle.typed_layer.specs.View.{expression_tree};
 ghost use Rattle.file_numbers.specs.Scope.{names_of};
 ghost use Rattle.msg_core.specs.Headers.{most_fields};
 
-use crate::scope::Names;
+use crate::scope::VisibleNames;
 use crate::value::argument_number;
 use layer_ast::{Argument, Arguments, Kind};
 use std::alloc::{AllocError, Global};
@@ -52,7 +52,7 @@ pub fn last(arguments: &Arguments) -> &Argument
 #[tactic(auto, using(crate::proofs::Lists::trees_more))]
 fn each_number(
     alloc: Global,
-    names: &Names,
+    names: &VisibleNames,
     first: &Argument,
     rest: &[Argument],
 ) -> Result<Vec<Expression>, AllocError>
@@ -72,7 +72,7 @@ fn each_number(
 /// The numbers of arguments that may be missing.
 pub fn fields(
     alloc: Global,
-    names: &Names,
+    names: &VisibleNames,
     arguments: &Option<Arguments>,
 ) -> Result<Vec<Expression>, AllocError>
     ensures { IfOk result
@@ -88,7 +88,11 @@ pub fn fields(
 
 /// The numbers of all arguments but the last.
 #[tactic(auto, using(crate::proofs::Lists::front_none))]
-fn front(alloc: Global, names: &Names, arguments: &Arguments) -> Result<Vec<Expression>, AllocError>
+fn front(
+    alloc: Global,
+    names: &VisibleNames,
+    arguments: &Arguments,
+) -> Result<Vec<Expression>, AllocError>
     ensures { IfOk result
         (λ all. map expression_tree all.items ≡
         map (spec.argument_number (names_of names.now))
@@ -105,7 +109,7 @@ fn front(alloc: Global, names: &Names, arguments: &Arguments) -> Result<Vec<Expr
 /// The numbers of arguments, of which the last may stand for a message.
 pub fn numbers(
     alloc: Global,
-    names: &Names,
+    names: &VisibleNames,
     has_message: bool,
     arguments: &Arguments,
 ) -> Result<Vec<Expression>, AllocError>

@@ -35,7 +35,8 @@ pub fn is_header(declaration: &Declaration) -> bool
 /// The words of the cells among these, in order.
 #[tactic(auto, using(crate::proofs::Places::words_taken, crate::proofs::Places::words_passed))]
 pub fn cell_words(alloc: Global, declarations: &[Declaration]) -> Result<Words, AllocError>
-    ensures { IfOk result (λ words. words ≡ words_of (filter declared.is_cell (map declaration_tree declarations.now))) }
+    ensures { IfOk result
+        (λ words. words ≡ words_of (filter declared.is_cell (map declaration_tree declarations.now))) }
 {
     let mut words = Words::new(alloc);
     for declaration in declarations {

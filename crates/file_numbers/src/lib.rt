@@ -12,6 +12,6 @@ mod visible;
 pub use argument::{carries, few, fields, last, numbers, numbers_of};
 pub use declared::field_count;
 pub use placed_layer::PlacedLayer;
-pub use scope::{Names, Outer};
+pub use scope::{Outer, VisibleNames};
 pub use value::{argument_message, number, queue_index};
 pub use visible::Visible;

@@ -11,27 +11,27 @@ use std::alloc::{AllocError, Global};
 
 /// The names that are visible at a statement: those of a layer at its place, numbers and messages.
 #[derive(Drop)]
-pub struct Names<'a> {
+pub struct VisibleNames<'a> {
     pub place: &'a PlacedLayer<'a>,
     pub numbers: Visible,
     pub messages: Visible,
 }
 
-/// How many numbers and messages are visible in front of a block.
+/// How many numbers and messages are visible before a block.
 #[derive(Clone, Copy)]
 pub struct Outer {
     pub numbers: usize,
     pub messages: usize,
 }
 
-impl<'a> Names<'a> {
+impl<'a> VisibleNames<'a> {
     ghost use Rattle.file_numbers.specs.Scope.{names_of};
 
     /// A layer's own names alone.
-    pub fn own(alloc: Global, place: &'a PlacedLayer<'a>) -> Names<'a>
+    pub fn own(alloc: Global, place: &'a PlacedLayer<'a>) -> VisibleNames<'a>
         ensures { names_of result ≡ spec.own_names (placed_of place.now) }
     {
-        Names {
+        VisibleNames {
             place,
             numbers: Visible::none(alloc),
             messages: Visible::none(alloc),

@@ -10,14 +10,14 @@ ghost use Rattle.typed_layer.specs.View.{carried_tree, expression_tree, message_
 ghost use Rattle.layer_mean.specs.Tree as tree;
 ghost use Rattle.file_numbers.specs.Scope.{names_of};
 
-use crate::scope::Names;
+use crate::scope::VisibleNames;
 use layer_ast as ast;
 use layer_ast::{Argument, Built, Name, Queue};
 use std::alloc::{AllocError, Global};
 use typed_layer::{Carried, Expression, MessageExpression};
 
 /// The number of a name: one that the handler declares, the value of a param, or a cell of one number.
-fn named(names: &Names, name: &Name) -> Expression
+fn named(names: &VisibleNames, name: &Name) -> Expression
     ensures { expression_tree result ≡ spec.named_number (names_of names.now) name.now }
 {
     if let Some(slot) = names.numbers.slot(&name.word) {
@@ -30,14 +30,14 @@ fn named(names: &Names, name: &Name) -> Expression
 }
 
 /// The slot of a visible message.
-fn message_slot(names: &Names, name: &Name) -> MessageExpression
+fn message_slot(names: &VisibleNames, name: &Name) -> MessageExpression
     ensures { message_tree result ≡ tree.message (names_spec.message_slot (names_of names.now) name.now) }
 {
     MessageExpression::Local(names.messages.slot(&name.word).unwrap_or(0))
 }
 
 /// What the rows of a queue carry; where they carry nothing, a part.
-fn held_in(names: &Names, queue: &Name) -> Carried
+fn held_in(names: &VisibleNames, queue: &Name) -> Carried
     ensures { carried_tree result ≡
         unwrap_or (carried_in (names_of names.now).place (row_of (names_of names.now).place.layer queue.now.word))
         tree.part }
@@ -47,8 +47,13 @@ fn held_in(names: &Names, queue: &Name) -> Carried
 
 /// The number of an expression.
 #[cycle(values)]
-pub fn number(alloc: Global, names: &Names, e: &ast::Expression) -> Result<Expression, AllocError>
-    ensures { IfOk result (λ x. expression_tree x ≡ spec.number_of (names_of names.now) (written.expression_tree e.now)) }
+pub fn number(
+    alloc: Global,
+    names: &VisibleNames,
+    e: &ast::Expression,
+) -> Result<Expression, AllocError>
+    ensures { IfOk result
+        (λ x. expression_tree x ≡ spec.number_of (names_of names.now) (written.expression_tree e.now)) }
 {
     match e {
         ast::Expression::Number { value, .. } => Ok(Expression::Number(*value)),
@@ -118,7 +123,11 @@ pub fn number(alloc: Global, names: &Names, e: &ast::Expression) -> Result<Expre
 
 /// The number of an expression, in a box.
 #[cycle(values)]
-fn boxed(alloc: Global, names: &Names, e: &ast::Expression) -> Result<Box<Expression>, AllocError>
+fn boxed(
+    alloc: Global,
+    names: &VisibleNames,
+    e: &ast::Expression,
+) -> Result<Box<Expression>, AllocError>
     ensures { IfOk result
         (λ x. expression_tree x.value ≡ spec.number_of (names_of names.now) (written.expression_tree e.now)) }
 {
@@ -128,7 +137,11 @@ fn boxed(alloc: Global, names: &Names, e: &ast::Expression) -> Result<Box<Expres
 
 /// The index of a queue among those of its cell: a queue that is alone has 0.
 #[cycle(values)]
-pub fn queue_index(alloc: Global, names: &Names, queue: &Queue) -> Result<Expression, AllocError>
+pub fn queue_index(
+    alloc: Global,
+    names: &VisibleNames,
+    queue: &Queue,
+) -> Result<Expression, AllocError>
     ensures { IfOk result
         (λ x. expression_tree x ≡ spec.queue_index (names_of names.now) (written.queue_tree queue.now)) }
 {
@@ -140,7 +153,11 @@ pub fn queue_index(alloc: Global, names: &Names, queue: &Queue) -> Result<Expres
 
 /// The index of a queue, in a box.
 #[cycle(values)]
-fn boxed_index(alloc: Global, names: &Names, queue: &Queue) -> Result<Box<Expression>, AllocError>
+fn boxed_index(
+    alloc: Global,
+    names: &VisibleNames,
+    queue: &Queue,
+) -> Result<Box<Expression>, AllocError>
     ensures { IfOk result
         (λ x. expression_tree x.value ≡ spec.queue_index (names_of names.now) (written.queue_tree queue.now)) }
 {
@@ -152,7 +169,7 @@ fn boxed_index(alloc: Global, names: &Names, queue: &Queue) -> Result<Box<Expres
 #[cycle(values)]
 fn message(
     alloc: Global,
-    names: &Names,
+    names: &VisibleNames,
     m: &ast::MessageExpression,
 ) -> Result<MessageExpression, AllocError>
     ensures { IfOk result (λ x. message_tree x ≡ spec.message_of (names_of names.now) (written.message_tree m.now)) }
@@ -167,7 +184,7 @@ fn message(
 #[cycle(values)]
 fn boxed_message(
     alloc: Global,
-    names: &Names,
+    names: &VisibleNames,
     m: &ast::MessageExpression,
 ) -> Result<Box<MessageExpression>, AllocError>
     ensures { IfOk result
@@ -179,7 +196,11 @@ fn boxed_message(
 
 /// A message that is no bare name.
 #[cycle(values)]
-pub fn built(alloc: Global, names: &Names, b: &Built) -> Result<MessageExpression, AllocError>
+pub fn built(
+    alloc: Global,
+    names: &VisibleNames,
+    b: &Built,
+) -> Result<MessageExpression, AllocError>
     ensures { IfOk result (λ x. message_tree x ≡ spec.built_of (names_of names.now) (written.built_tree b.now)) }
 {
     match b {
@@ -214,7 +235,7 @@ pub fn built(alloc: Global, names: &Names, b: &Built) -> Result<MessageExpressio
 /// An argument as a number.
 pub fn argument_number(
     alloc: Global,
-    names: &Names,
+    names: &VisibleNames,
     argument: &Argument,
 ) -> Result<Expression, AllocError>
     ensures { IfOk result
@@ -229,7 +250,7 @@ pub fn argument_number(
 /// An argument as a message: a bare name stands for one, too.
 pub fn argument_message(
     alloc: Global,
-    names: &Names,
+    names: &VisibleNames,
     argument: &Argument,
 ) -> Result<MessageExpression, AllocError>
     ensures { IfOk result

@@ -14,7 +14,7 @@ use Rattle.layer_ast.specs.declared.syntax.Place.{Place}
 use Rattle.layer_ast.specs.Tree.{LayerTree}
 use Rattle.layer_ast.specs.View.{layer_tree, place_tree}
 use Rattle.file_library.specs.Library.{library_text}
-use Rattle.file_parse.specs.Library.{of_layers, called, has, Brought, BringsFor}
+use Rattle.file_parse.specs.Library.{of_layers, called_texts, has, Brought, BringsFor}
 
 -- words that are equal by their bytes are the same
 same_word : (a b : Word) → bytes_eq a b ≡ true → a ≡ b
@@ -66,7 +66,7 @@ has_filter p (x ∷ words) w passes =
 
 module _ (layers : List LayerTree) (words : List Word) (w : Word) where
   -- a word that the file has adds nothing
-  called_had : lacks (of_layers layers) w ≡ false → called layers (words ++ w ∷ []) ≡ called layers words
+  called_had : lacks (of_layers layers) w ≡ false → called_texts layers (words ++ w ∷ []) ≡ called_texts layers words
   called_had is =
       ap (λ rest. filter_map library_text (each_once rest))
       (filter-append (lacks (of_layers layers)) words (w ∷ [])
@@ -75,7 +75,7 @@ module _ (layers : List LayerTree) (words : List Word) (w : Word) where
 
   -- a word that the file lacks adds its text, where it is new and the library has one
   called_lacked : lacks (of_layers layers) w ≡ true →
-      called layers (words ++ w ∷ []) ≡ called layers words ++ filter_map library_text (fresh words w)
+      called_texts layers (words ++ w ∷ []) ≡ called_texts layers words ++ filter_map library_text (fresh words w)
   called_lacked is =
       ap (λ rest. filter_map library_text (each_once rest))
       (filter-append (lacks (of_layers layers)) words (w ∷ [])
@@ -83,43 +83,44 @@ module _ (layers : List LayerTree) (words : List Word) (w : Word) where
       ∙ (ap (filter_map library_text) (each_once_push (filter (lacks (of_layers layers)) words) w)
       ∙ (filter_map-append library_text (each_once (filter (lacks (of_layers layers)) words))
       (fresh (filter (lacks (of_layers layers)) words) w)
-      ∙ ap (λ b. called layers words ++ filter_map library_text (if b then [] else w ∷ []))
+      ∙ ap (λ b. called_texts layers words ++ filter_map library_text (if b then [] else w ∷ []))
       (has_filter (lacks (of_layers layers)) words w is)))
 
   -- a word that the library doesn't know adds nothing
-  called_unknown : library_text w ≡ None → called layers (words ++ w ∷ []) ≡ called layers words
+  called_unknown : library_text w ≡ None → called_texts layers (words ++ w ∷ []) ≡ called_texts layers words
   called_unknown none = unknown (lacks (of_layers layers) w) (has words w) refl refl
     where
       unknown : (a b : Bool) → lacks (of_layers layers) w ≡ a → has words w ≡ b →
-          called layers (words ++ w ∷ []) ≡ called layers words
+          called_texts layers (words ++ w ∷ []) ≡ called_texts layers words
       unknown false b is same = called_had is
       unknown true true is same =
           called_lacked is
-          ∙ (ap (λ c. called layers words ++ filter_map library_text (if c then [] else w ∷ [])) same
-          ∙ append-nil (called layers words))
+          ∙ (ap (λ c. called_texts layers words ++ filter_map library_text (if c then [] else w ∷ [])) same
+          ∙ append-nil (called_texts layers words))
       unknown true false is same =
           called_lacked is
-          ∙ (ap (λ c. called layers words ++ filter_map library_text (if c then [] else w ∷ [])) same
-          ∙ (ap (λ o. called layers words ++ cons_option o []) none ∙ append-nil (called layers words)))
+          ∙ (ap (λ c. called_texts layers words ++ filter_map library_text (if c then [] else w ∷ [])) same
+          ∙ (ap (λ o. called_texts layers words ++ cons_option o []) none ∙ append-nil (called_texts layers words)))
 
   -- nor does one that was there
-  called_again : has words w ≡ true → called layers (words ++ w ∷ []) ≡ called layers words
+  called_again : has words w ≡ true → called_texts layers (words ++ w ∷ []) ≡ called_texts layers words
   called_again same = again (lacks (of_layers layers) w) refl
     where
-      again : (a : Bool) → lacks (of_layers layers) w ≡ a → called layers (words ++ w ∷ []) ≡ called layers words
+      again : (a : Bool) → lacks (of_layers layers) w ≡ a → called_texts layers (words ++ w ∷ []) ≡
+          called_texts layers words
       again false is = called_had is
       again true is =
           called_lacked is
-          ∙ (ap (λ c. called layers words ++ filter_map library_text (if c then [] else w ∷ [])) same
-          ∙ append-nil (called layers words))
+          ∙ (ap (λ c. called_texts layers words ++ filter_map library_text (if c then [] else w ∷ [])) same
+          ∙ append-nil (called_texts layers words))
 
   -- a new word of the library that the file lacks adds its text
   called_new : (text : List ℕ) → library_text w ≡ Some text → lacks (of_layers layers) w ≡ true → has words w ≡ false →
-      called layers (words ++ w ∷ []) ≡ called layers words ++ text ∷ []
+      called_texts layers (words ++ w ∷ []) ≡ called_texts layers words ++ text ∷ []
   called_new text is lacking new =
       called_lacked lacking
-      ∙ (ap (λ c. called layers words ++ filter_map library_text (if c then [] else w ∷ [])) new
-      ∙ ap (λ o. called layers words ++ cons_option o []) is)
+      ∙ (ap (λ c. called_texts layers words ++ filter_map library_text (if c then [] else w ∷ [])) new
+      ∙ ap (λ o. called_texts layers words ++ cons_option o []) is)
 
 all_zip_push : (xs : List (List ℕ)) (ys : List LayerTree) (x : List ℕ) (y : LayerTree) → AllZip SpellsLayer xs ys →
     SpellsLayer x y → AllZip SpellsLayer (xs ++ x ∷ []) (ys ++ y ∷ [])
@@ -128,7 +129,7 @@ all_zip_push [] (b ∷ ys) x y h i = absurd h
 all_zip_push (a ∷ xs) [] x y h i = absurd h
 all_zip_push (a ∷ xs) (b ∷ ys) x y h i = (h.0, all_zip_push xs ys x y h.1 i)
 
--- which words are known, behind one more
+-- which words are known, after one more
 or_nothing : (a b : Bool) → b ≡ false → a ≡ (a || (b || false))
 or_nothing true b is = refl
 or_nothing false b is = sym (ap (λ c. c || false) is)
@@ -210,7 +211,8 @@ brought layers w text seen later all more l is new lacked pushed spells grown = 
           map-append layer_tree all (l ∷ []),
           called_new (map layer_tree layers) words w text (sym is) (ap not (lacking layers w ∙ sym lacked)) absent,
         )
-            (all_zip_push (called (map layer_tree layers) words) (map layer_tree all) text (layer_tree l) before.spelled
+            (all_zip_push (called_texts (map layer_tree layers) words) (map layer_tree all) text (layer_tree l)
+            before.spelled
             spells);
         known = λ v some. known_more seen words w v (before.known v some);
       };

@@ -32,7 +32,7 @@ pub ends_later : (rest : List Lexed) (room : ℕ) → nat_eq (length rest) 0 ≡
 ends_later [] room is = absurd (true≢false is)
 ends_later (t ∷ rest) room is = no_stack (room_behind t.token room) _ _
 
--- the parts of the stack at the end of a file, one behind the other
+-- the parts of the stack at the end of a file, one after the other
 module _ (tokens behind_stack inside_stack behind_places rest : List Lexed) (inside : ℕ) (ps : List PlaceTree)
     (b : ReadsFlat (λ p k. p ∷ k) (one sign.Stack ∷ []) (λ room. room) tokens (plain sign.Stack) behind_stack)
     (c : ReadsOpening sign.LeftBrace 100 behind_stack inside inside_stack)

@@ -1,4 +1,4 @@
--- How a reader goes on behind its first token, and how it hands a refusal on.
+-- How a reader goes on after its first token, and how it hands a refusal on.
 use Rattle.std.proofs.Common.{◌≡◌, ℕ, suc, List, ◌∷◌, length, Err, ap}
 use Rattle.layer_ast.specs.declared.tokens.Lexed.{Lexed}
 use Rattle.layer_ast.specs.declared.tokens.Token.{Token}

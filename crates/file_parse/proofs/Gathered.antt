@@ -24,7 +24,7 @@ use Rattle.grammar_laws.specs.Machine.{handlers, a_declaration, declarations, a_
 use Rattle.file_parse.specs.Parts.{ReadsGiven}
 use Rattle.file_parse.specs.Reading.{Reads, ReadsFlat, Passes, Unseen, Begins, Gathers, GathersAfter, GathersFlat}
 
--- one more part is gathered, where printing it behind the others is printing them all
+-- one more part is gathered, where printing it after the others is printing them all
 gathered : {L : Type 0} (print : L → List Printed → List Printed) (many : Symbol) (room : ℕ)
     (tokens rest last : List Lexed)
     (before after : L) (part : List Printed → List Printed) →
@@ -107,14 +107,14 @@ givens-append : (all : List GivenTree) (x : GivenTree) (k : List Printed) →
 givens-append [] x k = refl
 givens-append (y ∷ all) x k = ap (λ printed. plain Comma ∷ print.given y printed) (givens-append all x k)
 
--- the params of a place so far, behind a first one
+-- the params of a place so far, after a first one
 pub record GathersGiven (first : GivenTree) (tokens : List Lexed) (all : List GivenTree) (rest : List Lexed) : Type 0
   where
     pub more : List GivenTree
     pub is : all ≡ first ∷ more
     pub read : GathersFlat print.more_given (more_given ∷ []) more_given tokens more rest
 
--- behind the first one stand none yet
+-- after the first one stand none yet
 pub given_none : (first : Given) (tokens : List Lexed) →
     GathersGiven (given_tree first) tokens (map given_tree (first ∷ [])) tokens
 given_none first tokens = record {
@@ -154,7 +154,7 @@ given_ends first tokens all rest so_far unseen = record {
   };
 }
 
--- a parenthesis, a first param, those behind it and a parenthesis are all params of a place
+-- a parenthesis, a first param, those after it and a parenthesis are all params of a place
 pub given_read : (room inside : ℕ) (tokens behind behind_first behind_all rest : List Lexed) (first : GivenTree)
     (all : List GivenTree) → Passes LeftParen tokens behind → room ≡ suc inside →
     ReadsFlat print.given a_given (λ left. left) behind first behind_first →

@@ -3,7 +3,7 @@ use Rattle.std.proofs.Common.{◌≡◌, ◌<◌, ℕ, nat_eq, true, length, ari
 use Rattle.std.proofs.Common.{subst, ◌∙◌, append_assoc, append-nil}
 use Rattle.layer_ast.specs.declared.syntax.Layer.{Layer}
 use Rattle.layer_ast.specs.declared.tokens.Lexed.{Lexed}
-use Rattle.layer_ast.specs.Cut.{Tokens, cut}
+use Rattle.layer_ast.specs.Cut.{Tokens, text_tokens}
 use Rattle.layer_ast.specs.Print as print
 use Rattle.layer_ast.specs.Spells.{Fits, Spells}
 use Rattle.layer_ast.specs.Tree.{LayerTree, PlaceTree}
@@ -20,17 +20,17 @@ use Rattle.file_parse.specs.Reading.{print_stack, last_part as stack_symbols, Re
 use Rattle.file_parse.proofs.Ending.{nothing_fits, ends_here}
 use Rattle.file_parse.proofs.Gathered.{layers-append}
 
--- these layers were read, and these tokens and what is left stand behind theirs
+-- these layers were read, and these tokens and what is left stand after theirs
 pub record Apart (text : List ℕ) (all : List LayerTree) (tokens : List Lexed) (left : Left) : Type 0 where
   pub done : List Lexed
   pub stands : Stands 100 (print.layers all []) done
-  pub same : in_front (done ++ tokens) (left_of left) ≡ cut text
+  pub same : in_front (done ++ tokens) (left_of left) ≡ text_tokens text
   pub room : HasRoom left
 
 -- before the first
 pub first_part : (text : List ℕ) (all : List LayerTree) (old tokens : List Lexed) (whole left : Left) → all ≡ [] →
     old ≡ [] →
-    left_of whole ≡ cut text → CutsPart old tokens (left_of whole) (Some (left_of left)) →
+    left_of whole ≡ text_tokens text → CutsPart old tokens (left_of whole) (Some (left_of left)) →
     IsBehind old tokens whole left →
     Apart text all tokens left
 unfolding Fits
@@ -69,9 +69,9 @@ pub last_part : (text : List ℕ) (all library : List LayerTree) (ps : List Plac
     Apart text all tokens left → IsStack tokens ps → left_of left ≡ record { tokens = []; bad_at = None } →
     Spells text record { layers = all; places = ps; library = library }
 last_part text all library ps tokens left so_far is none =
-    let whole : in_front (so_far.done ++ tokens) record { tokens = []; bad_at = None } ≡ cut text =
+    let whole : in_front (so_far.done ++ tokens) record { tokens = []; bad_at = None } ≡ text_tokens text =
     ap (in_front (so_far.done ++ tokens)) (sym none) ∙ so_far.same in
-    let same : so_far.done ++ tokens ≡ (cut text).tokens =
+    let same : so_far.done ++ tokens ≡ (text_tokens text).tokens =
     sym (append-nil (so_far.done ++ tokens)) ∙ ap (λ (t : Tokens). t.tokens) whole in
     let stands =
     subst (Stands 100 (print.layers all (print_stack ps))) same
@@ -83,7 +83,7 @@ last_part text all library ps tokens left so_far is none =
       placed = is.some;
     }
 
--- what was read as a layer, with nothing behind it, is one
+-- what was read as a layer, with nothing after it, is one
 pub layer_stands : (tokens rest : List Lexed) (l : LayerTree) → Reads print.layer (a_layer ∷ []) 100 tokens l rest →
     length rest < length tokens → nat_eq (length rest) 0 ≡ true → IsLayer tokens l
 layer_stands tokens rest l read shorter is =

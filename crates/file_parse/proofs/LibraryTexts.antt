@@ -4,7 +4,7 @@ use Rattle.std.proofs.Common.{sym, ap, subst, ◌∙◌}
 use Rattle.std.proofs.lemmas.Bool.{leb-true}
 use Rattle.std.specs.Map.{lookup}
 use Rattle.file_mean.specs.Library.{SpellsLayer}
-use Rattle.layer_ast.specs.Cut.{cut}
+use Rattle.layer_ast.specs.Cut.{text_tokens}
 use Rattle.layer_ast.specs.Depth.{IsWithin}
 use Rattle.layer_ast.specs.Print as print
 use Rattle.layer_ast.specs.Reader.{file_of}
@@ -39,11 +39,11 @@ use Rattle.library_rows.proofs.Texts.Top as top_text
 is_layer : (text : List ℕ) (l : LayerTree) → SpellsLayer text l → leb (length text) longest_file ≡ true →
     IsWithin 100 (toks (print.layer l [])) → IsLayerText text
 is_layer text l spells small within =
-    let same = tokens_fit (print.layer l []) (cut text).tokens spells.fits in
+    let same = tokens_fit (print.layer l []) (text_tokens text).tokens spells.fits in
     record {
       small = leb-true (length text) longest_file small;
       good = spells.good;
-      taken = run_accepts (cut text).tokens 100 (a_layer ∷ [])
+      taken = run_accepts (text_tokens text).tokens 100 (a_layer ∷ [])
           (ap (accepts (a_layer ∷ [])) same ∙ layer_drives l [] []) (subst (IsWithin 100) (sym same) within);
     }
 

@@ -12,7 +12,7 @@ use Rattle.layer_ast.specs.declared.tokens.Token.TheVariants as token
 use Rattle.layer_ast.specs.Depth.{room_inside, room_behind}
 use Rattle.layer_ast.specs.Printed.{plain}
 use Rattle.file_parse.proofs.Fit.{fits_first}
-use Rattle.grammar_laws.specs.Machine.{Symbol, one, is_sign, eats, refuses, moved, feed, step, run, Outcome}
+use Rattle.grammar_laws.specs.Machine.{Symbol, one, is_sign, eats, refuses, stack_after, feed, step, run, Outcome}
 use Rattle.file_parse.specs.Reading.{ReadsFlat, ReadsOpening, Passes, IsPlain, IsOpening, IsClosing}
 
 sign_is : (want : Sign) (t : Token) → is_sign want t ≡ true → t ≡ token.Sign want
@@ -48,7 +48,7 @@ taken : (want : Sign) (t : Token) (room : ℕ) (behind : Option ℕ) (stack : Li
     is_sign want t ≡ true → room_behind (token.Sign want) room ≡ behind →
     step (room_behind t room) (feed (one want ∷ stack) t) n go ≡ step behind (Some stack) n go
 taken want t room behind stack n go is same =
-    ap (λ b. step (room_behind t room) (moved (if b then eats [] else refuses) stack (feed stack t)) n go) is
+    ap (λ b. step (room_behind t room) (stack_after (if b then eats [] else refuses) stack (feed stack t)) n go) is
     ∙ ap (λ o. step o (Some stack) n go) (ap (λ u. room_behind u room) (sign_is want t is) ∙ same)
 
 module _ (want : Sign) (tokens rest : List Lexed) (first : Lexed) (split : tokens ≡ first ∷ rest)

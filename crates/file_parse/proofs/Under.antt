@@ -1,4 +1,4 @@
--- Behind a sign the machine goes on alike where it goes on alike behind it.
+-- After a sign the machine goes on alike where it goes on alike after it.
 use Rattle.std.proofs.Common.{◌≡◌, ℕ, suc, Bool, true, false, if◌then◌else◌, List, [], ◌∷◌, ◌++◌, length, Option, Some}
 use Rattle.std.proofs.Common.{None, Result, Ok, Err, refl, ◌∙◌}
 use Rattle.std.specs.Borrow.{Bor}
@@ -6,15 +6,15 @@ use Rattle.layer_ast.specs.declared.tokens.Lexed.{Lexed}
 use Rattle.layer_ast.specs.declared.tokens.Sign.{Sign}
 use Rattle.layer_ast.specs.Depth.{room_behind}
 use Rattle.layer_ast.specs.Printed.{Printed}
-use Rattle.grammar_laws.specs.Machine.{Symbol, one, is_sign, eats, refuses, moved, feed, step, run, Outcome}
+use Rattle.grammar_laws.specs.Machine.{Symbol, one, is_sign, eats, refuses, stack_after, feed, step, run, Outcome}
 use Rattle.file_parse.specs.Reading.{Begins, ParsesAll}
 use Rattle.file_parse.specs.declared.readers.Fault.{Fault}
 use Rattle.file_parse.specs.declared.readers.Fault.TheVariants.{Refused, Memory}
 
 step_same : (behind : Option ℕ) (is : Bool) (x y : List Symbol) (f g : Option (List Symbol)) (n : ℕ)
     (go : ℕ → List Symbol → Outcome) → ((room : ℕ) → go room x ≡ go room y) →
-    step behind (moved (if is then eats [] else refuses) x f) n go
-    ≡ step behind (moved (if is then eats [] else refuses) y g) n go
+    step behind (stack_after (if is then eats [] else refuses) x f) n go
+    ≡ step behind (stack_after (if is then eats [] else refuses) y g) n go
 step_same None is x y f g n go same = refl
 step_same (Some room) true x y f g n go same = same room
 step_same (Some room) false x y f g n go same = refl

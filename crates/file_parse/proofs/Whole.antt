@@ -5,7 +5,7 @@ use Rattle.std.proofs.lemmas.Option.{slice_get_read}
 use Rattle.file_mean.specs.Library.{SpellsLayer}
 use Rattle.layer_ast.specs.declared.names.At.{At}
 use Rattle.layer_ast.specs.declared.tokens.Lexed.{Lexed}
-use Rattle.layer_ast.specs.Cut.{cut, Tokens}
+use Rattle.layer_ast.specs.Cut.{text_tokens, Tokens}
 use Rattle.layer_ast.specs.Depth.{room_behind}
 use Rattle.layer_ast.specs.Print as print
 use Rattle.layer_ast.specs.Spells.{Fits, Spells}
@@ -31,12 +31,12 @@ nothing_left (t ∷ rest) room is =
 
 -- what the lexer cut of a text
 module _ (text : List ℕ) (tokens : List Lexed) (bad_at : Option At)
-    (cuts : record { tokens = tokens; bad_at = bad_at } ≡ cut text)
+    (cuts : record { tokens = tokens; bad_at = bad_at } ≡ text_tokens text)
   where
-    same_tokens : tokens ≡ (cut text).tokens
+    same_tokens : tokens ≡ (text_tokens text).tokens
     same_tokens = ap (λ (t : Tokens). t.tokens) cuts
 
-    same_bad : bad_at ≡ (cut text).bad_at
+    same_bad : bad_at ≡ (text_tokens text).bad_at
     same_bad = ap (λ (t : Tokens). t.bad_at) cuts
 
     -- a text that is one layer spells the layer that is read of it
@@ -55,14 +55,15 @@ module _ (text : List ℕ) (tokens : List Lexed) (bad_at : Option At)
     file_spelled f good read = record {
       good = sym same_bad ∙ good;
       fits = subst (Fits (print.file f)) same_tokens read.fits;
-      within = goes_within (tokens_in (cut text).tokens) 100 start (accepted_takes (cut text).tokens 100 start taken).1;
+      within = goes_within (tokens_in (text_tokens text).tokens) 100 start
+          (accepted_takes (text_tokens text).tokens 100 start taken).1;
       placed = read.placed;
     }
       where
-        taken : run 100 start (cut text).tokens ≡ accepted
+        taken : run 100 start (text_tokens text).tokens ≡ accepted
         taken = ap (run 100 start) (sym same_tokens) ∙ read.accepts
 
-    -- behind a whole file there is a bad token
+    -- after a whole file there is a bad token
     pub read_bad : (at : At) (f : FileTree) → bad_at ≡ Some at → ReadsFile tokens f → StopsBad text at
     read_bad at f bad read =
         accepted_bad text at (sym same_bad ∙ bad) (ap (run 100 start) (sym same_tokens) ∙ read.accepts)
@@ -95,7 +96,7 @@ nothing_more tokens left none is = let zero_left : left ≡ 0 = omega (arith, no
 
 -- the token that so many are left with
 module _ (text : List ℕ) (tokens : List Lexed) (bad_at : Option At)
-    (cuts : record { tokens = tokens; bad_at = bad_at } ≡ cut text)
+    (cuts : record { tokens = tokens; bad_at = bad_at } ≡ text_tokens text)
   where
     pub inside_here : (left n : ℕ) (token : Lexed) → 0 < left → run 100 start tokens ≡ refused left →
         n ≡ length tokens →

@@ -3,7 +3,7 @@ use Rattle.std.specs.Prelude.{◌≡◌, ◌≢◌, ℕ, ◌≤◌, List, [], �
 use Rattle.std.specs.List.{AllZip, list_any}
 use Rattle.file_mean.specs.Library.{SpellsLayer, lacks, each_once}
 use Rattle.layer_ast.specs.declared.names.Word.{Word}
-use Rattle.layer_ast.specs.Cut.{cut}
+use Rattle.layer_ast.specs.Cut.{text_tokens}
 use Rattle.layer_ast.specs.Spells.{longest_file}
 use Rattle.layer_ast.specs.Tree.{LayerTree, FileTree}
 use Rattle.file_library.specs.Library.{library_text}
@@ -12,16 +12,16 @@ use Rattle.grammar_laws.specs.Machine.{a_layer, accepted, run}
 -- the machine takes the tokens of a text as those of one layer
 pub record IsLayerText (text : List ℕ) : Type 0 where
   pub small : length text ≤ longest_file
-  pub good : (cut text).bad_at ≡ None
-  pub taken : run 100 (a_layer ∷ []) (cut text).tokens ≡ accepted
+  pub good : (text_tokens text).bad_at ≡ None
+  pub taken : run 100 (a_layer ∷ []) (text_tokens text).tokens ≡ accepted
 
 -- a file of these layers, with no places yet
 abbrev pub of_layers : List LayerTree → FileTree
 of_layers layers = record { layers = layers; places = []; library = [] }
 
 -- the texts that these words call for where a file has these layers
-abbrev pub called : List LayerTree → List Word → List (List ℕ)
-called layers words = filter_map library_text (each_once (filter (lacks (of_layers layers)) words))
+abbrev pub called_texts : List LayerTree → List Word → List (List ℕ)
+called_texts layers words = filter_map library_text (each_once (filter (lacks (of_layers layers)) words))
 
 -- whether a word is one of these
 abbrev pub has : List Word → Word → Bool
@@ -29,7 +29,7 @@ has words word = list_any (λ other. bytes_eq other word) words
 
 -- what was brought for these words so far, and of which names of the library it is known that they are among them
 pub record Brought (layers : List LayerTree) (words seen : List Word) (brought : List LayerTree) : Type 0 where
-  pub spelled : AllZip SpellsLayer (called layers words) brought
+  pub spelled : AllZip SpellsLayer (called_texts layers words) brought
   pub known : (word : Word) → library_text word ≢ None → has seen word ≡ has words word
 
 -- one more word is dealt with

@@ -16,7 +16,7 @@ use Rattle.layer_ast.specs.declared.syntax.Statement.{Statement}
 use Rattle.layer_ast.specs.Print.{expression, queue, index, names, some_names, arguments, some_arguments, likely, block}
 use Rattle.layer_ast.specs.Print.{statement, item, more_items, declaration}
 use Rattle.layer_ast.specs.Print as print
-use Rattle.layer_ast.specs.Printed.{Printed, plain, placed, name}
+use Rattle.layer_ast.specs.Printed.{Printed, plain, placed_sign, name}
 use Rattle.layer_ast.specs.Spells.{Fits}
 use Rattle.layer_ast.specs.Tree.{ExpressionTree, QueueTree, NamesTree, ArgumentsTree, StatementTrees, SizeTree}
 use Rattle.layer_ast.specs.Tree.{ItemsTree, GivenTree}
@@ -92,7 +92,7 @@ pub record AssignmentPrints (at : At) (n : Name) (element : Option Element) (val
     0 where
   pub spelled : (k : List Printed) (tokens : List Lexed) →
       Fits (
-      placed Set at ∷ name n
+      placed_sign Set at ∷ name n
       ∷ print_indices element (plain Assign ∷ expression (expression_tree value) (plain Semicolon ∷ k))
       ) tokens →
       Fits (statement (statement_tree s) k) tokens
@@ -102,7 +102,7 @@ pub record DecisionPrints (at : At) (l : Likely) (condition : Expression) (first
     (s : Statement) : Type 0 where
   pub spelled : (k : List Printed) (tokens : List Lexed) →
       Fits (
-      placed If at
+      placed_sign If at
       ∷ likely l (expression (expression_tree condition)
       (block (block_tree first) (otherwise (option_map block_tree other) k)))
       ) tokens →
@@ -131,19 +131,19 @@ print_items is k =
 pub record QueuePrints (at : At) (n : Name) (size : QueueCapacity) (items : Items) (d : Declaration) : Type 0 where
   pub spelled : (k : List Printed) (tokens : List Lexed) →
       Fits (
-      placed State at ∷ plain Queue ∷ name n
+      placed_sign State at ∷ plain Queue ∷ name n
       ∷ print_capacity (capacity_tree size) (print_items (items_tree items) k)
       ) tokens →
       Fits (declaration (declaration_tree d) k) tokens
 
--- params that a place gives behind a first one
+-- params that a place gives after a first one
 pub record ReadsGiven (first : GivenTree) (tokens : List Lexed) (all : List GivenTree) (rest : List Lexed) : Type 0
   where
     pub more : List GivenTree
     pub is : all ≡ first ∷ more
     pub read : ReadsFlat print.more_given (more_given ∷ []) (λ room. room) tokens more rest
 
--- what the reader of params behind a first one answers
+-- what the reader of params after a first one answers
 abbrev pub ParsesGiven : {A : Type 0} → (A → List GivenTree) → GivenTree → List Lexed →
     Result (A × Bor (List Lexed)) Fault → Type 0
 ParsesGiven view first tokens (Ok r) = ReadsGiven first tokens (view r.0) r.1.now

@@ -1,4 +1,4 @@
--- What a reader of a part of a file does: it reads the tokens of one tree in front of others, as the machine does, or
+-- What a reader of a part of a file does: it reads the tokens of one tree before others, as the machine does, or
 -- stops where the machine refuses.
 use Rattle.std.specs.Prelude.{◌≡◌, ◌≢◌, ◌<◌, ℕ, Bool, true, false, suc, ◌≤◌, List, [], ◌∷◌, ◌++◌, length, Option, Some}
 use Rattle.std.specs.Prelude.{None, Result, Ok, Err}
@@ -23,7 +23,7 @@ use Rattle.file_parse.specs.declared.readers.Fault.{Fault}
 use Rattle.file_parse.specs.declared.readers.Fault.TheVariants.{Refused, Memory}
 
 -- the tokens are those of a tree, printed in this way, and then the rest; the machine expects these symbols and goes on
--- behind the tree
+-- after the tree
 pub record Reads {T : Type 0} (print : T → List Printed → List Printed) (expected : List Symbol) (room : ℕ)
     (tokens : List Lexed)
     (tree : T) (rest : List Lexed) : Type 0 where
@@ -129,7 +129,7 @@ pub record Unseen (s : Sign) (tokens : List Lexed) : Type 0 where
   pub goes_on : (optional : Symbol) → IsOptional s optional → (room : ℕ) (stack : List Symbol) →
       run room (optional ∷ stack) tokens ≡ run room stack tokens
 
--- what a test for an optional part answers: the tokens behind its sign, or that the sign is not next
+-- what a test for an optional part answers: the tokens after its sign, or that the sign is not next
 abbrev pub SeesSign : Sign → List Lexed → Option (Bor (List Lexed)) → Type 0
 SeesSign s tokens (Some rest) = Passes s tokens rest.now
 SeesSign s tokens None = Unseen s tokens
@@ -148,7 +148,7 @@ abbrev pub SeesOneOf : Symbol → List Symbol → List Symbol → List Lexed →
 SeesOneOf s expected other tokens true = Begins s expected tokens
 SeesOneOf s expected other tokens false = Begins s other tokens
 
--- these are the parts so far of a repetition, and the machine goes on with the repetition behind them
+-- these are the parts so far of a repetition, and the machine goes on with the repetition after them
 pub record Gathers {T : Type 0} (print : T → List Printed → List Printed) (s : Symbol) (room : ℕ) (tokens : List Lexed)
     (tree : T)
     (rest : List Lexed) : Type 0 where
@@ -171,7 +171,7 @@ pub record GathersFlat {T : Type 0} (print : T → List Printed → List Printed
   pub goes_on : (room : ℕ) (stack : List Symbol) → run room (expected ++ stack) tokens ≡ run room (s ∷ stack) rest
   pub no_longer : length rest ≤ length tokens
 
--- what the test for room answers behind an opening bracket
+-- what the test for room answers after an opening bracket
 abbrev pub EntersBracket : ℕ → List Lexed → Result ℕ Fault → Type 0
 EntersBracket room tokens (Ok inside) = room ≡ suc inside
 EntersBracket room tokens (Err Memory) = ⊥
@@ -213,7 +213,7 @@ ParsesFile tokens (Ok f) = ReadsFile tokens (file_tree f)
 ParsesFile tokens (Err Memory) = Unit {0}
 ParsesFile tokens (Err (Refused n)) = run 100 start tokens ≡ refused n
 
--- what the machine expects behind the layers of a file
+-- what the machine expects after the layers of a file
 abbrev pub last_part : List Symbol
 last_part = one Stack ∷ one LeftBrace ∷ a_place ∷ places ∷ one RightBrace ∷ []
 

@@ -85,7 +85,7 @@ fn arguments(alloc: Global, room: u32, tokens: &[Lexed]) -> Result<(Arguments, &
     Ok((Arguments { first, rest: more }, rest))
 }
 
-/// Reads arguments, each behind a comma, as long as there is a comma.
+/// Reads arguments, each after a comma, as long as there is a comma.
 fn more_arguments(
     alloc: Global,
     room: u32,

@@ -71,7 +71,7 @@ fn declaration(alloc: Global, room: u32, tokens: &[Lexed]) -> Result<(Declaratio
     }
 }
 
-/// Reads the declaration of a param from behind its first word.
+/// Reads the declaration of a param from after its first word.
 #[tactic(auto, using(crate::proofs::Fit::fits_first))]
 fn param(first: Lexed, tokens: &[Lexed]) -> Result<(Declaration, &[Lexed]), Fault>
     requires { first.token ≡ Token.Sign Sign.Param }
@@ -86,7 +86,7 @@ fn param(first: Lexed, tokens: &[Lexed]) -> Result<(Declaration, &[Lexed]), Faul
     Ok((Declaration::Param { at, name, value }, rest))
 }
 
-/// Reads the declaration of a cell from behind its first word.
+/// Reads the declaration of a cell from after its first word.
 #[tactic(auto, using(crate::proofs::Fit::fits_first))]
 fn cell(
     alloc: Global,
@@ -108,7 +108,7 @@ fn cell(
     }
 }
 
-/// Reads the declaration of a cell of numbers from behind its first two words.
+/// Reads the declaration of a cell of numbers from after its first two words.
 #[tactic(auto, using(crate::proofs::Fit::fits_first))]
 fn int(
     alloc: Global,
@@ -181,7 +181,7 @@ fn initial(
     Ok((Some(value), rest))
 }
 
-/// Reads the declaration of a queue, or of an array of queues, from behind its first two words.
+/// Reads the declaration of a queue, or of an array of queues, from after its first two words.
 #[tactic(auto, using(crate::proofs::Fit::fits_first))]
 fn queue(
     alloc: Global,
@@ -221,7 +221,7 @@ fn queue_of(at: At, name: Name, capacity: QueueCapacity, items: Items) -> Declar
     }
 }
 
-/// Reads the capacity of a queue in square brackets, behind `[n]` for an array of queues.
+/// Reads the capacity of a queue in square brackets, after `[n]` for an array of queues.
 fn capacity(room: u32, tokens: &[Lexed]) -> Result<(QueueCapacity, &[Lexed]), Fault>
     ensures { ParsesAll print_capacity capacity_tree (one LeftBracket ∷ a_capacity ∷ one RightBracket ∷ []) room
         tokens.now result }
@@ -236,7 +236,7 @@ fn capacity(room: u32, tokens: &[Lexed]) -> Result<(QueueCapacity, &[Lexed]), Fa
     }
 }
 
-/// Reads the capacity of the queues of an array in square brackets, behind `[n]`.
+/// Reads the capacity of the queues of an array in square brackets, after `[n]`.
 fn capacity_of_array(room: u32, tokens: &[Lexed]) -> Result<(QueueCapacity, &[Lexed]), Fault>
     ensures { ParsesAll print_capacity capacity_tree
         (one LeftBracket ∷ one N ∷ one RightBracket ∷ one LeftBracket ∷ a_size ∷ one RightBracket ∷ []) room tokens.now
@@ -288,7 +288,7 @@ fn items(alloc: Global, room: u32, tokens: &[Lexed]) -> Result<(Items, &[Lexed])
     Ok((Items { first, rest: more }, rest))
 }
 
-/// Reads items, each behind a comma, as long as there is a comma.
+/// Reads items, each after a comma, as long as there is a comma.
 fn more_items(alloc: Global, tokens: &[Lexed]) -> Result<(Vec<Item>, &[Lexed]), Fault>
     ensures { ParsesFlat print.more_items (λ v. map item_tree v.items) items_behind tokens.now result }
 {
@@ -312,7 +312,7 @@ fn item(tokens: &[Lexed]) -> Result<(Item, &[Lexed]), Fault>
     Ok((Item { name, sort }, rest))
 }
 
-/// Reads the declaration of a header from behind its first word.
+/// Reads the declaration of a header from after its first word.
 #[tactic(auto, using(crate::proofs::Fit::fits_first))]
 fn header(
     alloc: Global,

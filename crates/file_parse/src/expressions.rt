@@ -79,7 +79,7 @@ fn boxed(alloc: Global, room: u32, tokens: &[Lexed]) -> Result<(Box<Expression>,
     Ok((value, rest))
 }
 
-/// Reads an expression that begins with a parenthesis, from behind that.
+/// Reads an expression that begins with a parenthesis, from after that.
 #[tactic(auto, using(crate::proofs::Fit::fits_first))]
 #[cycle(expression)]
 fn binary(
@@ -108,7 +108,7 @@ fn binary(
     ))
 }
 
-/// Reads an expression that begins with a name, from behind that.
+/// Reads an expression that begins with a name, from after that.
 #[tactic(auto, using(crate::proofs::Fit::fits_first))]
 #[cycle(expression)]
 fn named(
@@ -154,7 +154,7 @@ fn boxed_index(
     Ok((Some(index), rest))
 }
 
-/// Reads the indices behind a name, where there are any.
+/// Reads the indices after a name, where there are any.
 pub fn indices(
     alloc: Global,
     room: u32,
@@ -189,7 +189,7 @@ fn index(
     Ok((Some(index), rest))
 }
 
-/// Reads the number of rows of a queue, from behind its word.
+/// Reads the number of rows of a queue, from after its word.
 #[tactic(auto, using(crate::proofs::Fit::fits_first))]
 #[cycle(expression)]
 fn rows(
@@ -208,7 +208,7 @@ fn rows(
     Ok((Expression::Rows { at, queue }, rest))
 }
 
-/// Reads an item of a row, from behind its word.
+/// Reads an item of a row, from after its word.
 #[tactic(auto, using(crate::proofs::Fit::fits_first))]
 #[cycle(expression)]
 fn item(
@@ -235,7 +235,7 @@ fn item(
     ))
 }
 
-/// Reads the size of a message, from behind its word.
+/// Reads the size of a message, from after its word.
 #[tactic(auto, using(crate::proofs::Fit::fits_first))]
 #[cycle(expression)]
 fn size(
@@ -254,7 +254,7 @@ fn size(
     Ok((Expression::Size { at, message }, rest))
 }
 
-/// Reads a function of one number, from behind its word.
+/// Reads a function of one number, from after its word.
 #[tactic(auto, using(crate::proofs::Fit::fits_first))]
 #[cycle(expression)]
 fn apply(
@@ -281,7 +281,7 @@ fn apply(
     ))
 }
 
-/// Reads a choice between two numbers, from behind its word.
+/// Reads a choice between two numbers, from after its word.
 #[tactic(auto, using(crate::proofs::Fit::fits_first))]
 #[cycle(expression)]
 fn pick(
@@ -405,7 +405,7 @@ pub fn built(alloc: Global, room: u32, tokens: &[Lexed]) -> Result<(Built, &[Lex
     }
 }
 
-/// Reads the message of a row, from behind its word.
+/// Reads the message of a row, from after its word.
 #[tactic(auto, using(crate::proofs::Fit::fits_first))]
 #[cycle(expression)]
 fn held(
@@ -422,7 +422,7 @@ fn held(
     Ok((Built::Held { at, queue, row }, rest))
 }
 
-/// Reads a range of a part, from behind its word.
+/// Reads a range of a part, from after its word.
 #[tactic(auto, using(crate::proofs::Fit::fits_first))]
 #[cycle(expression)]
 fn cut(alloc: Global, room: u32, first: Lexed, tokens: &[Lexed]) -> Result<(Built, &[Lexed]), Fault>
@@ -452,7 +452,7 @@ fn cut(alloc: Global, room: u32, first: Lexed, tokens: &[Lexed]) -> Result<(Buil
     ))
 }
 
-/// Reads what stands behind the first bytes of a part, from behind its word.
+/// Reads what stands after the first bytes of a part, from after its word.
 #[tactic(auto, using(crate::proofs::Fit::fits_first))]
 #[cycle(expression)]
 fn tail(
@@ -473,7 +473,7 @@ fn tail(
     Ok((Built::Tail { at, message, from }, rest))
 }
 
-/// Reads a part in front of a message, from behind its word.
+/// Reads a part before a message, from after its word.
 #[tactic(auto, using(crate::proofs::Fit::fits_first))]
 #[cycle(expression)]
 fn join(

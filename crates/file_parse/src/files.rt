@@ -54,7 +54,7 @@ pub fn layer(alloc: Global, room: u32, tokens: &[Lexed]) -> Result<(Layer, &[Lex
     }
 }
 
-/// Reads a layer from behind its first word.
+/// Reads a layer from after its first word.
 #[tactic(auto, using(crate::proofs::Fit::fits_first))]
 fn layer_body(
     alloc: Global,
@@ -123,7 +123,7 @@ fn place(alloc: Global, room: u32, tokens: &[Lexed]) -> Result<(Place, &[Lexed])
     }
 }
 
-/// Reads a place from behind its name.
+/// Reads a place from after its name.
 #[tactic(auto, using(crate::proofs::Fit::fits_first))]
 fn place_of(
     alloc: Global,
@@ -156,7 +156,7 @@ fn some_given(alloc: Global, room: u32, tokens: &[Lexed]) -> Result<(Vec<Given>,
     Ok((all, rest))
 }
 
-/// Reads params that a place gives behind a first one, each behind a comma, as long as there is a comma.
+/// Reads params that a place gives after a first one, each after a comma, as long as there is a comma.
 fn more_given(
     alloc: Global,
     first: Given,

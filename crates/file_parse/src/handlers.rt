@@ -55,7 +55,7 @@ fn handler(alloc: Global, room: u32, tokens: &[Lexed]) -> Result<(Handler, &[Lex
     }
 }
 
-/// Reads a handler from behind its first word.
+/// Reads a handler from after its first word.
 #[tactic(auto, using(crate::proofs::Fit::fits_first))]
 fn handling(
     alloc: Global,
@@ -115,7 +115,7 @@ fn expected(alloc: Global, room: u32, tokens: &[Lexed]) -> Result<(Expected, &[L
     }
 }
 
-/// Reads the condition of a handler that is common, from behind its word.
+/// Reads the condition of a handler that is common, from after its word.
 #[tactic(auto, using(crate::proofs::Fit::fits_first))]
 fn common(
     alloc: Global,

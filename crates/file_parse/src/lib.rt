@@ -2,7 +2,7 @@
 #![tactic(auto)]
 
 ghost use Rattle.std.specs.Prelude.{◌≡◌, ◌≤◌, length, Err};
-ghost use Rattle.layer_ast.specs.Cut.{cut as cut_of};
+ghost use Rattle.layer_ast.specs.Cut.{text_tokens as cut_of};
 ghost use Rattle.layer_ast.specs.Spells.{Spells, longest_file};
 ghost use Rattle.layer_ast.specs.View.{file_tree};
 ghost use Rattle.file_lex.specs.Pieces.{tokens_of};

@@ -3,7 +3,7 @@ ghost use Rattle.std.specs.Prelude.{◌≡◌, ◌++◌, [], ◌∷◌, IfOk, ma
 ghost use Rattle.std.specs.List.{AllZip, list_any};
 ghost use Rattle.file_mean.specs.Library.{SpellsLayer};
 ghost use Rattle.layer_ast.specs.View.{layer_tree, place_tree};
-ghost use Rattle.file_parse.specs.Library.{IsLayerText, BringsFor, called, has};
+ghost use Rattle.file_parse.specs.Library.{IsLayerText, BringsFor, called_texts, has};
 
 use crate::files::{DEEPEST, layer};
 use crate::readers::Fault;
@@ -16,7 +16,7 @@ use std::alloc::{AllocError, Global};
 /// library is looked for among the layers at most once.
 pub fn library(alloc: Global, layers: &[Layer], places: &[Place]) -> Result<Vec<Layer>, AllocError>
     ensures { IfOk result (λ v. AllZip SpellsLayer
-        (called (map layer_tree layers.now) (map (λ place. place.name.word) (map place_tree places.now)))
+        (called_texts (map layer_tree layers.now) (map (λ place. place.name.word) (map place_tree places.now)))
         (map layer_tree v.items)) }
 {
     let mut seen = Vec::new(alloc);

@@ -12,7 +12,7 @@ use crate::readers::{Fault, close, name, open, past, push_item, read};
 use layer_ast::{Lexed, Name, Names, Sign, Token};
 use std::alloc::Global;
 
-/// Reads names, each behind a comma, as long as there is a comma.
+/// Reads names, each after a comma, as long as there is a comma.
 fn more_names(alloc: Global, tokens: &[Lexed]) -> Result<(Vec<Name>, &[Lexed]), Fault>
     ensures { ParsesFlat print.more_names (λ v. v.items) names_behind tokens.now result }
 {

@@ -20,7 +20,7 @@ pub enum Fault {
     Memory,
 }
 
-/// What was read, as `?` gives it. The check knows no `?` at a name beside a reference. Values behind it are let go by
+/// What was read, as `?` gives it. The check knows no `?` at a name beside a reference. Values after it are let go by
 /// a call before the reader leaves: where they are let go in place, each exit costs the check what all their forms
 /// cost.
 macro_rules! read {
@@ -114,7 +114,7 @@ pub fn open(room: u32, want: Sign, tokens: &[Lexed]) -> Result<(u32, &[Lexed]), 
     }
 }
 
-/// The tokens behind a sign that begins an optional part of a file, where it is next.
+/// The tokens after a sign that begins an optional part of a file, where it is next.
 pub fn past(want: Sign, tokens: &[Lexed]) -> Option<&[Lexed]>
     ensures { SeesSign want tokens.now result }
 {
@@ -126,7 +126,7 @@ pub fn past(want: Sign, tokens: &[Lexed]) -> Option<&[Lexed]>
     }
 }
 
-/// The room inside an opening bracket that stands in front of these tokens.
+/// The room inside an opening bracket that stands before these tokens.
 pub fn room_inside(room: u32, tokens: &[Lexed]) -> Result<u32, Fault>
     ensures { EntersBracket room tokens.now result }
 {

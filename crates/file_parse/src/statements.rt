@@ -82,7 +82,7 @@ fn statement(alloc: Global, room: u32, tokens: &[Lexed]) -> Result<(Statement, &
     }
 }
 
-/// Reads a name for a number, from behind its first word.
+/// Reads a name for a number, from after its first word.
 #[tactic(auto, using(crate::proofs::Fit::fits_first, layer_ast::proofs::StatementViews::bind_tree))]
 fn bind(
     alloc: Global,
@@ -100,7 +100,7 @@ fn bind(
     Ok((Statement::Let { at, name, value }, rest))
 }
 
-/// Reads an assignment from behind its first word.
+/// Reads an assignment from after its first word.
 #[tactic(auto, using(crate::proofs::Fit::fits_first, layer_ast::proofs::StatementViews::set_tree))]
 fn set(
     alloc: Global,
@@ -173,7 +173,7 @@ fn assignment(at: At, name: Name, indices: Option<Element>, value: Expression) -
     }
 }
 
-/// Reads a push of a row, from behind its first word.
+/// Reads a push of a row, from after its first word.
 #[tactic(auto, using(crate::proofs::Fit::fits_first, layer_ast::proofs::StatementViews::push_tree))]
 #[cycle(statement)]
 fn push(
@@ -201,7 +201,7 @@ fn push(
     ))
 }
 
-/// Reads a take of a row, from behind its first word.
+/// Reads a take of a row, from after its first word.
 #[tactic(auto, using(crate::proofs::Fit::fits_first, layer_ast::proofs::StatementViews::take_tree))]
 #[cycle(statement)]
 fn take(
@@ -240,7 +240,7 @@ fn else_block(alloc: Global, room: u32, tokens: &[Lexed]) -> Result<(Block, &[Le
     block(alloc, room, rest)
 }
 
-/// Reads a condition from behind its first word.
+/// Reads a condition from after its first word.
 #[tactic(auto, using(crate::proofs::Fit::fits_first))]
 #[cycle(statement)]
 fn condition(
@@ -318,7 +318,7 @@ fn decision(
     }
 }
 
-/// Reads a loop from behind its first word.
+/// Reads a loop from after its first word.
 #[tactic(auto, using(crate::proofs::Fit::fits_first, layer_ast::proofs::StatementViews::each_tree))]
 #[cycle(statement)]
 fn each(
@@ -350,7 +350,7 @@ fn each(
     ))
 }
 
-/// Reads an emission from behind its first word.
+/// Reads an emission from after its first word.
 #[tactic(auto, using(crate::proofs::Fit::fits_first, layer_ast::proofs::StatementViews::emit_tree))]
 fn emission(
     alloc: Global,

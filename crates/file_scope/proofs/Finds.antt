@@ -1,4 +1,4 @@
--- What is found in several lists of faults, one behind the other.
+-- What is found in several lists of faults, one after the other.
 use Rattle.std.proofs.Common.{◌≡◌, ℕ, ◌+◌, ◌<◌, Bool, true, false, List, [], ◌∷◌, ◌++◌, map, flat_map, take, get_or}
 use Rattle.std.proofs.Common.{length, Option, Some, None, refl, sym, ap, ◌∙◌, subst, append-nil, append_assoc}
 use Rattle.std.proofs.lemmas.List.{map-append, map_more}
@@ -30,7 +30,7 @@ both_found a b c xs ys left right =
           ∙ ap (λ l. earlier fault_key a.first (earliest fault_key l)) (sym (map-append (moved_to a.moved) xs ys))))),
     )
 
--- of no faults, and of one list behind another
+-- of no faults, and of one list after another
 pub finds_none : {F : Type 0} (shown : F → Fault) (a : Found) → FindsBy shown a [] a
 unfolding FindsBy
 finds_none shown a = none_found a
@@ -61,7 +61,7 @@ pub finds_three : {F A : Type 0} (shown : F → Fault) (f : A → List F) (a b c
 finds_three shown f a b c d xs ys zs one two three =
     finds_row shown f a c d (xs ++ ys) zs (finds_row shown f a b c xs ys one two) three
 
--- two lists behind others
+-- two lists after others
 pub finds_join : {F : Type 0} (shown : F → Fault) (a b c : Found) (xs ys zs : List F) →
     FindsBy shown a xs b → FindsBy shown b (ys ++ zs) c → FindsBy shown a (xs ++ ys ++ zs) c
 finds_join shown a b c xs ys zs left right =

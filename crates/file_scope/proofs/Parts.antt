@@ -1,4 +1,4 @@
--- What is found in three or four lists of faults, one behind the other.
+-- What is found in three or four lists of faults, one after the other.
 use Rattle.std.proofs.Common.{List, ◌++◌}
 use Rattle.file_scope.specs.Found.{FindsBy}
 use Rattle.file_scope.specs.declared.found.Fault.{Fault}

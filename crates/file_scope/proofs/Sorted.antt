@@ -41,7 +41,7 @@ local_more sorts xs i x all sort n within is so_far count is_sort =
     ∙ (sym (locals_more sorts (take i xs) x)
     ∙ ap (names.locals_as sorts) (sym (take_more xs i x within ∙ ap (λ y. take i xs ++ y ∷ []) (sym is))))))
 
--- names as locals behind others: the first, and the next
+-- names as locals after others: the first, and the next
 pub first_added : (sorts : List Sort) (x : Name) (old : List Local) (sort : Sort) → sort ≡ slice_index_or sorts 0 Int →
     locals_of (old ++ record { name = x; sort = sort } ∷ []) ≡ locals_of old ++ names.locals_as sorts (x ∷ [])
 first_added [] x old sort is =
@@ -72,7 +72,7 @@ next_added sorts first rest k x old all sort n within is count so_far is_sort =
     ∙ ap (λ xs. names.locals_as sorts (first ∷ xs))
     (sym (take_more rest k x within ∙ ap (λ y. take k rest ++ y ∷ []) (sym is)))))))
 
--- the locals of the arguments with those of the fields behind them
+-- the locals of the arguments with those of the fields after them
 pub behind : (arguments fields : List Local) (first second : List names.Local) →
     locals_of arguments ≡ first → locals_of fields ≡ second → locals_of (arguments ++ fields) ≡ first ++ second
 behind arguments fields first second one two =

@@ -17,6 +17,6 @@ locals_of = map local_of
 abbrev pub scope_of : Scope → names.Scope
 scope_of s = record { layer = layer_tree s.layer.now; locals = locals_of s.locals.items }
 
--- The scope behind statements that stand one behind the other.
+-- The scope after statements that stand one after the other.
 abbrev pub scope_behind_all : names.Scope → List StatementTree → names.Scope
 scope_behind_all = fold names.scope_behind

@@ -14,7 +14,7 @@ use crate::sorts::Sorts;
 use layer_ast::{Handler, Kind, Name, Popped, Sort};
 use std::alloc::{AllocError, Global};
 
-/// The sort of the message behind a popped header.
+/// The sort of the message after a popped header.
 fn sort_behind(scope: &Scope, popped: &Option<Popped>) -> Sort
     ensures { result ≡ spec.sort_behind (scope_of scope.now).layer (option_map popped_tree popped.now) }
 {

@@ -13,7 +13,7 @@ use crate::scope::{Local, Scope};
 use layer_ast::{Declaration, Items, Name, Names, Queue, Sort};
 use std::alloc::{AllocError, Global};
 
-/// The sort of a place in a list; behind its end are numbers.
+/// The sort of a place in a list; after its end are numbers.
 fn sort_at(sorts: &[Sort], place: usize) -> Sort
     ensures { result ≡ slice_index_or sorts.now place Int }
 {
@@ -75,7 +75,7 @@ pub fn locals_as(alloc: Global, sorts: &[Sort], names: &Names) -> Result<Vec<Loc
     Ok(all)
 }
 
-/// The sort of an item of a row by its place; behind the last item are numbers.
+/// The sort of an item of a row by its place; after the last item are numbers.
 #[tactic(auto, using(crate::proofs::Sorted::first_sort, crate::proofs::Sorted::rest_sort, crate::proofs::Sorted::no_sort))]
 fn item_sort(row: &Items, place: usize) -> Sort
     ensures { result ≡ slice_index_or (map (λ i. i.sort) (items_in (items_tree row.now))) place Int }
@@ -107,7 +107,8 @@ fn row_sort(d: &Declaration, place: usize) -> Sort
 #[tactic(auto, using(crate::proofs::Sorted::local_more))]
 fn row_sorted(alloc: Global, d: &Declaration, names: &[Name]) -> Result<Vec<Local>, AllocError>
     ensures { IfOk result
-        (λ all. locals_of all.items ≡ spec.locals_as (map (λ i. i.sort) (items_of (declaration_tree d.now))) names.now) }
+        (λ all. locals_of all.items ≡ spec.locals_as (map (λ i. i.sort) (items_of (declaration_tree d.now)))
+        names.now) }
 {
     let mut all = Vec::new(alloc);
     for name in names {

@@ -12,7 +12,7 @@ use std::alloc::{AllocError, Global};
 use std::hash::{Hash, Hasher};
 use std::marker::Model;
 
-/// A word as the key of a table: its bytes, without what stands behind them in memory.
+/// A word as the key of a table: its bytes, without what stands after them in memory.
 #[derive(Drop)]
 struct Spelling(Word);
 
@@ -179,7 +179,7 @@ fn table_of(alloc: Global, words: &[Word]) -> Result<IndexMap<Spelling, usize>, 
     Ok(table)
 }
 
-/// Notes where a word is first that is to come behind these, if they have a table or are to have one.
+/// Notes where a word is first that is to come after these, if they have a table or are to have one.
 fn note_next(
     first: &mut Option<IndexMap<Spelling, usize>>,
     words: &Vec<Word>,
@@ -219,7 +219,7 @@ fn note_first(
     Ok(())
 }
 
-/// Forgets where a word is first that stood behind these, if they have a table.
+/// Forgets where a word is first that stood after these, if they have a table.
 fn forget_last(first: &mut Option<IndexMap<Spelling, usize>>, words: &Vec<Word>, word: &Word)
     requires { HasTable first.now (words.now.items ++ word.now ∷ []) }
     ensures { HasTable first.new words.now.items }

@@ -13,7 +13,7 @@ use Rattle.file_scope.proofs.Finds.{finds_both}
 use Rattle.file_scope.proofs.Firsts.{first_is}
 use Rattle.file_expressions.specs.Found.{Finds, type_shown}
 use Rattle.file_scope.proofs.Layers.{mapped}
-use Rattle.file_types.specs.Files.{typed}
+use Rattle.file_types.specs.Files.{shown_type_fault}
 
 pub file_parts : (file : FileTree) (a b c : Found) → Finds a (flat_map layer_type_faults file.layers) b →
     Finds b (flat_map (faults_of_judged type_fault_at layer_type_faults) (filter_map (called_at file) file.places)) c →
@@ -32,7 +32,7 @@ shown_key (direction at) = refl
 shown_key (header at) = refl
 shown_key (initial at) = refl
 
-shown_back : (o : Option TypeFault) → option_map typed (option_map type_shown o) ≡ o
+shown_back : (o : Option TypeFault) → option_map shown_type_fault (option_map type_shown o) ≡ o
 shown_back None = refl
 shown_back (Some (kind at)) = refl
 shown_back (Some (arity at)) = refl
@@ -41,9 +41,10 @@ shown_back (Some (header at)) = refl
 shown_back (Some (initial at)) = refl
 
 pub first_typed : (file : FileTree) (start judged : Found) → start.first ≡ None → start.moved ≡ None →
-    Finds start (faults_of_layers type_fault_at layer_type_faults file) judged → option_map typed judged.first ≡
+    Finds start (faults_of_layers type_fault_at layer_type_faults file) judged →
+    option_map shown_type_fault judged.first ≡
     type_fault file
 first_typed file start judged first moved finds =
     let all = faults_of_layers type_fault_at layer_type_faults file in
-    ap (option_map typed) (first_is type_shown type_key start judged all shown_key first moved finds) ∙
+    ap (option_map shown_type_fault) (first_is type_shown type_key start judged all shown_key first moved finds) ∙
     shown_back (earliest type_key all)

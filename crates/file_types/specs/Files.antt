@@ -18,8 +18,8 @@ abbrev pub called_faults : FileTree → PlaceTree → List TypeFault
 called_faults file place = option_map_or (faults_of_judged type_fault_at layer_type_faults) (called_at file place) []
 
 -- The fault of types that is shown as a place and a rank.
-abbrev pub typed : Fault → TypeFault
-typed fault = if fault.rank == 0 then kind fault.at
+abbrev pub shown_type_fault : Fault → TypeFault
+shown_type_fault fault = if fault.rank == 0 then kind fault.at
     else if fault.rank == 1 then arity fault.at
     else if fault.rank == 2 then direction fault.at
     else if fault.rank == 3 then header fault.at

@@ -3,7 +3,7 @@
 ghost use Rattle.std.specs.Prelude.{◌≡◌};
 ghost use Rattle.file_names.specs.Answer.{resolved_tree};
 ghost use Rattle.file_types.specs.Answer.{Judges, error_of};
-ghost use Rattle.file_types.specs.Files.{typed};
+ghost use Rattle.file_types.specs.Files.{shown_type_fault};
 
 use crate::error::TypeError;
 use crate::file::first_fault;
@@ -13,7 +13,7 @@ use std::alloc::Global;
 
 /// A fault of types as an error.
 fn refusal(fault: Fault) -> TypeError
-    ensures { result ≡ error_of (typed fault) }
+    ensures { result ≡ error_of (shown_type_fault fault) }
 {
     match fault.rank {
         0 => TypeError::Kind(fault.at),

@@ -40,7 +40,7 @@ fn second(arguments: &Arguments) -> Option<&Argument>
     }
 }
 
-/// The argument behind the first, for which something is wanted or nothing.
+/// The argument after the first, for which something is wanted or nothing.
 #[tactic(auto, using(file_scope::proofs::Finds::finds_none, crate::proofs::Arguments::one_behind, crate::proofs::Arguments::none_behind))]
 fn behind_first(found: &mut Found, scope: &Scope, wanted: Option<Wanted>, rest: &[Argument])
     ensures { Finds found.old

@@ -6,7 +6,7 @@ ghost use Rattle.fault_mean.specs.Faults.{type_fault_at};
 ghost use Rattle.fault_mean.specs.Places.{faults_of_layers};
 ghost use Rattle.fault_mean.specs.TypeFaults.{layer_type_faults, type_fault};
 ghost use Rattle.file_expressions.specs.Found.{Finds};
-ghost use Rattle.file_types.specs.Files.{typed};
+ghost use Rattle.file_types.specs.Files.{shown_type_fault};
 ghost use Rattle.file_scope.specs.Words.{own_words};
 
 use crate::library::{calls, rank_library, written};
@@ -42,7 +42,7 @@ pub fn first_fault(
 ) -> Result<Option<Fault>, AllocError>
     requires layers { layer_words.now ≡ map own_words (file_tree file.now).layers }
     requires library { library_words.now ≡ map own_words (file_tree file.now).library }
-    ensures { IfOk result (λ first. option_map typed first ≡ type_fault (file_tree file.now)) }
+    ensures { IfOk result (λ first. option_map shown_type_fault first ≡ type_fault (file_tree file.now)) }
 {
     let mut found = Found::new();
     all(alloc, &mut found, file, layer_words, library_words)?;

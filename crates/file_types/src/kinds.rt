@@ -31,7 +31,7 @@ pub fn argument_count(kind: Kind) -> Count
     }
 }
 
-/// What is wanted behind the first argument, which is a number.
+/// What is wanted after the first argument, which is a number.
 pub fn second_wanted(kind: Kind) -> Option<Wanted>
     ensures { arguments_of kind ≡ a_number ∷ map sorts_of (option_to_list result) }
 {

@@ -16,7 +16,7 @@ use Rattle.layer_ast.specs.declared.tokens.Sign.TheVariants as sign
 use Rattle.layer_ast.specs.declared.tokens.Token.{Token}
 use Rattle.layer_ast.specs.declared.tokens.Token.TheVariants as token
 use Rattle.layer_ast.specs.Cut.{Piece as Cut, gap, one, bad, Tokens, is_numeral, piece, word_piece, number_piece}
-use Rattle.layer_ast.specs.Cut.{symbol_piece, with_piece, cut_from, cut, place_behind}
+use Rattle.layer_ast.specs.Cut.{symbol_piece, with_piece, cut_from, text_tokens, place_behind}
 use Rattle.layer_ast.specs.Spelling.{is_blank, is_word_byte, word_token, number_of, symbols, symbol_at}
 use Rattle.format_mean.specs.Laws.{unless_bad, good_tokens}
 use Rattle.format_mean.specs.Layout.{formatted}
@@ -50,7 +50,7 @@ tokens_of (m ∷ ms) = with_mark m (tokens_of ms)
 abbrev tokens_in : List Piece → Option (List Token)
 tokens_in ps = tokens_of (map (λ (p : Piece). p.spelling) ps)
 
--- behind a number no letter comes
+-- after a number no letter comes
 abbrev Calm : Bool → ℕ → List ℕ → Type 0
 Calm false inside text = Unit {0}
 Calm true inside [] = Unit {0}
@@ -164,7 +164,7 @@ no_blank b word =
     by_tests false false true s p_is q_is r_is s_is = r_is
     by_tests false false false s p_is q_is r_is s_is = s_is
 
--- behind the last word byte no letter comes
+-- after the last word byte no letter comes
 calm_true : (bs : List ℕ) → Calm true (prefix_len is_word_byte bs) bs
 calm_true [] = tt
 calm_true (c ∷ cs) = by_test (is_word_byte c) refl (calm_true cs)
@@ -237,7 +237,7 @@ taken calm (one t n) m at rest later own ih =
     ∙ (ap (with_token (Some t)) (ih (is_numeral t) own.1) ∙
     sym (ap (λ s. with_token (cond s (Some t) None) later) (eq-eqb n m own.0))))
 
--- a number and letters directly behind it are no token
+-- a number and letters directly after it are no token
 underscore : (number : Bool) (bs : List ℕ) → piece number 95 bs ≡ bad
 unfolding piece symbol_at symbols
 underscore number bs = refl
@@ -353,7 +353,7 @@ all_short : list_all (λ (e : Spelled). nat_eq (length e.0) 1) short_signs ≡ t
 unfolding symbols short_signs
 all_short = refl
 
--- a sign is found again without what is behind it
+-- a sign is found again without what is after it
 abbrev Signs : ℕ → List ℕ → ℕ → Type 0
 Signs b bs m =
     (symbol_piece (b ∷ take m bs) ≡ symbol_piece (b ∷ bs)) × (length (take m bs) ≡ m)
@@ -617,8 +617,8 @@ cuts number zero (b ∷ bs) at feeds calm =
     (nat_eq b 10) (is_blank b)
     (nat_eq b 35) (is_word_byte b) (is_ascii_alphabetic b) (is_ascii_digit b) refl refl refl refl refl refl calm
 
-tokens_are : (text : List ℕ) → good_tokens (cut text) ≡ tokens_of (marks text)
+tokens_are : (text : List ℕ) → good_tokens (text_tokens text) ≡ tokens_of (marks text)
 tokens_are text = cuts false 0 text record { line = 1; col = 1 } 0 tt
 
-pub keeps_tokens : (text : List ℕ) → good_tokens (cut (formatted text)) ≡ good_tokens (cut text)
+pub keeps_tokens : (text : List ℕ) → good_tokens (text_tokens (formatted text)) ≡ good_tokens (text_tokens text)
 keeps_tokens text = tokens_are (formatted text) ∙ (ap tokens_of (keeps_marks text) ∙ sym (tokens_are text))

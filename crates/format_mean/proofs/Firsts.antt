@@ -63,7 +63,7 @@ sign_cases P remark opening closing parenthesis bracket dot semicolon comma clos
     four : P b (cond (nat_eq b 44 || (nat_eq b 41 || (nat_eq b 93 || nat_eq b 58))) class.Tight class.Apart)
     four = tight (nat_eq b 44) (nat_eq b 41) (nat_eq b 93) (nat_eq b 58) refl refl refl refl
 
--- what nothing stands apart behind is no word, and no equals sign goes on with it
+-- what nothing stands apart after is no word, and no equals sign goes on with it
 abbrev Closed : ℕ → Class → Type 0
 Closed b c = holds_next c ≡ true → (is_word_byte b ≡ false) × (doubles b ≡ false)
 
@@ -115,7 +115,7 @@ pub seen_holds : (x c : Class) → holds_next (seen_behind x c) ≡ holds_next c
 seen_holds class.Queueing class.Plain = refl
 seen_holds x c = refl
 
--- a token that stands apart from nothing behind one that holds nothing follows it at once
+-- a token that stands apart from nothing after one that holds nothing follows it at once
 joined_follows : (last next : Class) → (holds_last next || calls last next) ≡ true → follows next ≡ true
 joined_follows last class.Parenthesis is = refl
 joined_follows class.Plain c is = by_next c is

@@ -1,4 +1,4 @@
--- What is laid out behind a line that has begun is read as the pieces that it was laid out from.
+-- What is laid out after a line that has begun is read as the pieces that it was laid out from.
 use Rattle.std.proofs.Common.{◌≡◌, ℕ, zero, suc, ◌-◌, ◌≤◌, Bool, true, false, ◌||◌, cond, nat_eq, List, [], ◌∷◌, ◌++◌}
 use Rattle.std.proofs.Common.{map, length, replicate, refl, sym, ap, ◌∙◌, arith, append_assoc, append-nil, true≢false}
 use Rattle.std.specs.List.{AllByRecursion, concat}
@@ -9,12 +9,13 @@ use Rattle.format_mean.specs.declared.stand.TheConstants.{COMMENT_COLUMN}
 use Rattle.format_mean.specs.Classes.{class_of, are_joined, seen_behind}
 use Rattle.format_mean.specs.Pieces.{Piece, pieces_from, pieces}
 use Rattle.format_mean.specs.Layout.{Begun, is_bare, is_remark, leads, begins_line, at_least_one, blanks_apart}
-use Rattle.format_mean.specs.Layout.{blanks_before, feeds_before, ended, left_of, put_behind, lines_at, begun_at}
+use Rattle.format_mean.specs.Layout.{blanks_before, feeds_before, line_at_feeds, left_of, put_behind, lines_at}
+use Rattle.format_mean.specs.Layout.{begun_at}
 use Rattle.format_mean.specs.Layout.{last_line, lines_from, beginning}
 use Rattle.format_mean.proofs.Whole.{stops, IsMark, IsPiece, found, past_blanks, past_feeds}
 use Rattle.format_mean.proofs.Firsts.{no_remark, seen_remark, feed_stops, blank_stops, joined_stops}
 
--- the bytes behind those of a line that has begun
+-- the bytes after those of a line that has begun
 abbrev pub rest_of : Begun → List Piece → List ℕ
 rest_of t [] = 10 ∷ []
 rest_of t (p ∷ ps) =
@@ -35,7 +36,7 @@ mark_is : (spelling : List ℕ) → IsMark spelling → is_bare spelling ≡ fal
 mark_is [] m = absurd m
 mark_is (b ∷ bs) m = refl
 
--- the lines are what the line has and what is behind it
+-- the lines are what the line has and what is after it
 pub text_is : (t : Begun) (ps : List Piece) → is_bare t.line ≡ false → AllByRecursion IsPiece ps →
     concat (lines_from t ps) ≡ t.line ++ rest_of t ps
 text_is t [] has all = last t.line has
@@ -52,7 +53,7 @@ text_is t (p ∷ ps) has all =
         concat (lines_from (put_behind t.stand (left_of t.line n) p.spelling) ps)
         ≡ (put_behind t.stand (left_of t.line n) p.spelling).line ++
         rest_of (put_behind t.stand (left_of t.line n) p.spelling) ps →
-        concat (ended t.line n ++ lines_from (put_behind t.stand (left_of t.line n) p.spelling) ps)
+        concat (line_at_feeds t.line n ++ lines_from (put_behind t.stand (left_of t.line n) p.spelling) ps)
         ≡ t.line ++ (replicate n 10 ++ (replicate (blanks_before t.stand (left_of t.line n) (class_of p.spelling)) 32
         ++ (p.spelling ++ rest_of (put_behind t.stand (left_of t.line n) p.spelling) ps)))
     by_feeds zero ih =
@@ -93,7 +94,7 @@ no_blank s column c none = by_test (are_joined s.last c) none
     by_test true none = refl
     by_test false none = absurd (cc none)
 
--- what is behind a token or comment doesn't go on with it
+-- what is after a token or comment doesn't go on with it
 stops_here : (t : Begun) (ps : List Piece) (b : ℕ) (bs : List ℕ) (x : Class) →
     t.stand.last ≡ seen_behind x (class_of (b ∷ bs)) →
     is_bare t.line ≡ false → AllByRecursion IsPiece ps → stops b (rest_of t ps) ≡ true
@@ -150,7 +151,7 @@ piece_read n k (b ∷ bs) rest later few m behind =
     ∙ (past_blanks n k ((b ∷ bs) ++ rest)
     ∙ (found n b bs rest m h.0 ∙ ap (λ ps. record { feeds = n; spelling = b ∷ bs } ∷ ps) h.1))
 
--- all that is behind a line that has begun is read
+-- all that is after a line that has begun is read
 reads : (t : Begun) (ps : List Piece) → is_bare t.line ≡ false → AllByRecursion IsPiece ps →
     pieces_from 0 0 (rest_of t ps) ≡ settled t ps
 reads t [] has all = refl
@@ -195,7 +196,7 @@ laid_again t (p ∷ ps) =
     let n = feeds_before t p in
     let again : feeds_before t (record { feeds = n; spelling = p.spelling }) ≡ n =
     same_feeds (is_bare t.line) (begins_line t.stand (class_of p.spelling)) p.feeds in
-    ap (λ m. ended t.line m ++ lines_from (put_behind t.stand (left_of t.line m) p.spelling)
+    ap (λ m. line_at_feeds t.line m ++ lines_from (put_behind t.stand (left_of t.line m) p.spelling)
     (settled (begun_at t p) ps)) again
     ∙ ap (λ lines. lines_at t p ++ lines) (laid_again (begun_at t p) ps)
 

@@ -1,4 +1,4 @@
--- What stands at the front of a text is found whole, whatever is behind it that doesn't go on with it.
+-- What stands at the front of a text is found whole, whatever is after it that doesn't go on with it.
 use Rattle.std.proofs.Common.{◌≡◌, ℕ, zero, suc, ◌+◌, ◌≤◌, Bool, true, false, not, ◌&&◌, cond, nat_eq, List, [], ◌∷◌}
 use Rattle.std.proofs.Common.{◌++◌, length, take, replicate, refl, sym, ap, subst, ◌∙◌, arith}
 use Rattle.std.proofs.Math.Seq.{take-append_seam}
@@ -7,7 +7,7 @@ use Rattle.layer_ast.specs.Spelling.{is_blank, is_word_byte}
 use Rattle.format_mean.specs.Pieces.{Piece, feed, blank, whole, one_more, comment_length, doubles, sign_length}
 use Rattle.format_mean.specs.Pieces.{length_behind, front, more_feeds, with_front, pieces_from}
 
--- whether what is behind a token or comment that begins with this byte doesn't go on with it
+-- whether what is after a token or comment that begins with this byte doesn't go on with it
 abbrev pub stops_by : (remark word : Bool) → ℕ → List ℕ → Bool
 stops_by remark word b [] = true
 stops_by remark word b (c ∷ cs) =
@@ -130,7 +130,7 @@ all_pieces feeds zero (b ∷ bs) few =
     by_front false false is_feed is later =
         (((few, (is_feed, is, again b bs))), later 0 (length_behind b bs) (omega arith))
 
--- bytes that belong to a piece in front of them are passed over
+-- bytes that belong to a piece before them are passed over
 past : (feeds : ℕ) (bs rest : List ℕ) → pieces_from feeds (length bs) (bs ++ rest) ≡ pieces_from feeds 0 rest
 past feeds [] rest = refl
 past feeds (b ∷ bs) rest = past feeds bs rest

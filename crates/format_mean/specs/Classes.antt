@@ -18,7 +18,7 @@ declaring = codes "param" ∷ codes "state" ∷ codes "header" ∷ []
 abbrev pub going : List (List ℕ)
 going = codes "up" ∷ codes "down" ∷ []
 
--- the words behind which a queue is named
+-- the words after which a queue is named
 abbrev pub queueing : List (List ℕ)
 queueing = codes "push" ∷ codes "take" ∷ []
 
@@ -56,14 +56,14 @@ abbrev pub class_of : List ℕ → Class
 class_of [] = class.Apart
 class_of (b ∷ bs) = if is_word_byte b then word_class (b ∷ bs) else sign_class b
 
--- what nothing stands apart behind: ( [ .
+-- what nothing stands apart after: ( [ .
 abbrev pub holds_next : Class → Bool
 holds_next class.Parenthesis = true
 holds_next class.Bracket = true
 holds_next class.Dot = true
 holds_next _ = false
 
--- what stands apart from nothing in front of it: ; , ) ] : . [
+-- what stands apart from nothing before it: ; , ) ] : . [
 abbrev pub holds_last : Class → Bool
 holds_last class.Semicolon = true
 holds_last class.Tight = true
@@ -80,7 +80,7 @@ calls _ _ = false
 abbrev pub are_joined : Class → Class → Bool
 are_joined last next = holds_next last || (holds_last next || calls last next)
 
--- whether a statement or declaration may begin behind this
+-- whether a statement or declaration may begin after this
 abbrev pub ends_statement : Class → Bool
 ends_statement class.Opening = true
 ends_statement class.Closing = true

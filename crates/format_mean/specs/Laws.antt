@@ -3,7 +3,7 @@ use Rattle.std.specs.Prelude.{◌≡◌, ℕ, List, map, Option, Some, None}
 use Rattle.layer_ast.specs.declared.names.At.{At}
 use Rattle.layer_ast.specs.declared.tokens.Lexed.{Lexed}
 use Rattle.layer_ast.specs.declared.tokens.Token.{Token}
-use Rattle.layer_ast.specs.Cut.{Tokens, cut}
+use Rattle.layer_ast.specs.Cut.{Tokens, text_tokens}
 use Rattle.format_mean.specs.Pieces.{marks}
 use Rattle.format_mean.specs.Layout.{formatted}
 
@@ -17,7 +17,7 @@ good_tokens t = unless_bad t.tokens t.bad_at
 
 -- the tokens of the language, or that there is a bad one
 abbrev pub KeepsTokens : Type 0
-KeepsTokens = (text : List ℕ) → good_tokens (cut (formatted text)) ≡ good_tokens (cut text)
+KeepsTokens = (text : List ℕ) → good_tokens (text_tokens (formatted text)) ≡ good_tokens (text_tokens text)
 
 -- tokens and comments, each as it is spelled, in their order
 abbrev pub KeepsMarks : Type 0

@@ -9,13 +9,13 @@ use Rattle.format_mean.specs.declared.stand.TheConstants.{DEEPEST, STEP, HANG, C
 use Rattle.format_mean.specs.Classes.{class_of, are_joined, ends_statement, is_brace, seen_behind}
 use Rattle.format_mean.specs.Pieces.{Piece, pieces}
 
--- how many braces are open behind a token or comment; one that closes none closes none
+-- how many braces are open after a token or comment; one that closes none closes none
 abbrev pub depth_behind : ℕ → Class → ℕ
 depth_behind depth class.Opening = if nat_lt depth DEEPEST then depth + 1 else depth
 depth_behind depth class.Closing = depth - 1
 depth_behind depth _ = depth
 
--- whether one is in a layer behind it
+-- whether one is in a layer after it
 abbrev pub in_layer_behind : Bool → Class → Bool
 in_layer_behind was class.Layer = true
 in_layer_behind was class.Stack = false
@@ -61,7 +61,7 @@ abbrev pub at_least_one : ℕ → ℕ
 at_least_one zero = 1
 at_least_one (suc n) = suc n
 
--- how many blanks stand in front of it in a line that has so many bytes: a comment stands at its column, or behind one
+-- how many blanks stand before it in a line that has so many bytes: a comment stands at its column, or after one
 -- blank
 abbrev pub blanks_apart : Stand → ℕ → Class → ℕ
 blanks_apart s column class.Remark = at_least_one (COMMENT_COLUMN - column)
@@ -76,7 +76,7 @@ abbrev pub is_bare : List ℕ → Bool
 is_bare [] = true
 is_bare (_ ∷ _) = false
 
--- the line feeds in front of a piece: those of the text, and one where it has to begin a line; none in front of the
+-- the line feeds before a piece: those of the text, and one where it has to begin a line; none before the
 -- first
 abbrev pub feeds_of : (bare : Bool) → Stand → Class → ℕ → ℕ
 feeds_of bare s c feeds = if bare then 0 else if begins_line s c then at_least_one feeds else feeds
@@ -84,20 +84,20 @@ feeds_of bare s c feeds = if bare then 0 else if begins_line s c then at_least_o
 abbrev pub feeds_before : Begun → Piece → ℕ
 feeds_before t p = feeds_of (is_bare t.line) t.stand (class_of p.spelling) p.feeds
 
--- the blanks in front of a piece behind what its line has
+-- the blanks before a piece after what its line has
 abbrev pub blanks_before : Stand → List ℕ → Class → ℕ
 blanks_before s line c = if is_bare line then indentation s c else blanks_apart s (length line) c
 
 -- the line that line feeds end, and what is left of it then
-abbrev pub ended : List ℕ → ℕ → List (List ℕ)
-ended line zero = []
-ended line (suc n) = (line ++ replicate (suc n) 10) ∷ []
+abbrev pub line_at_feeds : List ℕ → ℕ → List (List ℕ)
+line_at_feeds line zero = []
+line_at_feeds line (suc n) = (line ++ replicate (suc n) 10) ∷ []
 
 abbrev pub left_of : List ℕ → ℕ → List ℕ
 left_of line zero = line
 left_of line (suc n) = []
 
--- a piece is put behind what a line has
+-- a piece is put after what a line has
 abbrev pub put_behind : Stand → List ℕ → List ℕ → Begun
 put_behind s line spelling =
     let c = class_of spelling in
@@ -105,7 +105,7 @@ put_behind s line spelling =
 
 -- the line that a piece ends, and the one that it goes on with or begins
 abbrev pub lines_at : Begun → Piece → List (List ℕ)
-lines_at t p = ended t.line (feeds_before t p)
+lines_at t p = line_at_feeds t.line (feeds_before t p)
 
 abbrev pub begun_at : Begun → Piece → Begun
 begun_at t p = put_behind t.stand (left_of t.line (feeds_before t p)) p.spelling
@@ -115,7 +115,7 @@ abbrev pub last_line : List ℕ → List (List ℕ)
 last_line [] = []
 last_line (b ∷ bs) = (b ∷ bs ++ 10 ∷ []) ∷ []
 
--- the lines of pieces behind what has begun, each with the line feeds that end it
+-- the lines of pieces after what has begun, each with the line feeds that end it
 abbrev pub lines_from : Begun → List Piece → List (List ℕ)
 lines_from t [] = last_line t.line
 lines_from t (p ∷ ps) = lines_at t p ++ lines_from (begun_at t p) ps

@@ -55,5 +55,5 @@ pub const STEP: usize = 2;
 /// How much further it is where it goes on with a statement.
 pub const HANG: usize = 4;
 
-/// How many bytes stand in front of a comment that ends a line, if there are no more.
+/// How many bytes stand before a comment that ends a line, if there are no more.
 pub const COMMENT_COLUMN: usize = 37;

@@ -5,7 +5,7 @@ use Rattle.std.specs.Prelude.{◌≤◌, Result, Ok, Err}
 use Rattle.std.specs.declared.alloc.Global.{Global}
 use Rattle.std.specs.declared.vec.Vec.{Vec}
 use Rattle.layer_ast.specs.declared.names.At.{At}
-use Rattle.layer_ast.specs.Cut.{cut}
+use Rattle.layer_ast.specs.Cut.{text_tokens}
 use Rattle.layer_ast.specs.Spells.{longest_file}
 use Rattle.outside.specs.Shelf.{Shelved}
 use Rattle.format_run.specs.declared.ending.Ending.{Ending}
@@ -44,10 +44,10 @@ stops name a (ending.BadToken at) stopped same = record { stopped = stopped; unt
 stops name a ending.Read stopped same = record { stopped = stopped; untouched = same }
 
 -- a small file is judged by its tokens
-judged : (file : List ℕ) (bad : Option At) → length file ≤ longest_file → bad ≡ (cut file).bad_at →
+judged : (file : List ℕ) (bad : Option At) → length file ≤ longest_file → bad ≡ (text_tokens file).bad_at →
     verdict file ≡ by_token bad
 judged file bad small is =
-    ap (λ t. cond t ending.TooLarge (by_token (cut file).bad_at)) (le-ltb longest_file (length file) small) ∙
+    ap (λ t. cond t ending.TooLarge (by_token (text_tokens file).bad_at)) (le-ltb longest_file (length file) small) ∙
     ap by_token (sym is)
 
 -- what was judged was read

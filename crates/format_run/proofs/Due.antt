@@ -3,7 +3,7 @@ use Rattle.std.proofs.Common.{◌≡◌, refl, sym, ap, subst, ◌∙◌, ℕ, �
 use Rattle.std.proofs.Common.{⊎_elim}
 use Rattle.std.specs.Prelude.{◌⊎◌, IfSome, IsSomeAnd}
 use Rattle.std.proofs.lemmas.Bool.{lt-ltb}
-use Rattle.layer_ast.specs.Cut.{cut}
+use Rattle.layer_ast.specs.Cut.{text_tokens}
 use Rattle.layer_ast.specs.Spells.{longest_file}
 use Rattle.outside.specs.Lines.{Gains}
 use Rattle.outside.specs.Said.{Errors, SaysLine, whole, failed, no_memory as wanted}
@@ -41,7 +41,7 @@ found_is name told shelf found is finds = subst (λ t. Finds name t found) is fi
 large_is : (found : Option (List ℕ)) → IsSomeAnd found (λ file. longest_file < length file) →
     end_for found ≡ ending.TooLarge
 large_is None large = absurd large
-large_is (Some file) large = ap (λ t. cond t ending.TooLarge (by_token (cut file).bad_at))
+large_is (Some file) large = ap (λ t. cond t ending.TooLarge (by_token (text_tokens file).bad_at))
     (lt-ltb longest_file (length file) large)
 
 module _ (name : List ℕ) (a : Around) (shelf : Shelved) (told : a.told ≡ Some shelf) (sound : NoPutFailed a) where

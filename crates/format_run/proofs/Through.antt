@@ -7,7 +7,7 @@ use Rattle.format_mean.specs.Layout.{formatted}
 use Rattle.format_run.specs.declared.ending.Ending.{Ending}
 use Rattle.format_run.specs.declared.ending.Ending.TheVariants as ending
 use Rattle.format_run.specs.Ends.{Comes, Said}
-use Rattle.format_run.specs.Through.{RunsThrough, surrounding, closed, Delivers}
+use Rattle.format_run.specs.Through.{RunsThrough, surrounding, end_after_delivery, Delivers}
 use Rattle.program_streams.specs.Streams.{Stream, HandsOn}
 use Rattle.format_run.proofs.Due.{status_said}
 
@@ -28,8 +28,9 @@ zero_done ending.Write e s is =
 zero_done ending.Memory e s is =
     absurd (⊎_elim (λ due. omega (arith, due, is)) (λ due. omega (arith, due, is)) (status_said ending.Memory e s))
 
--- behind the stream it was whole before, and the stream got all
-got_all : (whole : Bool) (end : Ending) → closed whole end ≡ ending.Done → (whole ≡ true) × (end ≡ ending.Done)
+-- after the stream it was whole before, and the stream got all
+got_all : (whole : Bool) (end : Ending) → end_after_delivery whole end ≡ ending.Done →
+    (whole ≡ true) × (end ≡ ending.Done)
 got_all true ending.Done is = (refl, refl)
 got_all false ending.Done is = absurd (cc is)
 got_all true ending.Words is = absurd (cc is)
@@ -49,7 +50,8 @@ pub delivers : (name : Option (List ℕ)) (told : Option Shelved) (reads reads_a
     (status : ℕ) →
     RunsThrough name told reads reads_after out err status → status ≡ 0 → Delivers name told reads reads_after out
 delivers name told reads reads_after out err status r is =
-    let f = got_all r.whole r.end (zero_done (closed r.whole r.end) (errors err.before r.closing status) r.said is) in
+    let f = got_all r.whole r.end
+    (zero_done (end_after_delivery r.whole r.end) (errors err.before r.closing status) r.said is) in
     by_name name (subst (Comes name (surrounding told reads reads_after out.before r.put)) f.1 r.came)
     (subst (HandsOn r.put out.after out.holds) f.0 r.handed_on)
   where

@@ -6,7 +6,7 @@ use Rattle.std.specs.Str.{bytes_eq}
 use Rattle.std.specs.declared.alloc.Global.{Global}
 use Rattle.std.specs.declared.vec.Vec.{Vec}
 use Rattle.layer_ast.specs.declared.names.At.{At}
-use Rattle.layer_ast.specs.Cut.{cut}
+use Rattle.layer_ast.specs.Cut.{text_tokens}
 use Rattle.layer_ast.specs.Spells.{longest_file}
 use Rattle.outside.specs.Count.{Rose}
 use Rattle.outside.specs.Lines.{Begins, Gains, Fails}
@@ -42,7 +42,7 @@ abbrev pub no_option : List ℕ → Option (List ℕ)
 no_option [] = Some []
 no_option (b ∷ bs) = if nat_eq b 45 then None else Some (b ∷ bs)
 
--- The name of the file that the words say: the only word, which is no option, or the one behind `--`.
+-- The name of the file that the words say: the only word, which is no option, or the one after `--`.
 abbrev pub name_of : List (List ℕ) → Option (List ℕ)
 name_of [] = None
 name_of (word ∷ []) = no_option word
@@ -58,7 +58,7 @@ by_token None = ending.Done
 by_token (Some at) = ending.BadToken at
 
 abbrev pub verdict : List ℕ → Ending
-verdict file = if nat_lt longest_file (length file) then ending.TooLarge else by_token (cut file).bad_at
+verdict file = if nat_lt longest_file (length file) then ending.TooLarge else by_token (text_tokens file).bad_at
 
 -- How a run ends for what its read found, where nothing fails.
 abbrev pub end_for : Option (List ℕ) → Ending
@@ -107,8 +107,8 @@ Fetches name told reads reads_after (Err end) = StopsAt name told reads reads_af
 
 -- A small file has no bad token, or its first one is here.
 abbrev pub Judges : List ℕ → Result (Vec ℕ Global) Ending → Type 0
-Judges file (Ok text) = (text.items ≡ file) × (None ≡ (cut file).bad_at)
-Judges file (Err (ending.BadToken at)) = Some at ≡ (cut file).bad_at
+Judges file (Ok text) = (text.items ≡ file) × (None ≡ (text_tokens file).bad_at)
+Judges file (Err (ending.BadToken at)) = Some at ≡ (text_tokens file).bad_at
 Judges file (Err ending.Memory) = Unit {0}
 Judges file (Err _) = ⊥
 

@@ -11,9 +11,9 @@ use Rattle.format_run.specs.declared.ending.Ending.TheVariants as ending
 use Rattle.format_run.specs.Ends.{Around, IsGood, Comes, Said}
 
 -- How a run ended whose stream got all or lacks something: then a whole text is a fault of writing.
-abbrev pub closed : Bool → Ending → Ending
-closed false ending.Done = ending.Write
-closed whole end = end
+abbrev pub end_after_delivery : Bool → Ending → Ending
+end_after_delivery false ending.Done = ending.Write
+end_after_delivery whole end = end
 
 abbrev pub surrounding : Option Shelved → ℕ → ℕ → Tells → Tells → Around
 surrounding told reads reads_after output output_after = record {
@@ -34,7 +34,7 @@ pub record RunsThrough (name : Option (List ℕ)) (told : Option Shelved) (reads
   pub whole : Bool
   pub handed_on : HandsOn put out.after out.holds whole
   pub closing : Tells
-  pub said : Said (closed whole end) (errors err.before closing status)
+  pub said : Said (end_after_delivery whole end) (errors err.before closing status)
   pub heard : Bool
   pub told_on : HandsOn closing err.after err.holds heard
 

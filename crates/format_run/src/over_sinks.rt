@@ -1,7 +1,7 @@
 //! The program over any shelf and sinks.
 ghost use Rattle.std.specs.Prelude.{◌≡◌, map, option_map, IfOk};
 ghost use Rattle.std.specs.String.{string_bytes};
-ghost use Rattle.layer_ast.specs.Cut.{cut as cut_of};
+ghost use Rattle.layer_ast.specs.Cut.{text_tokens as cut_of};
 ghost use Rattle.outside.specs.Said.{errors};
 ghost use Rattle.outside.specs.Tells.{tells_of};
 ghost use Rattle.format_run.specs.Ends as spec;

@@ -2,7 +2,7 @@
 ghost use Rattle.std.specs.Prelude.{◌≡◌, map};
 ghost use Rattle.std.specs.String.{string_bytes};
 ghost use Rattle.format_run.specs.Ends.{name_of};
-ghost use Rattle.format_run.specs.Through.{RunsThrough, Delivers, closed};
+ghost use Rattle.format_run.specs.Through.{RunsThrough, Delivers, end_after_delivery};
 ghost use Rattle.program_streams.specs.Streams.{over};
 
 use crate::ending::{Ending, NO_MEMORY, say};
@@ -35,14 +35,14 @@ pub fn run_through<S: Shelf, O: Write + Drop, E: Write + Drop>(
 {
     let ending = perform(alloc, words, shelf, out);
     let whole = hand_on(out);
-    let status = say(alloc, closed(whole, ending), err);
+    let status = say(alloc, end_after_delivery(whole, ending), err);
     let _ = hand_on(err);
     status
 }
 
 /// How a run ended whose stream got all that was put or didn't: then a whole text is a fault of writing.
-fn closed(whole: bool, ending: Ending) -> Ending
-    ensures { result ≡ closed whole ending }
+fn end_after_delivery(whole: bool, ending: Ending) -> Ending
+    ensures { result ≡ end_after_delivery whole ending }
 {
     match ending {
         Ending::Done if !whole => Ending::Write,

@@ -1,4 +1,4 @@
--- Names, arguments and what stands in parentheses behind a header's name: where the tokens go together, they are the
+-- Names, arguments and what stands in parentheses after a header's name: where the tokens go together, they are the
 -- same, and what follows them goes together too.
 use Rattle.std.proofs.Common.{◌≡◌, List, [], ◌∷◌, Option, Some, None, refl, ap}
 use Rattle.layer_ast.specs.declared.names.Name.{Name}
@@ -11,7 +11,7 @@ use Rattle.grammar_laws.proofs.Begins.{another, begins, begins_together, Ends, e
 use Rattle.grammar_laws.proofs.Expressions.{expression_once, built_once}
 use Rattle.grammar_laws.proofs.Together.{Together, BothAt, name_once}
 
--- names, each behind a comma, before the bracket that ends them
+-- names, each after a comma, before the bracket that ends them
 more_names_once : (a b : List Name) (k l : List Printed) →
     Together (print.more_names a (plain sign.RightParen ∷ k)) (print.more_names b (plain sign.RightParen ∷ l)) →
     (a ≡ b) × Together k l

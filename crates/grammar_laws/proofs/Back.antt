@@ -1,4 +1,4 @@
--- One step back over a token: in front of what the machine expects behind it stands what it expected.
+-- One step back over a token: before what the machine expects after it stands what it expected.
 use Rattle.std.proofs.Common.{◌≡◌, Bool, true, false, if◌then◌else◌, List, [], ◌∷◌, Option, Some, None, IfSome, refl}
 use Rattle.std.proofs.Common.{sym, ap}
 use denote.Enum.Bare.{same_true}
@@ -26,7 +26,7 @@ use Rattle.layer_ast.specs.Tree.{join, value, content, SizeTree, fixed, sized, S
 use Rattle.layer_ast.specs.Tree.{push, take, when, choose, each, emit, StatementTrees, none, more, always, common, rare}
 use Rattle.layer_ast.specs.Tree.{ItemsTree, DeclarationTree, param, int, rows_cell, rows_array, header}
 use Rattle.layer_ast.specs.Print as print
-use Rattle.layer_ast.specs.Printed.{Printed, plain, placed, numeral, plain_numeral, name, kind, direction_sign}
+use Rattle.layer_ast.specs.Printed.{Printed, plain, placed_sign, numeral, plain_numeral, name, kind, direction_sign}
 use Rattle.layer_ast.specs.Printed.{function_sign}
 use Rattle.grammar_laws.specs.Machine.{Symbol, one, a_name, a_number, a_kind, a_size, a_sort, an_ending, an_operator}
 use Rattle.grammar_laws.specs.Machine.{an_expression, an_index, a_message, a_built, an_argument, more_arguments}
@@ -141,7 +141,7 @@ queue_prints n (Some i) k = refl
 back_function : (f : Function) (at : At) (p k : List Printed) → Chain operand p k →
     Front an_expression (token.Sign (function_sign f)) at p k
 back_function f at p k (l1, e1, (l2, (x, e2), (l3, e3, e4))) =
-    (placed (function_sign f) at, refl, refl, (apply at f x, rw (e1, e2, e3, e4)))
+    (placed_sign (function_sign f) at, refl, refl, (apply at f x, rw (e1, e2, e3, e4)))
 
 back_expression : (t : Token) (at : At) → Back an_expression t at (expression_move t)
 back_expression (token.Number v) at = λ p k e. (numeral v at, refl, refl, (number at v, rw e))
@@ -149,43 +149,45 @@ back_expression (token.Name w) at =
     λ p k (l1, (i, e1), (l2, (j, e2), e3)).
     let n : Name = record { at = at; word = w } in
     (name n, refl, refl, (indexed n i j, rw (e1, e2, e3) (indexed_prints n i j k)))
-back_expression (token.Sign sign.Me) at = λ p k e. (placed sign.Me at, refl, refl, (me at, rw e))
-back_expression (token.Sign sign.N) at = λ p k e. (placed sign.N at, refl, refl, (members at, rw e))
-back_expression (token.Sign sign.Ltime) at = λ p k e. (placed sign.Ltime at, refl, refl, (ltime at, rw e))
+back_expression (token.Sign sign.Me) at = λ p k e. (placed_sign sign.Me at, refl, refl, (me at, rw e))
+back_expression (token.Sign sign.N) at = λ p k e. (placed_sign sign.N at, refl, refl, (members at, rw e))
+back_expression (token.Sign sign.Ltime) at = λ p k e. (placed_sign sign.Ltime at, refl, refl, (ltime at, rw e))
 back_expression (token.Sign sign.Len) at =
     λ p k (l1, e1, (l2, (n, e2), (l3, (i, e3), (l4, e4, e5)))). (
-      placed sign.Len at,
+      placed_sign sign.Len at,
       refl,
       refl,
       (
         rows at (queue_of n i),
         rw (e1, e2, e3, e4, e5)
-            (ap (λ r. placed sign.Len at ∷ plain sign.LeftParen ∷ r) (queue_prints n i (plain sign.RightParen ∷ k))),
+            (ap (λ r. placed_sign sign.Len at ∷ plain sign.LeftParen ∷ r)
+            (queue_prints n i (plain sign.RightParen ∷ k))),
       ),
     )
 back_expression (token.Sign sign.AtRow) at =
     λ p k (l1, e1, (l2, (n, e2), (l3, (i, e3), (l4, e4, (l5, (x, e5), (l6, e6, (l7, e7, (l8, (m, e8), e9)))))))). (
-      placed sign.AtRow at,
+      placed_sign sign.AtRow at,
       refl,
       refl,
       (
         item at (queue_of n i) x m,
         rw (e1, e2, e3, e4, e5, e6, e7, e8, e9)
-            (ap (λ r. placed sign.AtRow at ∷ plain sign.LeftParen ∷ r) (queue_prints n i _)),
+            (ap (λ r. placed_sign sign.AtRow at ∷ plain sign.LeftParen ∷ r) (queue_prints n i _)),
       ),
     )
 back_expression (token.Sign sign.Size) at =
-    λ p k (l1, e1, (l2, (m, e2), (l3, e3, e4))). (placed sign.Size at, refl, refl, (size at m, rw (e1, e2, e3, e4)))
+    λ p k (l1, e1, (l2, (m, e2), (l3, e3, e4))).
+    (placed_sign sign.Size at, refl, refl, (size at m, rw (e1, e2, e3, e4)))
 back_expression (token.Sign sign.LeftParen) at =
     λ p k (l1, (a, e1), (l2, (o, e2), (l3, (b, e3), (l4, e4, e5)))).
-    (placed sign.LeftParen at, refl, refl, (binary at a o b, rw (e1, e2, e3, e4, e5)))
+    (placed_sign sign.LeftParen at, refl, refl, (binary at a o b, rw (e1, e2, e3, e4, e5)))
 back_expression (token.Sign sign.Not) at = back_function function.Not at
 back_expression (token.Sign sign.Bit) at = back_function function.Bit at
 back_expression (token.Sign sign.Count) at = back_function function.Count at
 back_expression (token.Sign sign.Lowest) at = back_function function.Lowest at
 back_expression (token.Sign sign.Pick) at =
     λ p k (l1, e1, (l2, (a, e2), (l3, e3, (l4, (b, e4), (l5, e5, (l6, (c, e6), (l7, e7, e8))))))).
-    (placed sign.Pick at, refl, refl, (pick at a b c, rw (e1, e2, e3, e4, e5, e6, e7, e8)))
+    (placed_sign sign.Pick at, refl, refl, (pick at a b c, rw (e1, e2, e3, e4, e5, e6, e7, e8)))
 back_expression _ at = tt
 
 back_index : (t : Token) (at : At) → Back an_index t at (index_move t)
@@ -194,27 +196,27 @@ back_index (token.Sign sign.LeftBracket) at =
 back_index _ at = λ k. (None, refl)
 
 back_built : (t : Token) (at : At) → Back a_built t at (built_move t)
-back_built (token.Sign sign.Nothing) at = λ p k e. (placed sign.Nothing at, refl, refl, (nothing at, rw e))
+back_built (token.Sign sign.Nothing) at = λ p k e. (placed_sign sign.Nothing at, refl, refl, (nothing at, rw e))
 back_built (token.Sign sign.Held) at =
     λ p k (l1, e1, (l2, (n, e2), (l3, (i, e3), (l4, e4, (l5, (x, e5), (l6, e6, e7)))))). (
-      placed sign.Held at,
+      placed_sign sign.Held at,
       refl,
       refl,
       (
         held at (queue_of n i) x,
         rw (e1, e2, e3, e4, e5, e6, e7)
-            (ap (λ r. placed sign.Held at ∷ plain sign.LeftParen ∷ r) (queue_prints n i _)),
+            (ap (λ r. placed_sign sign.Held at ∷ plain sign.LeftParen ∷ r) (queue_prints n i _)),
       ),
     )
 back_built (token.Sign sign.Cut) at =
     λ p k (l1, e1, (l2, (m, e2), (l3, e3, (l4, (a, e4), (l5, e5, (l6, (b, e6), (l7, e7, e8))))))).
-    (placed sign.Cut at, refl, refl, (cut at m a b, rw (e1, e2, e3, e4, e5, e6, e7, e8)))
+    (placed_sign sign.Cut at, refl, refl, (cut at m a b, rw (e1, e2, e3, e4, e5, e6, e7, e8)))
 back_built (token.Sign sign.Tail) at =
     λ p k (l1, e1, (l2, (m, e2), (l3, e3, (l4, (a, e4), (l5, e5, e6))))).
-    (placed sign.Tail at, refl, refl, (tail at m a, rw (e1, e2, e3, e4, e5, e6)))
+    (placed_sign sign.Tail at, refl, refl, (tail at m a, rw (e1, e2, e3, e4, e5, e6)))
 back_built (token.Sign sign.Join) at =
     λ p k (l1, e1, (l2, (m, e2), (l3, e3, (l4, (n, e4), (l5, e5, e6))))).
-    (placed sign.Join at, refl, refl, (join at m n, rw (e1, e2, e3, e4, e5, e6)))
+    (placed_sign sign.Join at, refl, refl, (join at m n, rw (e1, e2, e3, e4, e5, e6)))
 back_built _ at = tt
 
 -- what is a part of one kind is a part of another
@@ -291,7 +293,7 @@ assign at n (Some i) None v = set at n (Some i) v
 assign at n None j v = set at n j v
 
 assign_prints : (at : At) (n : Name) (i j : Option ExpressionTree) (v : ExpressionTree) (k : List Printed) →
-    placed sign.Set at ∷ name n
+    placed_sign sign.Set at ∷ name n
     ∷ print.index i (print.index j (plain sign.Assign ∷ print.expression v (plain sign.Semicolon ∷ k)))
     ≡ print.statement (assign at n i j v) k
 assign_prints at n (Some i) (Some j) v k = refl
@@ -306,7 +308,7 @@ conditional at l c b (Some o) = choose at l c b o
 
 conditional_prints : (at : At) (l : Likely) (c : ExpressionTree) (b : StatementTrees) (o : Option StatementTrees)
     (k : List Printed) →
-    placed sign.If at
+    placed_sign sign.If at
     ∷ print.likely l (print.expression c
     (plain sign.LeftBrace ∷ print.statements b (plain sign.RightBrace ∷ otherwise o k)))
     ≡ print.statement (conditional at l c b o) k
@@ -317,7 +319,7 @@ back_emission : (d : Dir) (at : At) (p k : List Printed) → Chain emission p k 
     Front a_statement (token.Sign (direction_sign d)) at p k
 back_emission d at p k
     (l1, (what, e1), (l2, e2, (l3, (a, e3), (l4, (rest, e4), (l5, e5, (l6, (pushed, e6), (l7, e7, e8))))))) = (
-      placed (direction_sign d) at,
+      placed_sign (direction_sign d) at,
       refl,
       refl,
       (emit at d what (record { first = a; rest = rest }) pushed, rw (e1, e2, e3, e4, e5, e6, e7, e8)),
@@ -326,10 +328,14 @@ back_emission d at p k
 back_statement : (t : Token) (at : At) → Back a_statement t at (statement_move t)
 back_statement (token.Sign sign.Let) at =
     λ p k (l1, (n, e1), (l2, e2, (l3, (v, e3), (l4, e4, e5)))).
-    (placed sign.Let at, refl, refl, (bind at n v, rw (e1, e2, e3, e4, e5)))
+    (placed_sign sign.Let at, refl, refl, (bind at n v, rw (e1, e2, e3, e4, e5)))
 back_statement (token.Sign sign.Set) at =
-    λ p k (l1, (n, e1), (l2, (i, e2), (l3, (j, e3), (l4, e4, (l5, (v, e5), (l6, e6, e7)))))).
-    (placed sign.Set at, refl, refl, (assign at n i j v, rw (e1, e2, e3, e4, e5, e6, e7) (assign_prints at n i j v k)))
+    λ p k (l1, (n, e1), (l2, (i, e2), (l3, (j, e3), (l4, e4, (l5, (v, e5), (l6, e6, e7)))))). (
+      placed_sign sign.Set at,
+      refl,
+      refl,
+      (assign at n i j v, rw (e1, e2, e3, e4, e5, e6, e7) (assign_prints at n i j v k)),
+    )
 back_statement (token.Sign sign.Push) at =
     λ p k (
       l1,
@@ -340,12 +346,12 @@ back_statement (token.Sign sign.Push) at =
         (l3, e3, (l4, (a, e4), (l5, (rest, e5), (l6, e6, (l7, e7, (l8, e8, (l9, (o, e9), (l10, e10, e11)))))))),
       ),
     ). (
-      placed sign.Push at,
+      placed_sign sign.Push at,
       refl,
       refl,
       (
         push at (queue_of n i) (record { first = a; rest = rest }) o,
-        rw (e1, e2, e3, e4, e5, e6, e7, e8, e9, e10, e11) (ap (λ r. placed sign.Push at ∷ r) (queue_prints n i _)),
+        rw (e1, e2, e3, e4, e5, e6, e7, e8, e9, e10, e11) (ap (λ r. placed_sign sign.Push at ∷ r) (queue_prints n i _)),
       ),
     )
 back_statement (token.Sign sign.Take) at =
@@ -374,18 +380,18 @@ back_statement (token.Sign sign.Take) at =
         ),
       ),
     ). (
-      placed sign.Take at,
+      placed_sign sign.Take at,
       refl,
       refl,
       (
         take at (queue_of n i) (record { first = m; rest = ms }) b o,
         rw (e1, e2, e3, e4, e5, e6, e7, e8, e9, e10, e11, e12, e13, e14)
-            (ap (λ r. placed sign.Take at ∷ r) (queue_prints n i _)),
+            (ap (λ r. placed_sign sign.Take at ∷ r) (queue_prints n i _)),
       ),
     )
 back_statement (token.Sign sign.If) at =
     λ p k (l1, (l, e1), (l2, (c, e2), (l3, e3, (l4, (b, e4), (l5, e5, (l6, (o, e6), e7)))))). (
-      placed sign.If at,
+      placed_sign sign.If at,
       refl,
       refl,
       (
@@ -396,7 +402,7 @@ back_statement (token.Sign sign.If) at =
     )
 back_statement (token.Sign sign.Each) at =
     λ p k (l1, (n, e1), (l2, e2, (l3, (x, e3), (l4, e4, (l5, (m, e5), (l6, e6, (l7, (b, e7), (l8, e8, e9)))))))).
-    (placed sign.Each at, refl, refl, (each at n x m b, rw (e1, e2, e3, e4, e5, e6, e7, e8, e9)))
+    (placed_sign sign.Each at, refl, refl, (each at n x m b, rw (e1, e2, e3, e4, e5, e6, e7, e8, e9)))
 back_statement (token.Sign sign.Up) at = back_emission Up at
 back_statement (token.Sign sign.Down) at = back_emission Down at
 back_statement _ at = tt
@@ -449,7 +455,7 @@ back_handling d at p k (
     ),
   ),
 ) = (
-  placed (direction_sign d) at,
+  placed_sign (direction_sign d) at,
   refl,
   refl,
   (
@@ -520,7 +526,7 @@ rows_of at n (false, s) is = rows_cell at n s is
 rows_of at n (true, s) is = rows_array at n s is
 
 rows_print : (at : At) (n : Name) (c : Bool × SizeTree) (is : ItemsTree) (k : List Printed) →
-    placed sign.State at ∷ plain sign.Queue ∷ name n ∷ plain sign.LeftBracket
+    placed_sign sign.State at ∷ plain sign.Queue ∷ name n ∷ plain sign.LeftBracket
     ∷ capacity c (plain sign.RightBracket ∷ plain sign.Of ∷ plain sign.LeftParen
     ∷ print.item is.first (print.more_items is.rest (plain sign.RightParen ∷ plain sign.Semicolon ∷ k)))
     ≡ print.declaration (rows_of at n c is) k
@@ -561,12 +567,12 @@ back_cell _ at = tt
 back_declaration : (t : Token) (at : At) → Back a_declaration t at (declaration_move t)
 back_declaration (token.Sign sign.Param) at =
     λ p k (l1, (n, e1), (l2, e2, (l3, (v, e3), (l4, e4, e5)))).
-    (placed sign.Param at, refl, refl, (param at n v, rw (e1, e2, e3, e4, e5)))
+    (placed_sign sign.Param at, refl, refl, (param at n v, rw (e1, e2, e3, e4, e5)))
 back_declaration (token.Sign sign.State) at =
-    λ p k (l1, cell, e1). (placed sign.State at, refl, refl, rw (sym e1) (cell at))
+    λ p k (l1, cell, e1). (placed_sign sign.State at, refl, refl, rw (sym e1) (cell at))
 back_declaration (token.Sign sign.Header) at =
     λ p k (l1, (n, e1), (l2, e2, (l3, (fields, e3), (l4, e4, (l5, (ending, e5), (l6, e6, e7)))))).
-    (placed sign.Header at, refl, refl, (header at n fields ending, rw (e1, e2, e3, e4, e5, e6, e7)))
+    (placed_sign sign.Header at, refl, refl, (header at n fields ending, rw (e1, e2, e3, e4, e5, e6, e7)))
 back_declaration _ at = tt
 
 back_declarations : (t : Token) (at : At) → Back declarations t at (begun (declarations ∷ []) (declaration_move t))
@@ -577,7 +583,7 @@ back_declarations t at =
 back_layer : (t : Token) (at : At) → Back a_layer t at (layer_move t)
 back_layer (token.Sign sign.Layer) at =
     λ p k (l1, (n, e1), (l2, e2, (l3, (ds, e3), (l4, (hs, e4), (l5, e5, e6))))). (
-      placed sign.Layer at,
+      placed_sign sign.Layer at,
       refl,
       refl,
       (record { at = at; name = n; declarations = ds; handlers = hs }, rw (e1, e2, e3, e4, e5, e6)),

@@ -1,4 +1,4 @@
--- A part of a layer goes on in front of what what follows it goes on in front of.
+-- A part of a layer goes on before what what follows it goes on before.
 use Rattle.std.proofs.Common.{◌≡◌, ℕ, zero, suc, List, [], ◌∷◌, ◌++◌, Option, Some, None, refl, sym, subst}
 use Rattle.layer_ast.specs.declared.names.Name.{Name}
 use Rattle.layer_ast.specs.declared.tokens.Dir.{Dir}
@@ -79,7 +79,7 @@ size_flat (fixed at n) room = refl
 size_flat (sized n) room = refl
 
 module _ (behind : List Lexed) where
-  -- behind one token there is what there is behind it without one in front
+  -- after one token there is what there is after it without one in front
   past : (k l : List Printed) (tokens : List Lexed) (left : Option ℕ) → IfRoom left (λ room. GoesOn behind room k l) →
       Fits k tokens → WithRoom left (λ room. IsWithin room (tokens_in tokens)) →
       Fits l (tokens ++ behind) × WithRoom left (λ room. IsWithin room (tokens_in (tokens ++ behind)))
@@ -114,7 +114,7 @@ module _ (behind : List Lexed) where
       GoesOn behind (suc room) k l → GoesOn behind room (p ∷ k) (p ∷ l)
   shut p room k l is h = one p room k l (subst (λ o. IfRoom o (λ left. GoesOn behind left k l)) (sym is) h)
 
-  -- a bracket that opens, where what is inside it goes on in front of what goes on behind it
+  -- a bracket that opens, where what is inside it goes on before what goes on after it
   inside : (room : ℕ) (k l x y : List Printed) → GoesOn behind room k l →
       ((left : ℕ) → GoesOn behind (suc left) k l → GoesOn behind left x y) →
       IfRoom (room_inside room) (λ left. GoesOn behind left x y)
@@ -477,14 +477,14 @@ module _ (behind : List Lexed) where
   layers_on [] room k l h = h
   layers_on (t ∷ ts) room k l h = layer_on t room _ _ (layers_on ts room k l h)
 
-  -- behind nothing stand these tokens alone
+  -- after nothing stand these tokens alone
   none_on : (room : ℕ) (l : List Printed) (tokens : List Lexed) → Stands room l behind → Fits [] tokens →
       Stands room l (tokens ++ behind)
   unfolding Fits
   none_on room l [] h fits = h
   none_on room l (t ∷ tokens) h fits = absurd fits
 
-  -- where tokens are these layers and those behind them are what else is printed, together they are both
+  -- where tokens are these layers and those after them are what else is printed, together they are both
   pub layers_then : (ts : List LayerTree) (room : ℕ) (l : List Printed) (tokens : List Lexed) →
       Stands room (print.layers ts []) tokens → Stands room l behind →
       Stands room (print.layers ts l) (tokens ++ behind)

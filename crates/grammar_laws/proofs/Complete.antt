@@ -36,7 +36,8 @@ use Rattle.grammar_laws.specs.Machine.{an_index, a_message, a_built, an_argument
 use Rattle.grammar_laws.specs.Machine.{a_pushed, a_likely, an_otherwise, a_statement, statements, a_block, more_names}
 use Rattle.grammar_laws.specs.Machine.{some_names, a_popped, an_expected, handlers, a_shape, an_initial, a_capacity}
 use Rattle.grammar_laws.specs.Machine.{more_items, a_declaration, declarations, a_layer, layers, more_given, some_given}
-use Rattle.grammar_laws.specs.Machine.{a_place, places, Move, eats, skips, refuses, move, all_optional, moved, feed}
+use Rattle.grammar_laws.specs.Machine.{a_place, places, Move, eats, skips, refuses, move, all_optional, stack_after}
+use Rattle.grammar_laws.specs.Machine.{feed}
 use Rattle.grammar_laws.specs.Machine.{operand, emission, handling, start}
 use Rattle.grammar_laws.proofs.Begins.{NoIndex, form_of}
 use Rattle.grammar_laws.proofs.Signs.{operator_ends}
@@ -64,7 +65,7 @@ IsLeftOut s [] = ⊥
 IsLeftOut s (p ∷ printed) = IsSkip (move s p.token)
 
 moved_skip : (m : Move) (stack : List Symbol) (skipped : Option (List Symbol)) → IsSkip m →
-    moved m stack skipped ≡ skipped
+    stack_after m stack skipped ≡ skipped
 moved_skip (eats expected) stack skipped free = absurd free
 moved_skip skips stack skipped free = refl
 moved_skip refuses stack skipped free = absurd free

@@ -26,7 +26,7 @@ no_built n b k l h = cc (begins_together (name n ∷ k) (print.built b l) h, bui
 built_no : (n : Name) (b : BuiltTree) (k l : List Printed) → Together (print.built b k) (name n ∷ l) → ⊥
 built_no n b k l h = cc (begins_together (print.built b k) (name n ∷ l) h, built_begins b k)
 
--- a bracket or a comma in front of what follows
+-- a bracket or a comma before what follows
 abbrev close : List Printed → List Printed
 close k = plain sign.RightParen ∷ k
 

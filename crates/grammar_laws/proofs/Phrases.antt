@@ -23,7 +23,7 @@ use Rattle.layer_ast.specs.Tree.{NamesTree, ArgumentsTree, PoppedTree, PushedTre
 use Rattle.layer_ast.specs.Tree.{StatementTrees, none, Expected, always, HandlerTree, ItemTree, DeclarationTree, param}
 use Rattle.layer_ast.specs.Tree.{int, LayerTree, GivenTree, PlaceTree}
 use Rattle.layer_ast.specs.Print as print
-use Rattle.layer_ast.specs.Printed.{Printed, plain, placed, plain_numeral, name, kind, ending_sign, sort_sign}
+use Rattle.layer_ast.specs.Printed.{Printed, plain, placed_sign, plain_numeral, name, kind, ending_sign, sort_sign}
 use Rattle.layer_ast.specs.Printed.{operator_sign}
 use Rattle.grammar_laws.specs.Machine.{Symbol, one, a_name, a_number, a_kind, a_size, a_sort, an_ending, an_operator}
 use Rattle.grammar_laws.specs.Machine.{an_expression, an_index, a_message, a_built, an_argument, more_arguments}
@@ -34,7 +34,7 @@ use Rattle.grammar_laws.specs.Machine.{a_layer, layers, more_given, some_given, 
 use Rattle.grammar_laws.specs.Machine.{all_optional}
 use Rattle.grammar_laws.specs.Parts.{otherwise, capacity, square}
 
--- printed tokens are those of some tree in front of others
+-- printed tokens are those of some tree before others
 abbrev pub IsPrinted : (T : Type 0) → (T → List Printed → List Printed) → List Printed → List Printed → Type 0
 IsPrinted T print p k = (tree : T) × (p ≡ print tree k)
 
@@ -42,7 +42,7 @@ IsPrinted T print p k = (tree : T) × (p ≡ print tree k)
 abbrev pub somewhere : At
 somewhere = record { line = 1; col = 1 }
 
--- printed tokens are what a symbol stands for, in front of others
+-- printed tokens are what a symbol stands for, before others
 abbrev pub Phrase : Symbol → List Printed → List Printed → Type 0
 Phrase (one s) p k = p ≡ plain s ∷ k
 Phrase a_name p k = IsPrinted Name (λ n k. name n ∷ k) p k
@@ -76,7 +76,7 @@ Phrase an_initial p k = IsPrinted (Option ExpressionTree) print.initial p k
 Phrase a_capacity p k = IsPrinted (Bool × SizeTree) capacity p k
 Phrase more_items p k = IsPrinted (List ItemTree) print.more_items p k
 Phrase a_cell p k =
-    (at : At) → (declaration : DeclarationTree) × (placed sign.State at ∷ p ≡ print.declaration declaration k)
+    (at : At) → (declaration : DeclarationTree) × (placed_sign sign.State at ∷ p ≡ print.declaration declaration k)
 Phrase a_declaration p k = IsPrinted DeclarationTree print.declaration p k
 Phrase declarations p k = IsPrinted (List DeclarationTree) print.declarations p k
 Phrase a_layer p k = IsPrinted LayerTree print.layer p k
@@ -86,7 +86,7 @@ Phrase some_given p k = IsPrinted (List GivenTree) print.all_given p k
 Phrase a_place p k = IsPrinted PlaceTree print.place p k
 Phrase places p k = IsPrinted (List PlaceTree) print.places p k
 
--- symbols one behind the other, in front of others
+-- symbols one after the other, before others
 abbrev pub Chain : List Symbol → List Printed → List Printed → Type 0
 Chain [] p k = p ≡ k
 Chain (s ∷ symbols) p k = (l : List Printed) × Phrase s p l × Chain symbols l k
@@ -96,13 +96,13 @@ abbrev pub Phrases : List Symbol → List Printed → Type 0
 Phrases [] p = p ≡ []
 Phrases (s ∷ stack) p = (k : List Printed) × Phrase s p k × Phrases stack k
 
--- the symbols in front of a stack, and the stack
+-- the symbols before a stack, and the stack
 pub split : (new stack : List Symbol) (p : List Printed) → Phrases (new ++ stack) p →
     (k : List Printed) × Chain new p k × Phrases stack k
 split [] stack p h = (p, refl, h)
 split (s ∷ new) stack p (l, here, h) = let (k, chain, behind) = split new stack l h in (k, (l, here, chain), behind)
 
--- the same of symbols in front of others
+-- the same of symbols before others
 pub chain_split : (new behind : List Symbol) (p k : List Printed) → Chain (new ++ behind) p k →
     (l : List Printed) × Chain new p l × Chain behind l k
 chain_split [] behind p k h = (p, refl, h)

@@ -7,7 +7,8 @@ use Rattle.layer_ast.specs.declared.tokens.Token.{Token}
 use Rattle.layer_ast.specs.Depth.{room_behind, WithRoom, IsWithin}
 use Rattle.layer_ast.specs.Printed.{Printed}
 use Rattle.layer_ast.specs.Spells.{Fits}
-use Rattle.grammar_laws.specs.Machine.{Symbol, Move, eats, skips, refuses, move, moved, feed, all_optional, accepted}
+use Rattle.grammar_laws.specs.Machine.{Symbol, Move, eats, skips, refuses, move, stack_after, feed, all_optional}
+use Rattle.grammar_laws.specs.Machine.{accepted}
 use Rattle.grammar_laws.specs.Machine.{refused, step, run}
 use Rattle.grammar_laws.proofs.Back.{Back, back}
 use Rattle.grammar_laws.proofs.Complete.{toks, accepts, accepts_behind}
@@ -25,13 +26,13 @@ tokens_fit [] (l ∷ lexed) h = absurd h
 tokens_fit (p ∷ printed) [] h = absurd h
 tokens_fit (p ∷ printed) (l ∷ lexed) h = let rest = tokens_fit printed lexed h.2 in let token = h.0 in cc
 
--- the machine goes on behind a token
+-- the machine goes on after a token
 abbrev GoesBehind : Option ℕ → Option (List Symbol) → (ℕ → List Symbol → Type 0) → Type 0
 GoesBehind None fed go = ⊥
 GoesBehind (Some room) None go = ⊥
 GoesBehind (Some room) (Some stack) go = go room stack
 
--- the machine goes on behind all tokens
+-- the machine goes on after all tokens
 abbrev pub Goes : ℕ → List Symbol → List Token → Type 0
 Goes room stack [] = Unit {0}
 Goes room stack (t ∷ tokens) = GoesBehind (room_behind t room) (feed stack t) (λ left next. Goes left next tokens)
@@ -54,7 +55,7 @@ run_accepts [] room stack takes within = ap (λ b. if b then accepted else refus
 run_accepts (l ∷ lexed) room stack takes within =
     run_steps (room_behind l.token room) (feed stack l.token) _ lexed (run_accepts lexed) takes within
 
--- and what is accepted the machine takes, and goes on behind
+-- and what is accepted the machine takes, and goes on after
 accepted_steps : (behind : Option ℕ) (fed : Option (List Symbol)) (n : ℕ) (lexed : List Lexed) →
     ((room : ℕ) (stack : List Symbol) → run room stack lexed ≡ accepted →
     (accepts stack (tokens_in lexed) ≡ true) × Goes room stack (tokens_in lexed)) →
@@ -88,7 +89,7 @@ goes_within [] room stack goes = tt
 goes_within (t ∷ tokens) room stack goes =
     within_step (room_behind t room) (feed stack t) tokens (goes_within tokens) goes
 
--- the machine goes on behind tokens that are nowhere too deep and with which tokens begin that it takes
+-- the machine goes on after tokens that are nowhere too deep and with which tokens begin that it takes
 goes_step : (behind : Option ℕ) (fed : Option (List Symbol)) (tokens rest : List Token) →
     ((room : ℕ) (stack : List Symbol) → accepts stack (tokens ++ rest) ≡ true → IsWithin room tokens →
     Goes room stack tokens) →
@@ -112,7 +113,7 @@ BackFed stack l (Some next) =
     (q : Printed) × (l.token ≡ q.token) × IfSome q.at (λ a. l.at ≡ a) × Phrases stack (q ∷ p)
 
 back_moved : (s : Symbol) (stack : List Symbol) (l : Lexed) (m : Move) (skipped : Option (List Symbol)) →
-    Back s l.token l.at m → BackFed stack l skipped → BackFed (s ∷ stack) l (moved m stack skipped)
+    Back s l.token l.at m → BackFed stack l skipped → BackFed (s ∷ stack) l (stack_after m stack skipped)
 back_moved s stack l (eats new) skipped b h =
     λ p phrases.
     let (k, chain, behind) = split new stack p phrases in
@@ -170,7 +171,7 @@ begun_by (t ∷ tokens) room stack goes =
     begun_step stack t tokens at (room_behind t room) (feed stack t) (back_fed stack (record { token = t; at = at }))
     (begun_by tokens) goes
 
--- the machine goes on behind so many tokens, and not behind one more
+-- the machine goes on after so many tokens, and not after one more
 pub record StopsBehind (room : ℕ) (stack : List Symbol) (lexed : List Lexed) (left : ℕ) : Type 0 where
   pub number : ℕ
   pub token : Lexed
@@ -179,7 +180,7 @@ pub record StopsBehind (room : ℕ) (stack : List Symbol) (lexed : List Lexed) (
   pub goes : Goes room stack (take number (tokens_in lexed))
   pub stuck : Goes room stack (take (suc number) (tokens_in lexed)) → ⊥
 
--- the machine goes on behind all tokens, and does not take them to the end
+-- the machine goes on after all tokens, and does not take them to the end
 pub record StopsPast (room : ℕ) (stack : List Symbol) (lexed : List Lexed) : Type 0 where
   pub goes : Goes room stack (tokens_in lexed)
   pub short : accepts stack (tokens_in lexed) ≡ false

@@ -94,11 +94,11 @@ not_over s k l h = cc (begins_together (print.statement s k) (plain sign.RightBr
 over_not : (s : StatementTree) (k l : List Printed) → Together (plain sign.RightBrace ∷ k) (print.statement s l) → ⊥
 over_not s k l h = cc (begins_together (plain sign.RightBrace ∷ k) (print.statement s l) h, statement_begins s l)
 
--- statements and the brace behind them
+-- statements and the brace after them
 abbrev inside : StatementTrees → List Printed → List Printed
 inside b k = print.statements b (plain sign.RightBrace ∷ k)
 
--- an other way, with the brace behind it
+-- an other way, with the brace after it
 abbrev otherwise : StatementTrees → List Printed → List Printed
 otherwise b k = plain sign.Else ∷ plain sign.LeftBrace ∷ inside b k
 

@@ -5,7 +5,7 @@ use Rattle.std.proofs.lemmas.List.{take-append-drop, take-take}
 use Rattle.layer_ast.specs.declared.names.At.{At}
 use Rattle.layer_ast.specs.declared.tokens.Lexed.{Lexed}
 use Rattle.layer_ast.specs.declared.tokens.Token.{Token}
-use Rattle.layer_ast.specs.Cut.{cut}
+use Rattle.layer_ast.specs.Cut.{text_tokens}
 use Rattle.layer_ast.specs.Depth.{room_behind, WithRoom, IsWithin}
 use Rattle.layer_ast.specs.Print as print
 use Rattle.layer_ast.specs.Printed.{Printed}
@@ -32,7 +32,7 @@ file_phrases p (k1, (ls, e1), (k2, e2, (k3, e3, (k4, (first, e4), (k5, (rest, e5
   is = rw (e1, e2, e3, e4, e5, e6, e7);
 }
 
--- tokens behind which the machine goes on may go on to a file
+-- tokens after which the machine goes on may go on to a file
 goes_on : (tokens : List Token) → Goes 100 start tokens → MayGoOn tokens
 goes_on tokens goes =
     let (p, phrases, rest, same) = begun_by tokens 100 start goes in
@@ -55,46 +55,49 @@ goes_where tokens may =
 
 module _ (text : List ℕ) where
   -- a text that the machine takes to the end, without a bad token, spells a file
-  accepted_spells : (cut text).bad_at ≡ None → run 100 start (cut text).tokens ≡ accepted → SpellsSome text
+  accepted_spells : (text_tokens text).bad_at ≡ None → run 100 start (text_tokens text).tokens ≡ accepted →
+      SpellsSome text
   accepted_spells good is =
-      let takes = accepted_takes (cut text).tokens 100 start is in
-      let (p, phrases, fits) = whole_of (cut text).tokens start takes.0 in
+      let takes = accepted_takes (text_tokens text).tokens 100 start is in
+      let (p, phrases, fits) = whole_of (text_tokens text).tokens start takes.0 in
       let prints = file_phrases p phrases in
       record {
         file = prints.file;
         spelled = record {
           good = good;
-          fits = subst (λ printed. Fits printed (cut text).tokens) prints.is fits;
+          fits = subst (λ printed. Fits printed (text_tokens text).tokens) prints.is fits;
           within = goes_within (tokens_of text) 100 start takes.1;
           placed = prints.placed;
         };
       }
 
-  -- a bad token behind tokens that the machine takes, or behind which it goes on
-  pub accepted_bad : (at : At) → (cut text).bad_at ≡ Some at → run 100 start (cut text).tokens ≡ accepted →
+  -- a bad token after tokens that the machine takes, or after which it goes on
+  pub accepted_bad : (at : At) → (text_tokens text).bad_at ≡ Some at → run 100 start (text_tokens text).tokens ≡
+      accepted →
       StopsBad text at
   accepted_bad at is takes = record {
     bad = is;
-    before = goes_on (tokens_of text) (accepted_takes (cut text).tokens 100 start takes).1;
+    before = goes_on (tokens_of text) (accepted_takes (text_tokens text).tokens 100 start takes).1;
   }
 
-  pub refused_bad : (at : At) → (cut text).bad_at ≡ Some at → run 100 start (cut text).tokens ≡ refused 0 →
+  pub refused_bad : (at : At) → (text_tokens text).bad_at ≡ Some at → run 100 start (text_tokens text).tokens ≡
+      refused 0 →
       StopsBad text at
   refused_bad at is stops = record {
     bad = is;
-    before = goes_on (tokens_of text) (stops_with (cut text).tokens 100 start 0 stops).goes;
+    before = goes_on (tokens_of text) (stops_with (text_tokens text).tokens 100 start 0 stops).goes;
   }
 
   -- a text that a file spells is accepted
   spells_accepted : (f : FileTree) → Spells text f → accepts start (tokens_of text) ≡ true
   spells_accepted f spells =
-      ap (accepts start) (tokens_fit (print.file f) (cut text).tokens spells.fits) ∙ file_drives f spells.placed
+      ap (accepts start) (tokens_fit (print.file f) (text_tokens text).tokens spells.fits) ∙ file_drives f spells.placed
 
   -- the text ends too early
-  pub refused_end : (cut text).bad_at ≡ None → run 100 start (cut text).tokens ≡ refused 0 →
+  pub refused_end : (text_tokens text).bad_at ≡ None → run 100 start (text_tokens text).tokens ≡ refused 0 →
       StopsAtEnd text (end_of text)
   refused_end good stops =
-      let h = stops_with (cut text).tokens 100 start 0 stops in
+      let h = stops_with (text_tokens text).tokens 100 start 0 stops in
       record {
         good = good;
         before = goes_on (tokens_of text) h.goes;
@@ -103,11 +106,12 @@ module _ (text : List ℕ) where
       }
 
   -- a token is refused
-  pub refused_inside : (left : ℕ) (number : ℕ) (token : Lexed) → run 100 start (cut text).tokens ≡ refused (suc left) →
-      number + suc left ≡ length (cut text).tokens → slice_get (cut text).tokens number ≡ Some token →
+  pub refused_inside : (left : ℕ) (number : ℕ) (token : Lexed) → run 100 start (text_tokens text).tokens ≡
+      refused (suc left) →
+      number + suc left ≡ length (text_tokens text).tokens → slice_get (text_tokens text).tokens number ≡ Some token →
       StopsInside text token.at
   refused_inside left number token stops count is =
-      let h = stops_with (cut text).tokens 100 start (suc left) stops in
+      let h = stops_with (text_tokens text).tokens 100 start (suc left) stops in
       let same : h.number ≡ number = omega (arith, h.count, count) in
       let one_more : number + 1 ≡ suc h.number = omega (arith, same) in
       record {
@@ -121,14 +125,15 @@ module _ (text : List ℕ) where
       }
 
   -- what the machine makes of the tokens, and whether there is a bad one, decide
-  decide : (b : Option At) → (cut text).bad_at ≡ b → (o : Outcome) → run 100 start (cut text).tokens ≡ o →
+  decide : (b : Option At) → (text_tokens text).bad_at ≡ b → (o : Outcome) → run 100 start (text_tokens text).tokens ≡
+      o →
       (v : Verdict) × Holds text v
   decide None good accepted is = (a_file, accepted_spells good is)
   decide (Some at) good accepted is = (bad at, accepted_bad at good is)
   decide None good (refused zero) is = (at_end (end_of text), refused_end good is)
   decide (Some at) good (refused zero) is = (bad at, refused_bad at good is)
   decide b good (refused (suc left)) is =
-      let h = stops_with (cut text).tokens 100 start (suc left) is in
+      let h = stops_with (text_tokens text).tokens 100 start (suc left) is in
       (inside h.token.at, refused_inside left h.number h.token is h.count h.is)
 
 -- the front of tokens is nowhere deeper than they are
@@ -174,13 +179,13 @@ module _ (text : List ℕ) where
       whole = is.file;
       placed = is.spelled.placed;
       rest = [];
-      begins = sym (tokens_fit (print.file is.file) (cut text).tokens is.spelled.fits) ∙
+      begins = sym (tokens_fit (print.file is.file) (text_tokens text).tokens is.spelled.fits) ∙
           sym (append-nil (tokens_of text));
     };
     within = is.spelled.within;
   }
 
-  -- of two tokens that each are the first with which the tokens no longer go on, none stands in front of the other
+  -- of two tokens that each are the first with which the tokens no longer go on, none stands before the other
   not_before : (a b : At) (h : StopsInside text a) (i : StopsInside text b) → h.number < i.number → ⊥
   not_before a b h i before =
       h.behind (subst MayGoOn (take-take (h.number + 1) i.number (tokens_of text) (omega (arith, before)))
@@ -190,7 +195,7 @@ module _ (text : List ℕ) where
   inside_once a b h i =
       let same : h.number ≡ i.number =
       antisym h.number i.number (λ before. not_before a b h i before) (λ before. not_before b a i h before) in
-      let found : Some h.token ≡ Some i.token = sym h.is ∙ (ap (slice_get (cut text).tokens) same ∙ i.is) in
+      let found : Some h.token ≡ Some i.token = sym h.is ∙ (ap (slice_get (text_tokens text).tokens) same ∙ i.is) in
       let token : h.token ≡ i.token = cc in
       sym h.place ∙ (ap (λ l. l.at) token ∙ i.place)
 
@@ -216,5 +221,5 @@ module _ (text : List ℕ) where
 -- each text is decided
 pub each_decided : EachDecided
 each_decided text =
-    let (v, holds) = decide text (cut text).bad_at refl (run 100 start (cut text).tokens) refl in
+    let (v, holds) = decide text (text_tokens text).bad_at refl (run 100 start (text_tokens text).tokens) refl in
     record { verdict = v; holds = holds; only = λ other is. once text v other holds is }

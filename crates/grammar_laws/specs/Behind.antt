@@ -1,4 +1,4 @@
--- When what was printed in front of something goes on in front of something else.
+-- When what was printed before something goes on before something else.
 use Rattle.std.specs.Prelude.{ℕ, List, ◌++◌, map}
 use Rattle.layer_ast.specs.declared.tokens.Lexed.{Lexed}
 use Rattle.layer_ast.specs.declared.tokens.Token.{Token}
@@ -15,6 +15,6 @@ pub record Stands (room : ℕ) (printed : List Printed) (tokens : List Lexed) : 
   pub fits : Fits printed tokens
   pub within : IsWithin room (tokens_in tokens)
 
--- tokens that are the first printed ones are the second with these tokens behind them
+-- tokens that are the first printed ones are the second with these tokens after them
 pub record GoesOn (more : List Lexed) (room : ℕ) (k l : List Printed) : Type 0 where
   pub goes : (tokens : List Lexed) → Stands room k tokens → Stands room l (tokens ++ more)

@@ -187,7 +187,7 @@ message_move t = or_else (built_move t) (name_move t)
 abbrev pub argument_move : Token → Move
 argument_move t = or_else (built_move t) (expression_move t)
 
--- arguments, each behind a comma
+-- arguments, each after a comma
 abbrev pub more_arguments_move : Token → Move
 more_arguments_move (token.Sign sign.Comma) = eats (an_argument ∷ more_arguments ∷ [])
 more_arguments_move _ = skips
@@ -242,7 +242,7 @@ statement_move (token.Sign sign.Up) = eats emission
 statement_move (token.Sign sign.Down) = eats emission
 statement_move _ = refuses
 
--- names, each behind a comma
+-- names, each after a comma
 abbrev pub more_names_move : Token → Move
 more_names_move (token.Sign sign.Comma) = eats (a_name ∷ more_names ∷ [])
 more_names_move _ = skips
@@ -293,12 +293,12 @@ capacity_move t = size_move t
 abbrev pub an_item : List Symbol
 an_item = a_name ∷ one sign.Colon ∷ a_sort ∷ []
 
--- items, each behind a comma
+-- items, each after a comma
 abbrev pub more_items_move : Token → Move
 more_items_move (token.Sign sign.Comma) = eats (an_item ++ more_items ∷ [])
 more_items_move _ = skips
 
--- the declaration of a cell or of a queue, behind its first word
+-- the declaration of a cell or of a queue, after its first word
 abbrev pub cell_move : Token → Move
 cell_move (token.Sign sign.Int) = eats (a_name ∷ a_shape ∷ an_initial ∷ one sign.Semicolon ∷ [])
 cell_move (token.Sign sign.Queue) =
@@ -327,7 +327,7 @@ layer_move _ = refuses
 abbrev pub a_given : List Symbol
 a_given = a_name ∷ one sign.Assign ∷ a_number ∷ []
 
--- given params, each behind a comma
+-- given params, each after a comma
 abbrev pub more_given_move : Token → Move
 more_given_move (token.Sign sign.Comma) = eats (a_given ++ more_given ∷ [])
 more_given_move _ = skips
@@ -415,16 +415,16 @@ abbrev pub all_optional : List Symbol → Bool
 all_optional [] = true
 all_optional (s ∷ stack) = is_optional s && all_optional stack
 
--- the stack behind a token that its first symbol moved at, given what the rest of the stack makes of the token
-abbrev pub moved : Move → List Symbol → Option (List Symbol) → Option (List Symbol)
-moved (eats expected) stack skipped = Some (expected ++ stack)
-moved skips stack skipped = skipped
-moved refuses stack skipped = None
+-- the stack after a token that its first symbol moved at, given what the rest of the stack makes of the token
+abbrev pub stack_after : Move → List Symbol → Option (List Symbol) → Option (List Symbol)
+stack_after (eats expected) stack skipped = Some (expected ++ stack)
+stack_after skips stack skipped = skipped
+stack_after refuses stack skipped = None
 
--- the stack behind a token, where the stack takes it
+-- the stack after a token, where the stack takes it
 abbrev pub feed : List Symbol → Token → Option (List Symbol)
 feed [] t = None
-feed (s ∷ stack) t = moved (move s t) stack (feed stack t)
+feed (s ∷ stack) t = stack_after (move s t) stack (feed stack t)
 
 -- how a run ends: at the end of a file, or refused with so many tokens left
 pub data Outcome : Type 0 where

@@ -16,7 +16,7 @@ abbrev pub capacity : Bool × SizeTree → List Printed → List Printed
 capacity (false, size) k = print.size size ∷ k
 capacity (true, size) k = plain sign.N ∷ plain sign.RightBracket ∷ plain sign.LeftBracket ∷ print.size size ∷ k
 
--- behind `n`, what says that an array is a square one, where it does
+-- after `n`, what says that an array is a square one, where it does
 abbrev pub square : Bool → List Printed → List Printed
 square false k = k
 square true k = plain sign.Star ∷ plain sign.N ∷ k

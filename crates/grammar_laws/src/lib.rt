@@ -1,5 +1,5 @@
 //! Laws of the syntax of layer files, each the contract of a function that does nothing: a text spells at most one
-//! file, or stops being the beginning of one at one place, and what is printed of a layer fits in front of others.
+//! file, or stops being the beginning of one at one place, and what is printed of a layer fits before others.
 //! Nothing runs here.
 #![tactic(auto)]
 

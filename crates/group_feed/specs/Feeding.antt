@@ -1,4 +1,4 @@
--- What a world is behind an event.
+-- What a world is after an event.
 use Rattle.std.specs.Prelude.{ℕ, List, Option, Result, Ok, Err}
 use Rattle.msg_core.specs.declared.message.Memory.{Memory}
 use Rattle.run_mean.specs.Member.{Output}
@@ -7,7 +7,7 @@ use Rattle.view_core.specs.Happenings.{DidIs}
 use Rattle.view_core.specs.declared.step.Did.{Did}
 use Rattle.group_feed.specs.Standing.{Peopled, Stands, Stays}
 
--- The event was fed: the world behind it, and what is told of it in the group's mode, are those of what happened.
+-- The event was fed: the world after it, and what is told of it in the group's mode, are those of what happened.
 pub record IsFed (c : Peopled) (h : Happening) (c' : Peopled) (outs : List (Output × Option ℕ)) (before after : ℕ)
     (did : Did) : Type 0 where
   pub world : Stands c' h.world

@@ -13,7 +13,7 @@ use Rattle.step_misses.specs.declared.miss.Probed.{Probed}
 use Rattle.step_misses.specs.declared.miss.Probed.TheVariants.{Common, Other, Missed}
 use Rattle.group_feed.specs.Standing.{Peopled, Stands, Stays}
 
--- What happened is a common step, and it was made: the world behind it is that of what happened.
+-- What happened is a common step, and it was made: the world after it is that of what happened.
 pub record IsCommonly (c : Peopled) (h : Happening) (c' : Peopled) : Type 0 where
   pub step : Step
   pub did : h.did ≡ taken step

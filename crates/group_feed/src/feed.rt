@@ -19,7 +19,7 @@ pub trait Feed {
     /// The group as it is kept: its members, and every packet ever sent in it.
     ghost group: { Self → Peopled };
 
-    /// One event of a script. Behind it `out` has the outputs of the step alone, and the visits that it made are
+    /// One event of a script. After it `out` has the outputs of the step alone, and the visits that it made are
     /// counted. Where memory runs out, the group may only be let go.
     fn feed(
         &mut self,

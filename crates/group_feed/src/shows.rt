@@ -23,7 +23,8 @@ pub trait Shows: Feed {
 
     /// How many numbers a cell has; 0 where there is none, or where it is of queues.
     fn numbers_count(&self, spot: Spot) -> u32
-        ensures { result ≡ length (numbers_in (cell_at (state_at (Self.group self.now) spot.id spot.place) spot.cell)) };
+        ensures { result ≡ length
+            (numbers_in (cell_at (state_at (Self.group self.now) spot.id spot.place) spot.cell)) };
 
     /// How many queues a cell has; 0 where there is none, or where it is of numbers.
     fn queues_count(&self, spot: Spot) -> u32

@@ -4,7 +4,7 @@ use Rattle.layer_mean.specs.Tree.{LayerTree}
 use Rattle.script_mean.specs.declared.plan.NodePlan.{NodePlan}
 use Rattle.stack_mean.specs.Plans.{plans_of}
 use Rattle.run_mean.specs.Mode.{Mode}
-use Rattle.run_mean.specs.Journal.{Heard, failure, Note, notes_of, node_run, Handed, handed}
+use Rattle.run_mean.specs.Journal.{Heard, failure, Note, notes_of, node_run, Handed, handed_datagrams}
 use Rattle.run_mean.specs.Report.{Moment}
 
 -- What the clock and the network of a node told: the moment of each turn, what each own member heard in each turn, and
@@ -15,8 +15,8 @@ pub record Surroundings : Type 0 where
   pub lost : List ℕ
 
 -- How often the sending of a packet failed.
-abbrev pub failed : Surroundings → ℕ → ℕ
-failed s k = count_by (λ lost. lost == k) s.lost
+abbrev pub failed_sends : Surroundings → ℕ → ℕ
+failed_sends s k = count_by (λ lost. lost == k) s.lost
 
 -- What the words of a node say: how many turns it makes, its own members, how many failed receives it bears, and its
 -- mode.
@@ -30,15 +30,15 @@ abbrev pub node_words : ℕ → List ℕ → ℕ → Mode → NodeWords
 node_words turns me patience mode = record { turns = turns; me = me; patience = patience; mode = mode }
 
 -- The notes of a node, and the moments of its journal: a list of script events, whatever the surroundings told.
-abbrev pub noted : NodePlan → NodeWords → Surroundings → List Note
-noted plan words s = notes_of plan words.me words.turns words.patience s.clock s.heard
+abbrev pub node_notes : NodePlan → NodeWords → Surroundings → List Note
+node_notes plan words s = notes_of plan words.me words.turns words.patience s.clock s.heard
 
-abbrev pub played : List LayerTree → NodePlan → NodeWords → Surroundings → List Moment
-played stack plan words s = node_run stack (plans_of stack) plan (noted plan words s)
+abbrev pub node_moments : List LayerTree → NodePlan → NodeWords → Surroundings → List Moment
+node_moments stack plan words s = node_run stack (plans_of stack) plan (node_notes plan words s)
 
 -- What a node hands to the network.
 abbrev pub handed_by : List LayerTree → NodePlan → NodeWords → Surroundings → List Handed
-handed_by stack plan words s = handed words.mode stack (plans_of stack) (played stack plan words s)
+handed_by stack plan words s = handed_datagrams words.mode stack (plans_of stack) (node_moments stack plan words s)
 
 -- How many receives failed.
 abbrev pub is_failure : Heard → Bool

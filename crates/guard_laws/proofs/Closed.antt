@@ -13,22 +13,24 @@ use Rattle.trace_mean.specs.Trace.{taken_message, nothing, TraceMessage, core, h
 use Rattle.trace_mean.specs.Trace.{Operation, bind, note, check, set, set_square, push, take, output, Guarded}
 use Rattle.guard_mean.specs.Alike.{same_number, is_among}
 use Rattle.guard_mean.specs.Hoist.{Write, wrote, wrote_square, put, got, Taken, Hoisting, AtEntry, at_entry, named_term}
-use Rattle.guard_mean.specs.Hoist.{named, named_if, zero_number, one_number, are_zero, is_here, sets, squares, moves}
+use Rattle.guard_mean.specs.Hoist.{named_value, named_if, zero_number, one_number, are_zero, is_here, sets, squares}
+use Rattle.guard_mean.specs.Hoist.{moves}
 use Rattle.guard_mean.specs.Hoist.{set_term, element_term, square_term, hit, rows_term, Part, number_part, size_part}
 use Rattle.guard_mean.specs.Hoist.{part_at_entry, part_of_put, is_put, deep_term, part_term, taken_term, back}
 use Rattle.guard_mean.specs.Hoist.{size_back, all_back, put_size_back, hoists, nothing_yet, hoisted}
-use Rattle.guard_mean.specs.Simplify.{written_number, settled, second, make_binary, applied_to, make_apply, picked}
+use Rattle.guard_mean.specs.Simplify.{written_number, is_settled, second, make_binary, applied_to, make_apply}
+use Rattle.guard_mean.specs.Simplify.{reduced_pick}
 use Rattle.guard_mean.specs.Simplify.{make_pick, make_atom, reduced, reduced_message, Left, found_among, other_value}
 use Rattle.guard_mean.specs.Simplify.{next_value, leaves, another, keeps, reduced_operation, guarded_by}
 use Rattle.guard_mean.specs.Prune.{renamed, renamed_message, flags, prunes_one, prunes, pruned}
-use Rattle.guard_mean.specs.Closed.{closed_atom, closed, closed_message, all_closed, is_closed}
+use Rattle.guard_mean.specs.Closed.{closed_atom, closed_number, closed_message, all_closed, is_closed}
 use Rattle.guard_laws.specs.Closed.{HoistedIsClosed, SimplifiedIsClosed}
 use Rattle.guard_laws.proofs.Grows.{Grown, grown_same, grown_then, name_grows, back_grows, size_grows, all_grows}
 use Rattle.guard_laws.proofs.Grows.{put_grows}
 
 -- what holds of closed terms: a Bool that is true
 abbrev Closed : ℕ → TraceNumber → Type 0
-Closed n e = closed n e ≡ true
+Closed n e = closed_number n e ≡ true
 
 mutual
   pub closed_more : (n m : ℕ) (e : TraceNumber) → n ≤ m → Closed n e → Closed m e
@@ -42,29 +44,30 @@ mutual
   closed_more n m count l h = refl
   closed_more n m ltime l h = refl
   closed_more n m (element p c e) l h = closed_more n m e l h
-  closed_more n m (square p c r k) l h = let b = and_parts (closed n r) (closed n k) h in
+  closed_more n m (square p c r k) l h = let b = and_parts (closed_number n r) (closed_number n k) h in
       and_from _ _ (closed_more n m r l b.0) (closed_more n m k l b.1)
   closed_more n m (rows p c e) l h = closed_more n m e l h
-  closed_more n m (item p c e r k) l h = let b = and_parts (closed n e) (closed n r) h in
+  closed_more n m (item p c e r k) l h = let b = and_parts (closed_number n e) (closed_number n r) h in
       and_from _ _ (closed_more n m e l b.0) (closed_more n m r l b.1)
   closed_more n m (size w) l h = closed_message_more n m w l h
-  closed_more n m (binary o a d) l h = let b = and_parts (closed n a) (closed n d) h in
+  closed_more n m (binary o a d) l h = let b = and_parts (closed_number n a) (closed_number n d) h in
       and_from _ _ (closed_more n m a l b.0) (closed_more n m d l b.1)
   closed_more n m (apply f a) l h = closed_more n m a l h
   closed_more n m (pick c a d) l h =
-      let b = and_parts (closed n c) (closed n a && closed n d) h in let e = and_parts (closed n a) (closed n d) b.1 in
+      let b = and_parts (closed_number n c) (closed_number n a && closed_number n d) h in let e =
+      and_parts (closed_number n a) (closed_number n d) b.1 in
       and_from _ _ (closed_more n m c l b.0) (and_from _ _ (closed_more n m a l e.0) (closed_more n m d l e.1))
 
   closed_message_more : (n m : ℕ) (w : TraceMessage) → n ≤ m → closed_message n w ≡ true → closed_message m w ≡ true
   closed_message_more n m (core c) l h = h
-  closed_message_more n m (held p c e r carried) l h = let b = and_parts (closed n e) (closed n r) h in
+  closed_message_more n m (held p c e r carried) l h = let b = and_parts (closed_number n e) (closed_number n r) h in
       and_from _ _ (closed_more n m e l b.0) (closed_more n m r l b.1)
   closed_message_more n m (cut w f k) l h =
-      let b = and_parts (closed_message n w) (closed n f && closed n k) h in let e =
-      and_parts (closed n f) (closed n k) b.1 in
+      let b = and_parts (closed_message n w) (closed_number n f && closed_number n k) h in let e =
+      and_parts (closed_number n f) (closed_number n k) b.1 in
       and_from _ _ (closed_message_more n m w l b.0) (and_from _ _ (closed_more n m f l e.0) (closed_more n m k l e.1))
   closed_message_more n m (tail w f) l h =
-      let b = and_parts (closed_message n w) (closed n f) h in
+      let b = and_parts (closed_message n w) (closed_number n f) h in
       and_from _ _ (closed_message_more n m w l b.0) (closed_more n m f l b.1)
   closed_message_more n m (join a d) l h =
       let b = and_parts (closed_message n a) (closed_message n d) h in
@@ -202,7 +205,7 @@ taken_closed n (t ∷ ts) (suc r) f h = taken_closed n ts r f h.2
 closed_push : (n : ℕ) (vs : List TraceNumber) (e : TraceNumber) → all_closed n vs ≡ true → Closed (n + length vs) e →
     all_closed n (vs ++ e ∷ []) ≡ true
 closed_push n [] e h x = two _ _ (subst (λ m. Closed m e) (let e : n + 0 ≡ n = omega arith in e) x) refl
-closed_push n (v ∷ vs) e h x = let b = and_parts (closed n v) (all_closed (suc n) vs) h in
+closed_push n (v ∷ vs) e h x = let b = and_parts (closed_number n v) (all_closed (suc n) vs) h in
     two _ _ b.0 (closed_push (suc n) vs e b.1
     (subst (λ m. Closed m e) (let e : n + suc (length vs) ≡ suc n + length vs = omega arith in e) x))
 
@@ -228,7 +231,7 @@ named_closed (atom a) vs h x = record { values = h; term = x }
 named_closed (size (core body)) vs h x = record { values = h; term = x }
 named_closed e vs h x = new_closed _ vs h x
 
-name_closed : (x : AtEntry) → ClosedAt x → ClosedAt (named x)
+name_closed : (x : AtEntry) → ClosedAt x → ClosedAt (named_value x)
 name_closed x c = named_closed x.term x.values c.values c.term
 
 name_if_closed : (b : Bool) (x : AtEntry) → ClosedAt x → ClosedAt (named_if b x)
@@ -355,12 +358,12 @@ module _ (h : Hoisting) (ch : ClosedSofar h) where
         })
     size_closed (core nothing) vs g v = record { values = v; term = refl }
     size_closed (cut m f k) vs g v =
-        let x = named (size_back h m vs) in let cx = name_closed (size_back h m vs) (size_closed m vs g v) in
+        let x = named_value (size_back h m vs) in let cx = name_closed (size_back h m vs) (size_closed m vs g v) in
         let gx = grown_then h.values vs x.values g (name_grows vs (size_back h m vs) (size_grows h m vs)) in
-        let y = named (back h f x.values) in let cy =
+        let y = named_value (back h f x.values) in let cy =
         name_closed (back h f x.values) (back_closed f x.values gx cx.values) in
         let gy = name_grows x.values (back h f x.values) (back_grows h f x.values) in
-        let z = named (back h k y.values) in let cz = name_closed (back h k y.values)
+        let z = named_value (back h k y.values) in let cz = name_closed (back h k y.values)
         (back_closed k y.values (grown_then h.values x.values y.values gx gy) cy.values) in
         let gz = name_grows y.values (back h k y.values) (back_grows h k y.values) in
         let tx = up x.values z.values x.term (grown_then x.values y.values z.values gy gz) cx.term in let ty =
@@ -371,17 +374,17 @@ module _ (h : Hoisting) (ch : ClosedSofar h) where
               (two _ _ (two _ _ cz.term (two _ _ tx ty)) (two _ _ cz.term (two _ _ tx ty))) refl);
         }
     size_closed (tail m f) vs g v =
-        let x = named (size_back h m vs) in let cx = name_closed (size_back h m vs) (size_closed m vs g v) in
+        let x = named_value (size_back h m vs) in let cx = name_closed (size_back h m vs) (size_closed m vs g v) in
         let gx = grown_then h.values vs x.values g (name_grows vs (size_back h m vs) (size_grows h m vs)) in
-        let y = named (back h f x.values) in let cy =
+        let y = named_value (back h f x.values) in let cy =
         name_closed (back h f x.values) (back_closed f x.values gx cx.values) in
         let tx = up x.values y.values x.term (name_grows x.values (back h f x.values) (back_grows h f x.values)) cx.term
         in
         record { values = cy.values; term = two _ _ (two _ _ cy.term tx) (two _ _ (two _ _ tx cy.term) refl) }
     size_closed (join a b) vs g v =
-        let x = named (size_back h a vs) in let cx = name_closed (size_back h a vs) (size_closed a vs g v) in
+        let x = named_value (size_back h a vs) in let cx = name_closed (size_back h a vs) (size_closed a vs g v) in
         let gx = grown_then h.values vs x.values g (name_grows vs (size_back h a vs) (size_grows h a vs)) in
-        let y = named (size_back h b x.values) in let cy =
+        let y = named_value (size_back h b x.values) in let cy =
         name_closed (size_back h b x.values) (size_closed b x.values gx cx.values) in
         let tx = up x.values y.values x.term (name_grows x.values (size_back h b x.values) (size_grows h b x.values))
         cx.term in
@@ -415,7 +418,7 @@ taken_push : (n : ℕ) (ts : List Taken) (t : Taken) → ClosedTaken n ts → Cl
 taken_push n [] t h x y = (x, y, tt)
 taken_push n (u ∷ ts) t h x y = (h.0, h.1, taken_push n ts t h.2 x y)
 
--- what was closed stays so behind more entry values
+-- what was closed stays so after more entry values
 rise : (h : Hoisting) (c : ClosedSofar h) (vs : List TraceNumber) → Grown h.values vs → all_closed 0 vs ≡ true →
     ClosedSofar (record h { values = vs })
 rise h c vs g v = let l = grown_length h.values vs g in record {
@@ -429,7 +432,7 @@ rise h c vs g v = let l = grown_length h.values vs g in record {
 
 hoists_closed : (h : Hoisting) (o : Operation) → ClosedSofar h → ClosedSofar (hoists h o)
 hoists_closed h (bind e) c =
-    let x = named (back h e h.values) in let cx =
+    let x = named_value (back h e h.values) in let cx =
     name_closed (back h e h.values) (back_closed h c e h.values (grown_same h.values) c.values) in
     let r = rise h c x.values (name_grows h.values (back h e h.values) (back_grows h e h.values)) cx.values in
     record {
@@ -441,7 +444,7 @@ hoists_closed h (bind e) c =
       log = r.log;
     }
 hoists_closed h (note m) c =
-    let x = named (size_back h m h.values) in let cx =
+    let x = named_value (size_back h m h.values) in let cx =
     name_closed (size_back h m h.values) (size_closed h c m h.values (grown_same h.values) c.values) in
     let r = rise h c x.values (name_grows h.values (size_back h m h.values) (size_grows h m h.values)) cx.values in
     record {
@@ -537,7 +540,7 @@ hoist_all_closed : (os : List Operation) (h : Hoisting) → ClosedSofar h → Cl
 hoist_all_closed [] h c = c
 hoist_all_closed (o ∷ os) h c = hoist_all_closed os (hoists h o) (hoists_closed h o c)
 
-list_closed : (n : ℕ) (es : List TraceNumber) → ClosedAll n es → list_all (closed n) es ≡ true
+list_closed : (n : ℕ) (es : List TraceNumber) → ClosedAll n es → list_all (closed_number n) es ≡ true
 list_closed n [] h = refl
 list_closed n (e ∷ es) h = two _ _ h.0 (list_closed n es h.1)
 
@@ -580,8 +583,8 @@ module _ (n m : ℕ) (ns : List Atom) (names : ClosedNames m ns) where
 
     go : (p q : Option ℕ) → Closed m (second ks o a b p q)
     go (Some j) (Some k) = refl
-    go (Some j) None = one (settled ks o a b)
-    go None q = one (settled ks o a b)
+    go (Some j) None = one (is_settled ks o a b)
+    go None q = one (is_settled ks o a b)
 
   apply_closed : (f : Function) (a : TraceNumber) → Closed m a → Closed m (make_apply f a)
   apply_closed f a x = go (written_number a) where
@@ -591,7 +594,7 @@ module _ (n m : ℕ) (ns : List Atom) (names : ClosedNames m ns) where
 
   pick_closed : (c a b : TraceNumber) → Closed m c → Closed m a → Closed m b → Closed m (make_pick c a b)
   pick_closed c a b x y z = go (written_number c) where
-    go : (p : Option ℕ) → Closed m (picked p c a b)
+    go : (p : Option ℕ) → Closed m (reduced_pick p c a b)
     go (Some j) = either (is_true j) m a b y z
     go None = two _ _ x (two _ _ y z)
 
@@ -602,32 +605,32 @@ module _ (n m : ℕ) (ns : List Atom) (names : ClosedNames m ns) where
     reduced_closed ks count h = refl
     reduced_closed ks ltime h = refl
     reduced_closed ks (element p c e) h = reduced_closed ks e h
-    reduced_closed ks (square p c r k) h = let b = and_parts (closed n r) (closed n k) h in
+    reduced_closed ks (square p c r k) h = let b = and_parts (closed_number n r) (closed_number n k) h in
         two _ _ (reduced_closed ks r b.0) (reduced_closed ks k b.1)
     reduced_closed ks (rows p c e) h = reduced_closed ks e h
-    reduced_closed ks (item p c e r k) h = let b = and_parts (closed n e) (closed n r) h in
+    reduced_closed ks (item p c e r k) h = let b = and_parts (closed_number n e) (closed_number n r) h in
         two _ _ (reduced_closed ks e b.0) (reduced_closed ks r b.1)
     reduced_closed ks (size w) h = reduced_message_closed ks w h
-    reduced_closed ks (binary o a d) h = let b = and_parts (closed n a) (closed n d) h in
+    reduced_closed ks (binary o a d) h = let b = and_parts (closed_number n a) (closed_number n d) h in
         binary_closed ks o (reduced ns ks a) (reduced ns ks d) (reduced_closed ks a b.0) (reduced_closed ks d b.1)
     reduced_closed ks (apply f a) h = apply_closed f (reduced ns ks a) (reduced_closed ks a h)
     reduced_closed ks (pick c a d) h =
-        let b = and_parts (closed n c) (closed n a && closed n d) h in let e =
-        and_parts (closed n a) (closed n d) b.1 in
+        let b = and_parts (closed_number n c) (closed_number n a && closed_number n d) h in let e =
+        and_parts (closed_number n a) (closed_number n d) b.1 in
         pick_closed (reduced ns ks c) (reduced ns ks a) (reduced ns ks d) (reduced_closed ks c b.0)
         (reduced_closed ks a e.0) (reduced_closed ks d e.1)
 
     reduced_message_closed : (ks : List TraceNumber) (w : TraceMessage) → closed_message n w ≡ true →
         closed_message m (reduced_message ns ks w) ≡ true
     reduced_message_closed ks (core c) h = h
-    reduced_message_closed ks (held p c e r carried) h = let b = and_parts (closed n e) (closed n r) h in
+    reduced_message_closed ks (held p c e r carried) h = let b = and_parts (closed_number n e) (closed_number n r) h in
         two _ _ (reduced_closed ks e b.0) (reduced_closed ks r b.1)
     reduced_message_closed ks (cut w f k) h =
-        let b = and_parts (closed_message n w) (closed n f && closed n k) h in let e =
-        and_parts (closed n f) (closed n k) b.1 in
+        let b = and_parts (closed_message n w) (closed_number n f && closed_number n k) h in let e =
+        and_parts (closed_number n f) (closed_number n k) b.1 in
         two _ _ (reduced_message_closed ks w b.0) (two _ _ (reduced_closed ks f e.0) (reduced_closed ks k e.1))
     reduced_message_closed ks (tail w f) h =
-        let b = and_parts (closed_message n w) (closed n f) h in
+        let b = and_parts (closed_message n w) (closed_number n f) h in
         two _ _ (reduced_message_closed ks w b.0) (reduced_closed ks f b.1)
     reduced_message_closed ks (join a d) h =
         let b = and_parts (closed_message n a) (closed_message n d) h in
@@ -640,31 +643,31 @@ module _ (n m : ℕ) (ns : List Atom) (names : ClosedNames m ns) where
     renamed_closed count h = refl
     renamed_closed ltime h = refl
     renamed_closed (element p c e) h = renamed_closed e h
-    renamed_closed (square p c r k) h = let b = and_parts (closed n r) (closed n k) h in
+    renamed_closed (square p c r k) h = let b = and_parts (closed_number n r) (closed_number n k) h in
         two _ _ (renamed_closed r b.0) (renamed_closed k b.1)
     renamed_closed (rows p c e) h = renamed_closed e h
-    renamed_closed (item p c e r k) h = let b = and_parts (closed n e) (closed n r) h in
+    renamed_closed (item p c e r k) h = let b = and_parts (closed_number n e) (closed_number n r) h in
         two _ _ (renamed_closed e b.0) (renamed_closed r b.1)
     renamed_closed (size w) h = renamed_message_closed w h
-    renamed_closed (binary o a d) h = let b = and_parts (closed n a) (closed n d) h in
+    renamed_closed (binary o a d) h = let b = and_parts (closed_number n a) (closed_number n d) h in
         two _ _ (renamed_closed a b.0) (renamed_closed d b.1)
     renamed_closed (apply f a) h = renamed_closed a h
     renamed_closed (pick c a d) h =
-        let b = and_parts (closed n c) (closed n a && closed n d) h in let e =
-        and_parts (closed n a) (closed n d) b.1 in
+        let b = and_parts (closed_number n c) (closed_number n a && closed_number n d) h in let e =
+        and_parts (closed_number n a) (closed_number n d) b.1 in
         two _ _ (renamed_closed c b.0) (two _ _ (renamed_closed a e.0) (renamed_closed d e.1))
 
     renamed_message_closed : (w : TraceMessage) → closed_message n w ≡ true → closed_message m (renamed_message ns w) ≡
         true
     renamed_message_closed (core c) h = h
-    renamed_message_closed (held p c e r carried) h = let b = and_parts (closed n e) (closed n r) h in
+    renamed_message_closed (held p c e r carried) h = let b = and_parts (closed_number n e) (closed_number n r) h in
         two _ _ (renamed_closed e b.0) (renamed_closed r b.1)
     renamed_message_closed (cut w f k) h =
-        let b = and_parts (closed_message n w) (closed n f && closed n k) h in let e =
-        and_parts (closed n f) (closed n k) b.1 in
+        let b = and_parts (closed_message n w) (closed_number n f && closed_number n k) h in let e =
+        and_parts (closed_number n f) (closed_number n k) b.1 in
         two _ _ (renamed_message_closed w b.0) (two _ _ (renamed_closed f e.0) (renamed_closed k e.1))
     renamed_message_closed (tail w f) h =
-        let b = and_parts (closed_message n w) (closed n f) h in
+        let b = and_parts (closed_message n w) (closed_number n f) h in
         two _ _ (renamed_message_closed w b.0) (renamed_closed f b.1)
     renamed_message_closed (join a d) h =
         let b = and_parts (closed_message n a) (closed_message n d) h in
@@ -715,7 +718,7 @@ leaves_closed n l e c h = go (written_number x) where
 leave_all_closed : (es : List TraceNumber) (n : ℕ) (l : Left) → all_closed n es ≡ true → ClosedLeft l →
     ClosedLeft (fold leaves l es)
 leave_all_closed [] n l h c = c
-leave_all_closed (e ∷ es) n l h c = let b = and_parts (closed n e) (all_closed (suc n) es) h in
+leave_all_closed (e ∷ es) n l h c = let b = and_parts (closed_number n e) (all_closed (suc n) es) h in
     leave_all_closed es (suc n) (leaves l e) b.1 (leaves_closed n l e c b.0)
 
 abbrev ClosedKept : ℕ → Option (List TraceNumber) → Type 0
@@ -724,9 +727,10 @@ ClosedKept m (Some ks) = ClosedAll m ks
 
 keep_all_closed : (n m : ℕ) (ns : List Atom) → ClosedNames m ns →
     (es : List TraceNumber) (kept : Option (List TraceNumber)) →
-    list_all (closed n) es ≡ true → ClosedKept m kept → ClosedKept m (fold (keeps ns) kept es)
+    list_all (closed_number n) es ≡ true → ClosedKept m kept → ClosedKept m (fold (keeps ns) kept es)
 keep_all_closed n m ns names [] kept h c = c
-keep_all_closed n m ns names (e ∷ es) kept h c = let b = and_parts (closed n e) (list_all (closed n) es) h in
+keep_all_closed n m ns names (e ∷ es) kept h c = let b = and_parts (closed_number n e) (list_all (closed_number n) es) h
+    in
     keep_all_closed n m ns names es (keeps ns kept e) b.1 (one kept c b.0) where
       one : (kept : Option (List TraceNumber)) → ClosedKept m kept → Closed n e → ClosedKept m (keeps ns kept e)
       one None c x = tt
@@ -746,7 +750,7 @@ keep_all_closed n m ns names (e ∷ es) kept h c = let b = and_parts (closed n e
 pub simplified_is_closed : SimplifiedIsClosed
 simplified_is_closed g h = by_kept (fold (keeps l.names) (Some []) g.conjuncts)
     (keep_all_closed (length g.values) (length l.values) l.names left.names g.conjuncts (Some []) both.1 tt) where
-      both : (all_closed 0 g.values ≡ true) × (list_all (closed (length g.values)) g.conjuncts ≡ true)
+      both : (all_closed 0 g.values ≡ true) × (list_all (closed_number (length g.values)) g.conjuncts ≡ true)
       both = and_parts (all_closed 0 g.values) _ h
 
       l : Left
@@ -766,17 +770,17 @@ prune_all_closed : (es : List TraceNumber) (n : ℕ) (fs : List Bool) (l : Left)
     ClosedLeft (prunes l es fs)
 prune_all_closed [] n fs l h c = c
 prune_all_closed (e ∷ es) n [] l h c = c
-prune_all_closed (e ∷ es) n (f ∷ fs) l h c = let b = and_parts (closed n e) (all_closed (suc n) es) h in
+prune_all_closed (e ∷ es) n (f ∷ fs) l h c = let b = and_parts (closed_number n e) (all_closed (suc n) es) h in
     prune_all_closed es (suc n) fs (prunes_one l e f) b.1 (one f b.0) where
       one : (f : Bool) → Closed n e → ClosedLeft (prunes_one l e f)
       one true x = left_push l (renamed l.names e) c (renamed_closed n (length l.values) l.names c.names e x)
       one false x = record { values = c.values; names = name_push (length l.values) l.names (number 0) c.names refl }
 
 renamed_all_closed : (n m : ℕ) (ns : List Atom) → ClosedNames m ns → (es : List TraceNumber) →
-    list_all (closed n) es ≡ true →
-    list_all (closed m) (map (renamed ns) es) ≡ true
+    list_all (closed_number n) es ≡ true →
+    list_all (closed_number m) (map (renamed ns) es) ≡ true
 renamed_all_closed n m ns names [] h = refl
-renamed_all_closed n m ns names (e ∷ es) h = let b = and_parts (closed n e) (list_all (closed n) es) h in
+renamed_all_closed n m ns names (e ∷ es) h = let b = and_parts (closed_number n e) (list_all (closed_number n) es) h in
     two _ _ (renamed_closed n m ns names e b.0) (renamed_all_closed n m ns names es b.1)
 
 pruned_is_closed : (g : Guarded) → is_closed g ≡ true → is_closed (pruned g) ≡ true

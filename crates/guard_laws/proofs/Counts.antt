@@ -13,7 +13,8 @@ use Rattle.trace_mean.specs.Counts.{message_joins, note_joins, an_output}
 use Rattle.guard_mean.specs.Simplify.{reduced_message, reduced_operation, keeps, guarded_by}
 use Rattle.guard_mean.specs.Code as code
 use Rattle.guard_mean.specs.Code.{Reading, Making, Step, make, keep, Code}
-use Rattle.guard_mean.specs.Straight.{straight, all_straight, Sheet, sheet_line, makes, placed_core, placed, sending}
+use Rattle.guard_mean.specs.Straight.{straight, all_straight, Sheet, sheet_line, makes, placed_core, placed_message}
+use Rattle.guard_mean.specs.Straight.{sending}
 use Rattle.guard_mean.specs.Straight.{writes, guarding, first_sheet, code_of}
 use Rattle.guard_laws.specs.Counts.{a_join, a_put, HoistedAddsNothing, SimplifiedAddsNothing, CodeAddsNothing}
 
@@ -91,7 +92,7 @@ one_step : (f : Step → ℕ) (ss : List Step) (s : Step) → sum_by f (ss ++ s 
 one_step f ss s = sum_by-append f ss (s ∷ []) ∙
     ap (λ n. sum_by f ss + n) (sum_by-cons f s [] ∙ (let e : f s + sum_by f [] ≡ f s = omega arith in e))
 
--- a step behind readings
+-- a step after readings
 after_readings : (f : Step → ℕ) → ((r : Reading) → f (make r) ≡ 0) → (ss : List Step) (rs : List Reading) (s : Step) →
     sum_by f ((ss ++ map make rs) ++ s ∷ []) ≡ sum_by f ss + f s
 after_readings f none ss rs s = one_step f (ss ++ map make rs) s ∙ ap (λ n. n + f s) (more_readings f none ss rs)
@@ -130,7 +131,7 @@ module _ (f : Step → ℕ) (g : TraceMessage → ℕ) (h : Operation → ℕ) (
       omega (arith, e) in t)
   core_sum nothing s = refl
 
-  placed_sum : (m : TraceMessage) (s : Sheet) → sum (placed m s).sheet ≡ sum s + g m
+  placed_sum : (m : TraceMessage) (s : Sheet) → sum (placed_message m s).sheet ≡ sum s + g m
   placed_sum (core c) s = core_sum c s ∙
       (let e = so.core_none c in let t : sum s ≡ sum s + g (core c) = omega (arith, e) in t)
   placed_sum (held p c e r carried) s =
@@ -139,18 +140,18 @@ module _ (f : Step → ℕ) (g : TraceMessage → ℕ) (h : Operation → ℕ) (
       ∙ ap₂ (λ a b. sum s + a) (so.holds_none p c x.at y.at carried ∙ sym (so.held_none p c e r carried))
       (so.held_none p c e r carried)
   placed_sum (cut m a b) s =
-      let d = placed m s in let x = straight d.sheet.names a (sheet_line d.sheet) in let y =
+      let d = placed_message m s in let x = straight d.sheet.names a (sheet_line d.sheet) in let y =
       straight d.sheet.names b x.line in
       after_readings f so.makes_none d.sheet.steps y.line.readings (keep (code.cut d.at x.at y.at))
       ∙ (let rest = placed_sum m s in let e = so.cuts_none d.at x.at y.at in let k = so.cut_same m a b in
       let t : sum d.sheet + f (keep (code.cut d.at x.at y.at)) ≡ sum s + g (cut m a b) = omega (arith, rest, e, k) in t)
   placed_sum (tail m a) s =
-      let d = placed m s in let x = straight d.sheet.names a (sheet_line d.sheet) in
+      let d = placed_message m s in let x = straight d.sheet.names a (sheet_line d.sheet) in
       after_readings f so.makes_none d.sheet.steps x.line.readings (keep (code.tail d.at x.at))
       ∙ (let rest = placed_sum m s in let e = so.tails_none d.at x.at in let k = so.tail_same m a in
       let t : sum d.sheet + f (keep (code.tail d.at x.at)) ≡ sum s + g (tail m a) = omega (arith, rest, e, k) in t)
   placed_sum (join p m) s =
-      let a = placed p s in let b = placed m a.sheet in
+      let a = placed_message p s in let b = placed_message m a.sheet in
       one_step f b.sheet.steps (keep (code.join a.at b.at))
       ∙ (let first = placed_sum p s in let second = placed_sum m a.sheet in let e = so.joins_one p m a.at b.at in
       let t : sum b.sheet + f (keep (code.join a.at b.at)) ≡ sum s + g (join p m) = omega (arith, first, second, e) in

@@ -45,7 +45,7 @@ use Rattle.trace_form_laws.specs.Closed.{layer_of}
 use Rattle.trace_form_laws.specs.There.{HasNumber, IsThere, AreThere}
 use Rattle.trace_form_laws.proofs.There.{traces_name_well}
 use Rattle.guard_mean.specs.Hoist.{is_zero}
-use Rattle.guard_mean.specs.Perform.{holds, end_of, ended}
+use Rattle.guard_mean.specs.Perform.{holds, end_of, answer_end}
 use Rattle.guard_mean.specs.Prune.{hoist}
 use Rattle.guard_mean.specs.Simplify.{simplified}
 use Rattle.guard_laws.specs.Sound.{extent, row_count, fits_extent, Sound}
@@ -423,4 +423,4 @@ codes_follow_traces case stack k fields operations i states named made enters =
 pub codes_are_right : CodesAreRight
 codes_are_right case stack k fields operations i states named made enters =
     codes_follow_traces case stack k fields operations i states named made enters
-    ∙ ap ended (traces_are_right case stack k fields operations i states made enters).answer
+    ∙ ap answer_end (traces_are_right case stack k fields operations i states made enters).answer

@@ -20,7 +20,8 @@ use Rattle.trace_form_laws.specs.Names.{OperationNames}
 use Rattle.trace_form_laws.specs.Closed.{Reach, IsMade, layer_of, reaching, Closed}
 use Rattle.trace_form_laws.specs.There.{HasNumber, HasRows, IsThere, AreThere}
 use Rattle.guard_mean.specs.Hoist.{one_number}
-use Rattle.guard_mean.specs.Simplify.{written_number, settled, second, make_binary, applied_to, make_apply, picked}
+use Rattle.guard_mean.specs.Simplify.{written_number, is_settled, second, make_binary, applied_to, make_apply}
+use Rattle.guard_mean.specs.Simplify.{reduced_pick}
 use Rattle.guard_mean.specs.Simplify.{make_pick, make_atom, reduced, reduced_message, Left, leaves, keeps}
 use Rattle.guard_mean.specs.Simplify.{reduced_operation, guarded_by, simplified}
 use Rattle.guard_laws.specs.Forms.{SimplifiedStaysFormed}
@@ -48,8 +49,8 @@ module _ (So : Name → Type 0) (literal : (n : ℕ) → So (a_number (number n)
 
     go : (n m : Option ℕ) → NumberNames So (second [] o a b n m)
     go (Some n) (Some m) = literal _
-    go (Some n) None = either (settled [] o a b)
-    go None m = either (settled [] o a b)
+    go (Some n) None = either (is_settled [] o a b)
+    go None m = either (is_settled [] o a b)
 
   apply_named : (f : Function) (a : TraceNumber) → NumberNames So a → NumberNames So (make_apply f a)
   apply_named f a x = go (written_number a) where
@@ -64,7 +65,7 @@ module _ (So : Name → Type 0) (literal : (n : ℕ) → So (a_number (number n)
     either true = y
     either false = z
 
-    go : (n : Option ℕ) → NumberNames So (picked n c a b)
+    go : (n : Option ℕ) → NumberNames So (reduced_pick n c a b)
     go (Some n) = either (is_true n)
     go None = (x, y, z)
 

@@ -1,4 +1,4 @@
--- Entry values are only added behind others.
+-- Entry values are only added after others.
 use Rattle.std.proofs.Common.{◌≡◌, ℕ, ◌+◌, Bool, true, false, List, [], ◌∷◌, ◌++◌, length, Option, Some, None, fold}
 use Rattle.std.proofs.Common.{refl, sym, ap, ◌∙◌, subst, arith, append_assoc, append-nil, zero-add}
 use Rattle.std.proofs.lemmas.List.{length-append}
@@ -10,10 +10,10 @@ use Rattle.trace_mean.specs.Trace.{nothing, TraceMessage, core, held, cut, tail,
 use Rattle.trace_mean.specs.Trace.{check, set, set_square, push, take, output}
 use Rattle.trace_mean.specs.Worth.{Input, number_of, only_values}
 use Rattle.guard_mean.specs.Perform.{with_value, values_of}
-use Rattle.guard_mean.specs.Hoist.{Hoisting, AtEntry, named_term, named, named_if, sets, squares, moves, back}
+use Rattle.guard_mean.specs.Hoist.{Hoisting, AtEntry, named_term, named_value, named_if, sets, squares, moves, back}
 use Rattle.guard_mean.specs.Hoist.{size_back, all_back, put_size_back, hoists}
 
--- a list with more behind it
+-- a list with more after it
 abbrev pub Grown : {A : Type 0} → List A → List A → Type 0
 Grown {A} xs ys = (more : List A) × (ys ≡ xs ++ more)
 
@@ -31,8 +31,8 @@ named_grows (atom a) vs = grown_same vs
 named_grows (size (core body)) vs = grown_same vs
 named_grows e vs = grown_one vs _
 
-pub name_grows : (vs : List TraceNumber) (x : AtEntry) → Grown vs x.values → Grown vs (named x).values
-name_grows vs x g = grown_then vs x.values (named x).values g (named_grows x.term x.values)
+pub name_grows : (vs : List TraceNumber) (x : AtEntry) → Grown vs x.values → Grown vs (named_value x).values
+name_grows vs x g = grown_then vs x.values (named_value x).values g (named_grows x.term x.values)
 
 name_if_grows : (b : Bool) (vs : List TraceNumber) (x : AtEntry) → Grown vs x.values → Grown vs (named_if b x).values
 name_if_grows true vs x g = name_grows vs x g
@@ -71,15 +71,15 @@ mutual
       (grown_then vs _ _ (back_grows h e vs) (back_grows h r (back h e vs).values))
   size_grows h (core nothing) vs = grown_same vs
   size_grows h (cut m f n) vs =
-      let x = named (size_back h m vs) in let y = named (back h f x.values) in
+      let x = named_value (size_back h m vs) in let y = named_value (back h f x.values) in
       grown_then vs _ _ (name_grows vs _ (size_grows h m vs))
       (grown_then x.values _ _ (name_grows x.values _ (back_grows h f x.values))
       (name_grows y.values _ (back_grows h n y.values)))
   size_grows h (tail m f) vs =
-      let x = named (size_back h m vs) in
+      let x = named_value (size_back h m vs) in
       grown_then vs _ _ (name_grows vs _ (size_grows h m vs)) (name_grows x.values _ (back_grows h f x.values))
   size_grows h (join a b) vs =
-      let x = named (size_back h a vs) in
+      let x = named_value (size_back h a vs) in
       grown_then vs _ _ (name_grows vs _ (size_grows h a vs)) (name_grows x.values _ (size_grows h b x.values))
 
 pub all_grows : (h : Hoisting) (es vs : List TraceNumber) → Grown vs (all_back h es vs).values
@@ -111,7 +111,7 @@ pub conjuncts_grow : (h : Hoisting) (o : Operation) → Grown h.conjuncts (hoist
 conjuncts_grow h (check e) = grown_one h.conjuncts _
 conjuncts_grow h o = grown_same h.conjuncts
 
--- more values are worth more numbers behind the same ones
+-- more values are worth more numbers after the same ones
 module _ (i : Input) (ss : List State) where
   fold_grows : (es : List TraceNumber) (vs : List ℕ) → Grown vs (fold (with_value i ss) vs es)
   fold_grows [] vs = grown_same vs

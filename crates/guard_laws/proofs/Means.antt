@@ -19,7 +19,8 @@ use Rattle.trace_mean.specs.Trace.{nothing, TraceMessage, core, held, cut, tail,
 use Rattle.trace_mean.specs.Worth.{content_at, Input, state_of, number_of, message_of, only_values}
 use Rattle.trace_mean.specs.Follow.{Trail}
 use Rattle.guard_mean.specs.Perform.{values_of}
-use Rattle.guard_mean.specs.Hoist.{Hoisting, AtEntry, at_entry, named_term, named, named_if, zero_number, sets, squares}
+use Rattle.guard_mean.specs.Hoist.{Hoisting, AtEntry, at_entry, named_term, named_value, named_if, zero_number, sets}
+use Rattle.guard_mean.specs.Hoist.{squares}
 use Rattle.guard_mean.specs.Hoist.{moves, element_term, square_term, rows_term, Part, number_part, size_part, part_term}
 use Rattle.guard_mean.specs.Hoist.{taken_term, back, size_back, all_back, put_size_back}
 use Rattle.guard_laws.specs.Sound.{extent, Squares, Reads, ReadsMessage, ReadsAll}
@@ -43,7 +44,7 @@ module _ (sq : Squares) (i : Input) (ss : List State) where
     pub rows : (p c j : ℕ) → map outline (rows_at (state_of t.states p) c j) ≡
         logged_rows i (only_values vs) ss h.log p c j
 
-  -- whatever is made behind these entry values
+  -- whatever is made after these entry values
   abbrev pub Behind : List TraceNumber → List ℕ → Type 0
   Behind es vs = Grown (values_of i ss es) vs
 
@@ -67,7 +68,7 @@ module _ (sq : Squares) (i : Input) (ss : List State) where
   name_means (size (core body)) es n m = m
   name_means e es n m = λ vs b. value_here es _ vs b ∙ m (values_of i ss es) (grown_same (values_of i ss es))
 
-  pub named_means : (x : AtEntry) (n : ℕ) → Means x n → Means (named x) n
+  pub named_means : (x : AtEntry) (n : ℕ) → Means x n → Means (named_value x) n
   named_means x n m = name_means x.term x.values n m
 
   name_if_means : (b : Bool) (x : AtEntry) (n : ℕ) → Means x n → Means (named_if b x) n
@@ -142,7 +143,7 @@ module _ (sq : Squares) (i : Input) (ss : List State) where
       j
 
   module _ (t : Trail) (h : Hoisting) (stands : (vs : List ℕ) → Behind h.values vs → Stands t h vs) where
-    -- what stands at these entry values, and behind more
+    -- what stands at these entry values, and after more
     at_these : (es : List TraceNumber) (vs : List ℕ) → Grown h.values es → Behind es vs → Stands t h vs
     at_these es vs g b = stands vs (behind_more h.values es vs g b)
 
@@ -258,7 +259,8 @@ module _ (sq : Squares) (i : Input) (ss : List State) where
           (number_of i t.kept t.states k)))
       size_means (core nothing) es g r = λ vs b. refl
       size_means (cut m f n) es g r = λ vs there.
-          let x = named (size_back h m es) in let y = named (back h f x.values) in let z = named (back h n y.values) in
+          let x = named_value (size_back h m es) in let y = named_value (back h f x.values) in let z =
+          named_value (back h n y.values) in
           let gx = grown_then h.values es x.values g (name_grows es (size_back h m es) (size_grows h m es)) in
           let gy' = name_grows x.values (back h f x.values) (back_grows h f x.values) in
           let gz' = name_grows y.values (back h n y.values) (back_grows h n y.values) in
@@ -275,7 +277,7 @@ module _ (sq : Squares) (i : Input) (ss : List State) where
           ∙ ap (min (number_of i t.kept t.states n))
           (length-drop (number_of i t.kept t.states f) (message_of i t.kept t.states m).body))
       size_means (tail m f) es g r = λ vs there.
-          let x = named (size_back h m es) in let y = named (back h f x.values) in
+          let x = named_value (size_back h m es) in let y = named_value (back h f x.values) in
           let gx = grown_then h.values es x.values g (name_grows es (size_back h m es) (size_grows h m es)) in
           let gy' = name_grows x.values (back h f x.values) (back_grows h f x.values) in
           let ex = named_means (size_back h m es) _ (size_means m es g r.1) vs
@@ -285,7 +287,7 @@ module _ (sq : Squares) (i : Input) (ss : List State) where
           r.0
           ∙ sym (length-drop (number_of i t.kept t.states f) (message_of i t.kept t.states m).body)
       size_means (join a b) es g r = λ vs there.
-          let x = named (size_back h a es) in let y = named (size_back h b x.values) in
+          let x = named_value (size_back h a es) in let y = named_value (size_back h b x.values) in
           let gx = grown_then h.values es x.values g (name_grows es (size_back h a es) (size_grows h a es)) in
           let gy' = name_grows x.values (size_back h b x.values) (size_grows h b x.values) in
           let ex = named_means (size_back h a es) _ (size_means a es g r.2) vs

@@ -12,8 +12,9 @@ use Rattle.trace_mean.specs.Trace.{held, cut, tail, join, Operation, bind, note,
 use Rattle.trace_mean.specs.Trace.{output}
 use Rattle.guard_mean.specs.Alike.{same_number, is_among}
 use Rattle.guard_mean.specs.Hoist.{one_number}
-use Rattle.guard_mean.specs.Simplify.{is_comparison, is_equal, is_number, written_number, settled, second, make_binary}
-use Rattle.guard_mean.specs.Simplify.{applied_to, make_apply, picked, make_pick, reduced, reduced_message, Left}
+use Rattle.guard_mean.specs.Simplify.{is_comparison, is_equal, is_number, written_number, is_settled, second}
+use Rattle.guard_mean.specs.Simplify.{make_binary}
+use Rattle.guard_mean.specs.Simplify.{applied_to, make_apply, reduced_pick, make_pick, reduced, reduced_message, Left}
 use Rattle.guard_mean.specs.Simplify.{found_among, other_value, next_value, leaves, another, keeps, reduced_operation}
 use Rattle.guard_mean.specs.Simplify.{guarded_by}
 use Rattle.guard_mean.specs.Reduced.{plain, plain_message, clear, clear_message, is_new, all_new, all_clear, is_never}
@@ -57,7 +58,7 @@ module _ (ks : List TraceNumber) where
   binary_plain : (o : Operator) (a b : TraceNumber) → plain a ≡ true → plain b ≡ true → plain (make_binary ks o a b) ≡
       true
   binary_plain o a b pa pb = go (written_number a) (written_number b) refl refl where
-    parts_plain : not (is_number a && is_number b) ≡ true → (t : Bool) → settled ks o a b ≡ t →
+    parts_plain : not (is_number a && is_number b) ≡ true → (t : Bool) → is_settled ks o a b ≡ t →
         plain (if t then one_number else binary o a b) ≡ true
     parts_plain out true is = refl
     parts_plain out false is = let no =
@@ -67,13 +68,14 @@ module _ (ks : List TraceNumber) where
     go : (x y : Option ℕ) → written_number a ≡ x → written_number b ≡ y → plain (second ks o a b x y) ≡ true
     go (Some n) (Some m) is too = refl
     go (Some n) None is too = parts_plain (not_false _ (right_false (is_number a) _ (no_number b too)))
-        (settled ks o a b) refl
-    go None y is too = parts_plain (not_false _ (left_false _ (is_number b) (no_number a is))) (settled ks o a b) refl
+        (is_settled ks o a b) refl
+    go None y is too = parts_plain (not_false _ (left_false _ (is_number b) (no_number a is))) (is_settled ks o a b)
+        refl
 
   binary_clear : (o : Operator) (a b : TraceNumber) → clear ks a ≡ true → clear ks b ≡ true →
       clear ks (make_binary ks o a b) ≡ true
   binary_clear o a b pa pb = go (written_number a) (written_number b) where
-    parts_clear : (t : Bool) → settled ks o a b ≡ t → clear ks (if t then one_number else binary o a b) ≡ true
+    parts_clear : (t : Bool) → is_settled ks o a b ≡ t → clear ks (if t then one_number else binary o a b) ≡ true
     parts_clear true is = refl
     parts_clear false is = let no =
         or_parts (is_equal o && same_number a b) (is_comparison o && is_among ks (binary o a b)) is in
@@ -81,8 +83,8 @@ module _ (ks : List TraceNumber) where
 
     go : (x y : Option ℕ) → clear ks (second ks o a b x y) ≡ true
     go (Some n) (Some m) = refl
-    go (Some n) None = parts_clear (settled ks o a b) refl
-    go None y = parts_clear (settled ks o a b) refl
+    go (Some n) None = parts_clear (is_settled ks o a b) refl
+    go None y = parts_clear (is_settled ks o a b) refl
 
   apply_plain : (f : Function) (a : TraceNumber) → plain a ≡ true → plain (make_apply f a) ≡ true
   apply_plain f a pa = go (written_number a) refl where
@@ -102,7 +104,7 @@ module _ (ks : List TraceNumber) where
     choice true = pa
     choice false = pb
 
-    go : (x : Option ℕ) → written_number c ≡ x → plain (picked x c a b) ≡ true
+    go : (x : Option ℕ) → written_number c ≡ x → plain (reduced_pick x c a b) ≡ true
     go (Some n) is = choice (is_true n)
     go None is = both_true _ _ (not_false _ (left_false _ (is_number a && is_number b) (no_number c is)))
         (both_true _ _ pc (both_true _ _ pa pb))
@@ -114,7 +116,7 @@ module _ (ks : List TraceNumber) where
     choice true = pa
     choice false = pb
 
-    go : (x : Option ℕ) → clear ks (picked x c a b) ≡ true
+    go : (x : Option ℕ) → clear ks (reduced_pick x c a b) ≡ true
     go (Some n) = choice (is_true n)
     go None = both_true _ _ pc (both_true _ _ pa pb)
 

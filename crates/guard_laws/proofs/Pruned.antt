@@ -15,7 +15,8 @@ use Rattle.trace_mean.specs.Trace.{taken_message, nothing, TraceMessage, core, h
 use Rattle.trace_mean.specs.Worth.{Input, Kept, core_at, state_of, atom_at, number_of, message_of, only_values}
 use Rattle.guard_mean.specs.Perform.{with_value, values_of, holds_at, holds}
 use Rattle.guard_mean.specs.Simplify.{Left, make_atom}
-use Rattle.guard_mean.specs.Prune.{reads_atom, reads, reads_message, renamed, renamed_message, any_reads, needed, flags}
+use Rattle.guard_mean.specs.Prune.{reads_atom, reads, reads_message, renamed, renamed_message, any_reads, is_needed}
+use Rattle.guard_mean.specs.Prune.{flags}
 use Rattle.guard_mean.specs.Prune.{prunes_one, prunes, pruned}
 use Rattle.guard_laws.proofs.Grows.{Grown, grown_same, grown_one, grown_then, values_grow}
 use Rattle.guard_laws.proofs.Means.{value_here}
@@ -95,10 +96,10 @@ module _ (i : Input) (kept : Kept) (ss : List State) (ws : List ℕ) (ns : List 
         (message_renamed b (λ v is. f v (or_right (reads_message v a) (reads_message v b) is)))
 
 module _ (i : Input) (ss : List State) (cs : List TraceNumber) where
-  -- names of what is needed behind some entry values
+  -- names of what is needed after some entry values
   record Going (es : List TraceNumber) (vs : List ℕ) (l : Left) : Type 0 where
     lengths : length l.names ≡ length vs
-    named : (ws : List ℕ) → Grown (values_of i ss l.values) ws → (k : ℕ) → needed k es cs (length l.names) ≡ true →
+    named : (ws : List ℕ) → Grown (values_of i ss l.values) ws → (k : ℕ) → is_needed k es cs (length l.names) ≡ true →
         Fits i (only_values vs) ss ws l.names k
 
   -- one name more, at one place
@@ -126,13 +127,13 @@ module _ (i : Input) (ss : List State) (cs : List TraceNumber) where
 
   prune_step : (e : TraceNumber) (es : List TraceNumber) (vs : List ℕ) (l : Left) → Going (e ∷ es) vs l →
       (flag : Bool) →
-      needed (length l.names) es cs (suc (length l.names)) ≡ flag →
+      is_needed (length l.names) es cs (suc (length l.names)) ≡ flag →
       Going es (with_value i ss vs e) (prunes_one l e flag)
   prune_step e es vs l so true is = record {
     lengths = more_lengths (value (length l.values));
     named = λ ws b k need. name_at ws vs l.names (value (length l.values)) v k so.lengths (λ at. new_here ws b)
         (so.named ws (before ws b) k
-        (or_right _ (needed k es cs (suc (length l.names))) (sooner (value (length l.values)) k need)));
+        (or_right _ (is_needed k es cs (suc (length l.names))) (sooner (value (length l.values)) k need)));
   } where
     v : ℕ
     v = number_of i (only_values vs) ss e
@@ -143,9 +144,9 @@ module _ (i : Input) (ss : List State) (cs : List TraceNumber) where
     more_lengths : (a : Atom) → length (l.names ++ a ∷ []) ≡ length (vs ++ v ∷ [])
     more_lengths a = length-append l.names (a ∷ []) ∙ ap (λ n. n + 1) so.lengths ∙ sym (length-append vs (v ∷ []))
 
-    sooner : (a : Atom) (k : ℕ) → needed k es cs (length (l.names ++ a ∷ [])) ≡ true →
-        needed k es cs (suc (length l.names)) ≡ true
-    sooner a k need = ap (needed k es cs) (let one = length-append l.names (a ∷ []) in
+    sooner : (a : Atom) (k : ℕ) → is_needed k es cs (length (l.names ++ a ∷ [])) ≡ true →
+        is_needed k es cs (suc (length l.names)) ≡ true
+    sooner a k need = ap (is_needed k es cs) (let one = length-append l.names (a ∷ []) in
         let e : suc (length l.names) ≡ length (l.names ++ a ∷ []) = omega (arith, one) in e) ∙ need
 
     before : (ws : List ℕ) → Grown (values_of i ss (l.values ++ x ∷ [])) ws → Grown (values_of i ss l.values) ws
@@ -156,24 +157,24 @@ module _ (i : Input) (ss : List State) (cs : List TraceNumber) where
     new_here ws b = value_here any_cell i ss l.values x ws b
         ∙ renamed_worth i (only_values vs) ss (values_of i ss l.values) l.names e
         (λ k read. so.named (values_of i ss l.values) (grown_same (values_of i ss l.values)) k
-        (or_left _ (needed k es cs (suc (length l.names))) (and_from _ (reads k e) is read)))
+        (or_left _ (is_needed k es cs (suc (length l.names))) (and_from _ (reads k e) is read)))
   prune_step e es vs l so false is = record {
     lengths = length-append l.names (number 0 ∷ []) ∙ ap (λ n. n + 1) so.lengths ∙ sym (length-append vs (v ∷ []));
     named = λ ws b k need.
         let later = sooner k need in
         name_at ws vs l.names (number 0) v k so.lengths (λ at. absurd (unneeded k at later))
-        (so.named ws b k (or_right _ (needed k es cs (suc (length l.names))) later));
+        (so.named ws b k (or_right _ (is_needed k es cs (suc (length l.names))) later));
   } where
     v : ℕ
     v = number_of i (only_values vs) ss e
 
-    sooner : (k : ℕ) → needed k es cs (length (l.names ++ number 0 ∷ [])) ≡ true →
-        needed k es cs (suc (length l.names)) ≡ true
-    sooner k need = ap (needed k es cs) (let one = length-append l.names (number 0 ∷ []) in
+    sooner : (k : ℕ) → is_needed k es cs (length (l.names ++ number 0 ∷ [])) ≡ true →
+        is_needed k es cs (suc (length l.names)) ≡ true
+    sooner k need = ap (is_needed k es cs) (let one = length-append l.names (number 0 ∷ []) in
         let e : suc (length l.names) ≡ length (l.names ++ number 0 ∷ []) = omega (arith, one) in e) ∙ need
 
-    unneeded : (k : ℕ) → k ≡ length l.names → needed k es cs (suc (length l.names)) ≡ true → ⊥
-    unneeded k at need = false≢true (sym is ∙ ap (λ k. needed k es cs (suc (length l.names))) (sym at) ∙ need)
+    unneeded : (k : ℕ) → k ≡ length l.names → is_needed k es cs (suc (length l.names)) ≡ true → ⊥
+    unneeded k at need = false≢true (sym is ∙ ap (λ k. is_needed k es cs (suc (length l.names))) (sym at) ∙ need)
 
   one_longer : (l : Left) (e : TraceNumber) (flag : Bool) → length (prunes_one l e flag).names ≡ length l.names + 1
   one_longer l e true = length-append l.names _
@@ -183,10 +184,10 @@ module _ (i : Input) (ss : List State) (cs : List TraceNumber) where
       Going [] (fold (with_value i ss) vs es) (prunes l es (flags k es cs))
   prune_all [] vs l k same so = so
   prune_all (e ∷ es) vs l k same so =
-      prune_all es (with_value i ss vs e) (prunes_one l e (needed k es cs (suc k))) (suc k)
-      (let one = one_longer l e (needed k es cs (suc k)) in omega (arith, one, same))
-      (subst (λ n. Going es (with_value i ss vs e) (prunes_one l e (needed n es cs (suc n)))) (sym same)
-      (prune_step e es vs l so (needed (length l.names) es cs (suc (length l.names))) refl))
+      prune_all es (with_value i ss vs e) (prunes_one l e (is_needed k es cs (suc k))) (suc k)
+      (let one = one_longer l e (is_needed k es cs (suc k)) in omega (arith, one, same))
+      (subst (λ n. Going es (with_value i ss vs e) (prunes_one l e (is_needed n es cs (suc n)))) (sym same)
+      (prune_step e es vs l so (is_needed (length l.names) es cs (suc (length l.names))) refl))
 
   conjuncts_same : (vs ws : List ℕ) (ns : List Atom) (ds : List TraceNumber) →
       ((k : ℕ) → any_reads k ds ≡ true → Fits i (only_values vs) ss ws ns k) →

@@ -18,7 +18,7 @@ use Rattle.guard_mean.specs.Code as code
 use Rattle.guard_mean.specs.Code.{Reading, Making, Step, make, keep}
 use Rattle.guard_mean.specs.Machine.{tested, begun, steps}
 use Rattle.guard_mean.specs.Straight.{operand_for, Line, straight, all_straight, guarding, Sheet, sheet_line, makes}
-use Rattle.guard_mean.specs.Straight.{keeps_message, placed_core, placed, sending, writes, first_sheet, code_of}
+use Rattle.guard_mean.specs.Straight.{keeps_message, placed_core, placed_message, sending, writes, first_sheet, code_of}
 use Rattle.guard_laws.specs.Safe.{IsSafeStep, SafeSteps, CodeIsSafe}
 use Rattle.guard_laws.proofs.Straight.{ran, Written, given_change, given_output, writes_same, begins_written}
 
@@ -34,7 +34,7 @@ goes_done i t (take p c e) is = refl
 goes_done i t (output dir kind numbers m) is = refl
 
 module _ (stack : List LayerTree) (i : Input) where
-  -- steps behind others
+  -- steps after others
   steps_then : (xs ys : List Step) (t : Trail) → SafeSteps stack i xs t → SafeSteps stack i ys (fold (steps i) t xs) →
       SafeSteps stack i (xs ++ ys) t
   steps_then [] ys t first next = next
@@ -65,20 +65,20 @@ module _ (stack : List LayerTree) (i : Input) where
     core_safe (taken_message r carried) s safe = keeps_safe s (code.taken_message r carried) safe
     core_safe nothing s safe = safe
 
-    placed_safe : (m : TraceMessage) (s : Sheet) → IsSafeSheet s → IsSafeSheet (placed m s).sheet
+    placed_safe : (m : TraceMessage) (s : Sheet) → IsSafeSheet s → IsSafeSheet (placed_message m s).sheet
     placed_safe (core c) s safe = core_safe c s safe
     placed_safe (held p c e r carried) s safe =
         let x = straight s.names e (sheet_line s) in let y = straight s.names r x.line in
         keeps_safe (makes s y.line) (code.held p c x.at y.at carried) (makes_safe s y.line safe)
     placed_safe (cut m e k) s safe =
-        let b = placed m s in let x = straight b.sheet.names e (sheet_line b.sheet) in let y =
+        let b = placed_message m s in let x = straight b.sheet.names e (sheet_line b.sheet) in let y =
         straight b.sheet.names k x.line in
         keeps_safe (makes b.sheet y.line) (code.cut b.at x.at y.at) (makes_safe b.sheet y.line (placed_safe m s safe))
     placed_safe (tail m e) s safe =
-        let b = placed m s in let x = straight b.sheet.names e (sheet_line b.sheet) in
+        let b = placed_message m s in let x = straight b.sheet.names e (sheet_line b.sheet) in
         keeps_safe (makes b.sheet x.line) (code.tail b.at x.at) (makes_safe b.sheet x.line (placed_safe m s safe))
     placed_safe (join m w) s safe =
-        let b = placed m s in let d = placed w b.sheet in
+        let b = placed_message m s in let d = placed_message w b.sheet in
         keeps_safe d.sheet (code.join b.at d.at) (placed_safe w b.sheet (placed_safe m s safe))
 
     sending_safe : (m : Option Chained) (s : Sheet) → IsSafeSheet s → IsSafeSheet (sending m s).sheet

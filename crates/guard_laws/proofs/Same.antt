@@ -7,7 +7,7 @@ use Rattle.trace_mean.specs.Trace.{Operation, bind, note, check, set, set_square
 use Rattle.trace_mean.specs.Worth.{Input, number_of}
 use Rattle.trace_mean.specs.Follow.{Trail, Followed, on, stopped_at, does, operates, follows, before, answer_of, follow}
 use Rattle.trace_mean.specs.Follow.{perform, unchecked}
-use Rattle.guard_mean.specs.Perform.{values_of, holds, end_of, ended, performed}
+use Rattle.guard_mean.specs.Perform.{values_of, holds, end_of, answer_end, performed}
 use Rattle.guard_mean.specs.Hoist.{Hoisting, hoists, nothing_yet, hoisted}
 use Rattle.guard_mean.specs.Prune.{hoist}
 use Rattle.guard_laws.proofs.Pruned.{pruned_holds}
@@ -105,13 +105,13 @@ pub chosen_end : (b c : Bool) (t u : Trail) → b ≡ c → end_of t ≡ end_of 
 chosen_end b c t u same ends = λ z. if same z then Some (ends z) else None
 
 ends_alike : (i : Input) (ss : List State) (g : Guarded) (f : Followed) → SameAs i ss g f →
-    performed i g ss ≡ ended (answer_of f)
+    performed i g ss ≡ answer_end (answer_of f)
 ends_alike i ss g (on t) so = chosen_end (holds i g ss) true (perform i g.operations ss) t so.0 (ap end_of so.1)
 ends_alike i ss g (stopped_at k) so = ap (λ (b : Bool). if b then Some (end_of (perform i g.operations ss)) else None)
     so
 
 at_the_end : (sq : Squares) (i : Input) (ss : List State) (operations : List Operation) →
-    Sound sq i operations (on (before ss)) → performed i (hoist operations) ss ≡ ended (follow i operations ss)
+    Sound sq i operations (on (before ss)) → performed i (hoist operations) ss ≡ answer_end (follow i operations ss)
 unfolding follow
 at_the_end sq i ss operations sound =
     chosen_end (holds i (hoist operations) ss) (holds i (hoisted operations) ss) (perform i (unchecked operations) ss)

@@ -24,8 +24,10 @@ use Rattle.trace_mean.specs.Follow.{Trail, with_bound, with_noted, with_taken_ro
 use Rattle.guard_mean.specs.Perform.{with_value, values_of, holds_at, holds}
 use Rattle.guard_mean.specs.Alike.{same_number, is_among}
 use Rattle.guard_mean.specs.Hoist.{one_number}
-use Rattle.guard_mean.specs.Simplify.{is_comparison, is_equal, written_number, settled, joined, second, make_binary}
-use Rattle.guard_mean.specs.Simplify.{applied_to, make_apply, picked, make_pick, make_atom, reduced, reduced_message}
+use Rattle.guard_mean.specs.Simplify.{is_comparison, is_equal, written_number, is_settled, reduced_binary, second}
+use Rattle.guard_mean.specs.Simplify.{make_binary}
+use Rattle.guard_mean.specs.Simplify.{applied_to, make_apply, reduced_pick, make_pick, make_atom, reduced}
+use Rattle.guard_mean.specs.Simplify.{reduced_message}
 use Rattle.guard_mean.specs.Simplify.{Left, found_among, other_value, next_value, leaves, another, keeps}
 use Rattle.guard_mean.specs.Simplify.{reduced_operation, guarded_by, simplified}
 use Rattle.guard_laws.specs.Simpler.{SimplifiedIsSame}
@@ -73,9 +75,9 @@ module _ (i : Input) (kept : Kept) (ss : List State) where
   written_worth (pick c a b) n is = absurd (cc is)
 
   module _ (ks : List TraceNumber) (hold : list_all (holds_at i kept ss) ks ≡ true) where
-    joined_worth : (o : Operator) (a b : TraceNumber) → number_of i kept ss (joined ks o a b) ≡
+    joined_worth : (o : Operator) (a b : TraceNumber) → number_of i kept ss (reduced_binary ks o a b) ≡
         applied o (number_of i kept ss a) (number_of i kept ss b)
-    joined_worth o a b = go (settled ks o a b) refl where
+    joined_worth o a b = go (is_settled ks o a b) refl where
       one : (is_equal o && same_number a b ≡ true) ⊎ (is_comparison o && is_among ks (binary o a b) ≡ true) →
           1 ≡ applied o (number_of i kept ss a) (number_of i kept ss b)
       one (inl same) = let both = and_parts (is_equal o) (same_number a b) same in
@@ -83,7 +85,7 @@ module _ (i : Input) (kept : Kept) (ss : List State) where
       one (inr known) = let both = and_parts (is_comparison o) (is_among ks (binary o a b)) known in
           comparison_bit o _ _ both.0 (among_holds i kept ss ks (binary o a b) hold both.1)
 
-      go : (t : Bool) → settled ks o a b ≡ t → number_of i kept ss (if t then one_number else binary o a b) ≡
+      go : (t : Bool) → is_settled ks o a b ≡ t → number_of i kept ss (if t then one_number else binary o a b) ≡
           applied o (number_of i kept ss a)
           (number_of i kept ss b)
       go true is = one (or_cases (is_equal o && same_number a b) (is_comparison o && is_among ks (binary o a b)) is)
@@ -114,7 +116,7 @@ module _ (i : Input) (kept : Kept) (ss : List State) where
       choice true = refl
       choice false = refl
 
-      go : (x : Option ℕ) → written_number c ≡ x → number_of i kept ss (picked x c a b) ≡
+      go : (x : Option ℕ) → written_number c ≡ x → number_of i kept ss (reduced_pick x c a b) ≡
           (if is_true (number_of i kept ss c) then number_of i kept ss a else number_of i kept ss b)
       go (Some n) is = choice (is_true n) ∙ ap (λ v. if is_true v then number_of i kept ss a else number_of i kept ss b)
           (sym (written_worth c n is))

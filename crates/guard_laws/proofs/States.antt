@@ -5,7 +5,7 @@ use Rattle.std.proofs.lemmas.Bool.{eqb-true, eqb-false, ltb-true, ltb-false, lt-
 use Rattle.std.proofs.lemmas.List.{length-set, get_or-set_same, get_or-set_other, get_or_past, set_past}
 use Rattle.layer_mean.specs.declared.run.Row.{Row}
 use Rattle.layer_mean.specs.State.{State, Contents, numbers, queues, no_cell, numbers_in, queues_in, cell_at, number_at}
-use Rattle.layer_mean.specs.State.{rows_at, with_cell, written, filled}
+use Rattle.layer_mean.specs.State.{rows_at, with_cell, with_element, with_queue}
 use Rattle.layer_mean.specs.Visit.{no_state}
 use Rattle.guard_mean.specs.Hoist.{is_here}
 use Rattle.guard_laws.specs.Sound.{extent, queue_count}
@@ -48,7 +48,7 @@ not_there ss q d is = go (nat_lt q (length ss)) refl is where
   go true there is = get_or_past (state_of ss q).cells d no_cell (ltb-false d (length (state_of ss q).cells) is)
   go false there is = ap (λ s. cell_at s d) (get_or_past ss q no_state (ltb-false q (length ss) there))
 
--- the cells behind a change of one
+-- the cells after a change of one
 pub cell_after : (ss : List State) (q d : ℕ) (held : Contents) (p c : ℕ) →
     cell_in (celled ss q d held) p c ≡ (if is_here p c q d && is_there ss q d then held else cell_in ss p c)
 cell_after ss q d held p c = go (p == q) refl where
@@ -78,7 +78,7 @@ cell_after ss q d held p c = go (p == q) refl where
       (state_of ss y) c) same (sym same)
   go false is = ap (λ x. cell_at x c) (get_or-set_other ss q p (with_cell s d held) no_state (eqb-false p q is))
 
--- what is seen of a cell behind a change of one
+-- what is seen of a cell after a change of one
 pub seen_after : {A : Type 0} (f : Contents → A) (ss : List State) (q d : ℕ) (held : Contents) (p c : ℕ) →
     f (cell_in (celled ss q d held) p c) ≡ (if is_here p c q d && is_there ss q d then f held else f (cell_in ss p c))
 seen_after f ss q d held p c = ap f (cell_after ss q d held p c) ∙ go (is_here p c q d && is_there ss q d) where
@@ -104,36 +104,37 @@ same_after f ss q d held p c same = seen_after f ss q d held p c ∙ go (is_here
       (is_there ss q d) (same ∙ ap₂ (λ x y. f (cell_in ss x y)) (sym at.0) (sym at.1))
   go false is = refl
 
-written_numbers : (k v : ℕ) (cell : Contents) → numbers_in (written k v cell) ≡ slice_set (numbers_in cell) k v
+written_numbers : (k v : ℕ) (cell : Contents) → numbers_in (with_element k v cell) ≡ slice_set (numbers_in cell) k v
 written_numbers k v (numbers ns) = refl
 written_numbers k v (queues qs) = refl
 
-written_queues : (k v : ℕ) (cell : Contents) → queues_in (written k v cell) ≡ queues_in cell
+written_queues : (k v : ℕ) (cell : Contents) → queues_in (with_element k v cell) ≡ queues_in cell
 written_queues k v (numbers ns) = refl
 written_queues k v (queues qs) = refl
 
-filled_numbers : (k : ℕ) (rows : List Row) (cell : Contents) → numbers_in (filled k rows cell) ≡ numbers_in cell
+filled_numbers : (k : ℕ) (rows : List Row) (cell : Contents) → numbers_in (with_queue k rows cell) ≡ numbers_in cell
 filled_numbers k rows (numbers ns) = refl
 filled_numbers k rows (queues qs) = refl
 
-filled_queues : (k : ℕ) (rows : List Row) (cell : Contents) → queues_in (filled k rows cell) ≡
+filled_queues : (k : ℕ) (rows : List Row) (cell : Contents) → queues_in (with_queue k rows cell) ≡
     slice_set (queues_in cell) k rows
 filled_queues k rows (numbers ns) = refl
 filled_queues k rows (queues qs) = refl
 
 module _ (ss : List State) (q d k v : ℕ) where
   abbrev pub numbered : List State
-  numbered = celled ss q d (written k v (cell_in ss q d))
+  numbered = celled ss q d (with_element k v (cell_in ss q d))
 
   pub numbers_after : (p c j : ℕ) → number_at (state_of numbered p) c j ≡
       (if is_here p c q d && ((j == k) && nat_lt j (extent ss p c)) then v else number_at (state_of ss p) c j)
-  numbers_after p c j = seen_after (λ cell. slice_index (numbers_in cell) j) ss q d (written k v (cell_in ss q d)) p c
+  numbers_after p c j = seen_after (λ cell. slice_index (numbers_in cell) j) ss q d (with_element k v (cell_in ss q d))
+      p c
       ∙ go (is_here p c q d) (is_there ss q d) refl refl where
         old : ℕ
         old = number_at (state_of ss p) c j
 
         new : ℕ
-        new = slice_index (numbers_in (written k v (cell_in ss q d))) j
+        new = slice_index (numbers_in (with_element k v (cell_in ss q d))) j
 
         go : (b t : Bool) → is_here p c q d ≡ b → is_there ss q d ≡ t →
             (if b && t then new else old) ≡ (if b && ((j == k) && nat_lt j (extent ss p c)) then v else old)
@@ -150,36 +151,38 @@ module _ (ss : List State) (q d k v : ℕ) where
         go false t is there = refl
 
   pub extents_after : (p c : ℕ) → extent numbered p c ≡ extent ss p c
-  extents_after p c = same_after (λ cell. length (numbers_in cell)) ss q d (written k v (cell_in ss q d)) p c
+  extents_after p c = same_after (λ cell. length (numbers_in cell)) ss q d (with_element k v (cell_in ss q d)) p c
       (ap length (written_numbers k v (cell_in ss q d)) ∙ length-set (numbers_in (cell_in ss q d)) k v)
 
   pub queues_after : (p c j : ℕ) → rows_at (state_of numbered p) c j ≡ rows_at (state_of ss p) c j
-  queues_after p c j = same_after (λ cell. slice_index_or (queues_in cell) j []) ss q d (written k v (cell_in ss q d)) p
+  queues_after p c j = same_after (λ cell. slice_index_or (queues_in cell) j []) ss q d
+      (with_element k v (cell_in ss q d)) p
       c
       (ap (λ qs. slice_index_or qs j []) (written_queues k v (cell_in ss q d)))
 
 module _ (ss : List State) (q d k : ℕ) (new : List Row) where
   abbrev pub queued : List State
-  queued = celled ss q d (filled k new (cell_in ss q d))
+  queued = celled ss q d (with_queue k new (cell_in ss q d))
 
   pub numbers_stay : (p c j : ℕ) → number_at (state_of queued p) c j ≡ number_at (state_of ss p) c j
-  numbers_stay p c j = same_after (λ cell. slice_index (numbers_in cell) j) ss q d (filled k new (cell_in ss q d)) p c
+  numbers_stay p c j = same_after (λ cell. slice_index (numbers_in cell) j) ss q d (with_queue k new (cell_in ss q d)) p
+      c
       (ap (λ ns. slice_index ns j) (filled_numbers k new (cell_in ss q d)))
 
   pub extents_stay : (p c : ℕ) → extent queued p c ≡ extent ss p c
-  extents_stay p c = same_after (λ cell. length (numbers_in cell)) ss q d (filled k new (cell_in ss q d)) p c
+  extents_stay p c = same_after (λ cell. length (numbers_in cell)) ss q d (with_queue k new (cell_in ss q d)) p c
       (ap length (filled_numbers k new (cell_in ss q d)))
 
   pub rows_after : k < queue_count ss q d → (p c j : ℕ) → rows_at (state_of queued p) c j ≡
       (if is_here p c q d && (j == k) then new else rows_at (state_of ss p) c j)
   rows_after there p c j = seen_after (λ cell. slice_index_or (queues_in cell) j []) ss q d
-      (filled k new (cell_in ss q d)) p c
+      (with_queue k new (cell_in ss q d)) p c
       ∙ go (is_here p c q d) (is_there ss q d) refl refl where
         old : List Row
         old = rows_at (state_of ss p) c j
 
         now : List Row
-        now = slice_index_or (queues_in (filled k new (cell_in ss q d))) j []
+        now = slice_index_or (queues_in (with_queue k new (cell_in ss q d))) j []
 
         inside : (b : Bool) → (j == k) ≡ b → (b && nat_lt j (queue_count ss q d)) ≡ b
         inside true is = let same = eqb-true j k is in lt-ltb j (queue_count ss q d) (omega (arith, same, there))

@@ -182,7 +182,7 @@ module _ (sq : Squares) (i : Input) (ss : List State) where
     passed = still_passed t h (set_square p c r k v) refl so;
   }
 
-  -- rows behind a change of one queue
+  -- rows after a change of one queue
   queue_here : (t : Trail) (h : Hoisting) (vs : List ℕ) → Stands sq i ss t h vs → (p c k k' : ℕ) → k' ≡ k →
       (new : List Row) (change : List Outline → List Outline) →
       map outline new ≡ change (map outline (rows_at (state_of t.states p) c k)) →

@@ -33,11 +33,13 @@ use Rattle.guard_mean.specs.Same.{same_reading}
 use Rattle.guard_mean.specs.Machine.{operand_at, source_at, cut_bytes, tail_bytes, join_bytes, reading_of, making_of}
 use Rattle.guard_mean.specs.Machine.{heading_at, sent_at, reads, Tested, tests, untested, tested, begun, steps}
 use Rattle.guard_mean.specs.Straight.{Names, zero_operand, operand_for, Registers, made_count, Line, Top, given}
-use Rattle.guard_mean.specs.Straight.{reading, Topped, Spot, reads_line, place_from, read_at, settled_top, settled}
-use Rattle.guard_mean.specs.Straight.{topped, given_at, core_parts, parts, size_parts, straight, Spots, all_straight}
-use Rattle.guard_mean.specs.Straight.{line_at, Guarding, value_tests, required, one_test, conjunct_tests, unguarded}
+use Rattle.guard_mean.specs.Straight.{reading, Topped, Spot, reads_line, place_from, read_at, settled_top, top_spot}
+use Rattle.guard_mean.specs.Straight.{reading_on_top, given_at, core_parts, parts, size_parts, straight, Spots}
+use Rattle.guard_mean.specs.Straight.{all_straight}
+use Rattle.guard_mean.specs.Straight.{line_at, Guarding, value_tests, top_test, one_test, conjunct_tests, unguarded}
 use Rattle.guard_mean.specs.Straight.{guarding, Sheet, sheet_line, makes, adds, changes, Placed, keeps_message}
-use Rattle.guard_mean.specs.Straight.{placed_core, placed, Sending, heading_for, sending, writes, first_sheet, code_of}
+use Rattle.guard_mean.specs.Straight.{placed_core, placed_message, Sending, heading_for, sending, writes, first_sheet}
+use Rattle.guard_mean.specs.Straight.{code_of}
 use Rattle.guard_laws.proofs.SameReading.{same_worth}
 use Rattle.guard_laws.specs.Code.{CodeIsSame}
 use Rattle.guard_laws.proofs.Grows.{Grown, grown_same, grown_one, grown_then}
@@ -96,7 +98,7 @@ found_reading (x ∷ xs) r k place {C = C} is so =
     go true same is rest = so 0 x (let at : k ≡ place = cc is in omega (arith, at)) refl same
     go false other is rest = rest is
 
--- what is kept later: more numbers, messages and rows behind those that there are
+-- what is kept later: more numbers, messages and rows after those that there are
 record Later (k u : Kept) : Type 0 where
   numbers : Grown k.numbers u.numbers
   messages : Grown k.messages u.messages
@@ -260,7 +262,7 @@ module _ (i : Input) (ss : List State) where
     settles l m (reading r) w q many read is =
         reads_known l m r w q many read is (place_from m.registers.first m.registers.readings r) refl
 
-    settle : (l : Line) (x : Topped) (w : ℕ) → Parted l x w → SpotIs l (settled x) w
+    settle : (l : Line) (x : Topped) (w : ℕ) → Parted l x w → SpotIs l (top_spot x) w
     settle l x w p = settles l x.line x.top w p.quiet p.many p.read p.top
 
     module _ (t : Kept) (n : Names) where
@@ -321,12 +323,12 @@ module _ (i : Input) (ss : List State) where
 
       -- one, two and three operands before an operator
       one : (l : Line) (x : Spot) (w : ℕ) → SpotIs l x w → (r : Reading) (v : ℕ) →
-          ((u : Kept) → operand_at i u x.at ≡ w → reading_of i u ss r ≡ v) → Parted l (topped x.line r) v
+          ((u : Kept) → operand_at i u x.at ≡ w → reading_of i u ss r ≡ v) → Parted l (reading_on_top x.line r) v
       one l x w f r v is = record { quiet = f.quiet; many = f.many; read = f.read; top = λ u g. is u (f.worth u g) }
 
       two : (l : Line) (x y : Spot) (w z : ℕ) → SpotIs l x w → SpotIs x.line y z → (r : Reading) (v : ℕ) →
           ((u : Kept) → operand_at i u x.at ≡ w → operand_at i u y.at ≡ z → reading_of i u ss r ≡ v) →
-          Parted l (topped y.line r) v
+          Parted l (reading_on_top y.line r) v
       two l x y w z f g r v is = record {
         quiet = quiet_then (at_line l) (at_line x.line) (at_line y.line) f.quiet g.quiet;
         many = g.many;
@@ -339,7 +341,7 @@ module _ (i : Input) (ss : List State) where
       three : (l : Line) (x y q : Spot) (w z a : ℕ) → SpotIs l x w → SpotIs x.line y z → SpotIs y.line q a →
           (r : Reading) (v : ℕ) →
           ((u : Kept) → operand_at i u x.at ≡ w → operand_at i u y.at ≡ z → operand_at i u q.at ≡ a →
-          reading_of i u ss r ≡ v) → Parted l (topped q.line r) v
+          reading_of i u ss r ≡ v) → Parted l (reading_on_top q.line r) v
       three l x y q w z a f g h r v is = record {
         quiet = quiet_then (at_line l) (at_line x.line) (at_line q.line) f.quiet both;
         many = h.many;
@@ -358,7 +360,7 @@ module _ (i : Input) (ss : List State) where
       given_here l a w s is = record { quiet = quiet_same (at_line l); many = s.many; read = s.read; top = is }
 
       read_here : (l : Line) (r : Reading) (w : ℕ) → Stands l →
-          ((u : Kept) → Later (at_line l) u → reading_of i u ss r ≡ w) → Parted l (topped l r) w
+          ((u : Kept) → Later (at_line l) u → reading_of i u ss r ≡ w) → Parted l (reading_on_top l r) w
       read_here l r w s is = record { quiet = quiet_same (at_line l); many = s.many; read = s.read; top = is }
 
       core_parted : (c : Core) (l : Line) → Stands l → Parted l (core_parts n c l) (length (core_at i t c).body)
@@ -367,7 +369,7 @@ module _ (i : Input) (ss : List State) where
           (λ u g. ap (λ (m : Content). length m.body) (s.message_names u g k))
       core_parted (taken_message r carried) l s = go (nat_lt r n.rows) refl where
         go : (b : Bool) → nat_lt r n.rows ≡ b →
-            Parted l (if b then topped l (code.taken_size r) else given_at l zero_operand)
+            Parted l (if b then reading_on_top l (code.taken_size r) else given_at l zero_operand)
             (length (core_at i t (taken_message r carried)).body)
         go true is = let less = ltb-true r n.rows is in let e = s.taken in let f = ap length s.rows in
             read_here l (code.taken_size r) _ s (λ u g.
@@ -437,7 +439,7 @@ module _ (i : Input) (ss : List State) where
             ap₂ (λ a b. length (message_in part (row_at (state_of ss p) c a b)).body) is too
             ∙ held_bytes i t ss part carried (row_at (state_of ss p) c (number_of i t ss e) (number_of i t ss r)))
         size_parted (cut m e k) l s =
-            let x = settled (size_parts n m l) in let f = settle l (size_parts n m l) _ (size_parted m l s) in let sx =
+            let x = top_spot (size_parts n m l) in let f = settle l (size_parts n m l) _ (size_parted m l s) in let sx =
             after l x _ s f in
             let y = straight n e x.line in let g = settle x.line (parts n e x.line) (number_of i t ss e)
             (parted e x.line sx) in
@@ -448,14 +450,14 @@ module _ (i : Input) (ss : List State) where
             ∙ sym (length-take (number_of i t ss k) (drop (number_of i t ss e) (message_of i t ss m).body)
             ∙ ap (min (number_of i t ss k)) (length-drop (number_of i t ss e) (message_of i t ss m).body)))
         size_parted (tail m e) l s =
-            let x = settled (size_parts n m l) in let f = settle l (size_parts n m l) _ (size_parted m l s) in
+            let x = top_spot (size_parts n m l) in let f = settle l (size_parts n m l) _ (size_parted m l s) in
             let y = straight n e x.line in let g = settle x.line (parts n e x.line) (number_of i t ss e)
             (parted e x.line (after l x _ s f)) in
             two l x y _ _ f g (code.tail_size x.at y.at) _ (λ u is too.
             ap₂ tail_bytes is too ∙ sym (length-drop (number_of i t ss e) (message_of i t ss m).body))
         size_parted (join a b) l s =
-            let x = settled (size_parts n a l) in let f = settle l (size_parts n a l) _ (size_parted a l s) in
-            let y = settled (size_parts n b x.line) in let g =
+            let x = top_spot (size_parts n a l) in let f = settle l (size_parts n a l) _ (size_parted a l s) in
+            let y = top_spot (size_parts n b x.line) in let g =
             settle x.line (size_parts n b x.line) _ (size_parted b x.line (after l x _ s f)) in
             two l x y _ _ f g (code.join_size x.at y.at) _ (λ u is too.
             ap₂ join_bytes is too ∙ sym (join_size_is i t ss (message_of i t ss a) (message_of i t ss b)))
@@ -549,7 +551,7 @@ module _ (i : Input) (ss : List State) where
   -- what is asked of a conjunct
   asked : (start : Kept) (l : Line) (d : Tested) (t : Top) (w : ℕ) → d.kept ≡ read_all i ss start l.readings →
       Tops i ss start (read_all i ss start l.readings) t w →
-      tests i ss d (required t) ≡ record d { passes = d.passes && is_true w }
+      tests i ss d (top_test t) ≡ record d { passes = d.passes && is_true w }
   asked start l d (given a) w at is = ap (λ n. record d { passes = d.passes && is_true n })
       (ap (λ k. operand_at i k a) at ∙ is (read_all i ss start l.readings) (later_same _))
   asked start l d (reading r) w at is = ap (λ n. record d { passes = d.passes && is_true n })
@@ -576,8 +578,8 @@ module _ (i : Input) (ss : List State) where
 
     came : tested i (one_test g e).tests ss ≡
         record { kept = read_all i ss start x.line.readings; passes = (tested i g.tests ss).passes && is_true w }
-    came = fold-append (tests i ss) untested (g.tests ++ map prepare x.line.readings) (required x.top ∷ [])
-        ∙ ap (λ d. tests i ss d (required x.top)) (tests_more g x.line)
+    came = fold-append (tests i ss) untested (g.tests ++ map prepare x.line.readings) (top_test x.top ∷ [])
+        ∙ ap (λ d. tests i ss d (top_test x.top)) (tests_more g x.line)
         ∙ asked start x.line (record (tested i g.tests ss) { kept = read_all i ss start x.line.readings }) x.top w refl
         f.top
 
@@ -730,7 +732,7 @@ module _ (i : Input) (begin : Trail) where
     newest u g = ap (λ xs. slice_index_or xs s.messages (plain [])) (g.1 ∙ append_assoc k.messages (v ∷ []) g.0)
         ∙ get_or_at k.messages v g.0 (plain []) s.messages a.many ∙ ap (λ here. making_of i k here m) a.states ∙ is
 
-  -- a message that is made of operands behind readings
+  -- a message that is made of operands after readings
   keeps_after : (t : Trail) (s : Sheet) (l : Line) (m : Making) (w : Content) → Written t s →
       Quiet i t.states (ran s).kept (ran s).kept (read_all i t.states (ran s).kept l.readings) →
       length (read_all i t.states (ran s).kept l.readings).numbers ≡ made_count l.registers →
@@ -757,7 +759,7 @@ module _ (i : Input) (begin : Trail) where
   core_placed t nothing s a = record { written = a; later = later_same (ran s).kept; worth = λ u g. refl }
 
   placed_same : (t : Trail) (m : TraceMessage) (s : Sheet) → Written t s →
-      Places t s (placed m s) (message_of i t.kept t.states m)
+      Places t s (placed_message m s) (message_of i t.kept t.states m)
   placed_same t (core c) s a = core_placed t c s a
   placed_same t (held p c e r carried) s a =
       let start = (ran s).kept in let l = sheet_line s in
@@ -771,7 +773,7 @@ module _ (i : Input) (begin : Trail) where
       (f.worth last (quiet_later i t.states start _ last g.quiet))
       (g.worth last (later_same last)))
   placed_same t (cut m e k) s a =
-      let b = placed m s in let pb = placed_same t m s a in let start = (ran b.sheet).kept in let l =
+      let b = placed_message m s in let pb = placed_same t m s a in let start = (ran b.sheet).kept in let l =
       sheet_line b.sheet in let n = b.sheet.names in
       let x = straight n e l in let f = spotted i t.states start t.kept n e l pb.written.stand in
       let y = straight n k x.line in let g =
@@ -789,7 +791,7 @@ module _ (i : Input) (begin : Trail) where
             p.worth;
       }
   placed_same t (tail m e) s a =
-      let b = placed m s in let pb = placed_same t m s a in let start = (ran b.sheet).kept in let l =
+      let b = placed_message m s in let pb = placed_same t m s a in let start = (ran b.sheet).kept in let l =
       sheet_line b.sheet in let n = b.sheet.names in
       let x = straight n e l in let f = spotted i t.states start t.kept n e l pb.written.stand in
       let last = read_all i t.states start x.line.readings in
@@ -804,8 +806,8 @@ module _ (i : Input) (begin : Trail) where
             p.worth;
       }
   placed_same t (join m w) s a =
-      let b = placed m s in let pb = placed_same t m s a in
-      let d = placed w b.sheet in let pd = placed_same t w b.sheet pb.written in
+      let b = placed_message m s in let pb = placed_same t m s a in
+      let d = placed_message w b.sheet in let pd = placed_same t w b.sheet pb.written in
       let p = keeps t d.sheet (code.join b.at d.at) _ pd.written
       (ap₂ message_parts.join
       (pb.worth (ran d.sheet).kept pd.later) (pd.worth (ran d.sheet).kept (later_same (ran d.sheet).kept))) in
@@ -872,7 +874,7 @@ module _ (i : Input) (begin : Trail) where
       (sym (fold-append (steps i) begin s.steps (step ∷ []) ∙ is))
       (record { stand = a.stand; many = a.many; states = refl; outs = refl })
 
-  -- operands that are made of numbers, behind a sheet
+  -- operands that are made of numbers, after a sheet
   record Operands (t : Trail) (s : Sheet) (x : Spots) (ws : List ℕ) : Type 0 where
     written : Written t (makes s x.line)
     worth : (u : Kept) → Later (ran (makes s x.line)).kept u → map (operand_at i u) x.at ≡ ws
@@ -967,7 +969,7 @@ module _ (i : Input) (begin : Trail) where
     outs = b.outs;
   } where
     x : Placed
-    x = placed m s
+    x = placed_message m s
 
     w : Content
     w = message_of i t.kept t.states m

@@ -13,7 +13,7 @@ use Rattle.trace_mean.specs.Worth.{Input}
 use Rattle.trace_mean.specs.Follow.{follow}
 use Rattle.trace_mean.specs.Fuse.{entry_task, trace_of}
 use Rattle.trace_laws.specs.Right.{answer_for, Enters}
-use Rattle.guard_mean.specs.Perform.{ended, performed}
+use Rattle.guard_mean.specs.Perform.{answer_end, performed}
 use Rattle.guard_mean.specs.Prune.{hoist}
 use Rattle.guard_mean.specs.Simplify.{simplified}
 use Rattle.guard_mean.specs.Machine.{run_code}
@@ -26,7 +26,7 @@ EntriesAreGuarded = (case : Case) (stack : List LayerTree) (k : Known) (fields :
     (operations : List Operation)
     (i : Input) (states : List State) → NamedStack stack → trace_of case stack k fields ≡ Ok operations →
     Enters stack k fields i states →
-    performed i (hoist operations) states ≡ ended (follow i operations states)
+    performed i (hoist operations) states ≡ answer_end (follow i operations states)
 
 -- So does its code.
 abbrev pub CodesFollowTraces : Type 0
@@ -34,7 +34,7 @@ CodesFollowTraces = (case : Case) (stack : List LayerTree) (k : Known) (fields :
     (operations : List Operation)
     (i : Input) (states : List State) → NamedStack stack → trace_of case stack k fields ≡ Ok operations →
     Enters stack k fields i states →
-    run_code i (code_of (simplified (hoist operations))) states ≡ ended (follow i operations states)
+    run_code i (code_of (simplified (hoist operations))) states ≡ answer_end (follow i operations states)
 
 -- And it ends with the states and outputs of the run, where no decision of the run left the prediction in the case;
 -- else it doesn't pass.
@@ -44,4 +44,4 @@ CodesAreRight = (case : Case) (stack : List LayerTree) (k : Known) (fields : Lis
     (i : Input) (states : List State) → NamedStack stack → trace_of case stack k fields ≡ Ok operations →
     Enters stack k fields i states →
     run_code i (code_of (simplified (hoist operations))) states
-    ≡ ended (answer_for case (run weight_limit stack states (entry_task stack k fields i)).world)
+    ≡ answer_end (answer_for case (run weight_limit stack states (entry_task stack k fields i)).world)

@@ -18,29 +18,29 @@ closed_core (taken_message r carried) = false
 closed_core _ = true
 
 abbrev mutual
-  pub closed : ℕ → TraceNumber → Bool
-  closed n (atom a) = closed_atom n a
-  closed n (element p c e) = closed n e
-  closed n (square p c r k) = closed n r && closed n k
-  closed n (rows p c e) = closed n e
-  closed n (item p c e r k) = closed n e && closed n r
-  closed n (size m) = closed_message n m
-  closed n (binary o a b) = closed n a && closed n b
-  closed n (apply f a) = closed n a
-  closed n (pick c a b) = closed n c && (closed n a && closed n b)
-  closed n _ = true
+  pub closed_number : ℕ → TraceNumber → Bool
+  closed_number n (atom a) = closed_atom n a
+  closed_number n (element p c e) = closed_number n e
+  closed_number n (square p c r k) = closed_number n r && closed_number n k
+  closed_number n (rows p c e) = closed_number n e
+  closed_number n (item p c e r k) = closed_number n e && closed_number n r
+  closed_number n (size m) = closed_message n m
+  closed_number n (binary o a b) = closed_number n a && closed_number n b
+  closed_number n (apply f a) = closed_number n a
+  closed_number n (pick c a b) = closed_number n c && (closed_number n a && closed_number n b)
+  closed_number n _ = true
 
   pub closed_message : ℕ → TraceMessage → Bool
   closed_message n (core c) = closed_core c
-  closed_message n (held p c e r carried) = closed n e && closed n r
-  closed_message n (cut m f k) = closed_message n m && (closed n f && closed n k)
-  closed_message n (tail m f) = closed_message n m && closed n f
+  closed_message n (held p c e r carried) = closed_number n e && closed_number n r
+  closed_message n (cut m f k) = closed_message n m && (closed_number n f && closed_number n k)
+  closed_message n (tail m f) = closed_message n m && closed_number n f
   closed_message n (join a b) = closed_message n a && closed_message n b
 
 abbrev pub all_closed : ℕ → List TraceNumber → Bool
 all_closed n [] = true
-all_closed n (e ∷ es) = closed n e && all_closed (suc n) es
+all_closed n (e ∷ es) = closed_number n e && all_closed (suc n) es
 
 -- Each entry value reads earlier ones, and the conjuncts any.
 abbrev pub is_closed : Guarded → Bool
-is_closed g = all_closed 0 g.values && list_all (closed (length g.values)) g.conjuncts
+is_closed g = all_closed 0 g.values && list_all (closed_number (length g.values)) g.conjuncts

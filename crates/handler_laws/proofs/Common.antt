@@ -13,7 +13,7 @@ use Rattle.stack_mean.specs.Shape.{Shape}
 use Rattle.run_mean.specs.Common.{longest_shape, is_short}
 use Rattle.trace_mean.specs.Follow.{reached, stopped}
 use Rattle.trace_laws.specs.Right.{answer_for}
-use Rattle.guard_mean.specs.Perform.{End, ended}
+use Rattle.guard_mean.specs.Perform.{End, answer_end}
 use Rattle.bypass_laws.specs.Stack.{lack_of}
 
 -- a shape that nothing lacks is short, and none is that lacks something
@@ -51,9 +51,10 @@ pub record Came (case : Case) (w : Work) (e : End) : Type 0 where
   pub states : e.states ≡ w.states
   pub outs : e.outs ≡ w.outs
 
-pub came : (case : Case) (w : Work) (e : End) → ended (answer_for case w) ≡ Some e → Came case w e
+pub came : (case : Case) (w : Work) (e : End) → answer_end (answer_for case w) ≡ Some e → Came case w e
 came case w e is = go (first_missed case w.decided) refl is where
-  go : (o : Option ℕ) → first_missed case w.decided ≡ o → ended (option_map_or stopped o (reached w.states w.outs)) ≡
+  go : (o : Option ℕ) → first_missed case w.decided ≡ o →
+      answer_end (option_map_or stopped o (reached w.states w.outs)) ≡
       Some e → Came case w e
   go None none is =
       let same : record { states = w.states; outs = w.outs } ≡ e = cc in record {
@@ -63,9 +64,10 @@ came case w e is = go (first_missed case w.decided) refl is where
       }
   go (Some n) missed is = absurd (cc is)
 
-pub left : (case : Case) (w : Work) → ended (answer_for case w) ≡ None → is_predicted case w ≡ false
+pub left : (case : Case) (w : Work) → answer_end (answer_for case w) ≡ None → is_predicted case w ≡ false
 left case w is = go (first_missed case w.decided) refl is where
-  go : (o : Option ℕ) → first_missed case w.decided ≡ o → ended (option_map_or stopped o (reached w.states w.outs)) ≡
+  go : (o : Option ℕ) → first_missed case w.decided ≡ o →
+      answer_end (option_map_or stopped o (reached w.states w.outs)) ≡
       None →
       is_predicted case w ≡ false
   go None none is = absurd (cc is)

@@ -13,7 +13,7 @@ use Rattle.layer_mean.specs.State.{State}
 use Rattle.layer_mean.specs.Tree.{LayerTree}
 use Rattle.packet_mean.specs.Plan.{least_fit}
 use Rattle.packet_mean.specs.declared.here.Here.{Here}
-use Rattle.stack_mean.specs.Acceptance.{weight, weight_limit, most_joins, joins_limit, largest_weight, accepted}
+use Rattle.stack_mean.specs.Acceptance.{weight, weight_limit, most_joins, joins_limit, largest_weight, acceptance}
 use Rattle.stack_mean.specs.Plan.{Plan}
 use Rattle.stack_mean.specs.Plans.{plans_of}
 use Rattle.stack_mean.specs.Shape.{Known, shape, drawn_shape, has_second_case}
@@ -38,7 +38,7 @@ use Rattle.trace_step_laws.specs.Steps.{entry_fields}
 use Rattle.trace_step_laws.proofs.Entries.{entries_begin}
 use Rattle.guard_mean.specs.Code.{Code}
 use Rattle.guard_mean.specs.Machine.{Tested, steps, tested, begun, run_code}
-use Rattle.guard_mean.specs.Perform.{End, end_of, ended, holds}
+use Rattle.guard_mean.specs.Perform.{End, end_of, answer_end, holds}
 use Rattle.guard_mean.specs.Straight.{code_of}
 use Rattle.guard_laws.specs.Counts.{code_joins, code_outputs}
 use Rattle.guard_laws.specs.Safe.{SafeCode}
@@ -47,7 +47,7 @@ use Rattle.guard_laws.proofs.Safe.{code_is_safe}
 use Rattle.guard_laws.proofs.Straight.{code_is_same}
 use Rattle.bypass_mean.specs.Bypasses.{Entry, plan_entry, entries_of, Made, fused, absent, Bypasses}
 use Rattle.bypass_laws.specs.Stack.{IsFused, IsMade, IsSecond, AreOfStack}
-use Rattle.stack_shapes.specs.Entries.{planned}
+use Rattle.stack_shapes.specs.Entries.{planned_entry}
 use Rattle.bypass_codes.specs.Codes.{code_if, second_code, codes_of, codes_in, code_at}
 use Rattle.handler_laws.specs.Handled.{step_input, HandlesStep, IsHandled, StepsAreHandled}
 use Rattle.handler_laws.proofs.Common.{nothing_lacks, something_lacks, Came, came, left}
@@ -77,7 +77,7 @@ same_shape : (stack : List LayerTree) (k : Known) → has_second_case stack k �
 same_shape stack k none = ap (λ b. is_short (if b then drawn_shape stack k Second else Err no_shape.same)) none
 
 module _ (stack : List LayerTree) (plans : List Plan) (here : Here) (id : ℕ) (states : List State) (what : Entered)
-    (accepts : accepted stack ≡ Ok stack) (step : IsStep stack here states what)
+    (accepts : acceptance stack ≡ Ok stack) (step : IsStep stack here states what)
     (are : AreOf (step_input plans here what) stack states) where
   abbrev i : Input
   i = step_input plans here what
@@ -107,10 +107,10 @@ module _ (stack : List LayerTree) (plans : List Plan) (here : Here) (id : ℕ) (
     short : is_common_in stack plans s case ≡ is_predicted case s.work
     short = by_shape case stack plans s k true enters (nothing_lacks (shape stack k case) is.within)
 
-    same : run_code i (code_of g) states ≡ ended (answer_for case s.work)
+    same : run_code i (code_of g) states ≡ answer_end (answer_for case s.work)
     same = code_is_same g i states ∙ is.guard_is.same i states entered ∙
-        ap ended (is.trace_is.right i states entered).answer
-        ∙ ap (λ t. ended (answer_for case (run weight_limit stack states t).world)) begins
+        ap answer_end (is.trace_is.right i states entered).answer
+        ∙ ap (λ t. answer_end (answer_for case (run weight_limit stack states t).world)) begins
 
     abbrev tried : Tested
     tried = tested i (code_of g).tests states
@@ -228,14 +228,16 @@ steps_are_handled case stack plans b here id states (from_peer p) typed accepts 
 
       go : (o : Option ℕ) → least_fit plans p ≡ o →
           IsHandled case stack plans here id states (from_peer p)
-          (code_at (codes_of b) (planned (least_fit plans p)) case)
+          (code_at (codes_of b) (planned_entry (least_fit plans p)) case)
       go None fit =
-          subst (λ o. IsHandled case stack plans here id states (from_peer p) (code_at (codes_of b) (planned o) case))
+          subst (λ o. IsHandled case stack plans here id states (from_peer p)
+          (code_at (codes_of b) (planned_entry o) case))
           (sym fit)
           (no_entry case stack plans (step_from stack here id states (from_peer p))
           (ap (option_and_then (λ n. option_map common.plan_entry (slice_get plans n))) fit))
       go (Some n) fit =
-          subst (λ o. IsHandled case stack plans here id states (from_peer p) (code_at (codes_of b) (planned o) case))
+          subst (λ o. IsHandled case stack plans here id states (from_peer p)
+          (code_at (codes_of b) (planned_entry o) case))
           (sym fit)
           (at_place stack plans here id states (from_peer p) accepts step are case b (suc (suc n)) of (
             ap (option_and_then (λ n. option_map common.plan_entry (slice_get plans n))) fit ∙ known (slice_get plans n)

@@ -4,7 +4,7 @@ use Rattle.layer_mean.specs.declared.run.Case.{Case}
 use Rattle.layer_mean.specs.State.{State}
 use Rattle.layer_mean.specs.Tree.{LayerTree}
 use Rattle.packet_mean.specs.declared.here.Here.{Here}
-use Rattle.stack_mean.specs.Acceptance.{largest_weight, joins_limit, accepted}
+use Rattle.stack_mean.specs.Acceptance.{largest_weight, joins_limit, acceptance}
 use Rattle.stack_mean.specs.Plan.{Plan}
 use Rattle.stack_mean.specs.Plans.{plans_of}
 use Rattle.run_mean.specs.Common.{is_common_in}
@@ -60,6 +60,6 @@ IsHandled case stack plans here id states what (Some c) = HandlesStep case stack
 abbrev pub StepsAreHandled : Type 0
 StepsAreHandled = (case : Case) (stack : List LayerTree) (plans : List Plan) (b : mean.Bypasses) (here : Here) (id : ℕ)
     (states : List State)
-    (what : Entered) → TypedStack stack → accepted stack ≡ Ok stack → plans ≡ plans_of stack → AreOfStack stack b →
+    (what : Entered) → TypedStack stack → acceptance stack ≡ Ok stack → plans ≡ plans_of stack → AreOfStack stack b →
     IsStep stack here states what → AreOf (step_input plans here what) stack states →
     IsHandled case stack plans here id states what (code_at (codes_of b) (entry_for plans what) case)

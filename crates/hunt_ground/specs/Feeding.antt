@@ -7,7 +7,7 @@ use Rattle.script_mean.specs.declared.event.ScriptEvent.{ScriptEvent}
 use Rattle.view_core.specs.declared.step.Did.{Did}
 use Rattle.group_feed.specs.Standing.{Peopled, Stands, Stays}
 
--- It happened, and the group stands at the world behind it; or it names a member that the group doesn't have, and
+-- It happened, and the group stands at the world after it; or it names a member that the group doesn't have, and
 -- nothing changed; or memory ran out.
 abbrev pub Feeds : Peopled → World → ScriptEvent → Peopled → Result (Option Did) Memory → Type 0
 Feeds c w event c' (Ok (Some did)) = Stands c' (happens c.stack c.plans w event).world

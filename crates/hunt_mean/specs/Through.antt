@@ -8,7 +8,7 @@ use Rattle.outside.specs.Said.{errors}
 use Rattle.outside.specs.Tells.{Tells}
 use Rattle.program_streams.specs.Streams.{Stream, stream}
 use Rattle.job_ends.specs.Comes.{surrounding}
-use Rattle.job_streams.specs.Closes.{Closes, closed}
+use Rattle.job_streams.specs.Closes.{Closes, end_after_delivery}
 use Rattle.hunt_mean.specs.Ends.{Comes, Good, Runs}
 use Rattle.hunt_mean.specs.Words.{Request, request_of}
 
@@ -20,7 +20,7 @@ pub record RunsThrough (words : List Text) (told : Option Shelved) (reads reads_
   pub end : Ended
   pub came : Comes (request_of words) (surrounding told reads reads_after out.before put) end
   pub closes : Closes end (stream put out.after out.holds) err status
-  pub runs : closed closes.whole end ≡ end →
+  pub runs : end_after_delivery closes.whole end ≡ end →
       Runs words (surrounding told reads reads_after out.before put) (errors err.before closes.closing status)
 
 -- A hunt ended so, and the output's stream gained what it wrote.

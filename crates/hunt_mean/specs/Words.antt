@@ -19,7 +19,7 @@ abbrev pub command : App
 command = command_of (codes "stackhunt") rules
 
 -- the name of a stack file; a law that its stack is to break; how many members a group has, and events a run; how many
--- runs there are, and from which number on; and behind how many seconds no run begins, which is 0 where the time
+-- runs there are, and from which number on; and after how many seconds no run begins, which is 0 where the time
 -- doesn't count
 pub record Request : Type 0 where
   pub file : Text
@@ -59,6 +59,6 @@ request_in rows = do
         seconds;
   })
 
--- what the words behind the program's name ask for, if `clap` takes them
+-- what the words after the program's name ask for, if `clap` takes them
 abbrev pub request_of : List Text → Option Request
 request_of = read_in command request_in

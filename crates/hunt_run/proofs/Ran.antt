@@ -9,7 +9,7 @@ use Rattle.outside.specs.Tells.{Tells}
 use Rattle.file_jobs.specs.Stack.{IsText}
 use Rattle.file_jobs.specs.Stack as files
 use Rattle.job_ends.specs.Comes.{surrounding}
-use Rattle.job_ends.specs.Shown.{shown}
+use Rattle.job_ends.specs.Shown.{shown_end}
 use Rattle.job_ends.specs.declared.ending.Ending.{Ending}
 use Rattle.hunt_mean.specs.Ends.{Comes, Hunts, IsOutput}
 use Rattle.hunt_mean.specs.Words.{Request}
@@ -43,7 +43,7 @@ module _ (r : Request) (told : Option Shelved) (reads reads_after : ℕ) where
       Looks r file answer →
       Fetches r told reads reads_after answer
   fetched file (Ok o) t l = record { file = file; read = t; output = l }
-  fetched file (Err ending) t l = stop file (shown ending) t l
+  fetched file (Err ending) t l = stop file (shown_end ending) t l
 
   -- an output that was fetched was written so far
   put : (file text : List ℕ) (old new : Tells) (b : Bool) (end : Ended) → IsText r.file told reads reads_after file →

@@ -11,7 +11,7 @@ use Rattle.outside.specs.Tells.{Tells}
 use Rattle.output_mean.specs.Judged.{Means, Refuses}
 use Rattle.stack_mean.specs.Acceptance.{most_rows, rows_of}
 use Rattle.file_jobs.specs.Stack.{IsMissed, IsText}
-use Rattle.job_ends.specs.Shown.{shown}
+use Rattle.job_ends.specs.Shown.{shown_end}
 use Rattle.job_ends.specs.declared.ending.Ending.{Ending}
 use Rattle.hunt_mean.specs.Ends.{IsOutput, holds_line}
 use Rattle.hunt_mean.specs.Find.{IsFind}
@@ -25,18 +25,18 @@ end_of o = if o.is_breach then breached else done
 -- Runs over a stack found nothing, or a find; else memory ran out.
 abbrev pub Goes : Request → (file : List ℕ) → Result Output Ending → Type 0
 Goes r file (Ok o) = (stack : List LayerTree) → Means file stack → IsOutput r (end_of o) file o.text
-Goes r file (Err ending) = shown ending ≡ no_memory
+Goes r file (Err ending) = shown_end ending ≡ no_memory
 
 -- A run found nothing that its bytes confirm, or a find; else memory ran out.
 abbrev pub Makes : Request → (file : List ℕ) → Result (Option (List ℕ)) Ending → Type 0
 Makes r file (Ok (Some text)) = IsFind r file text
 Makes r file (Ok None) = Unit {0}
-Makes r file (Err ending) = shown ending ≡ no_memory
+Makes r file (Err ending) = shown_end ending ≡ no_memory
 
 -- What is told where no run broke the law.
 abbrev pub IsHeldLine : (runs : ℕ) → Result Output Ending → Type 0
 IsHeldLine runs (Ok o) = (o.text ≡ holds_line runs) × (o.is_breach ≡ false)
-IsHeldLine runs (Err ending) = shown ending ≡ no_memory
+IsHeldLine runs (Err ending) = shown_end ending ≡ no_memory
 
 -- The bytes of a file mean a stack whose members would keep too many rows.
 pub record AreCrowded (r : Request) (file : List ℕ) : Type 0 where
@@ -54,7 +54,7 @@ Stops r file _ = ⊥
 -- What a hunt writes over the bytes of a file, or why it writes nothing.
 abbrev pub Looks : Request → (file : List ℕ) → Result Output Ending → Type 0
 Looks r file (Ok o) = IsOutput r (end_of o) file o.text
-Looks r file (Err ending) = Stops r file (shown ending)
+Looks r file (Err ending) = Stops r file (shown_end ending)
 
 -- The same over the file that the next read found.
 pub record IsFetched (r : Request) (told : Option Shelved) (reads reads_after : ℕ) (o : Output) : Type 0 where
@@ -78,7 +78,7 @@ StopsAt r told reads reads_after _ = ⊥
 
 abbrev pub Fetches : Request → Option Shelved → (reads reads_after : ℕ) → Result Output Ending → Type 0
 Fetches r told reads reads_after (Ok o) = IsFetched r told reads reads_after o
-Fetches r told reads reads_after (Err ending) = StopsAt r told reads reads_after (shown ending)
+Fetches r told reads reads_after (Err ending) = StopsAt r told reads reads_after (shown_end ending)
 
 -- An output was written in one put, or the put failed, or memory ran out.
 abbrev pub Writes : (text : List ℕ) → (is_breach : Bool) → Tells → Tells → Ended → Type 0

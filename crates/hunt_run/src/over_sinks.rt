@@ -7,7 +7,7 @@ ghost use Rattle.outside.specs.Said.{errors};
 ghost use Rattle.outside.specs.Tells.{tells_of};
 ghost use Rattle.file_jobs.specs.Stack.{ReadsText};
 ghost use Rattle.job_ends.specs.Comes.{around};
-ghost use Rattle.job_ends.specs.Shown.{shown};
+ghost use Rattle.job_ends.specs.Shown.{shown_end};
 ghost use Rattle.hunt_mean.specs.Ends.{Comes, Hunts, Runs};
 ghost use Rattle.hunt_mean.specs.Words.{request_of};
 ghost use Rattle.hunt_run.specs.Looks.{Fetches, Writes};
@@ -56,7 +56,7 @@ pub(crate) fn perform<S: Shelf, O: Sink, C: Clock + Drop, N: Write + Drop>(
     watch: &mut Watch<C, N>,
 ) -> Ending
     ensures { Comes (request_of (map string_bytes words.now))
-        (around S.Shelf O.Sink shelf.old shelf.new out.old out.new) (shown result) }
+        (around S.Shelf O.Sink shelf.old shelf.new out.old out.new) (shown_end result) }
 {
     match asked_for(alloc, words) {
         Ok(Some(request)) => hunt(alloc, request, shelf, out, watch),
@@ -73,7 +73,7 @@ fn hunt<S: Shelf, O: Sink, C: Clock + Drop, N: Write + Drop>(
     watch: &mut Watch<C, N>,
 ) -> Ending
     ensures { Hunts (request_shown request.entry) (around S.Shelf O.Sink shelf.old shelf.new out.old out.new)
-        (shown result) }
+        (shown_end result) }
 {
     match fetch(alloc, request, shelf, watch) {
         Ok(output) => write(&output, out),
@@ -111,7 +111,7 @@ fn fetch_text<S: Shelf>(alloc: Global, file: &str, shelf: &mut S) -> Result<Vec<
 /// Writes an output, and answers how the program ended.
 fn write<O: Sink>(output: &Output, out: &mut O) -> Ending
     ensures { Writes output.now.text output.now.is_breach (tells_of O.Sink out.old) (tells_of O.Sink out.new)
-        (shown result) }
+        (shown_end result) }
 {
     match put_line(output.text.slice(), out) {
         Ok(()) if output.is_breach => Ending::Breached,

@@ -24,7 +24,7 @@ use Rattle.output_mean.specs.Output.{finding_line}
 use Rattle.miss_mean.specs.Text.{explained_lines}
 use Rattle.bypass_mean.specs.Lines.{printed_lines}
 use Rattle.bypass_laws.specs.Making.{bypasses_of, simplest}
-use Rattle.job_ends.specs.Printed.{Lines, packed, printed_text}
+use Rattle.job_ends.specs.Printed.{Lines, packed_file, printed_text}
 use Rattle.std.specs.Prelude.{Result, Ok}
 use Rattle.job_ends.specs.Comes.{Around, Beside, Behind, Finds, file_name, Synthesized, IsOutput, Good, Writes, Comes}
 
@@ -78,7 +78,7 @@ writes_of (check name) r file second third lines o none is =
 writes_of (synth name) r file second third lines o none is =
     (record { stack = o.stack; means = o.means; written = ap concat (printed printed_lines file lines o) }, none)
 writes_of (pack name) r file second third lines o none is =
-    (record { stack = o.stack; means = o.means; written = ap concat (printed packed file lines o) }, none)
+    (record { stack = o.stack; means = o.means; written = ap concat (printed packed_file file lines o) }, none)
 writes_of (replay name script mode wire count) r file second third lines o none is = (
   record {
     stack = o.stack;
@@ -139,7 +139,7 @@ pub output_once : (job : Job) (file second third : List ℕ) (one other : List (
 output_once (check name) file second third one other x y =
     x.written ∙ ap accepted_lines (one_meaning file x.stack y.stack x.means y.means) ∙ sym y.written
 output_once (synth name) file second third one other x y = printed_once printed_lines file one other x y
-output_once (pack name) file second third one other x y = printed_once packed file one other x y
+output_once (pack name) file second third one other x y = printed_once packed_file file one other x y
 output_once (replay name script mode wire count) file second third one other x y =
     let stack = one_meaning file x.stack y.stack x.means y.means in
     let both : ◌≡◌ {A = Result Script ScriptFault} (Ok x.script) (Ok y.script) = sym x.spelled ∙ y.spelled in

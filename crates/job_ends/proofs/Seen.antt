@@ -26,7 +26,7 @@ use Rattle.outside.specs.Said as said
 use Rattle.outside.proofs.Gaining.{fails_part, begins_part}
 use Rattle.job_ends.specs.Comes.{Around, Finds, Beside, Behind, Good, Unfound, Whole, Comes, NoJob}
 use Rattle.job_ends.specs.Shown.{Said}
-use Rattle.job_ends.specs.Seen.{counted, run_of, Seen}
+use Rattle.job_ends.specs.Seen.{counts_around, run_of, Seen}
 use Rattle.job_ends.proofs.Comes.{writes_of, second_read, second_missed, next_file, next_second, third_read}
 use Rattle.job_ends.proofs.Comes.{third_missed, next_third, third_is}
 
@@ -158,11 +158,11 @@ module _ (words : List Text) (a : Around) (job : Job) (is : job_of_words words �
     );
   }
 
-  -- an output was cut off behind a part
+  -- an output was cut off after a part
   part_reached : (end : Ended) (good : Good job a.told) (part rest : List ℕ) → a.reads_after ≡ a.reads →
       concat good.lines ≡ part ++ rest →
       Appends a.output.contents a.output_after.contents part →
-      ((r : Run) → r.puts ≡ counted a.output.faults a.output_after.faults → Began printed_text r →
+      ((r : Run) → r.puts ≡ counts_around a.output.faults a.output_after.faults → Began printed_text r →
       Ends printed_text r end) →
       Reached words (Some job) a end
   part_reached end good part rest sound all put ended = let o = others_of good in record {

@@ -25,7 +25,7 @@ use Rattle.miss_mean.specs.Text.{explained_lines}
 use Rattle.bypass_mean.specs.Bypasses.{Bypasses}
 use Rattle.bypass_mean.specs.Lines.{printed_lines}
 use Rattle.pack_mean.specs.Accepted.{Accepts, PackFault, IsFault}
-use Rattle.job_ends.specs.Printed.{Lines, packed}
+use Rattle.job_ends.specs.Printed.{Lines, packed_file}
 use Rattle.bypass_laws.specs.Making.{bypasses_of, simplest}
 use Rattle.bypass_laws.specs.Stack.{AreOfStack}
 use Rattle.output_mean.specs.Judged.{Means, Refuses}
@@ -86,7 +86,7 @@ file_name (audit file law) = file
 abbrev pub Finds : Job → Option Shelved → Option (List ℕ) → Type 0
 Finds job told found = IfSome told (λ shelf. found_in shelf (file_name job) ≡ found)
 
--- What the read of its second file finds behind that; a job that has none reads as if it were empty.
+-- What the read of its second file finds after that; a job that has none reads as if it were empty.
 abbrev pub Beside : Job → Option Shelved → Option (List ℕ) → Type 0
 Beside (replay file script mode wire count) told found =
     IfSome (option_map after_read told) (λ shelf. found_in shelf script ≡ found)
@@ -97,7 +97,7 @@ Beside (node file plan turns me patience mode) told found =
     IfSome (option_map after_read told) (λ shelf. found_in shelf plan ≡ found)
 Beside _ told found = found ≡ Some []
 
--- What the read of its third file finds behind both; a job that has none reads as if it were empty.
+-- What the read of its third file finds after both; a job that has none reads as if it were empty.
 abbrev pub Behind : Job → Option Shelved → Option (List ℕ) → Type 0
 Behind (replay_with file script given wire count) told found =
     IfSome (option_map after_read (option_map after_read told)) (λ shelf. found_in shelf given ≡ found)
@@ -163,7 +163,7 @@ pub record Loaded (file : List ℕ) (seed events members : ℕ) (raw : Bool) (mo
 abbrev pub IsOutput : Job → (file second third : List ℕ) → (lines : List (List ℕ)) → Type 0
 IsOutput (check name) file second third lines = Checked file lines
 IsOutput (synth name) file second third lines = Synthesized printed_lines file lines
-IsOutput (pack name) file second third lines = Synthesized packed file lines
+IsOutput (pack name) file second third lines = Synthesized packed_file file lines
 IsOutput (audit name law) file second third lines = Audited file law lines
 IsOutput (replay name script mode wire count) file second third lines = Replayed file second mode wire count lines
 IsOutput (replay_with name script given wire count) file second third lines =
@@ -257,7 +257,7 @@ pub record CutOff (job : Job) (a : Around) : Type 0 where
   pub sound : a.reads_after ≡ a.reads
   pub written : Fails a.output a.output_after good.lines
 
--- Memory ran out behind a prefix of the output.
+-- Memory ran out after a prefix of the output.
 pub record Begun (job : Job) (a : Around) : Type 0 where
   pub good : Good job a.told
   pub sound : a.reads_after ≡ a.reads

@@ -15,11 +15,11 @@ abbrev pub Lines : Type 0
 Lines = List LayerTree → List Plan → Bypasses → List (List ℕ)
 
 -- Their traces as a file, each line with its end; and that of a stack.
-abbrev pub packed : Lines
-packed stack plans b = map ended_line (file_lines stack plans b)
+abbrev pub packed_file : Lines
+packed_file stack plans b = map ended_line (file_lines stack plans b)
 
 abbrev pub packed_lines : List LayerTree → List (List ℕ)
-packed_lines stack = packed stack (plans_of stack) (bypasses_of simplest stack)
+packed_lines stack = packed_file stack (plans_of stack) (bypasses_of simplest stack)
 
 -- The text that is printed: the guarded handlers, or the traces.
 abbrev pub printed_text : Printer

@@ -8,8 +8,8 @@ use Rattle.program_mean.specs.Headline.{Counted, Run, second_for, third_for, Ran
 use Rattle.outside.specs.Said.{Errors}
 use Rattle.job_ends.specs.Comes.{Around, Finds, Beside, Behind}
 
-abbrev pub counted : ℕ → ℕ → Counted
-counted before after = record { before = before; after = after }
+abbrev pub counts_around : ℕ → ℕ → Counted
+counts_around before after = record { before = before; after = after }
 
 -- A run of these words that met these files, wrote this and said this; it had no clock or network.
 abbrev pub run_of : List Text → Around → Errors → (file second third : Option (List ℕ)) → (written said : List ℕ) → Run
@@ -20,11 +20,11 @@ run_of words a e file second third written said = record {
   third = third;
   surroundings = record { clock = []; heard = []; lost = [] };
   sent = [];
-  reads = counted a.reads a.reads_after;
-  puts = counted a.output.faults a.output_after.faults;
-  links = counted 0 0;
-  sends = counted 0 0;
-  errors = counted e.before.faults e.after.faults;
+  reads = counts_around a.reads a.reads_after;
+  puts = counts_around a.output.faults a.output_after.faults;
+  links = counts_around 0 0;
+  sends = counts_around 0 0;
+  errors = counts_around e.before.faults e.after.faults;
   written = written;
   said = said;
   status = e.status;

@@ -36,24 +36,24 @@ file_end (TooMany weight) = file_refused (status.too_many weight)
 file_end TooManyJoins = file_refused status.too_many_joins
 file_end file.Memory = no_memory
 
-abbrev pub shown : Ending → Ended
-shown Done = done
-shown Breached = breached
-shown Words = words_refused
-shown (File error) = file_end error
-shown ReportTooLarge = report_refused report.too_large
-shown (ReportLine line) = report_refused (report.bad_line line)
-shown SecondTooLong = second_refused (misspelled too_long)
-shown (SecondLine line) = second_refused (misspelled (bad_line line))
-shown (SecondMember line) = second_refused (misspelled (no_member line))
-shown TooManyRows = second_refused too_many_rows
-shown TracesTooLarge = traces_refused traces.too_large
-shown (TracesLine line) = traces_refused (traces.bad_line line)
-shown (TracesDiffer entry case act) = traces_refused (traces.differs entry case act)
-shown Read = read_failed
-shown Write = write_failed
-shown Link = link_failed
-shown Memory = no_memory
+abbrev pub shown_end : Ending → Ended
+shown_end Done = done
+shown_end Breached = breached
+shown_end Words = words_refused
+shown_end (File error) = file_end error
+shown_end ReportTooLarge = report_refused report.too_large
+shown_end (ReportLine line) = report_refused (report.bad_line line)
+shown_end SecondTooLong = second_refused (misspelled too_long)
+shown_end (SecondLine line) = second_refused (misspelled (bad_line line))
+shown_end (SecondMember line) = second_refused (misspelled (no_member line))
+shown_end TooManyRows = second_refused too_many_rows
+shown_end TracesTooLarge = traces_refused traces.too_large
+shown_end (TracesLine line) = traces_refused (traces.bad_line line)
+shown_end (TracesDiffer entry case act) = traces_refused (traces.differs entry case act)
+shown_end Read = read_failed
+shown_end Write = write_failed
+shown_end Link = link_failed
+shown_end Memory = no_memory
 
 -- what is said of an end: nothing where a job went well, and else its line
 abbrev pub Said : Ended → Errors → Type 0

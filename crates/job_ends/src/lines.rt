@@ -76,16 +76,16 @@ pub(crate) fn file_line(alloc: Global, error: FileError) -> Result<String, Alloc
 {
     match error {
         FileError::TooLarge => String::from_str(alloc, "file: too large\n"),
-        FileError::BadToken(at) => placed(alloc, "token", at),
-        FileError::Unexpected(at) => placed(alloc, "unexpected", at),
-        FileError::Unknown(at) => placed(alloc, "unknown", at),
-        FileError::Twice(at) => placed(alloc, "twice", at),
-        FileError::OverLimit(at) => placed(alloc, "limit", at),
-        FileError::Kind(at) => placed(alloc, "kind", at),
-        FileError::Arity(at) => placed(alloc, "arity", at),
-        FileError::Direction(at) => placed(alloc, "direction", at),
-        FileError::Header(at) => placed(alloc, "header", at),
-        FileError::Initial(at) => placed(alloc, "initial", at),
+        FileError::BadToken(at) => cause_at(alloc, "token", at),
+        FileError::Unexpected(at) => cause_at(alloc, "unexpected", at),
+        FileError::Unknown(at) => cause_at(alloc, "unknown", at),
+        FileError::Twice(at) => cause_at(alloc, "twice", at),
+        FileError::OverLimit(at) => cause_at(alloc, "limit", at),
+        FileError::Kind(at) => cause_at(alloc, "kind", at),
+        FileError::Arity(at) => cause_at(alloc, "arity", at),
+        FileError::Direction(at) => cause_at(alloc, "direction", at),
+        FileError::Header(at) => cause_at(alloc, "header", at),
+        FileError::Initial(at) => cause_at(alloc, "initial", at),
         FileError::Cycle(place, kind) => cycle(alloc, place, kind),
         FileError::TooMany(weight) => format!(in alloc; "file: too many {weight}\n"),
         FileError::TooManyJoins => String::from_str(alloc, "file: joins\n"),
@@ -94,8 +94,8 @@ pub(crate) fn file_line(alloc: Global, error: FileError) -> Result<String, Alloc
 }
 
 /// A cause with its line and column.
-fn placed(alloc: Global, cause: &str, at: At) -> Result<String, AllocError>
-    ensures { IfOk result (λ line. string_bytes line ≡ codes "file: " ++ status.placed cause.now at ++ codes "\n") }
+fn cause_at(alloc: Global, cause: &str, at: At) -> Result<String, AllocError>
+    ensures { IfOk result (λ line. string_bytes line ≡ codes "file: " ++ status.cause_at cause.now at ++ codes "\n") }
 {
     format!(in alloc; "file: {cause} {}:{}\n", at.line, at.col)
 }

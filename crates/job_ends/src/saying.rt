@@ -7,7 +7,7 @@ ghost use Rattle.end_mean.specs.Status.{misspelled, report_refused, second_refus
 ghost use Rattle.pack_mean.specs.Accepted as traces;
 ghost use Rattle.outside.specs.Said.{errors};
 ghost use Rattle.outside.specs.Tells.{tells_of};
-ghost use Rattle.job_ends.specs.Shown.{Said, file_end, shown};
+ghost use Rattle.job_ends.specs.Shown.{Said, file_end, shown_end};
 
 use crate::ending::Ending;
 use crate::lines::{
@@ -32,7 +32,7 @@ pub const NO_MEMORY: u8 = 7;
 
 /// Says how a job ended, and answers the program's status.
 pub fn say<E: Sink>(alloc: Global, ending: Ending, err: &mut E) -> u8
-    ensures { Said (shown ending)
+    ensures { Said (shown_end ending)
         (errors (tells_of E.Sink err.old) (tells_of E.Sink err.new) result) }
 {
     match ending {

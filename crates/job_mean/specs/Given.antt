@@ -46,6 +46,6 @@ given_in rows = do
     raw = is_set (codes "raw") rows;
   })
 
--- what the words behind the program's name give, if `clap` takes them
+-- what the words after the program's name give, if `clap` takes them
 abbrev pub given_of : List Text → Option Given
 given_of = read_in command given_in

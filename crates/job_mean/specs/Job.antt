@@ -84,7 +84,7 @@ abbrev pub a_number_or_zero : ℕ → Option Text → Option ℕ
 a_number_or_zero high None = Some 0
 a_number_or_zero high (Some text) = number_within 0 high text
 
--- each number is below all those behind it
+-- each number is below all those after it
 abbrev pub is_ascending : List ℕ → Bool
 is_ascending [] = true
 is_ascending (first ∷ more) = list_all (nat_lt first) more && is_ascending more
@@ -184,6 +184,6 @@ job given =
     else if bytes_eq given.job (codes "audit") then audit_job given
     else None
 
--- the job that the words behind the program's name are, if they are one
+-- the job that the words after the program's name are, if they are one
 abbrev pub job_of_words : List Text → Option Job
 job_of_words words = given_of words >>= job

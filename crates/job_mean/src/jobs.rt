@@ -30,7 +30,8 @@ pub fn name_jobs()
     ensures explains { job_of_words (codes "explain" ∷ codes "a" ∷ codes "b" ∷ []) ≡
         Some (explain (codes "a") (codes "b")) }
     ensures loads { job_of_words (codes "load" ∷ codes "a" ∷ codes "--seed=4294967295" ∷ codes "--events" ∷
-        codes "99999" ∷ codes "--members" ∷ codes "32" ∷ []) ≡ Some (load (codes "a") 4294967295 99999 32 false bypass) }
+        codes "99999" ∷ codes "--members" ∷ codes "32" ∷ []) ≡
+        Some (load (codes "a") 4294967295 99999 32 false bypass) }
     ensures loads_datagrams { job_of_words (codes "load" ∷ codes "a" ∷ codes "--raw" ∷ codes "--seed=7" ∷ codes "--events=0" ∷
         codes "--members=1" ∷ codes "--run=layered" ∷ []) ≡ Some (load (codes "a") 7 0 1 true layered) }
     ensures runs_a_node { job_of_words (codes "node" ∷ codes "a" ∷ codes "b" ∷ codes "--turns" ∷ codes "1000000" ∷ codes "--me" ∷

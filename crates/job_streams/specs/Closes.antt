@@ -8,10 +8,10 @@ use Rattle.job_ends.specs.Shown.{Said}
 
 -- How a job ended whose output was put, where the stream got all or lacks something: then a whole output is a fault of
 -- writing.
-abbrev pub closed : Bool → Ended → Ended
-closed false done = write_failed
-closed false breached = write_failed
-closed _ end = end
+abbrev pub end_after_delivery : Bool → Ended → Ended
+end_after_delivery false done = write_failed
+end_after_delivery false breached = write_failed
+end_after_delivery _ end = end
 
 -- A job that ended so, from when all was put: what was handed on to the output's stream; and what was said then, of the
 -- end that comes of both, and handed on to the standard error's.
@@ -19,6 +19,6 @@ pub record Closes (end : Ended) (out err : Stream) (status : ℕ) : Type 0 where
   pub whole : Bool
   pub handed_on : HandsOn out.before out.after out.holds whole
   pub closing : Tells
-  pub said : Said (closed whole end) (errors err.before closing status)
+  pub said : Said (end_after_delivery whole end) (errors err.before closing status)
   pub heard : Bool
   pub told_on : HandsOn closing err.after err.holds heard

@@ -1,8 +1,8 @@
 //! The handing on of what a job put, and what is said of its end.
 
 ghost use Rattle.std.specs.Prelude.{◌≡◌};
-ghost use Rattle.job_ends.specs.Shown.{shown};
-ghost use Rattle.job_streams.specs.Closes.{Closes, closed};
+ghost use Rattle.job_ends.specs.Shown.{shown_end};
+ghost use Rattle.job_streams.specs.Closes.{Closes, end_after_delivery};
 ghost use Rattle.program_streams.specs.Streams.{over};
 
 use job_ends::{Ending, say};
@@ -22,18 +22,18 @@ pub fn close<O: Write + Drop, E: Write + Drop>(
     out: &mut StdSink<O>,
     err: &mut StdSink<E>,
 ) -> u8
-    ensures { Closes (shown ending) (over O.Write ⟦<StdSink<O> as Sink>⟧ out.old out.new)
+    ensures { Closes (shown_end ending) (over O.Write ⟦<StdSink<O> as Sink>⟧ out.old out.new)
         (over E.Write ⟦<StdSink<E> as Sink>⟧ err.old err.new) result }
 {
     let whole = hand_on(out);
-    let status = say(alloc, closed(whole, ending), err);
+    let status = say(alloc, end_after_delivery(whole, ending), err);
     let _ = hand_on(err);
     status
 }
 
 /// How a job ended whose stream got all that was put or didn't: then a whole output is a fault of writing.
-fn closed(whole: bool, ending: Ending) -> Ending
-    ensures { shown result ≡ closed whole (shown ending) }
+fn end_after_delivery(whole: bool, ending: Ending) -> Ending
+    ensures { shown_end result ≡ end_after_delivery whole (shown_end ending) }
 {
     if whole {
         return ending;

@@ -12,7 +12,7 @@ use denote.Ref.{Bor}
 use Rattle.std.specs.Prelude.{codes}
 use Rattle.std.specs.Str.{bytes_eq}
 
--- members that were read, in front of those that other words name
+-- members that were read, before those that other words name
 abbrev pub with_front : List ℕ → Option (List ℕ) → Option (List ℕ)
 with_front front = option_map (λ members. front ++ members)
 
@@ -72,7 +72,7 @@ only_listed g xs listed are = by_names xs ∙ ap names are ∙
     some_if true = refl
     some_if false = refl
 
--- a step that goes on behind what was listed
+-- a step that goes on after what was listed
 pub goes_on : {A : Type 0} (o : Option (Unit {0})) (next : Option A) → is_some o ≡ true → next ≡ (o >>= λ _. next)
 goes_on None next is = absurd (cc is)
 goes_on (Some x) next is = refl

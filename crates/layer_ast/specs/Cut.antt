@@ -10,18 +10,18 @@ use Rattle.layer_ast.specs.declared.tokens.Token.{Token}
 use Rattle.layer_ast.specs.declared.tokens.Token.TheVariants as token
 use Rattle.layer_ast.specs.Spelling.{is_blank, is_word_byte, word_token, symbol_at, number_of}
 
--- what a text begins with: a gap, a token, or a bad byte; with the number of its bytes behind the first
+-- what a text begins with: a gap, a token, or a bad byte; with the number of its bytes after the first
 pub data Piece : Type 0 where
   gap : (behind : ℕ) → Piece
   one : (token : Token) (behind : ℕ) → Piece
   bad : Piece
 
--- the word at the front of a text: a letter with the word bytes behind it, at most 32 bytes in all
+-- the word at the front of a text: a letter with the word bytes after it, at most 32 bytes in all
 abbrev pub word_piece : ℕ → List ℕ → Piece
 word_piece b bs =
     let n = prefix_len is_word_byte bs in if nat_le n 31 then one (word_token (b ∷ take n bs)) n else bad
 
--- the number at the front of a text: a digit with the digits behind it, with no leading zero, at most 4294967295
+-- the number at the front of a text: a digit with the digits after it, with no leading zero, at most 4294967295
 abbrev pub number_piece : ℕ → List ℕ → Piece
 number_piece b bs =
     let n = prefix_len is_ascii_digit bs in
@@ -33,7 +33,7 @@ number_piece b bs =
 abbrev pub symbol_piece : List ℕ → Piece
 symbol_piece text = option_map_or (λ entry. one (token.Sign entry.1) (length entry.0 - 1)) (symbol_at text) bad
 
--- the piece at the front of a text, where a letter is bad directly behind a number
+-- the piece at the front of a text, where a letter is bad directly after a number
 unfoldable pub piece : Bool → ℕ → List ℕ → Piece
 piece behind_number b bs =
     if is_blank b then gap 0
@@ -42,11 +42,11 @@ piece behind_number b bs =
     else if is_ascii_digit b then number_piece b bs
     else symbol_piece (b ∷ bs)
 
--- the place behind a byte
+-- the place after a byte
 abbrev pub place_behind : ℕ → At → At
 place_behind b at = if nat_eq b 10 then record { line = at.line + 1; col = 1 } else record at { col = at.col + 1 }
 
--- the tokens in front of the first bad one, and the place of that one
+-- the tokens before the first bad one, and the place of that one
 pub record Tokens : Type 0 where
   pub tokens : List Lexed
   pub bad_at : Option At
@@ -56,14 +56,14 @@ abbrev pub is_numeral : Token → Bool
 is_numeral (token.Number _) = true
 is_numeral _ = false
 
--- a piece in front of the tokens behind it, which follow from whether it is a number and how long it is
+-- a piece before the tokens after it, which follow from whether it is a number and how long it is
 abbrev pub with_piece : Piece → At → (Bool → ℕ → Tokens) → Tokens
 with_piece (gap behind) at rest = rest false behind
 with_piece (one t behind) at rest =
     let r = rest (is_numeral t) behind in record r { tokens = record { token = t; at = at } ∷ r.tokens }
 with_piece bad at rest = record { tokens = []; bad_at = Some at }
 
--- the tokens from a place on: a piece begins here and behind each piece, and so many bytes of a piece are still to come
+-- the tokens from a place on: a piece begins here and after each piece, and so many bytes of a piece are still to come
 abbrev pub cut_from : Bool → ℕ → List ℕ → At → Tokens
 cut_from behind_number inside [] at = record { tokens = []; bad_at = None }
 cut_from behind_number zero (b ∷ bs) at =
@@ -71,5 +71,5 @@ cut_from behind_number zero (b ∷ bs) at =
 cut_from behind_number (suc inside) (b ∷ bs) at = cut_from behind_number inside bs (place_behind b at)
 
 -- the tokens of a whole text
-abbrev pub cut : List ℕ → Tokens
-cut text = cut_from false 0 text record { line = 1; col = 1 }
+abbrev pub text_tokens : List ℕ → Tokens
+text_tokens text = cut_from false 0 text record { line = 1; col = 1 }

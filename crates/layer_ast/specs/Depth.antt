@@ -10,7 +10,7 @@ abbrev pub room_inside : ℕ → Option ℕ
 room_inside zero = None
 room_inside (suc room) = Some room
 
--- the room for further brackets behind a token: an opening bracket takes one place and a closing one gives it back
+-- the room for further brackets after a token: an opening bracket takes one place and a closing one gives it back
 abbrev pub room_behind : Token → ℕ → Option ℕ
 room_behind (token.Sign LeftBrace) room = room_inside room
 room_behind (token.Sign LeftParen) room = room_inside room

@@ -1,4 +1,4 @@
--- The tokens of a tree, each with its place where the tree keeps one. Each function prints in front of what follows.
+-- The tokens of a tree, each with its place where the tree keeps one. Each function prints before what follows.
 use Rattle.std.specs.Prelude.{List, [], ◌∷◌, Option, Some, None}
 use Rattle.layer_ast.specs.declared.names.Name.{Name}
 use Rattle.layer_ast.specs.declared.tokens.Sign.TheVariants as sign
@@ -6,7 +6,7 @@ use Rattle.layer_ast.specs.declared.syntax.Likely.{Likely}
 use Rattle.layer_ast.specs.declared.syntax.Likely.TheVariants as likely_word
 use Rattle.layer_ast.specs.declared.syntax.Shape.{Shape}
 use Rattle.layer_ast.specs.declared.syntax.Shape.TheVariants.{One, Array, Square}
-use Rattle.layer_ast.specs.Printed.{Printed, plain, placed, numeral, plain_numeral, name, kind, direction_sign}
+use Rattle.layer_ast.specs.Printed.{Printed, plain, placed_sign, numeral, plain_numeral, name, kind, direction_sign}
 use Rattle.layer_ast.specs.Printed.{ending_sign, sort_sign, function_sign, operator_sign}
 use Rattle.layer_ast.specs.Tree as tree
 use Rattle.layer_ast.specs.Tree.{ExpressionTree, QueueTree, MessageTree, BuiltTree, ArgumentTree, NamesTree}
@@ -18,26 +18,27 @@ abbrev mutual
   -- the tokens of an expression
   pub expression : ExpressionTree → List Printed → List Printed
   expression (tree.number at value) k = numeral value at ∷ k
-  expression (tree.me at) k = placed sign.Me at ∷ k
-  expression (tree.members at) k = placed sign.N at ∷ k
-  expression (tree.ltime at) k = placed sign.Ltime at ∷ k
+  expression (tree.me at) k = placed_sign sign.Me at ∷ k
+  expression (tree.members at) k = placed_sign sign.N at ∷ k
+  expression (tree.ltime at) k = placed_sign sign.Ltime at ∷ k
   expression (tree.named n) k = name n ∷ k
   expression (tree.element n i) k = name n ∷ plain sign.LeftBracket ∷ expression i (plain sign.RightBracket ∷ k)
   expression (tree.square n i j) k =
       name n ∷ plain sign.LeftBracket
       ∷ expression i (plain sign.RightBracket ∷ plain sign.LeftBracket ∷ expression j (plain sign.RightBracket ∷ k))
-  expression (tree.rows at q) k = placed sign.Len at ∷ plain sign.LeftParen ∷ queue q (plain sign.RightParen ∷ k)
+  expression (tree.rows at q) k = placed_sign sign.Len at ∷ plain sign.LeftParen ∷ queue q (plain sign.RightParen ∷ k)
   expression (tree.item at q row label) k =
-      placed sign.AtRow at ∷ plain sign.LeftParen
+      placed_sign sign.AtRow at ∷ plain sign.LeftParen
       ∷ queue q (plain sign.Comma ∷ expression row (plain sign.RightParen ∷ plain sign.Dot ∷ name label ∷ k))
-  expression (tree.size at m) k = placed sign.Size at ∷ plain sign.LeftParen ∷ message m (plain sign.RightParen ∷ k)
+  expression (tree.size at m) k = placed_sign sign.Size at ∷ plain sign.LeftParen ∷
+      message m (plain sign.RightParen ∷ k)
   expression (tree.binary at left operator right) k =
-      placed sign.LeftParen at
+      placed_sign sign.LeftParen at
       ∷ expression left (plain (operator_sign operator) ∷ expression right (plain sign.RightParen ∷ k))
   expression (tree.apply at function operand) k =
-      placed (function_sign function) at ∷ plain sign.LeftParen ∷ expression operand (plain sign.RightParen ∷ k)
+      placed_sign (function_sign function) at ∷ plain sign.LeftParen ∷ expression operand (plain sign.RightParen ∷ k)
   expression (tree.pick at condition first second) k =
-      placed sign.Pick at ∷ plain sign.LeftParen
+      placed_sign sign.Pick at ∷ plain sign.LeftParen
       ∷ expression condition (plain sign.Comma
       ∷ expression first (plain sign.Comma ∷ expression second (plain sign.RightParen ∷ k)))
 
@@ -53,22 +54,22 @@ abbrev mutual
 
   -- the tokens of a message that is no bare name
   pub built : BuiltTree → List Printed → List Printed
-  built (tree.nothing at) k = placed sign.Nothing at ∷ k
+  built (tree.nothing at) k = placed_sign sign.Nothing at ∷ k
   built (tree.held at q row) k =
-      placed sign.Held at ∷ plain sign.LeftParen
+      placed_sign sign.Held at ∷ plain sign.LeftParen
       ∷ queue q (plain sign.Comma ∷ expression row (plain sign.RightParen ∷ k))
   built (tree.cut at m from length) k =
-      placed sign.Cut at ∷ plain sign.LeftParen
+      placed_sign sign.Cut at ∷ plain sign.LeftParen
       ∷ message m (plain sign.Comma ∷
       expression from (plain sign.Comma ∷ expression length (plain sign.RightParen ∷ k)))
   built (tree.tail at m from) k =
-      placed sign.Tail at ∷ plain sign.LeftParen
+      placed_sign sign.Tail at ∷ plain sign.LeftParen
       ∷ message m (plain sign.Comma ∷ expression from (plain sign.RightParen ∷ k))
   built (tree.join at first second) k =
-      placed sign.Join at ∷ plain sign.LeftParen
+      placed_sign sign.Join at ∷ plain sign.LeftParen
       ∷ message first (plain sign.Comma ∷ message second (plain sign.RightParen ∷ k))
 
--- names, each behind a comma
+-- names, each after a comma
 abbrev pub more_names : List Name → List Printed → List Printed
 more_names [] k = k
 more_names (n ∷ rest) k = plain sign.Comma ∷ name n ∷ more_names rest k
@@ -87,7 +88,7 @@ abbrev pub argument : ArgumentTree → List Printed → List Printed
 argument (tree.value e) k = expression e k
 argument (tree.content b) k = built b k
 
--- arguments, each behind a comma
+-- arguments, each after a comma
 abbrev pub more_arguments : List ArgumentTree → List Printed → List Printed
 more_arguments [] k = k
 more_arguments (a ∷ rest) k = plain sign.Comma ∷ argument a (more_arguments rest k)
@@ -127,38 +128,38 @@ abbrev mutual
   -- the tokens of a statement
   pub statement : StatementTree → List Printed → List Printed
   statement (tree.bind at n value) k =
-      placed sign.Let at ∷ name n ∷ plain sign.Assign ∷ expression value (plain sign.Semicolon ∷ k)
+      placed_sign sign.Let at ∷ name n ∷ plain sign.Assign ∷ expression value (plain sign.Semicolon ∷ k)
   statement (tree.set at n i value) k =
-      placed sign.Set at ∷ name n ∷ index i (plain sign.Assign ∷ expression value (plain sign.Semicolon ∷ k))
+      placed_sign sign.Set at ∷ name n ∷ index i (plain sign.Assign ∷ expression value (plain sign.Semicolon ∷ k))
   statement (tree.set_square at n i j value) k =
-      placed sign.Set at ∷ name n ∷ plain sign.LeftBracket
+      placed_sign sign.Set at ∷ name n ∷ plain sign.LeftBracket
       ∷ expression i (plain sign.RightBracket ∷ plain sign.LeftBracket
       ∷ expression j (plain sign.RightBracket ∷ plain sign.Assign ∷ expression value (plain sign.Semicolon ∷ k)))
   statement (tree.push at q items otherwise) k =
-      placed sign.Push at
+      placed_sign sign.Push at
       ∷ queue q (plain sign.LeftParen
       ∷ arguments items (plain sign.RightParen ∷ plain sign.Else ∷ plain sign.LeftBrace
       ∷ statements otherwise (plain sign.RightBrace ∷ k)))
   statement (tree.take at q ns first otherwise) k =
-      placed sign.Take at
+      placed_sign sign.Take at
       ∷ queue q (plain sign.LeftParen
       ∷ names ns (plain sign.RightParen ∷ plain sign.LeftBrace
       ∷ statements first (plain sign.RightBrace ∷ plain sign.Else ∷ plain sign.LeftBrace
       ∷ statements otherwise (plain sign.RightBrace ∷ k))))
   statement (tree.when at l condition first) k =
-      placed sign.If at
+      placed_sign sign.If at
       ∷ likely l (expression condition (plain sign.LeftBrace ∷ statements first (plain sign.RightBrace ∷ k)))
   statement (tree.choose at l condition first otherwise) k =
-      placed sign.If at
+      placed_sign sign.If at
       ∷ likely l (expression condition (plain sign.LeftBrace
       ∷ statements first (plain sign.RightBrace ∷ plain sign.Else ∷ plain sign.LeftBrace
       ∷ statements otherwise (plain sign.RightBrace ∷ k))))
   statement (tree.each at n below most body) k =
-      placed sign.Each at ∷ name n ∷ plain sign.Below
+      placed_sign sign.Each at ∷ name n ∷ plain sign.Below
       ∷ expression below (plain sign.Max ∷ size most ∷ plain sign.LeftBrace ∷
       statements body (plain sign.RightBrace ∷ k))
   statement (tree.emit at direction what es p) k =
-      placed (direction_sign direction) at ∷ kind what ∷ plain sign.LeftParen
+      placed_sign (direction_sign direction) at ∷ kind what ∷ plain sign.LeftParen
       ∷ arguments es (plain sign.RightParen ∷ pushed p (plain sign.Semicolon ∷ k))
 
   -- the tokens of statements in order
@@ -185,7 +186,7 @@ expected tree.rare k = plain sign.Rare ∷ k
 -- the tokens of a handler
 abbrev pub handler : HandlerTree → List Printed → List Printed
 handler h k =
-    placed (direction_sign h.direction) h.at ∷ kind h.kind ∷ plain sign.LeftParen
+    placed_sign (direction_sign h.direction) h.at ∷ kind h.kind ∷ plain sign.LeftParen
     ∷ names h.names (plain sign.RightParen ∷ popped h.popped (expected h.expected (block h.block k)))
 
 -- the tokens of handlers in order
@@ -209,7 +210,7 @@ initial (Some e) k = plain sign.Assign ∷ expression e k
 abbrev pub item : ItemTree → List Printed → List Printed
 item i k = name i.name ∷ plain sign.Colon ∷ plain (sort_sign i.sort) ∷ k
 
--- items, each behind a comma
+-- items, each after a comma
 abbrev pub more_items : List ItemTree → List Printed → List Printed
 more_items [] k = k
 more_items (i ∷ rest) k = plain sign.Comma ∷ item i (more_items rest k)
@@ -223,16 +224,17 @@ rows capacity is k =
 -- the tokens of a declaration
 abbrev pub declaration : DeclarationTree → List Printed → List Printed
 declaration (tree.param at n value) k =
-    placed sign.Param at ∷ name n ∷ plain sign.Assign ∷ plain_numeral value ∷ plain sign.Semicolon ∷ k
+    placed_sign sign.Param at ∷ name n ∷ plain sign.Assign ∷ plain_numeral value ∷ plain sign.Semicolon ∷ k
 declaration (tree.int at n s value) k =
-    placed sign.State at ∷ plain sign.Int ∷ name n ∷ shape s (initial value (plain sign.Semicolon ∷ k))
+    placed_sign sign.State at ∷ plain sign.Int ∷ name n ∷ shape s (initial value (plain sign.Semicolon ∷ k))
 declaration (tree.rows_cell at n capacity is) k =
-    placed sign.State at ∷ plain sign.Queue ∷ name n ∷ rows capacity is k
+    placed_sign sign.State at ∷ plain sign.Queue ∷ name n ∷ rows capacity is k
 declaration (tree.rows_array at n capacity is) k =
-    placed sign.State at ∷ plain sign.Queue ∷ name n ∷ plain sign.LeftBracket ∷ plain sign.N ∷ plain sign.RightBracket
+    placed_sign sign.State at ∷ plain sign.Queue ∷ name n ∷ plain sign.LeftBracket ∷ plain sign.N ∷ plain
+    sign.RightBracket
     ∷ rows capacity is k
 declaration (tree.header at n fields ending) k =
-    placed sign.Header at ∷ name n ∷ plain sign.LeftParen
+    placed_sign sign.Header at ∷ name n ∷ plain sign.LeftParen
     ∷ some_names fields (plain sign.RightParen ∷ plain (ending_sign ending) ∷ plain sign.Semicolon ∷ k)
 
 -- the tokens of declarations in order
@@ -243,7 +245,7 @@ declarations (d ∷ rest) k = declaration d (declarations rest k)
 -- the tokens of a layer
 abbrev pub layer : LayerTree → List Printed → List Printed
 layer l k =
-    placed sign.Layer l.at ∷ name l.name ∷ plain sign.LeftBrace
+    placed_sign sign.Layer l.at ∷ name l.name ∷ plain sign.LeftBrace
     ∷ declarations l.declarations (handlers l.handlers (plain sign.RightBrace ∷ k))
 
 -- the tokens of layers in order
@@ -255,7 +257,7 @@ layers (l ∷ rest) k = layer l (layers rest k)
 abbrev pub given : GivenTree → List Printed → List Printed
 given g k = name g.name ∷ plain sign.Assign ∷ plain_numeral g.value ∷ k
 
--- given params, each behind a comma
+-- given params, each after a comma
 abbrev pub more_given : List GivenTree → List Printed → List Printed
 more_given [] k = k
 more_given (g ∷ rest) k = plain sign.Comma ∷ given g (more_given rest k)

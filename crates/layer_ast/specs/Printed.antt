@@ -34,8 +34,8 @@ abbrev pub plain : Sign → Printed
 plain s = record { token = token.Sign s; at = None }
 
 -- a sign that the tree keeps the place of
-abbrev pub placed : Sign → At → Printed
-placed s at = record { token = token.Sign s; at = Some at }
+abbrev pub placed_sign : Sign → At → Printed
+placed_sign s at = record { token = token.Sign s; at = Some at }
 
 -- a number that the tree keeps the place of
 abbrev pub numeral : ℕ → At → Printed

@@ -1,6 +1,6 @@
 -- A reader for texts that are worked out. It guesses the file that a text spells, and that the text spells it is proved
 -- of each text: no law speaks of the reader, and it says anything of a text that is no file. Each part of it takes a
--- number of turns, the tokens, and what is to be made of what it reads and of the tokens behind that.
+-- number of turns, the tokens, and what is to be made of what it reads and of the tokens after that.
 use Rattle.std.specs.Prelude.{ℕ, zero, suc, ◌+◌, Bool, true, false, not, List, [], ◌∷◌, ◌++◌, map, filter, take, drop}
 use Rattle.std.specs.Prelude.{get_or, Option, Some, None}
 use Rattle.std.specs.List.{take_while, prefix_len}
@@ -26,7 +26,7 @@ use Rattle.layer_ast.specs.declared.syntax.Shape.{Shape}
 use Rattle.layer_ast.specs.declared.syntax.Shape.TheVariants.{One, Array, Square}
 use Rattle.layer_ast.specs.declared.syntax.Sort.{Sort}
 use Rattle.layer_ast.specs.declared.syntax.Sort.TheVariants.{Int, Msg, Part}
-use Rattle.layer_ast.specs.Cut.{piece, cut}
+use Rattle.layer_ast.specs.Cut.{piece, text_tokens}
 use Rattle.layer_ast.specs.Samples.{at}
 use Rattle.layer_ast.specs.Spelling.{reserved, kinds, word_token, symbols, symbol_at}
 use Rattle.layer_ast.specs.Tree as expected
@@ -105,7 +105,7 @@ abbrev is_name : Token → Bool
 is_name (token.Name _) = true
 is_name _ = false
 
--- the names in front of the next closing parenthesis, and what stands behind that
+-- the names before the next closing parenthesis, and what stands after that
 abbrev listed : List Lexed → List Name
 listed ls = map (λ l. record { at = l.at; word = word_of l.token })
     (filter (λ l. is_name l.token) (take_while (λ l. not (is_close l.token)) ls))
@@ -129,7 +129,7 @@ abbrev arguments : List ArgumentTree → ArgumentsTree
 arguments [] = record { first = value (number (at 0 0) 0); rest = [] }
 arguments (a ∷ rest) = record { first = a; rest = rest }
 
--- a queue, a cell and an assignment, by the indexes behind their name
+-- a queue, a cell and an assignment, by the indexes after their name
 abbrev queue_of : Name → Option ExpressionTree → QueueTree
 queue_of n None = queue n
 queue_of n (Some i) = queue_at n i
@@ -338,7 +338,7 @@ abbrev initial : ℕ → Token → List Lexed → Then (Option ExpressionTree) �
 initial f (token.Sign sign.Assign) ls k = expression f (drop 1 ls) (λ e rest. k (Some e) rest)
 initial f _ ls k = k None ls
 
--- a cell of rows, whose capacity stands behind one bracket, or behind that of an array
+-- a cell of rows, whose capacity stands after one bracket, or after that of an array
 abbrev rows_of : Token → At → List Lexed → DeclarationTree
 rows_of (token.Sign sign.N) p ls = rows_array p (name 2 ls) (size_of (nth 7 ls) (nth 7 ls).token) (items (drop 11 ls))
 rows_of _ p ls = rows_cell p (name 2 ls) (size_of (nth 4 ls) (nth 4 ls).token) (items (drop 8 ls))
@@ -408,7 +408,7 @@ abbrev mutual
 -- the file that a text is guessed to spell, without what the library brings
 unfoldable pub file_of : List ℕ → FileTree
 unfolding piece reserved kinds word_token symbols symbol_at
-file_of text = layers 1000 (cut text).tokens []
+file_of text = layers 1000 (text_tokens text).tokens []
 
 -- the layer that a text of one is guessed to spell
 abbrev pub layer_of : List ℕ → LayerTree

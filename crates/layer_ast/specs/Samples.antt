@@ -14,7 +14,7 @@ use Rattle.layer_ast.specs.declared.syntax.Likely.TheVariants.{First, Else}
 use Rattle.layer_ast.specs.declared.syntax.Operator.TheVariants.{Add, Equal, Greater}
 use Rattle.layer_ast.specs.declared.syntax.Shape.TheVariants.{Square}
 use Rattle.layer_ast.specs.declared.syntax.Sort.TheVariants.{Msg}
-use Rattle.layer_ast.specs.Cut.{cut}
+use Rattle.layer_ast.specs.Cut.{text_tokens}
 use Rattle.layer_ast.specs.Print.{file}
 use Rattle.layer_ast.specs.Printed.{marks}
 use Rattle.layer_ast.specs.Spells.{Spells}
@@ -31,7 +31,7 @@ token_at t line col = record { token = t; at = record { line = line; col = col }
 -- a text with a comment, a reserved word that begins a name, long symbols and a bad byte
 abbrev pub CutsText : Type 0
 CutsText =
-    cut (codes "set setk # x == 1\n <=12 === Cast !up") ≡ record {
+    text_tokens (codes "set setk # x == 1\n <=12 === Cast !up") ≡ record {
       tokens =
           token_at (token.Sign sign.Set) 1 1
           ∷ token_at (token.Name (codes "setk")) 1 5
@@ -44,10 +44,10 @@ CutsText =
       bad_at = Some record { line = 2; col = 16 };
     }
 
--- a number with a letter directly behind it is a token, and the letter is bad
+-- a number with a letter directly after it is a token, and the letter is bad
 abbrev pub CutsLetter : Type 0
 CutsLetter =
-    cut (codes "0ab") ≡ record {
+    text_tokens (codes "0ab") ≡ record {
       tokens = token_at (token.Number 0) 1 1 ∷ [];
       bad_at = Some record { line = 1; col = 2 };
     }
@@ -55,9 +55,10 @@ CutsLetter =
 -- a number with a leading zero and one that is too large are bad from their first digit on
 abbrev pub CutsNumbers : Type 0
 CutsNumbers =
-    (cut (codes "00") ≡ record { tokens = []; bad_at = Some record { line = 1; col = 1 } })
-    × (cut (codes "4294967296") ≡ record { tokens = []; bad_at = Some record { line = 1; col = 1 } })
-    × (cut (codes "4294967295") ≡ record { tokens = token_at (token.Number 4294967295) 1 1 ∷ []; bad_at = None })
+    (text_tokens (codes "00") ≡ record { tokens = []; bad_at = Some record { line = 1; col = 1 } })
+    × (text_tokens (codes "4294967296") ≡ record { tokens = []; bad_at = Some record { line = 1; col = 1 } })
+    × (text_tokens (codes "4294967295") ≡
+    record { tokens = token_at (token.Number 4294967295) 1 1 ∷ []; bad_at = None })
 
 -- a place in a text
 abbrev pub at : ℕ → ℕ → At

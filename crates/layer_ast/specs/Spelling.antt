@@ -102,7 +102,7 @@ unfoldable pub word_token : List ℕ → Token
 word_token word = option_map_or token.Sign (beside reserved word)
     (option_map_or token.Kind (beside kinds word) (token.Name word))
 
--- the symbols, those of two bytes in front of those that they begin with
+-- the symbols, those of two bytes before those that they begin with
 unfoldable pub symbols : List (List ℕ × Sign)
 symbols =
     (codes "==", sign.Equal)

@@ -1,7 +1,7 @@
 -- When a text spells a file.
 use Rattle.std.specs.Prelude.{◌≡◌, ◌≢◌, ℕ, List, [], ◌∷◌, map, None, IfSome}
 use Rattle.layer_ast.specs.declared.tokens.Lexed.{Lexed}
-use Rattle.layer_ast.specs.Cut.{cut}
+use Rattle.layer_ast.specs.Cut.{text_tokens}
 use Rattle.layer_ast.specs.Depth.{IsWithin}
 use Rattle.layer_ast.specs.Print.{file}
 use Rattle.layer_ast.specs.Printed.{Printed}
@@ -24,7 +24,7 @@ HasPlace f = f.places ≢ []
 -- a text spells a file: it has no bad token, its tokens are the file's and stand where the file says, and its brackets
 -- are nowhere deeper than 100
 pub record Spells (text : List ℕ) (f : FileTree) : Type 0 where
-  pub good : (cut text).bad_at ≡ None
-  pub fits : Fits (file f) (cut text).tokens
-  pub within : IsWithin 100 (map (λ l. l.token) (cut text).tokens)
+  pub good : (text_tokens text).bad_at ≡ None
+  pub fits : Fits (file f) (text_tokens text).tokens
+  pub within : IsWithin 100 (map (λ l. l.token) (text_tokens text).tokens)
   pub placed : HasPlace f

@@ -41,8 +41,8 @@ mutual
     bare : (name : Name) → MessageTree
     built : (built : BuiltTree) → MessageTree
 
-  -- a message that is no bare name: no bytes, the message of a row, a range of a part, what stands behind a part's
-  -- first bytes, or a part in front of a message
+  -- a message that is no bare name: no bytes, the message of a row, a range of a part, what stands after a part's
+  -- first bytes, or a part before a message
   pub data BuiltTree : Type 0 where
     nothing : (at : At) → BuiltTree
     held : (at : At) (queue : QueueTree) (row : ExpressionTree) → BuiltTree

@@ -109,7 +109,7 @@ abbrev pub size_tree : Size → SizeTree
 size_tree (rust_size.Number at v) = fixed at v
 size_tree (rust_size.Named name) = sized name
 
--- trees one behind the other
+-- trees one after the other
 abbrev pub trees : List StatementTree → StatementTrees
 trees [] = none
 trees (statement ∷ rest) = more statement (trees rest)

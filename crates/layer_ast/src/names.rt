@@ -24,7 +24,7 @@ pub struct Word {
 impl Model for Word {
     ghost use Rattle.std.specs.Prelude.{◌≡◌, ◌≤◌, ◌-◌, List, ℕ, length, take, drop, replicate};
     ghost use Rattle.std.proofs.Common.{arith, length-take-le};
-    ghost use Rattle.layer_ast.specs.WordBytes.{longest_word, padded, padded-take};
+    ghost use Rattle.layer_ast.specs.WordBytes.{longest_word, padded_word, padded-take};
 
     ghost Value = { List ℕ };
 
@@ -33,7 +33,7 @@ impl Model for Word {
     ghost invariant = { λ w. (1 ≤ w.len) × (w.len ≤ longest_word) × (length w.bytes ≡ longest_word) ×
         (drop w.len w.bytes ≡ replicate (longest_word - w.len) 0) };
 
-    ghost inverse = { λ bytes. record { bytes = padded bytes; len = length bytes } };
+    ghost inverse = { λ bytes. record { bytes = padded_word bytes; len = length bytes } };
 
     ghost inverse_ok = { λ w h i. record {
       bytes = padded-take w.len w.bytes (omega (arith, h.1, h.2)) h.3 i;

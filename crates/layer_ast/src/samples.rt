@@ -9,7 +9,7 @@ pub fn cuts_text()
     ensures { CutsText }
 {}
 
-/// A number with a letter directly behind it.
+/// A number with a letter directly after it.
 pub fn cuts_letter()
     ensures { CutsLetter }
 {}

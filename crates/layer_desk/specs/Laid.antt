@@ -38,21 +38,21 @@ assigned_square c row column v p = assigned c (flat_index p.state.count row colu
 abbrev pub lifted : Content → Laid → Laid
 lifted m p = record p { hand = m ∷ p.hand }
 
--- The message in front of those in hand becomes another; an empty hand stays so.
+-- The message before those in hand becomes another; an empty hand stays so.
 abbrev pub with_front : (Content → Content) → List Content → List Content
 with_front f [] = []
 with_front f (m ∷ rest) = f m ∷ rest
 
-abbrev pub changed : (Content → Content) → Laid → Laid
-changed f p = record p { hand = with_front f p.hand }
+abbrev pub front_changed : (Content → Content) → Laid → Laid
+front_changed f p = record p { hand = with_front f p.hand }
 
 -- The two in front become one: the second of them, which came first, is the part in front.
 abbrev pub with_joined : List Content → List Content
 with_joined (m ∷ part ∷ rest) = parts.join part m ∷ rest
 with_joined ms = ms
 
-abbrev pub joined : Laid → Laid
-joined p = record p { hand = with_joined p.hand }
+abbrev pub front_joined : Laid → Laid
+front_joined p = record p { hand = with_joined p.hand }
 
 -- What is done with the message in front, which leaves the hand; with an empty hand nothing is done.
 abbrev pub with_first : (Content → Laid → Laid) → List Content → Laid → Laid
@@ -80,7 +80,7 @@ with_found c i taken (Some row) p =
 abbrev pub taken_row : ℕ → ℕ → TakenTree → Laid → Laid
 taken_row c i taken p = with_found c i taken (row_at p.state c i 0) p
 
--- An event is sent: without a message, or with the one in front of the hand, on which a header is pushed going down.
+-- An event is sent: without a message, or with the one before the hand, on which a header is pushed going down.
 abbrev pub sends : Dir → Event → Laid → Laid
 sends dir event p = record p { sent = p.sent ++ (dir, event) ∷ [] }
 
@@ -96,7 +96,7 @@ abbrev pub header_popped : Laid → Laid
 header_popped p = record p { arrived = option_map popped p.arrived }
 
 -- A block is entered: its scope has the event's numbers, the fields of the popped header and the message that arrived,
--- and behind them so many numbers and messages that the block declares.
+-- and after them so many numbers and messages that the block declares.
 abbrev pub enters : Envelope → List ℕ → ℕ → ℕ → Laid → Laid
 enters e fields numbers messages p = record p {
   scope = record {
@@ -106,7 +106,7 @@ enters e fields numbers messages p = record p {
   arrived = None;
 }
 
--- What arrived is sent on, behind a header going down; and what a visit leaves behind is let go.
+-- What arrived is sent on, after a header going down; and what a visit leaves behind is let go.
 abbrev pub passes_on : Dir → Envelope → Header → Laid → Laid
 passes_on dir e header p =
     sends dir (event_in e (option_map (sent_as dir header) p.arrived)) (record p { arrived = None })

@@ -82,7 +82,7 @@ lifts (join p m) = lifts p + lifts m
 lifts _ = 1
 
 -- What stands in for another may be a misfit where its headers are of use: a cut has none, and a join those of what
--- stands behind.
+-- stands after.
 abbrev pub message_misfits : MessageTree → ℕ
 message_misfits (held c i row carried) = too_wide carried
 message_misfits (tail m from) = message_misfits m
@@ -149,7 +149,7 @@ abbrev mutual
   block_sends (more x rest) = sends_at_most x + block_sends rest
 
 abbrev mutual
-  -- The places of the hand that a statement takes: the hand is as before behind each message, so these are the most of
+  -- The places of the hand that a statement takes: the hand is as before after each message, so these are the most of
   -- any.
   pub in_hand : StatementTree → ℕ
   in_hand (push c i capacity row otherwise) = max (row_lifts row) (block_in_hand otherwise)

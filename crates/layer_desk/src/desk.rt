@@ -11,7 +11,8 @@ ghost use Rattle.layer_mean.specs.State.{number_at, flat_index, rows_at, row_at,
 ghost use Rattle.layer_mean.specs.Value.{number_in, message_in};
 ghost use Rattle.layer_mean.specs.Effect.{sent_as};
 ghost use Rattle.typed_layer.specs.View.{carried_tree, taken_tree};
-ghost use Rattle.layer_desk.specs.Laid.{Laid, bound, assigned, assigned_square, lifted, changed, joined, queued};
+ghost use Rattle.layer_desk.specs.Laid.{Laid, bound, assigned, assigned_square, lifted, front_changed, front_joined};
+ghost use Rattle.layer_desk.specs.Laid.{queued};
 ghost use Rattle.layer_desk.specs.Laid.{queued_first, is_found, taken_row, sends, sends_first, first_header};
 ghost use Rattle.layer_desk.specs.Laid.{header_popped, enters, passes_on, left};
 ghost use Rattle.layer_mean.specs.Envelope.{event_in};
@@ -158,7 +159,8 @@ pub trait Desk {
         requires { ready K.begun pool.old self.old }
         ensures ready { ready K.begun pool.new self.new }
         ensures shown { OnOk result (shown pool.new self.new ≡
-            lifted (slice_index_or (shown pool.old self.old).scope.messages slot (plain [])) (shown pool.old self.old)) }
+            lifted (slice_index_or (shown pool.old self.old).scope.messages slot (plain []))
+            (shown pool.old self.old)) }
         ensures spent { Lifted (free pool.old self.old) (free pool.new self.new) one_in_hand result };
 
     /// Takes a message without bytes into the hand.
@@ -185,25 +187,26 @@ pub trait Desk {
         ensures spent { Lifted (free pool.old self.old) (free pool.new self.new) (held_need (carried_tree carried))
             result };
 
-    /// Leaves so many bytes from a place on of the message in front of the hand, and none of its headers.
+    /// Leaves so many bytes from a place on of the message before the hand, and none of its headers.
     fn cut<K: Start>(&mut self, pool: &Pool, from: u32, count: u32)
         requires { ready K.begun pool.now self.old }
         ensures ready { ready K.begun pool.now self.new }
-        ensures shown { shown pool.now self.new ≡ changed (λ m. parts.cut m from count) (shown pool.now self.old) }
+        ensures shown { shown pool.now self.new ≡
+            front_changed (λ m. parts.cut m from count) (shown pool.now self.old) }
         ensures free { free pool.now self.new ≡ free pool.now self.old };
 
-    /// Leaves the bytes from a place on of the message in front of the hand, and its headers.
+    /// Leaves the bytes from a place on of the message before the hand, and its headers.
     fn tail<K: Start>(&mut self, pool: &Pool, from: u32)
         requires { ready K.begun pool.now self.old }
         ensures ready { ready K.begun pool.now self.new }
-        ensures shown { shown pool.now self.new ≡ changed (λ m. parts.tail m from) (shown pool.now self.old) }
+        ensures shown { shown pool.now self.new ≡ front_changed (λ m. parts.tail m from) (shown pool.now self.old) }
         ensures free { free pool.now self.new ≡ free pool.now self.old };
 
-    /// Joins the two messages in front of the hand: the second of them, which was taken first, is the part in front.
+    /// Joins the two messages before the hand: the second of them, which was taken first, is the part in front.
     fn join<K: Start>(&mut self, pool: &mut Pool) -> Result<(), NoRoom>
         requires { ready K.begun pool.old self.old }
         ensures ready { ready K.begun pool.new self.new }
-        ensures shown { OnOk result (shown pool.new self.new ≡ joined (shown pool.old self.old)) }
+        ensures shown { OnOk result (shown pool.new self.new ≡ front_joined (shown pool.old self.old)) }
         ensures spent { Spent (free pool.old self.old) (free pool.new self.new) one_slot result };
 
     /// Puts a row of numbers alone at the back of a queue whose capacity is this.
@@ -223,7 +226,7 @@ pub trait Desk {
         ensures spent { Spent (free pool.now self.old) (free pool.now self.new) (room_need K.begun.layout cell capacity)
             result };
 
-    /// Puts a row with the message in front of the hand at the back of a queue whose capacity is this.
+    /// Puts a row with the message before the hand at the back of a queue whose capacity is this.
     fn push_first<K: Start>(
         &mut self,
         pool: &Pool,
@@ -270,7 +273,7 @@ pub trait Desk {
             (shown pool.now self.new ≡ sends direction (event_in envelope None) (shown pool.now self.old)) }
         ensures spent { Spent (free pool.now self.old) (free pool.now self.new) one_place result };
 
-    /// Sends an event with the message in front of the hand, going down behind a header.
+    /// Sends an event with the message before the hand, going down after a header.
     fn send_first<K: Start>(
         &mut self,
         pool: &Pool,
@@ -284,7 +287,7 @@ pub trait Desk {
             (shown pool.now self.new ≡ sends_first direction envelope header (shown pool.now self.old)) }
         ensures spent { Spent (free pool.now self.old) (free pool.now self.new) one_place result };
 
-    /// Sends an event with a message of the scope, which the scope keeps, going down behind a header. It doesn't go
+    /// Sends an event with a message of the scope, which the scope keeps, going down after a header. It doesn't go
     /// through the hand.
     fn send_local<K: Start>(
         &mut self,
@@ -331,7 +334,7 @@ pub trait Desk {
         ensures free { free pool.now self.new ≡ free pool.now self.old };
 
     /// Makes the scope in which a block is entered: the event's numbers, the fields of the popped header and the
-    /// message that arrived, and behind these so many numbers and messages more, for which there is room. A scope that
+    /// message that arrived, and after these so many numbers and messages more, for which there is room. A scope that
     /// was there is let go.
     fn enter<K: Start>(
         &mut self,
@@ -345,11 +348,12 @@ pub trait Desk {
         requires room { Suffices (free pool.old self.old)
             (entry_need K.begun.layout numbers messages (shown pool.old self.old).arrived) }
         ensures ready { ready K.begun pool.new self.new }
-        ensures shown { shown pool.new self.new ≡ enters envelope fields.now numbers messages (shown pool.old self.old) }
+        ensures shown { shown pool.new self.new ≡
+            enters envelope fields.now numbers messages (shown pool.old self.old) }
         ensures spent { SpentAtMost (free pool.old self.old) (free pool.new self.new)
             (entry_need K.begun.layout numbers messages (shown pool.old self.old).arrived) };
 
-    /// Sends an event with the message that arrived, if one did, going down behind a header.
+    /// Sends an event with the message that arrived, if one did, going down after a header.
     fn pass_on<K: Start>(
         &mut self,
         pool: &Pool,

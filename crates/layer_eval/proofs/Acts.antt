@@ -1,4 +1,4 @@
--- What one more statement or turn does behind others.
+-- What one more statement or turn does after others.
 use Rattle.std.proofs.Common.{◌≡◌, ◌≢◌, ℕ, suc, zero, ◌+◌, ◌-◌, ◌<◌, ◌≤◌, Bool, true, false, ◌&&◌, List, [], ◌∷◌, ◌++◌}
 use Rattle.std.proofs.Common.{None, Result, Ok, Err, OnOk, length, map, take, get_or, add-one, take_all, take-suc, refl}
 use Rattle.std.proofs.Common.{sym, ap, ◌∙◌, subst, append_assoc, arith}
@@ -12,7 +12,7 @@ use Rattle.layer_mean.specs.Tree.{ExpressionTree, StatementTree, StatementTrees,
 use Rattle.layer_mean.specs.Value.{is_true}
 use Rattle.layer_eval.specs.Worth.{number_of}
 use Rattle.layer_mean.specs.Effect.{Decision, went_as, Outcome, Act, done, after, in_order, decides, with_slot, turns}
-use Rattle.layer_mean.specs.Effect.{chosen, does, acts}
+use Rattle.layer_mean.specs.Effect.{chosen_outcome, does, acts}
 use Rattle.typed_layer.specs.View.{trees, statement_tree}
 use Rattle.typed_layer.specs.declared.tree.Statement.{Statement}
 use Rattle.layer_mean.specs.Visit.{no_scope}
@@ -20,7 +20,7 @@ use Rattle.layer_desk.specs.Laid.{Laid, bound, left}
 use Rattle.layer_eval.specs.Did.{Did, Ended, as_predicted, both, decision, statement_does, block_does}
 use Rattle.layer_eval.specs.declared.predicted.Predicted.{Predicted}
 
--- decisions behind others
+-- decisions after others
 pub predicted_behind : (ds es : List Decision) → as_predicted (ds ++ es) ≡ both (as_predicted ds) (as_predicted es)
 predicted_behind ds es i =
     record { first = list_all-append (went_as First) ds es i; second = list_all-append (went_as Second) ds es i }
@@ -42,7 +42,7 @@ both_assoc p q r i = record
 pub both_turned : (p q : Predicted) → both p q ≡ both q p
 both_turned p q i = record { first = and_turned p.first q.first i; second = and_turned p.second q.second i }
 
--- an act behind an outcome
+-- an act after an outcome
 pub did_after : (o : Outcome) (act : Act) (old mid new : Laid) (b p q : Predicted) → Did o old mid b p →
     Did (act mid.state mid.scope) mid new p q →
     Did (after o act) old new b q
@@ -97,7 +97,7 @@ block_step place xs i x old mid new b p q within is first second =
     subst (λ z. Did z old new b q) (sym (one_more place xs i x old within is))
     (did_after _ (does place (statement_tree x)) old mid new b p q first second)
 
--- what lies at a desk behind an outcome is let go
+-- what lies at a desk after an outcome is let go
 pub did_left : (o : Outcome) (old mid new : Laid) (b q : Predicted) → Did o old mid b q → new ≡ left mid →
     Ended o old new b q
 did_left o old mid new b q did is = record {
@@ -112,7 +112,7 @@ did_left o old mid new b q did is = record {
   predicted = did.predicted;
 }
 
--- an act with which a visit ends, behind an outcome
+-- an act with which a visit ends, after an outcome
 ended_after : (o : Outcome) (act : Act) (old mid new : Laid) (b p q : Predicted) → Did o old mid b p →
     Ended (act mid.state mid.scope) mid new p q →
     Ended (after o act) old new b q
@@ -131,7 +131,7 @@ ended_after o act old mid new b p q first last =
     (record { state = refl; scope = refl; arrived = refl; hand = refl; sent = refl; predicted = last.predicted }))
     last.shown
 
--- the last statement of a block, behind those in front of it
+-- the last statement of a block, after those before it
 pub last_tree : (xs ys : List Statement) (x : Statement) → xs ≡ ys → 1 ≤ length xs → x ≡ get_or xs (length xs - 1) x →
     map statement_tree ys ≡ map statement_tree (take (length xs - 1) xs) ++ statement_tree x ∷ []
 last_tree xs ys x same some is =
@@ -176,7 +176,7 @@ turn_step k slot act old mid at new b p q first is second =
     subst (λ n. Did (turns n slot act old.state old.scope) old new b q) (sym (add-one k))
     (did_after o (λ t m. act t (with_slot slot k m)) old mid new b p q first behind)
 
--- a decision in front of an outcome
+-- a decision before an outcome
 decided_did : (d : Decision) (o : Outcome) (old new : Laid) (b q r : Predicted) → Did o old new b q →
     r ≡ both (as_predicted (d ∷ [])) q →
     Did (decides d o) old new b r
@@ -192,7 +192,8 @@ decided_did d o old new b q r did is = record {
 }
 
 -- a condition that holds
-chosen_first : (x : Likely) (first second : Outcome) → chosen true x first second ≡ decides (decision true x) first
+chosen_first : (x : Likely) (first second : Outcome) → chosen_outcome true x first second ≡
+    decides (decision true x) first
 chosen_first likely.First first second = refl
 chosen_first likely.Else first second = refl
 chosen_first likely.Two first second = refl
@@ -210,7 +211,7 @@ pub branch_first : (place : ℕ) (x : Likely) (e : ExpressionTree) (block otherw
 branch_first place x e block otherwise tree old new n b q r same is holds did behind =
     let true_is : is_true (number_of e old) ≡ true = ap is_true (sym is) ∙ is_true_of n holds in
     subst (λ t. Did (statement_does place t old) old new b r) (sym same)
-    (subst (λ z. Did (chosen z x (block_does place block old) (block_does place otherwise old)) old new b r)
+    (subst (λ z. Did (chosen_outcome z x (block_does place block old) (block_does place otherwise old)) old new b r)
     (sym true_is)
     (subst (λ o. Did o old new b r) (sym (chosen_first x (block_does place block old) (block_does place otherwise old)))
     (decided_did (decision true x) (block_does place block old) old new b q r did behind)))

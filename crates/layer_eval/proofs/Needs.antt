@@ -13,7 +13,7 @@ use Rattle.layer_desk.specs.declared.no_room.NoRoom.TheVariants as lack
 use Rattle.layer_eval.specs.declared.pending.Pending.{Pending}
 use Rattle.layer_eval.specs.Owed.{owed_places, owing}
 
--- a need n and, behind it, a need m are within the need w
+-- a need n and, after it, a need m are within the need w
 pub record Within (n m w : Need) : Type 0 where
   pub slots : n.slots + m.slots ≤ w.slots
   pub places : n.places + m.places ≤ w.places
@@ -42,7 +42,7 @@ spent_behind a b c n m w first second within = record {
   hand = let one = first.hand in let two = second.hand in omega arith;
 }
 
--- the first i of some statements, and the statement behind them, are within all
+-- the first i of some statements, and the statement after them, are within all
 pub item_within : (layout : Layout) (xs : List Statement) (i : ℕ) (x : Statement) → i < length xs → x ≡ get_or xs i x →
     Within (block_need layout (trees (map statement_tree (take i xs)))) (statement_need layout (statement_tree x))
     (block_need layout (trees (map statement_tree xs)))
@@ -90,7 +90,7 @@ turn_within k most n less = record {
   misfits = omega arith;
 }
 
--- behind k turns there is no room for one more
+-- after k turns there is no room for one more
 pub turns_lack : (layout : Layout) (a b b' : Room) (k slot most : ℕ) (below : ExpressionTree) (block : StatementTrees)
     (tree : StatementTree) (e : NoRoom) →
     tree ≡ each slot below most block → k < most → SpentAtMost a b (repeated k (block_need layout block)) → b' ≡ b →
@@ -165,7 +165,7 @@ item_spent layout xs i x a b c within is first second =
     subst (λ ts. SpentAtMost a c (block_need layout (trees ts))) (sym (one_more_tree xs i x within is))
     (spent_behind a b c _ _ _ first second (item_more layout (map statement_tree (take i xs)) (statement_tree x)))
 
--- behind the first i statements there is no room for the next
+-- after the first i statements there is no room for the next
 pub item_lacks : (layout : Layout) (xs : List Statement) (i : ℕ) (x : Statement) (a b : Room) (e : NoRoom) →
     i < length xs → x ≡ get_or xs i x →
     SpentAtMost a b (block_need layout (trees (map statement_tree (take i xs)))) →
@@ -174,7 +174,7 @@ pub item_lacks : (layout : Layout) (xs : List Statement) (i : ℕ) (x : Statemen
 item_lacks layout xs i x a b e within is spent lacks =
     lacks_behind a b _ _ _ e spent lacks (item_within layout xs i x within is)
 
--- what is in front of a statement is within all
+-- what is before a statement is within all
 front_within : (layout : Layout) (ts : List StatementTree) (x : StatementTree) →
     Within nothing_needed (block_need layout (trees ts)) (block_need layout (trees (ts ++ x ∷ [])))
 front_within layout [] x =
@@ -214,7 +214,7 @@ owing_more owed n m within = record {
   misfits = within.misfits;
 }
 
--- behind a need n, but for the place of an emission that is yet to go, there is no room for a need m
+-- after a need n, but for the place of an emission that is yet to go, there is no room for a need m
 owed_lacks : (before owed : Option Pending) (a b : Room) (n m w : Need) (e : NoRoom) →
     SpentAtMost (record a { places = owed_places owed + a.places }) b (owing before n) →
     Lacks b (owing owed m) e → Within n m w → Lacks a (owing before w) e
@@ -250,7 +250,7 @@ owed_ends before owed a b c n m w (Ok x) one two within = record {
 }
 owed_ends before owed a b c n m w (Err e) one two within = owed_lacks before owed a b n m w e one two within
 
--- the statements in front of the last, with emissions that are yet to go
+-- the statements before the last, with emissions that are yet to go
 pub owed_item_spent : (layout : Layout) (xs : List Statement) (i : ℕ) (x : Statement)
     (before first second : Option Pending) (a b c : Room) → i < length xs →
     x ≡ get_or xs i x → SpentAtMost (record a { places = owed_places first + a.places }) b
@@ -274,7 +274,7 @@ pub owed_item_lacks : (layout : Layout) (xs : List Statement) (i : ℕ) (x : Sta
 owed_item_lacks layout xs i x before owed a b e within is spent lacks =
     owed_lacks before owed a b _ _ _ e spent lacks (item_within layout xs i x within is)
 
--- there is no room for what is in front of the last statement
+-- there is no room for what is before the last statement
 pub front_lacks : (layout : Layout) (xs ys : List Statement) (x : Statement) (before : Option Pending) (a : Room)
     (e : NoRoom) → xs ≡ ys → 1 ≤ length xs →
     x ≡ get_or xs (length xs - 1) x →
@@ -285,7 +285,7 @@ front_lacks layout xs ys x before a e same some is lacks =
     (lacks_more a _ _ e lacks
     (owing_more before _ _ (front_within layout (map statement_tree (take (length xs - 1) xs)) (statement_tree x))))
 
--- the last statement behind those in front of it
+-- the last statement after those before it
 pub last_spent : {A : Type 0} (layout : Layout) (xs ys : List Statement) (x : Statement) (before owed : Option Pending)
     (a b c : Room) (r : Result A NoRoom) → xs ≡ ys →
     1 ≤ length xs → x ≡ get_or xs (length xs - 1) x →

@@ -5,7 +5,7 @@ use Rattle.msg_core.specs.Chain.{Content as Bytes}
 use Rattle.msg_core.specs.declared.message.Header.{Header}
 use Rattle.layer_mean.specs.Event.{event_of}
 use Rattle.layer_mean.specs.Tree.{ContentTree}
-use Rattle.layer_mean.specs.Effect.{header_of, sent_as, emitted}
+use Rattle.layer_mean.specs.Effect.{header_of, sent_as, emitted_event}
 use Rattle.typed_layer.specs.View.{expression_tree, message_tree, content_tree, emission_tree}
 use Rattle.typed_layer.specs.declared.tree.Content.{Content}
 use Rattle.typed_layer.specs.declared.tree.Emission.{Emission}
@@ -22,7 +22,7 @@ pub put_off_event : (place : ℕ) (e : Emission) (c : Content) (k : ℕ) (p : La
     c.message ≡ rust_message.Local k → h ≡ header_of place (content_tree c) p.state p.scope →
     ((m : Option Bytes) → event_in envelope m ≡ event_of e.kind (numbers_of (map expression_tree e.numbers) p) m) →
     owed_event (record { direction = e.direction; envelope = envelope; header = h; slot = k }) p ≡
-    (e.direction, emitted place (emission_tree e) p.state p.scope)
+    (e.direction, emitted_event place (emission_tree e) p.state p.scope)
 put_off_event place e c k p envelope h has is header_is envelope_is =
     let pushed = λ (h : Header) (m : Bytes). Some (sent_as e.direction h m) in
     ap (λ event. (e.direction, event))

@@ -1,5 +1,6 @@
 -- Statements that set numbers.
-use Rattle.std.proofs.Common.{◌≡◌, ℕ, true, [], ◌∷◌, ◌++◌, append-nil, slice_index_or, Option, Some, None, refl, sym, ap}
+use Rattle.std.proofs.Common.{◌≡◌, ℕ, true, [], ◌∷◌, ◌++◌, append-nil, slice_index_or, Option, Some, None, refl, sym}
+use Rattle.std.proofs.Common.{ap}
 use Rattle.std.proofs.Common.{◌∙◌, subst}
 use Rattle.msg_core.specs.Chain.{plain}
 use Rattle.layer_mean.specs.Tree.{StatementTree}
@@ -10,7 +11,7 @@ use Rattle.layer_mean.specs.Effect.{sent_as}
 use Rattle.layer_mean.specs.Envelope.{event_in}
 use Rattle.layer_desk.specs.Laid.{Laid}
 use Rattle.layer_eval.specs.Did.{Did, statement_does}
-use Rattle.layer_eval.specs.Owed.{sets_number, number_set, settled, with_owed}
+use Rattle.layer_eval.specs.Owed.{sets_number, number_set, with_debt_paid, with_owed}
 use Rattle.layer_eval.specs.declared.pending.Pending.{Pending}
 use Rattle.layer_eval.specs.declared.predicted.Predicted.{Predicted}
 
@@ -27,11 +28,12 @@ still_owed (Some e) old s l same =
 -- a number is set, and an emission that is yet to go sends the message that it would have sent before
 pub set_owing : (place : ℕ) (t : StatementTree) (owed : Option Pending) (old new : Laid) (p : Predicted) →
     true ≡ sets_number t → new ≡ number_set t old →
-    Did (statement_does place t old) (settled owed old) (settled owed new) p p
+    Did (statement_does place t old) (with_debt_paid owed old) (with_debt_paid owed new) p p
 set_owing place t owed old new p sets is =
-    subst (λ z. Did (statement_does place t old) (settled owed old) (settled owed z) p p) (sym is) (go t sets) where
+    subst (λ z. Did (statement_does place t old) (with_debt_paid owed old) (with_debt_paid owed z) p p) (sym is)
+    (go t sets) where
       go : (t : StatementTree) → true ≡ sets_number t →
-          Did (statement_does place t old) (settled owed old) (settled owed (number_set t old)) p p
+          Did (statement_does place t old) (with_debt_paid owed old) (with_debt_paid owed (number_set t old)) p p
       go (tree.bind k e) sets = record {
         state = refl;
         scope = refl;

@@ -60,7 +60,7 @@ bare_bytes (tree.cut m from n) s l = refl
 bare_bytes (tree.tail m from) s l = ap (drop (val from s l)) (bare_bytes m s l)
 bare_bytes (tree.join p m) s l = join_behind (mval p s l) (mval (bare m) s l) (mval m s l) (bare_bytes m s l)
 
--- so what is cut of it, and what it is joined in front of, is the same
+-- so what is cut of it, and what it is joined before, is the same
 pub cut_bare : (m : MessageTree) (s : State) (l : Scope) (from n : ℕ) → cut (mval (bare m) s l) from n ≡
     cut (mval m s l) from n
 cut_bare m s l from n = ap (λ b. plain (take n (drop from b))) (bare_bytes m s l)

@@ -12,13 +12,14 @@ use Rattle.layer_mean.specs.State.{State}
 use Rattle.layer_mean.specs.Value.{Scope}
 use Rattle.layer_mean.specs.Effect.{in_order, acts}
 use Rattle.layer_eval.specs.Did.{as_predicted}
-use Rattle.layer_mean.specs.Visit.{no_scope, Met, met, Visited, with_room, expecting, handler_for, handled, unhandled}
+use Rattle.layer_mean.specs.Visit.{no_scope, Met, met, Visited, with_room, expecting, handler_for, handled_visit}
+use Rattle.layer_mean.specs.Visit.{unhandled_visit}
 use Rattle.layer_mean.specs.Visit.{step}
 use Rattle.layer_mean.specs.declared.envelope.Envelope.{Envelope}
 use Rattle.layer_desk.specs.Laid.{Laid}
 use Rattle.layer_mean.specs.Envelope.{event_in}
 use Rattle.layer_eval.specs.declared.predicted.Predicted.{Predicted}
-use Rattle.layer_eval.specs.Visit.{Visits, visited, meets, handler_visited, passed}
+use Rattle.layer_eval.specs.Visit.{Visits, arrived_visit, meets, handler_visited, passed_visit}
 
 -- an event's arguments are no matter of its message
 arguments_same : (k : Kind) (e : Envelope) (x y : Option Content) → arguments_for k (event_in e x) ≡
@@ -39,8 +40,8 @@ arguments_same kind.Leave e x y = refl
 -- nor is what is done without a handler
 unhandled_same : (place : ℕ) (s : State) (dir : Dir) (e : Envelope) (x : Option Content) (m : Met)
     (o : Option Content) →
-    unhandled place s dir (event_in e x) m o ≡
-    unhandled place s dir (event_in e None) (record { tag = m.tag; fields = []; message = o }) o
+    unhandled_visit place s dir (event_in e x) m o ≡
+    unhandled_visit place s dir (event_in e None) (record { tag = m.tag; fields = []; message = o }) o
 unhandled_same place s Up e x m None = refl
 unhandled_same place s Down e x m None = refl
 unhandled_same place s Up e x m (Some content) = refl
@@ -59,10 +60,10 @@ handled_with place h s fields m args =
 
 stepped : (place : ℕ) (layer : LayerTree) (dir : Dir) (e : Envelope) (p : Laid) (tag : ℕ) (h : Option HandlerTree) →
     handler_for layer dir e.kind tag ≡ h → tag ≡ (met dir p.arrived).tag →
-    visited place layer dir e p ≡ handled place h p.state dir (event_in e p.arrived) (met dir p.arrived)
+    arrived_visit place layer dir e p ≡ handled_visit place h p.state dir (event_in e p.arrived) (met dir p.arrived)
 unfolding step
 stepped place layer dir e p tag h found is =
-    ap (λ g. handled place g p.state dir (event_in e p.arrived) (met dir p.arrived))
+    ap (λ g. handled_visit place g p.state dir (event_in e p.arrived) (met dir p.arrived))
     (ap (handler_for layer dir e.kind) (sym is) ∙ found)
 
 -- another visit that is as this one
@@ -85,10 +86,10 @@ pub some_step : (place : ℕ) (layer : LayerTree) (dir : Dir) (e : Envelope) (ol
     (fields : List ℕ) (h : HandlerTree) (q : Predicted) →
     handler_for layer dir e.kind tag ≡ Some h → tag ≡ (met dir old.arrived).tag →
     fields ≡ (met dir old.arrived).fields → mid ≡ meets dir old →
-    Visits (handler_visited place h e fields mid) mid new q → Visits (visited place layer dir e old) old new q
+    Visits (handler_visited place h e fields mid) mid new q → Visits (arrived_visit place layer dir e old) old new q
 some_step place layer dir e old mid new tag fields h q found is fields_are met_is visits =
     let m = met dir old.arrived in
-    let same : visited place layer dir e old ≡ handler_visited place h e fields mid =
+    let same : arrived_visit place layer dir e old ≡ handler_visited place h e fields mid =
     stepped place layer dir e old tag (Some h) found is
     ∙ ap (handled_with place h old.state m.fields m) (arguments_same e.kind e old.arrived None)
     ∙ ap (λ fs. handler_visited place h e fs (meets dir old)) (sym fields_are)
@@ -98,13 +99,13 @@ some_step place layer dir e old mid new tag fields h q found is fields_are met_i
 pub none_step : (place : ℕ) (layer : LayerTree) (dir : Dir) (e : Envelope) (old mid new : Laid) (tag : ℕ)
     (q : Predicted) →
     handler_for layer dir e.kind tag ≡ None → tag ≡ (met dir old.arrived).tag → mid ≡ meets dir old →
-    Visits (passed place dir e tag mid) mid new q → Visits (visited place layer dir e old) old new q
+    Visits (passed_visit place dir e tag mid) mid new q → Visits (arrived_visit place layer dir e old) old new q
 none_step place layer dir e old mid new tag q found is met_is visits =
-    let same : visited place layer dir e old ≡ passed place dir e tag mid =
+    let same : arrived_visit place layer dir e old ≡ passed_visit place dir e tag mid =
     stepped place layer dir e old tag None found is
     ∙ unhandled_same place old.state dir e old.arrived (met dir old.arrived) (met dir old.arrived).message
-    ∙ ap (λ t. passed place dir e t (meets dir old)) (sym is)
-    ∙ ap (passed place dir e tag) (sym met_is) in
+    ∙ ap (λ t. passed_visit place dir e t (meets dir old)) (sym is)
+    ∙ ap (passed_visit place dir e tag) (sym met_is) in
     visits_as _ _ old mid new q same (ap (λ (z : Laid). z.hand) met_is) (ap (λ (z : Laid). z.sent) met_is) visits
 
 pub if_ok : {A B : Type 0} (P Q : A → Type 0) (r : Result A B) → ((a : A) → P a → Q a) → IfOk r P → IfOk r Q

@@ -33,7 +33,7 @@ statement_does place x p = does place x p.state p.scope
 abbrev pub block_does : ℕ → StatementTrees → Laid → Outcome
 block_does place b p = in_order (acts place b) p.state p.scope
 
--- An outcome came about: its state and its scope lie there, its events were sent behind the others, the hand is as
+-- An outcome came about: its state and its scope lie there, its events were sent after the others, the hand is as
 -- before, and whether all went as predicted is now known of its decisions, too.
 pub record Did (o : Outcome) (old new : Laid) (before now : Predicted) : Type 0 where
   pub state : new.state ≡ o.state

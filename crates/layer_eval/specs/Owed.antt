@@ -50,8 +50,8 @@ abbrev pub with_owed : Option Pending → Laid → List (Dir × Event)
 with_owed None p = p.sent
 with_owed (Some e) p = p.sent ++ owed_event e p ∷ []
 
-abbrev pub settled : Option Pending → Laid → Laid
-settled owed p = record p { sent = with_owed owed p }
+abbrev pub with_debt_paid : Option Pending → Laid → Laid
+with_debt_paid owed p = record p { sent = with_owed owed p }
 
 -- How many places it takes, and a need with it.
 abbrev pub owed_places : Option Pending → ℕ

@@ -6,7 +6,7 @@ use Rattle.layer_ast.specs.declared.tokens.Dir.TheVariants.{Down}
 use Rattle.layer_mean.specs.Tree.{Expected, always, common, rare, HandlerTree, LayerTree}
 use Rattle.layer_mean.specs.Value.{is_true}
 use Rattle.layer_mean.specs.Effect.{Decision, usual, unusual}
-use Rattle.layer_mean.specs.Visit.{met, Visited, no_scope, handler_for, handled, unhandled, step}
+use Rattle.layer_mean.specs.Visit.{met, Visited, no_scope, handler_for, handled_visit, unhandled_visit, step}
 use Rattle.layer_mean.specs.declared.envelope.Envelope.{Envelope}
 use Rattle.layer_desk.specs.Laid.{Laid}
 use Rattle.layer_mean.specs.Envelope.{event_in}
@@ -15,7 +15,7 @@ use Rattle.layer_eval.specs.declared.predicted.Predicted.{Predicted}
 use Rattle.layer_eval.specs.Did.{as_predicted}
 use Rattle.layer_eval.specs.Worth.{number_of}
 
--- A visit came about: its state lies at the desk and its events were sent behind the others, and beside these it leaves
+-- A visit came about: its state lies at the desk and its events were sent after the others, and beside these it leaves
 -- nothing.
 pub record Visits (v : Visited) (old new : Laid) (p : Predicted) : Type 0 where
   pub shown : new ≡ record {
@@ -28,11 +28,11 @@ pub record Visits (v : Visited) (old new : Laid) (p : Predicted) : Type 0 where
   pub predicted : p ≡ as_predicted v.decided
 
 -- What a visit does with an event whose message has arrived, and what it needs.
-abbrev pub visited : ℕ → LayerTree → Dir → Envelope → Laid → Visited
-visited place layer dir e p = step place layer p.state dir (event_in e p.arrived)
+abbrev pub arrived_visit : ℕ → LayerTree → Dir → Envelope → Laid → Visited
+arrived_visit place layer dir e p = step place layer p.state dir (event_in e p.arrived)
 
-abbrev pub needed : Layout → LayerTree → Dir → Envelope → Laid → Need
-needed layout layer dir e p =
+abbrev pub need_of_visit : Layout → LayerTree → Dir → Envelope → Laid → Need
+need_of_visit layout layer dir e p =
     let m = met dir p.arrived in visit_need layout (handler_for layer dir e.kind m.tag) m
 
 -- The message that arrived as its layer meets it.
@@ -53,8 +53,10 @@ expected_decisions rare p = unusual ∷ []
 -- What a handler does with the fields of a popped header, and what is done where there is none.
 abbrev pub handler_visited : ℕ → HandlerTree → Envelope → List ℕ → Laid → Visited
 handler_visited place h e fields p =
-    handled place (Some h) p.state Down (event_in e None) (record { tag = 0; fields = fields; message = p.arrived })
+    handled_visit place (Some h) p.state Down (event_in e None)
+    (record { tag = 0; fields = fields; message = p.arrived })
 
-abbrev pub passed : ℕ → Dir → Envelope → ℕ → Laid → Visited
-passed place dir e tag p =
-    unhandled place p.state dir (event_in e None) (record { tag = tag; fields = []; message = p.arrived }) p.arrived
+abbrev pub passed_visit : ℕ → Dir → Envelope → ℕ → Laid → Visited
+passed_visit place dir e tag p =
+    unhandled_visit place p.state dir (event_in e None) (record { tag = tag; fields = []; message = p.arrived })
+    p.arrived

@@ -4,7 +4,7 @@ ghost use Rattle.std.specs.Prelude.{◌≡◌, true, [], map, Option, OnOk};
 ghost use Rattle.msg_core.specs.Chain.{Content as Bytes};
 ghost use Rattle.layer_mean.specs.Event.{event_of};
 ghost use Rattle.layer_mean.specs.State.{has_room, rows_at};
-ghost use Rattle.layer_mean.specs.Effect.{row_of, header_of, emitted};
+ghost use Rattle.layer_mean.specs.Effect.{row_of, header_of, emitted_event};
 ghost use Rattle.typed_layer.specs.View.{expression_tree, row_tree, content_tree, emission_tree, trees, statement_tree};
 ghost use Rattle.typed_layer.specs.View.{block_tree};
 ghost use Rattle.layer_desk.specs.Laid.{bound, assigned, assigned_square, queued, sends, left};
@@ -287,7 +287,8 @@ fn set_scalar<K: Start, D: Desk>(cell: u8, value: &Expression, desk: &mut D, poo
     requires { D.ready K.begun pool.now desk.old }
     ensures ready { D.ready K.begun pool.now desk.new }
     ensures shown { D.shown pool.now desk.new ≡
-        assigned cell 0 (number_of (expression_tree value.now) (D.shown pool.now desk.old)) (D.shown pool.now desk.old) }
+        assigned cell 0 (number_of (expression_tree value.now) (D.shown pool.now desk.old))
+        (D.shown pool.now desk.old) }
     ensures free { D.free pool.now desk.new ≡ D.free pool.now desk.old }
 {
     let value = number::<K, D>(value, desk, pool);
@@ -379,7 +380,8 @@ fn emit<K: Start, D: Desk>(
     requires { D.ready K.begun pool.old desk.old }
     ensures ready { D.ready K.begun pool.new desk.new }
     ensures shown { OnOk result (D.shown pool.new desk.new ≡ sends emission.now.direction
-        (emitted place (emission_tree emission.now) (D.shown pool.old desk.old).state (D.shown pool.old desk.old).scope)
+        (emitted_event place (emission_tree emission.now) (D.shown pool.old desk.old).state
+        (D.shown pool.old desk.old).scope)
         (D.shown pool.old desk.old)) }
     ensures spent { Spent (D.free pool.old desk.old) (D.free pool.new desk.new)
         (emission_need (emission_tree emission.now)) result }
@@ -398,7 +400,8 @@ pub fn emit_last<K: Start, D: Desk>(
     requires { D.ready K.begun pool.old desk.old }
     ensures ready { D.ready K.begun pool.new desk.new }
     ensures shown { OnOk result (D.shown pool.new desk.new ≡ left (sends emission.now.direction
-        (emitted place (emission_tree emission.now) (D.shown pool.old desk.old).state (D.shown pool.old desk.old).scope)
+        (emitted_event place (emission_tree emission.now) (D.shown pool.old desk.old).state
+        (D.shown pool.old desk.old).scope)
         (D.shown pool.old desk.old))) }
     ensures spent { Spent (D.free pool.old desk.old) (D.free pool.new desk.new)
         (emission_need (emission_tree emission.now)) result }

@@ -5,7 +5,7 @@ ghost use Rattle.typed_layer.specs.View.{trees, statement_tree, block_tree};
 ghost use Rattle.layer_desk.specs.Need.{statement_need, block_need};
 ghost use Rattle.layer_desk.specs.Spent.{Spent};
 ghost use Rattle.layer_eval.specs.Did.{Did, Ended, statement_does, block_does};
-ghost use Rattle.layer_eval.specs.Owed.{settled, owing, SpentOwing};
+ghost use Rattle.layer_eval.specs.Owed.{with_debt_paid, owing, SpentOwing};
 
 use crate::effect::{emit_last, run_statement, set_number};
 use crate::pending::Owed;
@@ -30,7 +30,8 @@ pub fn run_last_block<K: Start, D: Desk>(
     requires { D.ready K.begun pool.old desk.old }
     ensures ready { D.ready K.begun pool.new desk.new }
     ensures ended { OnOk result (Ended (block_does place (block_tree block.now) (D.shown pool.old desk.old))
-        (settled pending.old (D.shown pool.old desk.old)) (D.shown pool.new desk.new) predicted.old predicted.new) }
+        (with_debt_paid pending.old (D.shown pool.old desk.old)) (D.shown pool.new desk.new) predicted.old
+        predicted.new) }
     ensures spent { Spent (D.free pool.old desk.old) (D.free pool.new desk.new)
         (owing pending.old (block_need K.begun.layout (block_tree block.now))) result }
 {
@@ -45,7 +46,7 @@ pub fn run_last_block<K: Start, D: Desk>(
 }
 
 /// Runs the last statement of a block with which a visit ends. A decision is noted before the block that it chooses, so
-/// that nothing is left to be done behind that.
+/// that nothing is left to be done after that.
 #[cycle(last)]
 #[inline(never)]
 fn run_last<K: Start, D: Desk>(
@@ -59,7 +60,8 @@ fn run_last<K: Start, D: Desk>(
     requires { D.ready K.begun pool.old desk.old }
     ensures ready { D.ready K.begun pool.new desk.new }
     ensures ended { OnOk result (Ended (statement_does place (statement_tree statement.now) (D.shown pool.old desk.old))
-        (settled pending.old (D.shown pool.old desk.old)) (D.shown pool.new desk.new) predicted.old predicted.new) }
+        (with_debt_paid pending.old (D.shown pool.old desk.old)) (D.shown pool.new desk.new) predicted.old
+        predicted.new) }
     ensures spent { Spent (D.free pool.old desk.old) (D.free pool.new desk.new)
         (owing pending.old (statement_need K.begun.layout (statement_tree statement.now))) result }
 {
@@ -105,7 +107,7 @@ fn run_last<K: Start, D: Desk>(
     }
 }
 
-/// Runs statements that have others behind them.
+/// Runs statements that have others after them.
 #[inline(always)]
 fn run_front<K: Start, D: Desk>(
     place: u8,
@@ -119,7 +121,8 @@ fn run_front<K: Start, D: Desk>(
     ensures ready { D.ready K.begun pool.new desk.new }
     ensures did { OnOk result
         (Did (block_does place (trees (map statement_tree statements.now)) (D.shown pool.old desk.old))
-        (settled pending.old (D.shown pool.old desk.old)) (settled pending.new (D.shown pool.new desk.new))
+        (with_debt_paid pending.old (D.shown pool.old desk.old))
+        (with_debt_paid pending.new (D.shown pool.new desk.new))
         predicted.old predicted.new) }
     ensures spent { SpentOwing pending.old pending.new (D.free pool.old desk.old) (D.free pool.new desk.new)
         (block_need K.begun.layout (trees (map statement_tree statements.now))) result }
@@ -145,7 +148,8 @@ fn run_owing<K: Start, D: Desk>(
     requires { D.ready K.begun pool.old desk.old }
     ensures ready { D.ready K.begun pool.new desk.new }
     ensures did { OnOk result (Did (statement_does place (statement_tree statement.now) (D.shown pool.old desk.old))
-        (settled pending.old (D.shown pool.old desk.old)) (settled pending.new (D.shown pool.new desk.new))
+        (with_debt_paid pending.old (D.shown pool.old desk.old))
+        (with_debt_paid pending.new (D.shown pool.new desk.new))
         predicted.old predicted.new) }
     ensures spent { SpentOwing pending.old pending.new (D.free pool.old desk.old) (D.free pool.new desk.new)
         (statement_need K.begun.layout (statement_tree statement.now)) result }

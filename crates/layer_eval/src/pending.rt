@@ -4,7 +4,7 @@
 ghost use Rattle.std.specs.Prelude.{◌≡◌, Some, OnOk};
 ghost use Rattle.layer_desk.specs.Need.{one_place};
 ghost use Rattle.layer_desk.specs.Spent.{Spent};
-ghost use Rattle.layer_eval.specs.Owed.{settled};
+ghost use Rattle.layer_eval.specs.Owed.{with_debt_paid};
 
 use crate::effect::{envelope, no_header, write_header};
 use layer_ast::{Dir, Kind};
@@ -42,12 +42,12 @@ impl Model for Owed {
 
 impl Owed {
     ghost use Rattle.std.specs.Prelude.{◌≡◌, None, OnOk};
-    ghost use Rattle.layer_mean.specs.Effect.{emitted};
+    ghost use Rattle.layer_mean.specs.Effect.{emitted_event};
     ghost use Rattle.typed_layer.specs.View.{emission_tree};
     ghost use Rattle.layer_desk.specs.Laid.{left};
     ghost use Rattle.layer_desk.specs.Need.{nothing_needed};
     ghost use Rattle.layer_desk.specs.Spent.{Spent};
-    ghost use Rattle.layer_eval.specs.Owed.{settled, owing, IsPutOff, may_wait};
+    ghost use Rattle.layer_eval.specs.Owed.{with_debt_paid, owing, IsPutOff, may_wait};
 
     /// Nothing is owed.
     pub fn nothing() -> Owed
@@ -83,7 +83,7 @@ impl Owed {
         ensures waits { result ≡ may_wait (emission_tree emission.now) }
         ensures put_off { IsPutOff result self.new (
           emission.now.direction,
-          emitted place (emission_tree emission.now) (D.shown pool.now desk.now).state
+          emitted_event place (emission_tree emission.now) (D.shown pool.now desk.now).state
               (D.shown pool.now desk.now).scope,
         ) (D.shown pool.now desk.now) }
     {
@@ -107,7 +107,7 @@ impl Owed {
         requires { D.ready K.begun pool.old desk.old }
         ensures ready { D.ready K.begun pool.new desk.new }
         ensures none { OnOk result (self.new ≡ None) }
-        ensures shown { OnOk result (D.shown pool.new desk.new ≡ settled self.old (D.shown pool.old desk.old)) }
+        ensures shown { OnOk result (D.shown pool.new desk.new ≡ with_debt_paid self.old (D.shown pool.old desk.old)) }
         ensures spent { Spent (D.free pool.old desk.old) (D.free pool.new desk.new) (owing self.old nothing_needed)
             result }
     {
@@ -123,7 +123,8 @@ impl Owed {
     pub fn finish<K: Start, D: Desk>(&self, desk: &mut D, pool: &mut Pool) -> Result<(), NoRoom>
         requires { D.ready K.begun pool.old desk.old }
         ensures ready { D.ready K.begun pool.new desk.new }
-        ensures shown { OnOk result (D.shown pool.new desk.new ≡ left (settled self.now (D.shown pool.old desk.old))) }
+        ensures shown { OnOk result
+            (D.shown pool.new desk.new ≡ left (with_debt_paid self.now (D.shown pool.old desk.old))) }
         ensures spent { Spent (D.free pool.old desk.old) (D.free pool.new desk.new) (owing self.now nothing_needed)
             result }
     {
@@ -140,7 +141,8 @@ impl Owed {
 fn send_owed<K: Start, D: Desk>(owed: &Pending, desk: &mut D, pool: &mut Pool) -> Result<(), NoRoom>
     requires { D.ready K.begun pool.old desk.old }
     ensures ready { D.ready K.begun pool.new desk.new }
-    ensures shown { OnOk result (D.shown pool.new desk.new ≡ settled (Some owed.now) (D.shown pool.old desk.old)) }
+    ensures shown { OnOk result
+        (D.shown pool.new desk.new ≡ with_debt_paid (Some owed.now) (D.shown pool.old desk.old)) }
     ensures spent { Spent (D.free pool.old desk.old) (D.free pool.new desk.new) one_place result }
 {
     desk.send_local::<K>(pool, owed.direction, owed.envelope, owed.header, owed.slot)

@@ -59,7 +59,7 @@ impl Predicted {
         }
     }
 
-    /// Both what was decided before and what was decided behind it went as predicted.
+    /// Both what was decided before and what was decided after it went as predicted.
     pub fn and(self, behind: Predicted) -> Predicted
         ensures { result ≡ both self behind }
     {

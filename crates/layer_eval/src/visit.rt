@@ -7,8 +7,9 @@ ghost use Rattle.layer_desk.specs.Need.{handler_need, passing_need};
 ghost use Rattle.slot_pool.specs.References.{Moved};
 ghost use Rattle.layer_desk.specs.Spent.{SpentAtMost, Spent, Suffices};
 ghost use Rattle.layer_eval.specs.Did.{as_predicted};
-ghost use Rattle.layer_eval.specs.Visit.{Visits, visited, needed, meets, IsPopped, expected_decisions, handler_visited};
-ghost use Rattle.layer_eval.specs.Visit.{passed};
+ghost use Rattle.layer_eval.specs.Visit.{Visits, arrived_visit, need_of_visit, meets, IsPopped, expected_decisions};
+ghost use Rattle.layer_eval.specs.Visit.{handler_visited};
+ghost use Rattle.layer_eval.specs.Visit.{passed_visit};
 
 use crate::last::run_last_block;
 use crate::pending::Owed;
@@ -43,17 +44,17 @@ pub fn take_event<D: Desk>(
               D.forms desk.old;
         }) pool.old desk.old }
     requires room { Suffices (D.free pool.old desk.old)
-        (needed (D.layout desk.old) (layer_tree layer.now) direction envelope (D.shown pool.old desk.old)) }
+        (need_of_visit (D.layout desk.old) (layer_tree layer.now) direction envelope (D.shown pool.old desk.old)) }
 
     // What lies at the desk, and what it says, is what the definition of a visit has.
-    ensures visited { Visits (visited place (layer_tree layer.now) direction envelope (D.shown pool.old desk.old))
+    ensures visited { Visits (arrived_visit place (layer_tree layer.now) direction envelope (D.shown pool.old desk.old))
         (D.shown pool.old desk.old) (D.shown pool.new desk.new) result }
     ensures spent { SpentAtMost (D.free pool.old desk.old) (D.free pool.new desk.new)
-        (needed (D.layout desk.old) (layer_tree layer.now) direction envelope (D.shown pool.old desk.old)) }
+        (need_of_visit (D.layout desk.old) (layer_tree layer.now) direction envelope (D.shown pool.old desk.old)) }
 
     // Each event that was sent has taken one place.
     ensures places { (D.free pool.new desk.new).places
-        + length (visited place (layer_tree layer.now) direction envelope (D.shown pool.old desk.old)).sent ≡
+        + length (arrived_visit place (layer_tree layer.now) direction envelope (D.shown pool.old desk.old)).sent ≡
         (D.free pool.old desk.old).places }
     ensures moved { Moved pool.old pool.new (D.refs desk.old) (D.refs desk.new) }
     ensures layout { D.layout desk.new ≡ D.layout desk.old }
@@ -85,13 +86,13 @@ fn take_from<K: Start, D: Desk>(
 ) -> Result<Predicted, NoRoom>
     requires ready { D.ready K.begun pool.old desk.old }
     requires room { Suffices (D.free pool.old desk.old)
-        (needed K.begun.layout (layer_tree layer.now) direction envelope (D.shown pool.old desk.old)) }
+        (need_of_visit K.begun.layout (layer_tree layer.now) direction envelope (D.shown pool.old desk.old)) }
     ensures ready { D.ready K.begun pool.new desk.new }
     ensures visited { IfOk result
-        (Visits (visited place (layer_tree layer.now) direction envelope (D.shown pool.old desk.old))
+        (Visits (arrived_visit place (layer_tree layer.now) direction envelope (D.shown pool.old desk.old))
         (D.shown pool.old desk.old) (D.shown pool.new desk.new)) }
     ensures spent { Spent (D.free pool.old desk.old) (D.free pool.new desk.new)
-        (needed K.begun.layout (layer_tree layer.now) direction envelope (D.shown pool.old desk.old)) result }
+        (need_of_visit K.begun.layout (layer_tree layer.now) direction envelope (D.shown pool.old desk.old)) result }
 {
     let mut fields = Fields::none();
     let tag = meet::<K, D>(direction, desk, pool, &mut fields);
@@ -163,8 +164,8 @@ fn expect<K: Start, D: Desk>(expected: &Expected, desk: &D, pool: &Pool) -> Pred
     }
 }
 
-/// Without a handler an event passes on: going down behind the layer's header `none`, going up where that was popped.
-/// Behind another header it is dropped, which is never predicted.
+/// Without a handler an event passes on: going down after the layer's header `none`, going up where that was popped.
+/// After another header it is dropped, which is never predicted.
 fn pass<K: Start, D: Desk>(
     place: u8,
     direction: Dir,
@@ -176,7 +177,7 @@ fn pass<K: Start, D: Desk>(
     requires ready { D.ready K.begun pool.old desk.old }
     requires popped { IsPopped tag (D.shown pool.old desk.old).arrived }
     ensures ready { D.ready K.begun pool.new desk.new }
-    ensures visited { IfOk result (Visits (passed place direction envelope tag (D.shown pool.old desk.old))
+    ensures visited { IfOk result (Visits (passed_visit place direction envelope tag (D.shown pool.old desk.old))
         (D.shown pool.old desk.old) (D.shown pool.new desk.new)) }
     ensures spent { Spent (D.free pool.old desk.old) (D.free pool.new desk.new)
         (passing_need (D.shown pool.old desk.old).arrived) result }

@@ -42,7 +42,7 @@ all_as case decided = list_all (went_as case) decided
 abbrev pub first_missed : Case → List Decision → Option ℕ
 first_missed case decided = position (λ d. not (went_as case d)) decided
 
--- What a stretch of statements comes to: the state and the scope behind it, the events that it sent, in order, and its
+-- What a stretch of statements comes to: the state and the scope after it, the events that it sent, in order, and its
 -- decisions in order.
 pub record Outcome : Type 0 where
   pub state : State
@@ -58,7 +58,7 @@ Act = State → Scope → Outcome
 abbrev pub done : Act
 done s l = record { state = s; scope = l; sent = []; decided = [] }
 
--- One act behind what was done before.
+-- One act after what was done before.
 abbrev pub after : Outcome → Act → Outcome
 after o act = let p = act o.state o.scope in
     record { state = p.state; scope = p.scope; sent = o.sent ++ p.sent; decided = o.decided ++ p.decided }
@@ -67,7 +67,7 @@ after o act = let p = act o.state o.scope in
 abbrev pub in_order : List Act → Act
 in_order acts s l = fold after (done s l) acts
 
--- A decision in front of what follows from it.
+-- A decision before what follows from it.
 abbrev pub decides : Decision → Outcome → Outcome
 decides d o = record o { decided = d ∷ o.decided }
 
@@ -108,18 +108,18 @@ sent_as Up header m = m
 sent_as Down header m = pushed header m
 
 -- The event of an emission, whose arguments are evaluated at once.
-abbrev pub emitted : ℕ → EmissionTree → State → Scope → Event
-emitted place e s l = event_of e.kind (map (λ n. val n s l) e.numbers)
+abbrev pub emitted_event : ℕ → EmissionTree → State → Scope → Event
+emitted_event place e s l = event_of e.kind (map (λ n. val n s l) e.numbers)
     (option_map (λ c. sent_as e.direction (header_of place c s l) (mval c.message s l)) e.content)
 
 -- Which of two acts a condition chooses, with the decision that this is.
-abbrev pub chosen : Bool → Likely → Outcome → Outcome → Outcome
-chosen true likely.First first second = decides usual first
-chosen true likely.Else first second = decides unusual first
-chosen true likely.Two first second = decides (forked First) first
-chosen false likely.First first second = decides unusual second
-chosen false likely.Else first second = decides usual second
-chosen false likely.Two first second = decides (forked Second) second
+abbrev pub chosen_outcome : Bool → Likely → Outcome → Outcome → Outcome
+chosen_outcome true likely.First first second = decides usual first
+chosen_outcome true likely.Else first second = decides unusual first
+chosen_outcome true likely.Two first second = decides (forked First) first
+chosen_outcome false likely.First first second = decides unusual second
+chosen_outcome false likely.Else first second = decides usual second
+chosen_outcome false likely.Two first second = decides (forked Second) second
 
 -- A row that was looked for: with it one act is done, and else another.
 abbrev pub taking : Option Row → (Row → Outcome) → Outcome → Outcome
@@ -140,11 +140,11 @@ abbrev mutual
       (λ row. in_order (acts place block) (without_front s c (val i s l)) (with_taken taken row l))
       (in_order (acts place otherwise) s l)
   does place (branch likely condition block otherwise) s l =
-      chosen (is_true (val condition s l)) likely (in_order (acts place block) s l)
+      chosen_outcome (is_true (val condition s l)) likely (in_order (acts place block) s l)
       (in_order (acts place otherwise) s l)
   does place (each k below most block) s l =
       decides unusual (turns (min (val below s l) most) k (in_order (acts place block)) s l)
-  does place (emit e) s l = record (done s l) { sent = (e.direction, emitted place e s l) ∷ [] }
+  does place (emit e) s l = record (done s l) { sent = (e.direction, emitted_event place e s l) ∷ [] }
 
   -- What each statement of a block does, in order.
   pub acts : ℕ → StatementTrees → List Act

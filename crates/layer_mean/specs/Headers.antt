@@ -8,8 +8,8 @@ abbrev pub header_none : HeaderTree
 header_none = record { name = codes "none"; fields = 0; ends = false }
 
 -- The header that a tag of a layer stands for: `none` for 0, and the declared ones from 1 on.
-abbrev pub declared : LayerTree → ℕ → Option HeaderTree
-declared layer tag = slice_get (header_none ∷ layer.headers) tag
+abbrev pub header_of_tag : LayerTree → ℕ → Option HeaderTree
+header_of_tag layer tag = slice_get (header_none ∷ layer.headers) tag
 
 -- What a popped header says; where there is none the tag is 0, and there are no fields.
 abbrev pub said_tag : Option Header → ℕ

@@ -40,8 +40,8 @@ marked_turn log entry turn = record {
 }
 
 -- A player that logs what another plays. The edge of an output is told by its direction, and stands as 0.
-abbrev pub marked : {W E : Type 0} → Player W E → Player (Log W E) (Marked E)
-marked play = record {
+abbrev pub marking_player : {W E : Type 0} → Player W E → Player (Log W E) (Marked E)
+marking_player play = record {
   visit = λ at dir e log.
       marked_turn log (record { at = at; dir = dir; marked = e }) (play.visit at dir e.event log.world);
   output = λ dir e log. record {

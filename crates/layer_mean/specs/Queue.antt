@@ -19,7 +19,7 @@ pub record Task (E : Type 0) : Type 0 where
   pub dir : Dir
   pub event : E
 
--- What a visit leaves: the world behind it, and what it sent.
+-- What a visit leaves: the world after it, and what it sent.
 pub record Turn (W E : Type 0) : Type 0 where
   pub world : W
   pub sent : List (Dir × E)
@@ -91,8 +91,8 @@ layer_at stack at = slice_index_or stack (at - 1) no_layer
 abbrev pub state_at : Work → ℕ → State
 state_at w at = slice_index_or w.states (at - 1) no_state
 
-abbrev pub visited : ℕ → Work → Visited → Turn Work Event
-visited at w v = record {
+abbrev pub visit_turn : ℕ → Work → Visited → Turn Work Event
+visit_turn at w v = record {
   world = record {
     states = slice_set w.states (at - 1) v.state;
     outs = w.outs;
@@ -105,13 +105,13 @@ visited at w v = record {
 -- The player of a stack of layers, lowest first.
 abbrev pub layers : List LayerTree → Player Work Event
 layers stack = record {
-  visit = λ at dir event w. visited at w (step (at - 1) (layer_at stack at) (state_at w at) dir event);
+  visit = λ at dir event w. visit_turn at w (step (at - 1) (layer_at stack at) (state_at w at) dir event);
   output = λ dir event w. record w { outs = w.outs ++ (dir, event) ∷ [] };
 }
 
 -- The work that is before a run of layers in these states, and a line with one task.
-abbrev pub unstarted : List State → Work
-unstarted states = record { states = states; outs = []; decided = []; visits = 0 }
+abbrev pub unstarted_work : List State → Work
+unstarted_work states = record { states = states; outs = []; decided = []; visits = 0 }
 
 abbrev pub starting : {W E : Type 0} → W → Task E → Line W E
 starting w first = record { world = w; tasks = first ∷ [] }
@@ -119,7 +119,7 @@ starting w first = record { world = w; tasks = first ∷ [] }
 -- A run: from one task until none is left, in at most so many turns. (The weight of its entry is enough, by
 -- acceptance.)
 unfoldable pub run : ℕ → List LayerTree → List State → Task Event → Line Work Event
-run most stack states first = run_for (length stack) (layers stack) most (starting (unstarted states) first)
+run most stack states first = run_for (length stack) (layers stack) most (starting (unstarted_work states) first)
 
 -- Whether every decision of a run went as predicted in a case.
 abbrev pub is_predicted : Case → Work → Bool

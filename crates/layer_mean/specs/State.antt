@@ -63,22 +63,22 @@ abbrev pub with_cell : State → ℕ → Contents → State
 with_cell s c held = record s { cells = slice_set s.cells c held }
 
 -- Numbers with v at index i; a queue stays as it is.
-abbrev pub written : ℕ → ℕ → Contents → Contents
-written i v (numbers ns) = numbers (slice_set ns i v)
-written i v (queues qs) = queues qs
+abbrev pub with_element : ℕ → ℕ → Contents → Contents
+with_element i v (numbers ns) = numbers (slice_set ns i v)
+with_element i v (queues qs) = queues qs
 
 -- Cell c with v at index i; writing outside changes nothing.
 abbrev pub with_number : State → ℕ → ℕ → ℕ → State
-with_number s c i v = with_cell s c (written i v (cell_at s c))
+with_number s c i v = with_cell s c (with_element i v (cell_at s c))
 
 -- Queues with other rows in queue i; numbers stay as they are.
-abbrev pub filled : ℕ → List Row → Contents → Contents
-filled i rows (numbers ns) = numbers ns
-filled i rows (queues qs) = queues (slice_set qs i rows)
+abbrev pub with_queue : ℕ → List Row → Contents → Contents
+with_queue i rows (numbers ns) = numbers ns
+with_queue i rows (queues qs) = queues (slice_set qs i rows)
 
 -- Queue i of cell c with other rows; a queue outside stays as it is.
 abbrev pub with_rows : State → ℕ → ℕ → List Row → State
-with_rows s c i rows = with_cell s c (filled i rows (cell_at s c))
+with_rows s c i rows = with_cell s c (with_queue i rows (cell_at s c))
 
 -- A state with a row at the back of queue i of cell c, and one without its front row.
 abbrev pub with_row : State → ℕ → ℕ → Row → State

@@ -36,7 +36,7 @@ mutual
     pick : (condition first second : ExpressionTree) → ExpressionTree
 
   -- A message: one of the scope, no bytes, the message of a row, so many bytes of a message from a place on, its bytes
-  -- from a place on, or a part in front of a message.
+  -- from a place on, or a part before a message.
   pub data MessageTree : Type 0 where
     message : ℕ → MessageTree
     nothing : MessageTree

@@ -42,14 +42,14 @@ fresh layer me n ltime =
 abbrev pub no_state : State
 no_state = bare_state 0 0 0
 
--- An event as its layer meets it: the tag and the fields of the header that is popped going up, and the message behind
+-- An event as its layer meets it: the tag and the fields of the header that is popped going up, and the message after
 -- that, if it has one. Going down nothing is popped.
 pub record Met : Type 0 where
   pub tag : ℕ
   pub fields : List ℕ
   pub message : Option Content
 
--- What stands behind a header, and where there is none.
+-- What stands after a header, and where there is none.
 abbrev pub behind : Option Header → Content → Met
 behind None m = record { tag = 0; fields = []; message = Some m }
 behind (Some h) m = record { tag = h.tag; fields = h.fields; message = Some m }
@@ -66,15 +66,15 @@ is_for dir kind tag h = sameb dir_row.the_type h.direction dir && sameb kind_row
 abbrev pub handler_for : LayerTree → Dir → Kind → ℕ → Option HandlerTree
 handler_for layer dir kind tag = find (is_for dir kind tag) layer.handlers
 
--- A list with so many more items behind its own.
+-- A list with so many more items after its own.
 abbrev pub with_room : {A : Type 0} → ℕ → A → List A → List A
 with_room zero filler xs = xs
 with_room (suc k) filler xs = with_room k filler (xs ++ filler ∷ [])
 
--- The scope in which a handler is entered: the event's numbers in front of the fields, and its message; the names that
--- the block declares come behind these.
-abbrev pub entered : HandlerTree → Event → Met → Scope
-entered h event m = record {
+-- The scope in which a handler is entered: the event's numbers before the fields, and its message; the names that
+-- the block declares come after these.
+abbrev pub entered_scope : HandlerTree → Event → Met → Scope
+entered_scope h event m = record {
   numbers = with_room h.numbers 0 (arguments event ++ m.fields);
   messages = with_room h.messages (plain []) (option_to_list m.message);
 }
@@ -83,7 +83,7 @@ entered h event m = record {
 abbrev pub none_header : ℕ → Header
 none_header place = record { layer = place; tag = 0; fields = [] }
 
--- What a visit comes to: the state behind it, what it sent, and its decisions in order.
+-- What a visit comes to: the state after it, what it sent, and its decisions in order.
 pub record Visited : Type 0 where
   pub state : State
   pub sent : List (Dir × Event)
@@ -94,12 +94,12 @@ abbrev pub sent_on : State → Dir → Event → Option Content → Visited
 sent_on s dir event m = record { state = s; sent = (dir, record event { message = m }) ∷ []; decided = [] }
 
 -- A visit of a layer that has no handler for an event: without a message the event passes on; going down a message
--- passes behind
--- `none`; going up it passes where `none` was popped, and is dropped behind another header, which is never predicted.
-abbrev pub unhandled : ℕ → State → Dir → Event → Met → Option Content → Visited
-unhandled place s dir event m None = sent_on s dir event None
-unhandled place s Down event m (Some content) = sent_on s Down event (Some (pushed (none_header place) content))
-unhandled place s Up event m (Some content) =
+-- passes after
+-- `none`; going up it passes where `none` was popped, and is dropped after another header, which is never predicted.
+abbrev pub unhandled_visit : ℕ → State → Dir → Event → Met → Option Content → Visited
+unhandled_visit place s dir event m None = sent_on s dir event None
+unhandled_visit place s Down event m (Some content) = sent_on s Down event (Some (pushed (none_header place) content))
+unhandled_visit place s Up event m (Some content) =
     if m.tag == 0 then sent_on s Up event (Some content) else record { state = s; sent = []; decided = unusual ∷ [] }
 
 -- The decision that a handler's expectation is, if it is one: a common case is predicted to hold at entry, and a rare
@@ -110,10 +110,10 @@ expecting (common e) s l o = if is_true (val e s l) then decides usual o else de
 expecting rare s l o = decides unusual o
 
 -- What the chosen handler does, or the lack of one.
-abbrev pub handled : ℕ → Option HandlerTree → State → Dir → Event → Met → Visited
-handled place None s dir event m = unhandled place s dir event m m.message
-handled place (Some h) s dir event m =
-    let l = entered h event m in
+abbrev pub handled_visit : ℕ → Option HandlerTree → State → Dir → Event → Met → Visited
+handled_visit place None s dir event m = unhandled_visit place s dir event m m.message
+handled_visit place (Some h) s dir event m =
+    let l = entered_scope h event m in
     let o = expecting h.expected s l (in_order (acts place h.block) s l) in
     record { state = o.state; sent = o.sent; decided = o.decided }
 
@@ -121,4 +121,4 @@ handled place (Some h) s dir event m =
 unfoldable pub step : ℕ → LayerTree → State → Dir → Event → Visited
 step place layer s dir event =
     let m = met dir event.message in
-    handled place (handler_for layer dir event.kind m.tag) s dir event m
+    handled_visit place (handler_for layer dir event.kind m.tag) s dir event m

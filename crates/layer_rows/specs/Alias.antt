@@ -36,7 +36,7 @@ visit s = step 0 alias s Down (cast 0 (plain []))
 abbrev pub at_count : ℕ → List ℕ → State
 at_count k e = record { me = 0; count = 2; ltime = 0; cells = state.numbers (k ∷ []) ∷ state.numbers e ∷ [] }
 
--- The visit behind which the state has this count and these elements, a cast with the header of this tag is sent, and
+-- The visit after which the state has this count and these elements, a cast with the header of this tag is sent, and
 -- the condition went so.
 abbrev pub left : ℕ → List ℕ → ℕ → Decision → Visited
 left k e tag decision = record {

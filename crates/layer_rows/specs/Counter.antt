@@ -30,16 +30,16 @@ counter = record {
       ) ∷ [];
 }
 
--- A message behind the counter's header with this number.
-abbrev pub numbered : ℕ → List ℕ → Content
-numbered seq body = record { headers = record { layer = 0; tag = 1; fields = seq ∷ [] } ∷ []; body = body }
+-- A message after the counter's header with this number.
+abbrev pub numbered_content : ℕ → List ℕ → Content
+numbered_content seq body = record { headers = record { layer = 0; tag = 1; fields = seq ∷ [] } ∷ []; body = body }
 
 -- A packet of the member of rank 0 at the lowest place.
-abbrev pub given : ℕ → Task Event
-given seq = record {
+abbrev pub given_task : ℕ → Task Event
+given_task seq = record {
   at = 1;
   dir = Up;
-  event = record { kind = Cast; peer = 0; a = 0; b = 0; message = Some (numbered seq (codes "hi")) };
+  event = record { kind = Cast; peer = 0; a = 0; b = 0; message = Some (numbered_content seq (codes "hi")) };
 }
 
 -- What the application gets.
@@ -53,11 +53,11 @@ due from = record { me = 1; count = 3; ltime = 0; cells = state.numbers (0 ∷ [
 -- The packet with number 0, given twice: the first goes as predicted, the second doesn't, and both are delivered.
 abbrev pub GivenTwice : Type 0
 GivenTwice =
-    (run 65536 (counter ∷ []) (fresh counter 1 3 0 ∷ []) (given 0) ≡ record {
+    (run 65536 (counter ∷ []) (fresh counter 1 3 0 ∷ []) (given_task 0) ≡ record {
       world = record { states = due (1 ∷ 0 ∷ 0 ∷ []) ∷ []; outs = delivered ∷ []; decided = usual ∷ []; visits = 1 };
       tasks = [];
     })
-    × (run 65536 (counter ∷ []) (due (1 ∷ 0 ∷ 0 ∷ []) ∷ []) (given 0) ≡ record {
+    × (run 65536 (counter ∷ []) (due (1 ∷ 0 ∷ 0 ∷ []) ∷ []) (given_task 0) ≡ record {
       world = record { states = due (1 ∷ 0 ∷ 0 ∷ []) ∷ []; outs = delivered ∷ []; decided = unusual ∷ []; visits = 1 };
       tasks = [];
     })

@@ -36,15 +36,15 @@ flip = flip_where always
 abbrev pub own_flip : LayerTree
 own_flip = flip_where (common (binary Equal (local 0) me))
 
--- The layer's state at the member of rank 1 of 2 behind so many casts.
-abbrev pub counted : ℕ → State
-counted k = record { me = 1; count = 2; ltime = 0; cells = state.numbers (k ∷ []) ∷ [] }
+-- The layer's state at the member of rank 1 of 2 after so many casts.
+abbrev pub state_after : ℕ → State
+state_after k = record { me = 1; count = 2; ltime = 0; cells = state.numbers (k ∷ []) ∷ [] }
 
--- A visit of the cast of a member behind so many others, and what it is to come to: the header's tag, and the
+-- A visit of the cast of a member after so many others, and what it is to come to: the header's tag, and the
 -- decisions.
 abbrev pub Flips : LayerTree → (peer before tag : ℕ) → List Decision → Type 0
-Flips layer peer before tag decided = step 0 layer (counted before) Down (cast peer (plain (codes "x"))) ≡ record {
-  state = counted (before + 1);
+Flips layer peer before tag decided = step 0 layer (state_after before) Down (cast peer (plain (codes "x"))) ≡ record {
+  state = state_after (before + 1);
   sent = (Down, cast peer (pushed (record { layer = 0; tag = tag; fields = (before + 1) ∷ [] }) (plain (codes "x")))) ∷
       [];
   decided = decided;
@@ -55,8 +55,8 @@ pub record Told : Type 0 where
   pub first : Bool × Option ℕ
   pub second : Bool × Option ℕ
 
-abbrev pub told : List Decision → Told
-told decided = record {
+abbrev pub told_cases : List Decision → Told
+told_cases decided = record {
   first = (all_as First decided, first_missed First decided);
   second = (all_as Second decided, first_missed Second decided);
 }
@@ -66,9 +66,9 @@ abbrev pub Forks : Type 0
 Forks =
     Flips flip 1 0 1 (forked First ∷ []) × Flips flip 1 1 2 (forked Second ∷ [])
     × Flips own_flip 1 0 1 (usual ∷ forked First ∷ [])
-    × (told (usual ∷ forked First ∷ []) ≡ record { first = (true, None); second = (false, Some 1) })
+    × (told_cases (usual ∷ forked First ∷ []) ≡ record { first = (true, None); second = (false, Some 1) })
     × Flips own_flip 1 1 2 (usual ∷ forked Second ∷ [])
-    × (told (usual ∷ forked Second ∷ []) ≡ record { first = (false, Some 1); second = (true, None) })
+    × (told_cases (usual ∷ forked Second ∷ []) ≡ record { first = (false, Some 1); second = (true, None) })
     × Flips own_flip 0 1 2 (unusual ∷ forked Second ∷ [])
-    × (told (unusual ∷ forked Second ∷ []) ≡ record { first = (false, Some 0); second = (false, Some 0) })
-    × (told (usual ∷ []) ≡ record { first = (true, None); second = (true, None) })
+    × (told_cases (unusual ∷ forked Second ∷ []) ≡ record { first = (false, Some 0); second = (false, Some 0) })
+    × (told_cases (usual ∷ []) ≡ record { first = (true, None); second = (true, None) })

@@ -37,9 +37,9 @@ holding s = record {
   cells = state.numbers (s ∷ []) ∷ state.queues ((record { numbers = 4294967295 ∷ []; message = None } ∷ []) ∷ []) ∷ [];
 }
 
--- A cast that is sent behind the header of this tag.
-abbrev pub sent : ℕ → List ℕ → List ℕ → Dir × Event
-sent tag fields body = (Down, cast 0 (pushed (record { layer = 0; tag = tag; fields = fields }) (plain body)))
+-- A cast that is sent after the header of this tag.
+abbrev pub sent_cast : ℕ → List ℕ → List ℕ → Dir × Event
+sent_cast tag fields body = (Down, cast 0 (pushed (record { layer = 0; tag = tag; fields = fields }) (plain body)))
 
 -- The first cast fills the queue, and its sum wraps; the second finds it full, which isn't predicted, and first sends
 -- that.
@@ -47,11 +47,11 @@ abbrev pub TwoCasts : Type 0
 TwoCasts =
     (step 0 keeper (fresh keeper 0 1 0) Down (cast 0 (plain (codes "a"))) ≡ record {
       state = holding 0;
-      sent = sent 1 (0 ∷ []) (codes "a") ∷ [];
+      sent = sent_cast 1 (0 ∷ []) (codes "a") ∷ [];
       decided = usual ∷ [];
     })
     × (step 0 keeper (holding 0) Down (cast 0 (plain (codes "b"))) ≡ record {
       state = holding 1;
-      sent = sent 2 [] [] ∷ sent 1 (1 ∷ []) (codes "b") ∷ [];
+      sent = sent_cast 2 [] [] ∷ sent_cast 1 (1 ∷ []) (codes "b") ∷ [];
       decided = unusual ∷ [];
     })

@@ -15,8 +15,8 @@ use Rattle.layer_rows.specs.Words.{cast_up, block, handler, cell_of_one, ending,
 abbrev pub idle : LayerTree
 idle = record { name = codes "idle"; cells = []; headers = ending (codes "h") 1 ∷ []; handlers = [] }
 
--- An event without a message passes unchanged; going down a message passes behind `none`; going up it passes where
--- `none` was popped, and is dropped behind another header, which isn't predicted.
+-- An event without a message passes unchanged; going down a message passes after `none`; going up it passes where
+-- `none` was popped, and is dropped after another header, which isn't predicted.
 abbrev pub Unhandled : Type 0
 Unhandled =
     (step 4 idle no_state Up (signal Ack 2 3) ≡
@@ -52,16 +52,16 @@ looping below = record {
       )) { numbers = 1 } ∷ [];
 }
 
-abbrev pub counted : ℕ → State
-counted s = record { me = 0; count = 1; ltime = 0; cells = state.numbers (s ∷ []) ∷ [] }
+abbrev pub counter_state : ℕ → State
+counter_state s = record { me = 0; count = 1; ltime = 0; cells = state.numbers (s ∷ []) ∷ [] }
 
 -- A loop ends at its bound or at its maximum, and counts as met also where it runs no turn.
 abbrev pub Loops : Type 0
 Loops =
-    (step 0 (looping 9) (counted 0) Up (cast 7 (plain [])) ≡ record {
-      state = counted 3;
+    (step 0 (looping 9) (counter_state 0) Up (cast 7 (plain [])) ≡ record {
+      state = counter_state 3;
       sent = (Up, cast 0 (plain [])) ∷ (Up, cast 1 (plain [])) ∷ (Up, cast 2 (plain [])) ∷ [];
       decided = unusual ∷ [];
     })
-    × (step 0 (looping 0) (counted 0) Up (cast 7 (plain [])) ≡
-    record { state = counted 0; sent = []; decided = unusual ∷ [] })
+    × (step 0 (looping 0) (counter_state 0) Up (cast 7 (plain [])) ≡
+    record { state = counter_state 0; sent = []; decided = unusual ∷ [] })

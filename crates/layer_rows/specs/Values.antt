@@ -10,27 +10,28 @@ use Rattle.layer_mean.specs.State.{State, numbers, queues, number_at, with_numbe
 use Rattle.layer_mean.specs.Value.{applied, function_of, val, mval}
 use Rattle.layer_mean.specs.Visit.{no_scope}
 
--- A message behind one header.
-abbrev pub headed : List ℕ → Content
-headed body = record { headers = record { layer = 1; tag = 0; fields = [] } ∷ []; body = body }
+-- A message after one header.
+abbrev pub headed_content : List ℕ → Content
+headed_content body = record { headers = record { layer = 1; tag = 0; fields = [] } ∷ []; body = body }
 
 -- A range is cut as far as there are bytes, its end is no sum that wraps, and it has no headers.
 abbrev pub Cuts : Type 0
 Cuts =
-    (parts.cut (headed (codes "abcdef")) 4 10 ≡ plain (codes "ef"))
-    × (parts.cut (headed (codes "abcdef")) 6 1 ≡ plain [])
-    × (parts.cut (headed (codes "abcdef")) 1 4294967295 ≡ plain (codes "bcdef"))
+    (parts.cut (headed_content (codes "abcdef")) 4 10 ≡ plain (codes "ef"))
+    × (parts.cut (headed_content (codes "abcdef")) 6 1 ≡ plain [])
+    × (parts.cut (headed_content (codes "abcdef")) 1 4294967295 ≡ plain (codes "bcdef"))
 
 -- A tail keeps the headers.
 abbrev pub Tails : Type 0
-Tails = (parts.tail (headed (codes "abc")) 1 ≡ headed (codes "bc")) × (parts.tail (headed (codes "abc")) 3 ≡ headed [])
+Tails = (parts.tail (headed_content (codes "abc")) 1 ≡ headed_content (codes "bc")) ×
+    (parts.tail (headed_content (codes "abc")) 3 ≡ headed_content [])
 
 -- A join keeps the second's headers, and gives the second alone where the bytes would be more than 8,192.
 abbrev pub Joins : Type 0
 Joins =
-    (parts.join (plain (codes "ab")) (headed (codes "c")) ≡ headed (codes "abc"))
-    × (length (parts.join (plain (replicate 8191 0)) (headed (codes "c"))).body ≡ 8192)
-    × (parts.join (plain (replicate 8192 0)) (headed (codes "c")) ≡ headed (codes "c"))
+    (parts.join (plain (codes "ab")) (headed_content (codes "c")) ≡ headed_content (codes "abc"))
+    × (length (parts.join (plain (replicate 8191 0)) (headed_content (codes "c"))).body ≡ 8192)
+    × (parts.join (plain (replicate 8192 0)) (headed_content (codes "c")) ≡ headed_content (codes "c"))
 
 -- Sums and differences wrap, comparisons and `and` give 1 or 0, and the functions of bits end at bit 32.
 abbrev pub Computes : Type 0
@@ -49,46 +50,47 @@ Computes =
     × (function_of Lowest 0 ≡ 32)
 
 -- A row of one number, and one that ends with a message.
-abbrev pub numbered : ℕ → Row
-numbered x = record { numbers = x ∷ []; message = None }
+abbrev pub number_row : ℕ → Row
+number_row x = record { numbers = x ∷ []; message = None }
 
-abbrev pub lettered : ℕ → Row
-lettered x = record { numbers = x ∷ []; message = Some (plain (codes "hi")) }
+abbrev pub message_row : ℕ → Row
+message_row x = record { numbers = x ∷ []; message = Some (plain (codes "hi")) }
 
 -- A state of two members with an array, a square array and two queues, of which the first has a row.
-abbrev pub filled : State
-filled = record {
+abbrev pub filled_state : State
+filled_state = record {
   me = 0;
   count = 2;
   ltime = 0;
-  cells = numbers (5 ∷ 6 ∷ []) ∷ numbers (1 ∷ 2 ∷ 3 ∷ 4 ∷ []) ∷ queues ((lettered 7 ∷ []) ∷ [] ∷ []) ∷ [];
+  cells = numbers (5 ∷ 6 ∷ []) ∷ numbers (1 ∷ 2 ∷ 3 ∷ 4 ∷ []) ∷ queues ((message_row 7 ∷ []) ∷ [] ∷ []) ∷ [];
 }
 
 -- Reading outside an array, outside a square array or of a cell that there isn't gives 0; writing there does nothing.
 abbrev pub OutsideArrays : Type 0
 OutsideArrays =
-    (number_at filled 0 1 ≡ 6)
-    × (number_at filled 0 2 ≡ 0)
-    × (number_at filled 3 0 ≡ 0)
-    × (number_at filled 2 0 ≡ 0)
-    × (val (square 1 (number 1) (number 0)) filled no_scope ≡ 3)
-    × (val (square 1 (number 0) (number 2)) filled no_scope ≡ 0)
-    × (with_number filled 0 2 9 ≡ filled)
-    × (with_number filled 2 0 9 ≡ filled)
+    (number_at filled_state 0 1 ≡ 6)
+    × (number_at filled_state 0 2 ≡ 0)
+    × (number_at filled_state 3 0 ≡ 0)
+    × (number_at filled_state 2 0 ≡ 0)
+    × (val (square 1 (number 1) (number 0)) filled_state no_scope ≡ 3)
+    × (val (square 1 (number 0) (number 2)) filled_state no_scope ≡ 0)
+    × (with_number filled_state 0 2 9 ≡ filled_state)
+    × (with_number filled_state 2 0 9 ≡ filled_state)
 
 -- A queue outside its array is empty and full at once; a row that isn't there has no numbers, and its message is no
 -- bytes for a part, and for a message of the layers above the headers that stand in for it.
 abbrev pub OutsideQueues : Type 0
 OutsideQueues =
-    (val (rows 2 (number 0)) filled no_scope ≡ 1)
-    × (val (rows 2 (number 2)) filled no_scope ≡ 0)
-    × (has_room filled 2 2 8 ≡ false)
-    × (has_room filled 2 0 1 ≡ false)
-    × (with_row filled 2 2 (numbered 1) ≡ filled)
-    × (without_front filled 2 1 ≡ filled)
-    × (val (item 2 (number 0) (number 0) 0) filled no_scope ≡ 7)
-    × (val (item 2 (number 0) (number 1) 0) filled no_scope ≡ 0)
-    × (mval (held 2 (number 0) (number 0) part) filled no_scope ≡ plain (codes "hi"))
-    × (mval (held 2 (number 1) (number 0) part) filled no_scope ≡ plain [])
-    × (mval (held 2 (number 1) (number 0) (whole (record { layer = 1; tag = 0; fields = [] } ∷ []))) filled no_scope ≡
-    headed [])
+    (val (rows 2 (number 0)) filled_state no_scope ≡ 1)
+    × (val (rows 2 (number 2)) filled_state no_scope ≡ 0)
+    × (has_room filled_state 2 2 8 ≡ false)
+    × (has_room filled_state 2 0 1 ≡ false)
+    × (with_row filled_state 2 2 (number_row 1) ≡ filled_state)
+    × (without_front filled_state 2 1 ≡ filled_state)
+    × (val (item 2 (number 0) (number 0) 0) filled_state no_scope ≡ 7)
+    × (val (item 2 (number 0) (number 1) 0) filled_state no_scope ≡ 0)
+    × (mval (held 2 (number 0) (number 0) part) filled_state no_scope ≡ plain (codes "hi"))
+    × (mval (held 2 (number 1) (number 0) part) filled_state no_scope ≡ plain [])
+    × (mval (held 2 (number 1) (number 0) (whole (record { layer = 1; tag = 0; fields = [] } ∷ []))) filled_state
+    no_scope ≡
+    headed_content [])

@@ -10,7 +10,7 @@ use Rattle.layer_mean.specs.declared.run.Event.{Event}
 use Rattle.layer_mean.specs.Tree.{ExpressionTree, number, MessageTree, message, EmissionTree, StatementTree}
 use Rattle.layer_mean.specs.Tree.{StatementTrees, none, more, Expected, HandlerTree, CellTree, numbers, HeaderTree}
 
--- A cast of a message, going down behind this header.
+-- A cast of a message, going down after this header.
 abbrev pub cast_of : ExpressionTree → MessageTree → ℕ → List ExpressionTree → EmissionTree
 cast_of peer m tag fields = record {
   direction = Down;
@@ -19,7 +19,7 @@ cast_of peer m tag fields = record {
   content = Some (record { message = m; tag = tag; fields = fields });
 }
 
--- A cast of the handler's message, going down behind this header.
+-- A cast of the handler's message, going down after this header.
 abbrev pub cast_down : ExpressionTree → ℕ → List ExpressionTree → EmissionTree
 cast_down peer tag fields = cast_of peer (message 0) tag fields
 

@@ -12,9 +12,9 @@ use Rattle.layer_mean.specs.declared.run.Event.{Event}
 use Rattle.layer_mean.specs.Effect.{unusual}
 use Rattle.layer_mean.specs.State.{State}
 use Rattle.layer_mean.specs.Tree.{LayerTree, HandlerTree}
-use Rattle.layer_mean.specs.Visit.{behind, met, handler_for, handled, none_header, Visited, unhandled, step}
+use Rattle.layer_mean.specs.Visit.{behind, met, handler_for, handled_visit, none_header, Visited, unhandled_visit, step}
 use Rattle.layer_desk.specs.Need.{headers_of, most_above}
-use Rattle.pool_message.specs.Seen.{refs_if, seen, seen_if, event_seen, LiesIf}
+use Rattle.pool_message.specs.Seen.{refs_if, content_seen, seen_if, event_seen, LiesIf}
 use Rattle.pool_message.specs.Sent.{message_passed, CanPass}
 use Rattle.pool_message.specs.declared.event.PoolEvent.{PoolEvent}
 use Rattle.pool_message.specs.declared.message.PoolMessage.{PoolMessage}
@@ -29,9 +29,9 @@ no_handler None none = refl
 no_handler (Some h) none = absurd (cc)
 
 module _ (place : ℕ) (s : State) where
-  -- Behind the tag 0, or behind no header, a message goes on up.
+  -- After the tag 0, or after no header, a message goes on up.
   goes_up : (header : Option Header) (e : Event) (content : Content) → (behind header content).tag ≡ 0 →
-      unhandled place s Up e (behind header content) (behind header content).message ≡
+      unhandled_visit place s Up e (behind header content) (behind header content).message ≡
       sends s Up (record e { message = Some content })
   goes_up None e content tag = refl
   goes_up (Some h) e content tag =
@@ -40,11 +40,11 @@ module _ (place : ℕ) (s : State) where
 
   goes_on : (p : List Held) (dir : Dir) (e : PoolEvent) (message : Option PoolMessage) →
       (met dir (seen_if p message)).tag ≡ 0 →
-      unhandled place s dir (event_seen p e) (met dir (seen_if p message)) (met dir (seen_if p message)).message ≡
+      unhandled_visit place s dir (event_seen p e) (met dir (seen_if p message)) (met dir (seen_if p message)).message ≡
       sends s dir (event_seen p (record e { message = option_map (message_passed dir (none_header place)) message }))
   goes_on p dir e None tag = refl
   goes_on p Down e (Some m) tag = refl
-  goes_on p Up e (Some m) tag = goes_up (first_of m.headers) (event_seen p e) (popped (seen p m)) tag
+  goes_on p Up e (Some m) tag = goes_up (first_of m.headers) (event_seen p e) (popped (content_seen p m)) tag
 
   -- The visit by an event that a layer lets pass.
   pub passes_on : (layer : LayerTree) (p : List Held) (dir : Dir) (e : PoolEvent) →
@@ -55,9 +55,10 @@ module _ (place : ℕ) (s : State) where
       let both = and_parts ((met dir (seen_if p e.message)).tag == 0) (is_none (handler_for layer dir e.kind 0)) passes
       in
       let tag = eqb-true (met dir (seen_if p e.message)).tag 0 both.0 in
-      ap (λ t. handled place (handler_for layer dir e.kind t) s dir (event_seen p e) (met dir (seen_if p e.message)))
+      ap (λ t. handled_visit place (handler_for layer dir e.kind t) s dir (event_seen p e)
+      (met dir (seen_if p e.message)))
       tag
-      ∙ ap (λ handler. handled place handler s dir (event_seen p e) (met dir (seen_if p e.message)))
+      ∙ ap (λ handler. handled_visit place handler s dir (event_seen p e) (met dir (seen_if p e.message)))
       (no_handler (handler_for layer dir e.kind 0) both.1)
       ∙ goes_on p dir e e.message tag
 

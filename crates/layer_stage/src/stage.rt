@@ -41,7 +41,7 @@ pub trait Stage {
     /// How many events it took, held at 2^64 - 1.
     ghost taken: { Self → ℕ };
 
-    /// The layer takes the first of the events: that one goes, and what the layer sends comes behind the others. Until
+    /// The layer takes the first of the events: that one goes, and what the layer sends comes after the others. Until
     /// then it has its place, so that there is one place more than for what is sent. Its state, what it sends and
     /// whether it decided as predicted are those of a visit. It then took one event more.
     fn take(&mut self, pool: &mut Pool, events: &mut Events) -> Predicted
@@ -50,7 +50,8 @@ pub trait Stage {
         requires lie { SentLie pool.old events.old.items }
         requires covers { Covers pool.old (refs self.old ++ sent_refs events.old.items) }
         requires counts { CountsWithin most_counted pool.old }
-        requires headers { headers_met (first_way events.old.items) (first_seen pool.old events.old.items) ≤ most_above }
+        requires headers { headers_met (first_way events.old.items) (first_seen pool.old events.old.items) ≤
+            most_above }
         requires slots { slots_needed (layer self.old) (first_way events.old.items)
             (first_seen pool.old events.old.items) ≤ spare pool.old }
         requires places { length events.old.items

@@ -61,7 +61,7 @@ choice condition block otherwise = one (mean.branch First condition block otherw
 abbrev pub is_mine : mean.ExpressionTree
 is_mine = mean.binary Equal (mean.local 1) (mean.number 1)
 
--- `bottom`: each message goes down behind `net(1)`, and up where it came behind that.
+-- `bottom`: each message goes down after `net(1)`, and up where it came after that.
 abbrev pub bottom_layer : mean.LayerTree
 bottom_layer = record {
   name = codes "bottom";

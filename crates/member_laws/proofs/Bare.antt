@@ -20,7 +20,7 @@ use Rattle.layer_mean.specs.declared.run.Case.TheVariants.{First, Second}
 use Rattle.layer_mean.specs.declared.run.Event.{Event}
 use Rattle.layer_mean.specs.declared.run.Row.{Row}
 use Rattle.layer_mean.specs.Event.{carries}
-use Rattle.layer_mean.specs.Headers.{declared}
+use Rattle.layer_mean.specs.Headers.{header_of_tag}
 use Rattle.layer_mean.specs.Tree.{Carried, part, whole, MessageTree, message, nothing, held, cut, tail, join}
 use Rattle.layer_mean.specs.Tree.{ContentTree, TakenTree, StatementTree, bind, assign, assign_square, push, take}
 use Rattle.layer_mean.specs.Tree.{branch, each, emit, StatementTrees, none, more, Expected, always, common, rare}
@@ -28,9 +28,9 @@ use Rattle.layer_mean.specs.Tree.{HandlerTree, LayerTree, no_layer}
 use Rattle.layer_mean.specs.State.{State, flat_index, rows_at, row_at, has_room, with_number, with_row, without_front}
 use Rattle.layer_mean.specs.Value.{Scope, is_true, val}
 use Rattle.layer_mean.specs.Effect.{with_slot, row_of, with_taken}
-use Rattle.layer_mean.specs.Visit.{Met, met, is_for, handler_for, entered}
+use Rattle.layer_mean.specs.Visit.{Met, met, is_for, handler_for, entered_scope}
 use Rattle.layer_mean.specs.Queue.{Task, Line, Work, is_place, layer_at, state_at, run_for, layers}
-use Rattle.layer_mean.specs.Marked.{Log, Marked, marked}
+use Rattle.layer_mean.specs.Marked.{Log, Marked, marking_player}
 use Rattle.layer_mean.specs.Way.{Step, way, ways, expected_way}
 use Rattle.packet_mean.specs.ChainedState.{IsFrom, IsRow, IsState, IsEvent}
 use Rattle.shape_laws.specs.Bare.{BareRow, BareMessage, BareTaken, BareContent, BareBeyond, BareSteps, BareWay}
@@ -97,7 +97,7 @@ module _ (P Q : List Header → Type 0) (layer : LayerTree) (place : ℕ) (blank
       Sends layer blank sorts b dir c → IsState P layer s → BareContent c s l
   content_bare sorts b dir None s l h state = tt
   content_bare sorts true Up (Some c) s l h state = message_bare c.message sorts Msg s l h state
-  content_bare sorts true Down (Some c) s l h state = there (declared layer c.tag) _ h.declares
+  content_bare sorts true Down (Some c) s l h state = there (header_of_tag layer c.tag) _ h.declares
       (λ d listed is. message_bare c.message sorts _ s l is.1 state)
   content_bare sorts false dir (Some c) s l h state = absurd h
 
@@ -211,7 +211,7 @@ module _ (P Q : List Header → Type 0) (layer : LayerTree) (place : ℕ) (blank
       (same_true dir_row.the_type tt h.direction dir both.0)
       (ap carries (same_true kind_row.the_type tt h.kind e.kind both.1)) (eqb-true h.tag m.tag all.1)
       (arguments_small (come_headers P Q dir) e.kind e event) is in
-      expected_bare h.expected (ways case h.block) (sorts_of layer h) s (entered h e m)
+      expected_bare h.expected (ways case h.block) (sorts_of layer h) s (entered_scope h e m)
       (way_bare case h.block (sorts_of layer h) typed.0)
       state scope
 
@@ -250,7 +250,7 @@ next_bare case stack w (t ∷ rest) typed states h = λ placed. task_bare case s
 pub typed_runs_are_bare : TypedRunsAreBare
 typed_runs_are_bare case stack states task typed h is = λ k.
     let q : Line (Log Work Event) (Marked Event) =
-    run_for (length stack) (marked (layers stack)) k (run_start states task) in
+    run_for (length stack) (marking_player (layers stack)) k (run_start states task) in
     let tells = logs_tell_runs stack states task k in
     let line = run_from_a_task stack k states task typed h is in
     next_bare case stack q.world.world q.tasks typed

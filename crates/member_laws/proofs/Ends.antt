@@ -7,7 +7,7 @@ use Rattle.msg_core.specs.declared.packet.Dest.TheVariants as dest
 use Rattle.layer_ast.specs.declared.tokens.Dir.TheVariants.{Up}
 use Rattle.layer_mean.specs.declared.run.Event.{Event}
 use Rattle.layer_mean.specs.Tree.{LayerTree}
-use Rattle.layer_mean.specs.Queue.{Task, Line, Work, layers, next_of, run_for, run, unstarted, starting}
+use Rattle.layer_mean.specs.Queue.{Task, Line, Work, layers, next_of, run_for, run, unstarted_work, starting}
 use Rattle.packet_mean.specs.Plan.{kind_of}
 use Rattle.run_mean.specs.Member.{Entered, app_cast, app_send, app_leave, clock_tick, from_peer, from_below, first_task}
 use Rattle.run_mean.specs.Member.{output_of, most_turns}
@@ -61,13 +61,13 @@ enters stack me (from_peer p) = go p.dest where
 pub steps_end : StepsEnd
 steps_end stack here id states what h accepts =
     let first : Task Event = first_task stack here.rank what in
-    let line : IsChainedLine stack (starting (unstarted states) first) =
+    let line : IsChainedLine stack (starting (unstarted_work states) first) =
     record { states = h.states_are; outs = tt; tasks = (first_is stack here states what h, tt) } in
     let ends = runs_end stack states first record {
       orderly = typed_is_orderly stack h.typed;
       accepts = accepts;
       enters = enters stack here.rank what;
-      known = stays_known stack (starting (unstarted states) first) h.typed line;
+      known = stays_known stack (starting (unstarted_work states) first) h.typed line;
     } in
     let work : Work = (run most_turns stack states first).world in
     record {

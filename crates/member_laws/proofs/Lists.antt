@@ -7,7 +7,7 @@ use Rattle.std.proofs.lemmas.List.Sums.{sum_by-cons}
 plain_sum : (n : ℕ) → 0 + n ≡ n
 plain_sum n = omega arith
 
--- What stands behind a list.
+-- What stands after a list.
 pub behind : {A : Type 0} (xs ys : List A) (i : ℕ) → slice_get (xs ++ ys) (length xs + i) ≡ slice_get ys i
 behind [] ys i = ap (slice_get ys) (plain_sum i)
 behind (x ∷ xs) ys i = ap (slice_get (x ∷ xs ++ ys)) (moved (length xs) i) ∙ behind xs ys i
@@ -29,7 +29,7 @@ from_take (suc n) [] i x e = absurd (cc e)
 from_take (suc n) (y ∷ xs) zero x e = e
 from_take (suc n) (y ∷ xs) (suc i) x e = from_take n xs i x e
 
--- A place in one of several lists that stand behind each other.
+-- A place in one of several lists that stand after each other.
 pub in_group : {A B : Type 0} (h : A → List B) (before : List A) (g : A) (rest : List A) (i : ℕ) → i < length (h g) →
     slice_get (flat_map h (before ++ g ∷ rest)) (sum_by (λ x. length (h x)) before + i) ≡ slice_get (h g) i
 in_group h [] g rest i less = ap (slice_get (h g ++ flat_map h rest)) (plain_sum i) ∙ within

@@ -50,11 +50,13 @@ use Rattle.chain_laws.proofs.Visits.{fresh_is_chained}
 use Rattle.script_mean.specs.declared.event.ScriptEvent.TheVariants as script
 use Rattle.stack_mean.specs.Plan.{Plan}
 use Rattle.run_mean.specs.View.{first_view, mask_of, last_ltime}
-use Rattle.run_mean.specs.Member.{Member, inside, out, opened, Input, cast, send, leave, tick, datagram, Refusal}
+use Rattle.run_mean.specs.Member.{Member, inside, out, opened_member, Input, cast, send, leave, tick, datagram, Refusal}
 use Rattle.run_mean.specs.Member.{too_big, Entered, app_cast, app_send, app_leave, clock_tick, from_peer, from_datagram}
-use Rattle.run_mean.specs.Member.{entered, first_task, packet, nowhere, content, packet_to, above, below, output_of}
-use Rattle.run_mean.specs.Member.{announced, packet_in, installed, most_turns, step_from, member_behind}
-use Rattle.run_mean.specs.World.{World, member_at, packet_number, here_of, stepped_inside, stepped_of, stepped, given}
+use Rattle.run_mean.specs.Member.{entered_input, first_task, packet, nowhere, content, packet_to, above, below}
+use Rattle.run_mean.specs.Member.{output_of}
+use Rattle.run_mean.specs.Member.{announced_ranks, packet_in, installed_member, most_turns, step_from, member_behind}
+use Rattle.run_mean.specs.World.{World, member_at, packet_number, here_of, stepped_inside, stepped_of, step_happening}
+use Rattle.run_mean.specs.World.{given_packet}
 use Rattle.run_mean.specs.World.{happens}
 use Rattle.member_laws.specs.Members.{IsView, IsHere, IsInside, IsChainedMember, IsEntered, EntersInRange}
 use Rattle.member_laws.specs.Members.{FirstTasksAreChained, OpenedIsChained, StepsKeepChains, IsChainedWorld}
@@ -276,9 +278,10 @@ opened_is_chained stack view id typed is = go (rank view id) refl where
   }
 
 installed_is : (stack : List LayerTree) (view : View) (id ranks : ℕ) → TypedStack stack → IsView view →
-    IsChainedMember stack (installed stack view id ranks)
+    IsChainedMember stack (installed_member stack view id ranks)
 installed_is stack view id ranks typed is = go (view.ltime == last_ltime) refl where
-  go : (b : Bool) → (view.ltime == last_ltime) ≡ b → IsChainedMember stack (option_map_or (λ next. opened stack next id)
+  go : (b : Bool) → (view.ltime == last_ltime) ≡ b →
+      IsChainedMember stack (option_map_or (λ next. opened_member stack next id)
       (if b then None else Some record { ltime = view.ltime + 1; mask = mask_of view ranks }) out)
   go true last = tt
   go false last = opened_is_chained stack (record { ltime = view.ltime + 1; mask = mask_of view ranks }) id typed record {
@@ -340,7 +343,7 @@ behind_is : (stack : List LayerTree) (view : View) (id : ℕ) (states : List Sta
     TypedStack stack →
     IsView view → AreChainedStates stack states →
     IsChainedMember stack
-    (option_map_or (λ m. m) (option_map (installed stack view id) announced_first) (inside view states))
+    (option_map_or (λ m. m) (option_map (installed_member stack view id) announced_first) (inside view states))
 behind_is stack view id states None typed is h = record { view_is = is; states_are = h }
 behind_is stack view id states (Some ranks) typed is h = installed_is stack view id ranks typed is
 
@@ -355,7 +358,7 @@ steps_keep_chains stack here id states what typed is h fits =
       outs = line.outs;
       packets = packets_out stack here work.outs is line.outs;
       member = behind_is stack here.view id work.states
-          (slice_get (filter_map announced (map (output_of here) work.outs)) 0) typed is.view
+          (slice_get (filter_map announced_ranks (map (output_of here) work.outs)) 0) typed is.view
           line.states;
     }
 
@@ -376,7 +379,7 @@ meant_same (Err cause) p q e = absurd (cc e)
 -- a packet that can be spelled, as its full spelling, is this packet or stray
 pub given_enters : (stack : List LayerTree) (plans : List Plan) (p : Packet) → IsSpellable stack p →
     (here : Here) (what : Entered) →
-    entered stack plans here (datagram (full_bytes p)) ≡ Ok what → IsEntered stack what
+    entered_input stack plans here (datagram (full_bytes p)) ≡ Ok what → IsEntered stack what
 given_enters stack plans p h here what is = packet_entered stack (received stack plans here (full_bytes p)) what is
     (λ q taken.
     let as_meant = received_as_meant stack plans here (full_bytes p) p (one_full_spelling stack plans p h).0 in
@@ -408,21 +411,21 @@ module _ (stack : List LayerTree) (plans : List Plan) (w : World) (typed : Typed
       }
 
   member_keeps : (id : ℕ) (input : Input) (m : Member) → IsChainedMember stack m →
-      ((here : Here) (what : Entered) → entered stack plans here input ≡ Ok what → IsEntered stack what) →
+      ((here : Here) (what : Entered) → entered_input stack plans here input ≡ Ok what → IsEntered stack what) →
       IsChainedWorld stack (stepped_of stack plans w id input m).world
   member_keeps id input out is enters = world
   member_keeps id input (inside view states) is enters =
-      inside_keeps id view states (entered stack plans (here_of w view id) input) is
+      inside_keeps id view states (entered_input stack plans (here_of w view id) input) is
       (λ what. enters (here_of w view id) what)
 
   stepped_keeps : (id : ℕ) (input : Input) →
-      ((here : Here) (what : Entered) → entered stack plans here input ≡ Ok what → IsEntered stack what) →
-      IsChainedWorld stack (stepped stack plans w id input).world
+      ((here : Here) (what : Entered) → entered_input stack plans here input ≡ Ok what → IsEntered stack what) →
+      IsChainedWorld stack (step_happening stack plans w id input).world
   stepped_keeps id input enters = member_keeps id input (member_at w id)
       (each_or (IsChainedMember stack) w.members id out world.members tt) enters
 
   given_keeps : (id : ℕ) (p : Option Packet) → Where (IsSpellable stack) p →
-      IsChainedWorld stack (given stack plans w id p).world
+      IsChainedWorld stack (given_packet stack plans w id p).world
   given_keeps id None h = world
   given_keeps id (Some p) h = stepped_keeps id (datagram (full_bytes p)) (given_enters stack plans p h)
 
@@ -450,7 +453,7 @@ pub first_world_is_chained : FirstWorldIsChained
 first_world_is_chained stack group stamp n typed group_is stamp_is few = record {
   group = group_is;
   stamp = stamp_is;
-  members = each_map (λ _. Unit {0}) (IsChainedMember stack) (opened stack (first_view n))
+  members = each_map (λ _. Unit {0}) (IsChainedMember stack) (opened_member stack (first_view n))
       (λ id _. opened_is_chained stack (first_view n) id typed record {
         ltime = zero_small;
         mask = omega (arith, pow_mono {i = n} {j = 32} few, pow_pos n);

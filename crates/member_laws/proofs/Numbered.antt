@@ -23,7 +23,7 @@ use Rattle.layer_mean.specs.Visit.{is_for, handler_for}
 use Rattle.layer_mean.specs.Way.{Step, test, fork, set_slot, set_number, set_square, put, get, send, loop, way, ways}
 use Rattle.layer_mean.specs.Way.{expected_way, handler_way, way_length}
 use Rattle.layer_mean.specs.Queue.{Task, Line, Turn, is_place, layer_at, tasks_of, next_of, run_for, taken_turn}
-use Rattle.layer_mean.specs.Marked.{Log, Logged, Marked, marked, marked_sent, marked_start}
+use Rattle.layer_mean.specs.Marked.{Log, Logged, Marked, marking_player, marked_sent, marked_start}
 use Rattle.packet_mean.specs.ChainedState.{IsNumber}
 use Rattle.stack_mean.specs.Acceptance.{weight_limit}
 use Rattle.stack_mean.specs.Drawn.{DrawnHeader, DrawnMessage, chained, unknown, DrawnEvent, of_both, constant_of}
@@ -335,7 +335,7 @@ module _ (case : Case) (stack : List LayerTree) (typed : AllByRecursion Handles 
   next_drawn : (t : Task (Marked DrawnEvent)) (rest : List (Task (Marked DrawnEvent)))
       (log : Log Progressed DrawnEvent) → TasksAre (t ∷ rest) →
       OutsAre log.outs →
-      let r = next_of (length stack) (marked (shaper case stack)) (t ∷ rest) log in TasksAre r.tasks ×
+      let r = next_of (length stack) (marking_player (shaper case stack)) (t ∷ rest) log in TasksAre r.tasks ×
       OutsAre r.world.outs
   next_drawn t rest log h outs = go (is_place (length stack) t.at) where
     turn : Turn Progressed DrawnEvent
@@ -343,8 +343,8 @@ module _ (case : Case) (stack : List LayerTree) (typed : AllByRecursion Handles 
 
     line : Bool → Line (Log Progressed DrawnEvent) (Marked DrawnEvent)
     line b = if b
-        then taken_turn t.at rest ((marked (shaper case stack)).visit t.at t.dir t.event log)
-        else record { world = (marked (shaper case stack)).output t.dir t.event log; tasks = rest }
+        then taken_turn t.at rest ((marking_player (shaper case stack)).visit t.at t.dir t.event log)
+        else record { world = (marking_player (shaper case stack)).output t.dir t.event log; tasks = rest }
 
     go : (b : Bool) → TasksAre (line b).tasks × OutsAre (line b).world.outs
     go true = (
@@ -356,11 +356,12 @@ module _ (case : Case) (stack : List LayerTree) (typed : AllByRecursion Handles 
 
   run_drawn : (n : ℕ) (tasks : List (Task (Marked DrawnEvent))) (log : Log Progressed DrawnEvent) → TasksAre tasks →
       OutsAre log.outs →
-      OutsAre (run_for (length stack) (marked (shaper case stack)) n (record { world = log; tasks = tasks })).world.outs
+      OutsAre (run_for (length stack) (marking_player (shaper case stack)) n
+      (record { world = log; tasks = tasks })).world.outs
   run_drawn zero tasks log h outs = outs
   run_drawn (suc n) [] log h outs = outs
   run_drawn (suc n) (t ∷ rest) log h outs =
-      let r = next_of (length stack) (marked (shaper case stack)) (t ∷ rest) log in
+      let r = next_of (length stack) (marking_player (shaper case stack)) (t ∷ rest) log in
       let is = next_drawn t rest log h outs in
       run_drawn n r.tasks r.world is.0 is.1
 
@@ -386,7 +387,7 @@ first_drawn : (stack : List LayerTree) (k : Known) (case : Case) → AllByRecurs
 unfolding drawn_shape
 first_drawn stack k case typed h =
     let first = marked_start undrawn (entry_task stack k) in
-    let log = (run_for (length stack) (marked (shaper case stack)) weight_limit first).world in
+    let log = (run_for (length stack) (marking_player (shaper case stack)) weight_limit first).world in
     outs_drawn log log.world (run_drawn case stack typed weight_limit first.tasks first.world (h, tt) tt)
 
 shape_drawn : (stack : List LayerTree) (k : Known) (case : Case) → AllByRecursion Handles stack →

@@ -13,8 +13,8 @@ use Rattle.chain_laws.specs.Runs.{TypedStack, AreChainedStates, IsChainedTask, I
 use Rattle.script_mean.specs.declared.event.ScriptEvent.{ScriptEvent}
 use Rattle.script_mean.specs.declared.event.ScriptEvent.TheVariants as script
 use Rattle.stack_mean.specs.Plan.{Plan}
-use Rattle.run_mean.specs.Member.{Member, inside, out, opened, Input, cast, send, leave, tick, datagram, Entered}
-use Rattle.run_mean.specs.Member.{app_cast, app_send, app_leave, clock_tick, from_peer, entered, first_task, Step}
+use Rattle.run_mean.specs.Member.{Member, inside, out, opened_member, Input, cast, send, leave, tick, datagram, Entered}
+use Rattle.run_mean.specs.Member.{app_cast, app_send, app_leave, clock_tick, from_peer, entered_input, first_task, Step}
 use Rattle.run_mean.specs.Member.{step_from, member_behind, packet_in}
 use Rattle.run_mean.specs.World.{World, first_world, happens}
 use Rattle.run_mean.specs.Report.{Moment, moments}
@@ -60,7 +60,7 @@ IsEntered stack (from_peer packet) = IsSpellable stack packet
 abbrev pub EntersInRange : Type 0
 EntersInRange = (stack : List LayerTree) (plans : List Plan) (here : Here) (input : Input) (what : Entered) →
     AreNumbered plans →
-    IsInput input → entered stack plans here input ≡ Ok what → IsEntered stack what
+    IsInput input → entered_input stack plans here input ≡ Ok what → IsEntered stack what
 
 abbrev pub FirstTasksAreChained : Type 0
 FirstTasksAreChained = (stack : List LayerTree) (me : ℕ) (what : Entered) → IsNumber me → IsEntered stack what →
@@ -69,7 +69,7 @@ FirstTasksAreChained = (stack : List LayerTree) (me : ℕ) (what : Entered) → 
 -- A member that has just come into a view has chained states.
 abbrev pub OpenedIsChained : Type 0
 OpenedIsChained = (stack : List LayerTree) (view : View) (id : ℕ) → TypedStack stack → IsView view →
-    IsChainedMember stack (opened stack view id)
+    IsChainedMember stack (opened_member stack view id)
 
 -- A step leaves chained states and outputs, packets that can be spelled, and a chained member.
 pub record IsChainedStep (stack : List LayerTree) (here : Here) (s : Step) : Type 0 where
@@ -104,7 +104,7 @@ IsGivenEvent (script.Tick id moment) = IsNumber moment
 IsGivenEvent (script.Raw id bytes) = AreBytes bytes
 IsGivenEvent _ = Unit {0}
 
--- An event keeps a world chained; so along a run each world is, in front of its event and behind it.
+-- An event keeps a world chained; so along a run each world is, before its event and after it.
 abbrev pub EventsKeepChains : Type 0
 EventsKeepChains = (stack : List LayerTree) (plans : List Plan) (w : World) (event : ScriptEvent) → TypedStack stack →
     AreNumbered plans →

@@ -27,7 +27,7 @@ pub record IsGivenNode (plan : NodePlan) (clock : List ℕ) (heard : List Heard)
   pub moments : AllByRecursion IsNumber clock
   pub answers : AllByRecursion IsHeard heard
 
--- So the world of a node is chained in front of each event of its journal and behind it.
+-- So the world of a node is chained before each event of its journal and after it.
 abbrev pub NodesAreChained : Type 0
 NodesAreChained = (stack : List LayerTree) (plan : NodePlan) (me : List ℕ) (turns patience : ℕ) (clock : List ℕ)
     (heard : List Heard) →

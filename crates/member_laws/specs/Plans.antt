@@ -6,7 +6,7 @@ use Rattle.packet_mean.specs.declared.here.Here.{Here}
 use Rattle.packet_laws.specs.Strays.{AreNumbered}
 use Rattle.stack_mean.specs.Plans.{plans_of}
 use Rattle.script_mean.specs.declared.event.ScriptEvent.{ScriptEvent}
-use Rattle.run_mean.specs.Member.{Input, Entered, entered}
+use Rattle.run_mean.specs.Member.{Input, Entered, entered_input}
 use Rattle.run_mean.specs.World.{World}
 use Rattle.run_mean.specs.Report.{moments}
 use Rattle.chain_laws.specs.Runs.{TypedStack}
@@ -20,7 +20,7 @@ PlansAreNumbered = (stack : List LayerTree) → TypedStack stack → AreNumbered
 abbrev pub InputsAreInRange : Type 0
 InputsAreInRange = (stack : List LayerTree) (here : Here) (input : Input) (what : Entered) → TypedStack stack →
     IsInput input →
-    entered stack (plans_of stack) here input ≡ Ok what → IsEntered stack what
+    entered_input stack (plans_of stack) here input ≡ Ok what → IsEntered stack what
 
 -- And along a run of the world each world is chained.
 abbrev pub WorldsAreChained : Type 0

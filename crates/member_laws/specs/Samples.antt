@@ -8,7 +8,7 @@ use Rattle.layer_mean.specs.Tree as mean
 use Rattle.layer_mean.specs.Tree.{LayerTree}
 use Rattle.layer_mean.specs.State.{State}
 use Rattle.layer_mean.specs.Visit.{fresh}
-use Rattle.stack_mean.specs.Acceptance.{accepted}
+use Rattle.stack_mean.specs.Acceptance.{acceptance}
 use Rattle.stack_mean.specs.Plans.{plans_of}
 use Rattle.run_mean.specs.Mode.{bypass}
 use Rattle.script_mean.specs.declared.event.ScriptEvent.{ScriptEvent}
@@ -84,7 +84,7 @@ KeepingStep =
     (layer_reads_no_part First keeper ≡ false) ×
     (map (λ x. x.1) (as_sent bypass keeping (plans_of keeping) keeping_step) ≡ Some 0 ∷ []) ×
     (map (λ plan. plan.fields) (plans_of keeping) ≡ (Some 7 ∷ []) ∷ [] ∷ []) ×
-    (accepted keeping ≡ Ok keeping) ×
+    (acceptance keeping ≡ Ok keeping) ×
     (task_weight keeping (first_task keeping 0 two_letters) ≡ 2) ×
     (keeping_step.work.visits + length keeping_step.outputs ≡ 2)
 
@@ -95,7 +95,7 @@ two_members = first_world counter.stack 1 1 2
 abbrev pub one_cast : List ScriptEvent
 one_cast = script.Cast 0 (codes "hi") ∷ []
 
--- Their world is chained at first and behind the cast, which sent a packet.
+-- Their world is chained at first and after the cast, which sent a packet.
 abbrev pub CounterWorld : Type 0
 CounterWorld =
     IsChainedWorld counter.stack two_members ×

@@ -6,10 +6,10 @@ use Rattle.layer_mean.specs.declared.run.Case.{Case}
 use Rattle.layer_mean.specs.declared.run.Event.{Event}
 use Rattle.layer_mean.specs.Tree.{LayerTree}
 use Rattle.layer_mean.specs.State.{State}
-use Rattle.layer_mean.specs.Queue.{Task, Line, Work, run, unstarted, starting}
+use Rattle.layer_mean.specs.Queue.{Task, Line, Work, run, unstarted_work, starting}
 use Rattle.packet_mean.specs.Spelling.{SpellsPacket}
 use Rattle.packet_mean.specs.declared.here.Here.{Here}
-use Rattle.stack_mean.specs.Acceptance.{joins_limit, accepted}
+use Rattle.stack_mean.specs.Acceptance.{joins_limit, acceptance}
 use Rattle.stack_mean.specs.Graph.{first_on_cycle}
 use Rattle.stack_mean.specs.Plan.{Plan}
 use Rattle.stack_mean.specs.Plans.{plans_of}
@@ -71,10 +71,10 @@ pub record StepEnds (stack : List LayerTree) (states : List State) (first : Task
   pub done : (run most_turns stack states first).tasks ≡ []
   pub enough : (n : ℕ) → task_weight stack first ≤ n → (run n stack states first).world ≡ s.work
   pub turns : s.work.visits + length s.outputs ≤ task_weight stack first
-  pub made : (n : ℕ) → run_joins stack n (starting (unstarted states) first) ≤ task_joins stack first
+  pub made : (n : ℕ) → run_joins stack n (starting (unstarted_work states) first) ≤ task_joins stack first
 
 abbrev pub StepsEnd : Type 0
 StepsEnd = (stack : List LayerTree) (here : Here) (id : ℕ) (states : List State) (what : Entered) →
     IsStep stack here states what →
-    accepted stack ≡ Ok stack →
+    acceptance stack ≡ Ok stack →
     StepEnds stack states (first_task stack here.rank what) (step_from stack here id states what)

@@ -1,7 +1,7 @@
 //! Rows as they are shown.
 
 ghost use Rattle.std.specs.Prelude.{◌≡◌, option_map};
-ghost use Rattle.pool_message.specs.Seen.{row_seen, seen, Lies, RowLies};
+ghost use Rattle.pool_message.specs.Seen.{row_seen, content_seen, Lies, RowLies};
 ghost use Rattle.member_reads.specs.Rows.{message_meant, row_meant};
 
 use msg_core::{Fields, Headers};
@@ -25,7 +25,7 @@ pub struct RowView<'b> {
 /// What a message in a pool shows.
 fn message_of<'b>(message: &'b PoolMessage, pool: &'b Pool) -> MessageView<'b>
     requires { Lies pool.now message.now }
-    ensures { message_meant result ≡ seen pool.now message.now }
+    ensures { message_meant result ≡ content_seen pool.now message.now }
 {
     MessageView {
         headers: message.headers(),

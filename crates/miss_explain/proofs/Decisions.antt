@@ -55,7 +55,7 @@ choose_lines Second likely.First at condition block otherwise = refl
 choose_lines Second likely.Else at condition block otherwise = refl
 choose_lines Second likely.Two at condition block otherwise = refl
 
--- a statement with a line of its own, and those of a block behind it
+-- a statement with a line of its own, and those of a block after it
 pub with_block : (case : Case) (s t : StatementTree) (line : ℕ) (block : List ℕ) (a b c : Search) → s ≡ t →
     statement_lines case t ≡ line ∷ block →
     Passes a (line ∷ []) b → Passes b block c → Passes a (statement_lines case s) c

@@ -67,7 +67,7 @@ probed_line file stack plans number id Common = refl
 probed_line file stack plans number id Other = refl
 probed_line file stack plans number id (Missed miss) = refl
 
--- lines that were all written, though memory ran out behind them
+-- lines that were all written, though memory ran out after them
 pub begins_all : (a b : Tells) (lines : List (List ℕ)) → Gains a b lines → Begins a b (concat lines)
 begins_all a b lines gained = begins_after a b b (concat lines) [] (concat lines) gained.gained (begins_none b [])
     (sym (append-nil (concat lines)))
@@ -107,7 +107,7 @@ module _ (file : FileTree) (stack : List LayerTree) (plans : List Plan) where
         ∙ ap (λ i. option_to_list (option_map (miss_line file stack plans number i) (lacked_of probed))) named
         ∙ ap (λ o. option_to_list (option_map (miss_line file stack plans number (member_of event)) o)) (sym lacked)
 
-    -- behind it the group stands at the world of what happened
+    -- after it the group stands at the world of what happened
     pub stands_behind : (last : Peopled) → Stands c w →
         ((v : World) → Stands c' v → Follows probed c' event v last (Ok tt)) →
         Stands last (happens stack plans w event).world

@@ -12,17 +12,17 @@ use Rattle.miss_mean.specs.Spots.{Spot, visit_lines, visit_spots}
 use Rattle.file_scope.proofs.Lists.{drop_all}
 use Rattle.shape_core.specs.Sketch.{visit_tree}
 use Rattle.shape_core.specs.declared.types.ShapeVisit.{ShapeVisit}
-use Rattle.miss_explain.specs.Search.{Passes, passed}
+use Rattle.miss_explain.specs.Search.{Passes, search_after}
 use Rattle.miss_explain.specs.declared.search.Search.{Search}
 use Rattle.miss_explain.specs.declared.search.Search.TheVariants.{Ahead, Found}
 
 -- what is found stays
-found_stays : (lines : List ℕ) (line : ℕ) → fold passed (Found line) lines ≡ Found line
+found_stays : (lines : List ℕ) (line : ℕ) → fold search_after (Found line) lines ≡ Found line
 found_stays [] line = refl
 found_stays (x ∷ lines) line = found_stays lines line
 
 module _ {S : Type 0} where
-  -- An item of the rest is sought, so far behind.
+  -- An item of the rest is sought, so far after.
   abbrev pub Seeks : List S → Option S → Search → Type 0
   Seeks rest sought (Ahead left) = sought ≡ slice_get rest left
   Seeks rest sought (Found line) = ⊥
@@ -33,7 +33,7 @@ module _ {S : Type 0} where
   Sought made rest sought (Found line) = sought ≡ Some (made line)
 
   passes_on : (made : ℕ → S) (rest : List S) (lines : List ℕ) (left : ℕ) →
-      Sought made rest (slice_get (map made lines ++ rest) left) (fold passed (Ahead left) lines)
+      Sought made rest (slice_get (map made lines ++ rest) left) (fold search_after (Ahead left) lines)
   passes_on made rest [] left = refl
   passes_on made rest (line ∷ lines) zero = subst (Sought made rest (Some (made line))) (sym (found_stays lines line))
       refl
@@ -45,10 +45,11 @@ module _ {S : Type 0} where
   unfolding Passes
   seeks_more made rest lines sought (Ahead left) new seeks is =
       subst (Sought made rest sought) (sym is)
-      (subst (λ s. Sought made rest s (fold passed (Ahead left) lines)) (sym seeks) (passes_on made rest lines left))
+      (subst (λ s. Sought made rest s (fold search_after (Ahead left) lines)) (sym seeks)
+      (passes_on made rest lines left))
   seeks_more made rest lines sought (Found line) new seeks is = absurd seeks
 
--- The decisions of the visits behind the first ones.
+-- The decisions of the visits after the first ones.
 abbrev pub rest_spots : Case → FileTree → List LayerTree → List ShapeVisit → ℕ → List Spot
 rest_spots case file stack visits k =
     flat_map (visit_spots case file stack) (enumerate_from (k + 1) (drop k (map visit_tree visits)))
@@ -78,7 +79,7 @@ module _ (case : Case) (file : FileTree) (stack : List LayerTree) (visits : List
       sought old new
       (subst (λ rest. Seeks rest sought old) (rest_is k v lt is) seeks) passes
 
-  -- behind the last visit there is none
+  -- after the last visit there is none
   pub seeks_none : (k : ℕ) (sought : Option Spot) (s : Search) → length visits ≤ k →
       Seeks (rest_spots case file stack visits k) sought s → None ≡ sought
   seeks_none k sought (Ahead left) past seeks =

@@ -43,7 +43,7 @@ module _ (file : FileTree) (stack : List LayerTree) (plans : List Plan) (s : Scr
   }
 
   module _ (k : ℕ) (event : ScriptEvent) (lt : k < length s.events) (is : event ≡ get_or s.events k event) where
-    -- the lines from one event on are its line and those behind it
+    -- the lines from one event on are its line and those after it
     from_here : (w : World) → misses_from file stack plans (k + 1) w (drop k s.events)
         ≡ lines_at file stack plans (k + 1) w event
         ++ misses_from file stack plans (k + 1 + 1) (happens stack plans w event).world (drop (k + 1) s.events)

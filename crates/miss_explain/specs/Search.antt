@@ -8,15 +8,15 @@ use Rattle.layer_mean.specs.declared.run.Case.TheVariants.{First, Second}
 use Rattle.miss_explain.specs.declared.search.Search.{Search}
 use Rattle.miss_explain.specs.declared.search.Search.TheVariants.{Ahead, Found}
 
--- The line of one decision more is passed: it is the wanted one where none stands in front of it.
-abbrev pub passed : Search → ℕ → Search
-passed (Ahead zero) line = Found line
-passed (Ahead (suc left)) line = Ahead left
-passed (Found found) line = Found found
+-- The line of one decision more is passed: it is the wanted one where none stands before it.
+abbrev pub search_after : Search → ℕ → Search
+search_after (Ahead zero) line = Found line
+search_after (Ahead (suc left)) line = Ahead left
+search_after (Found found) line = Found found
 
--- The search behind the lines of some decisions.
+-- The search after the lines of some decisions.
 unfoldable pub Passes : Search → List ℕ → Search → Type 0
-Passes old lines new = new ≡ fold passed old lines
+Passes old lines new = new ≡ fold search_after old lines
 
 -- Whether a condition is predicted to go into its first block in a case.
 abbrev pub is_entered : Case → Likely → Bool

@@ -31,7 +31,7 @@ same_choice true false x y same = absurd (cc same)
 same_choice false true x y same = absurd (cc same)
 same_choice false false x y same = refl
 
--- the tests of conjuncts stand behind those before them
+-- the tests of conjuncts stand after those before them
 one_grows : (g : Guarding) (e : TraceNumber) → Grown g.tests (one_test g e).tests
 one_grows g e = grown_then g.tests _ _ (_, refl) (_, refl)
 
@@ -50,7 +50,7 @@ grown_longer xs ys g = let both = length-append xs g.0 in let same = ap length g
 abbrev ends_before : ℕ → List ℕ → ℕ
 ends_before n ends = count_by (λ end. nat_le end n) ends
 
--- later ends stand behind it
+-- later ends stand after it
 later_ends : (es : List TraceNumber) (c : Checking) (n : ℕ) → n < length c.guarding.tests →
     ends_before n (fold one_check c es).ends ≡ ends_before n c.ends
 later_ends [] c n less = refl
@@ -180,7 +180,7 @@ module _ (i : Input) (ss : List State) where
     passed_as es = let g : Guarded = record { values = values; conjuncts = es; operations = [] } in
         same_choice (tested i (code_of g).tests ss).passes (holds i g ss) _ _ (code_is_same g i ss)
 
-    -- behind conjuncts that all hold
+    -- after conjuncts that all hold
     record Behind (front : List TraceNumber) (c : Checking) : Type 0 where
       made : c.guarding ≡ fold conjunct_tests start front
       hold : list_all holding front ≡ true

@@ -11,7 +11,7 @@ pub record Content : Type 0 where
 abbrev pub plain : List ℕ → Content
 plain bytes = record { headers = []; body = bytes }
 
--- A message with one more header in front of its others.
+-- A message with one more header before its others.
 abbrev pub pushed : Header → Content → Content
 pushed h m = record { headers = h ∷ m.headers; body = m.body }
 

@@ -10,11 +10,11 @@ longest_body = 8192
 abbrev pub cut : Content → ℕ → ℕ → Content
 cut m from count = plain (take count (drop from m.body))
 
--- A message without its bytes in front of a place.
+-- A message without its bytes before a place.
 abbrev pub tail : Content → ℕ → Content
 tail m from = record { headers = m.headers; body = drop from m.body }
 
--- A message with the bytes of a part in front of its own; it stays as it is where they would be more than a body has.
+-- A message with the bytes of a part before its own; it stays as it is where they would be more than a body has.
 abbrev pub join : Content → Content → Content
 join p m = if nat_le (length p.body + length m.body) longest_body
     then record { headers = m.headers; body = p.body ++ m.body }

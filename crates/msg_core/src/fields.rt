@@ -8,7 +8,7 @@ use std::marker::Model;
 /// The most numbers that a header carries.
 pub const MOST_FIELDS: usize = 4;
 
-/// Up to `MOST_FIELDS` numbers, kept in place, with zeros behind them, so that a copy takes no memory; contracts see
+/// Up to `MOST_FIELDS` numbers, kept in place, with zeros after them, so that a copy takes no memory; contracts see
 /// their list.
 #[derive(Clone, Copy)]
 pub struct Fields {
@@ -20,7 +20,7 @@ impl Model for Fields {
     ghost use Rattle.std.specs.Prelude.{◌≡◌, ℕ, ◌-◌, ◌≤◌, List, length, take, drop, replicate};
     ghost use Rattle.std.proofs.Common.{arith, length-take-le};
     ghost use Rattle.msg_core.specs.Headers.{most_fields};
-    ghost use Rattle.msg_core.specs.Kept.{kept, kept-take};
+    ghost use Rattle.msg_core.specs.Kept.{kept_fields, kept-take};
 
     ghost Value = { List ℕ };
 
@@ -29,7 +29,7 @@ impl Model for Fields {
     ghost invariant = { λ f. (f.len ≤ most_fields) × (length f.numbers ≡ most_fields) ×
         (drop f.len f.numbers ≡ replicate (most_fields - f.len) 0) };
 
-    ghost inverse = { λ fields. record { numbers = kept fields; len = length fields } };
+    ghost inverse = { λ fields. record { numbers = kept_fields fields; len = length fields } };
 
     ghost inverse_ok = { λ f h i. record {
       numbers = kept-take f.len f.numbers (omega (arith, h.0, h.1)) h.2 i;

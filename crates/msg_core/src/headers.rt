@@ -133,7 +133,7 @@ impl Headers {
         self.copy_from(&kept);
     }
 
-    /// Puts `header` in front of the others.
+    /// Puts `header` before the others.
     pub fn push_front(&mut self, header: Header)
         requires { length self.old < most_headers }
         ensures { self.new ≡ header ∷ self.old }

@@ -116,7 +116,7 @@ impl Message {
         self.body.as_slice()
     }
 
-    /// Puts `header` in front of the others.
+    /// Puts `header` before the others.
     pub fn push_header(&mut self, header: Header) -> Result<(), Memory>
         ensures pushed { OnOk result (self.new ≡ pushed header self.old) }
         ensures same { OnErr result (self.new ≡ self.old) }

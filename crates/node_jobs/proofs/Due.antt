@@ -21,7 +21,7 @@ use Rattle.program_mean.specs.Headline.{Run}
 use Rattle.output_mean.specs.Judged.{Means, Refuses}
 use Rattle.group_mean.specs.Node.{failures}
 use Rattle.output_mean.specs.Output.{IsNode}
-use Rattle.program_mean.specs.Second.{after_plan, crowded}
+use Rattle.program_mean.specs.Second.{after_plan, crowd_fault}
 use Rattle.program_laws.proofs.Files.{one_meaning, good_or_refused}
 use Rattle.program_laws.proofs.Ends.{files_are_due, seconds_are_due, misses_are_due, second_misses_are_due}
 use Rattle.outside.specs.Said.{Errors}
@@ -63,7 +63,7 @@ none_refused : (file second me : List ℕ) (node : IsNode file second me) → af
 none_refused file second me node =
     let count = length node.plan.peers in
     ap (after_plan node.stack me) node.spelled
-    ∙ ap (λ b. if b then crowded node.stack count else Some (misspelled (no_member 1)))
+    ∙ ap (λ b. if b then crowd_fault node.stack count else Some (misspelled (no_member 1)))
     (own_members count me (recursion_from_All (λ id. id < count) me node.members))
     ∙ ap (λ b. if b then None else Some too_many_rows) (le-leb (rows_of node.stack count) most_rows node.room)
 

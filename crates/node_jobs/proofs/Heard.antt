@@ -81,7 +81,7 @@ events_hear event [] = refl
 events_hear event (x ∷ xs) = events_hear event xs
 
 module _ (plan : NodePlan) (me : List ℕ) where
-  -- what a turn's members heard, and what comes behind them
+  -- what a turn's members heard, and what comes after them
   abbrev behind : (t turns : ℕ) (clock : List ℕ) (heard : List Heard) → Option ℕ → List Heard
   behind t turns clock heard left =
       heard_in (while_patient left

@@ -10,7 +10,7 @@ use Rattle.script_mean.specs.declared.plan.NodePlan.{NodePlan}
 use Rattle.stack_mean.specs.Plan.{Plan}
 use Rattle.stack_mean.specs.Plans.{plans_of}
 use Rattle.run_mean.specs.Mode.{Mode}
-use Rattle.run_mean.specs.Journal.{Heard, datagram, silence, failure, Handed, handed, journal}
+use Rattle.run_mean.specs.Journal.{Heard, datagram, silence, failure, Handed, handed_datagrams, journal}
 use Rattle.run_mean.specs.Report.{moments}
 use Rattle.run_mean.specs.World.{World, happens}
 use Rattle.group_mean.specs.Node.{node_words}
@@ -34,7 +34,7 @@ sends_are : (stack : List LayerTree) (plan : NodePlan) (turns : ℕ) (me : List 
 sends_are stack plan turns me patience mode s =
     sym (sends_are_handed mode stack (plans_of stack) (first_of_plan stack plan)
     (doings_of plan me turns patience s.clock s.heard))
-    ∙ ap (λ notes. handed mode stack (plans_of stack)
+    ∙ ap (λ notes. handed_datagrams mode stack (plans_of stack)
     (moments stack (plans_of stack) (first_of_plan stack plan) (journal notes)))
     (notes_are_of_doings plan me 0 turns patience s.clock s.heard)
 
@@ -63,7 +63,7 @@ module _ (stack : List LayerTree) (plan : NodePlan) (turns : ℕ) (me : List ℕ
       Tells (HandedSome (handed_by stack plan (node_words turns me patience mode) s) s.heard) told told_after
   handed_on told told_after t = tells_as told told_after t ran_over
 
--- a network behind listens or behind nothing
+-- a network after listens or after nothing
 pub handed_nothing : (n n' : Network) → n'.handed ≡ n.handed → n'.met ≡ n.met → HandedSome [] [] n n'
 handed_nothing n n' handed met =
     record { handed = handed ∙ sym (append-nil n.handed); met = met ∙ sym (append-nil n.met) }
@@ -90,7 +90,7 @@ flags_more : (count : ℕ) (flags : List Bool) → failures_in (flags_of (suc co
     ≡ cond (is_next_to_fail flags) 1 0 + failures_in (flags_of count (drop 1 flags))
 flags_more count flags = sum_by-cons (λ f. cond f 1 0) (is_next_to_fail flags) (flags_of count (drop 1 flags))
 
--- a network behind sends is to fail the same receives
+-- a network after sends is to fail the same receives
 receives_behind : (sends : List Handed) (n : Network) → (after_sends sends n).recvs ≡ n.recvs
 receives_behind [] n = refl
 receives_behind (h ∷ sends) n = receives_behind sends _

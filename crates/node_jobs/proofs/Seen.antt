@@ -17,7 +17,7 @@ use Rattle.job_ends.specs.Printed.{printed_text}
 use Rattle.program_mean.specs.Headline.{Run, OfJob, ReadsStack, Unread, second_for, whole_end, WritesOf, WroteNothing}
 use Rattle.program_mean.specs.Headline.{Began, Ends, Says, LinksFail, whole, cut_off, out_of_memory, gone_on}
 use Rattle.group_mean.specs.Node.{node_words}
-use Rattle.group_mean.specs.Node.{Surroundings, NodeWords, failed, noted, played, handed_by}
+use Rattle.group_mean.specs.Node.{Surroundings, NodeWords, failed_sends, node_notes, node_moments, handed_by}
 use Rattle.output_mean.specs.Judged.{Means}
 use Rattle.program_mean.specs.Second.{second_fault}
 use Rattle.outside.specs.Said.{Errors}
@@ -90,9 +90,9 @@ module _ (words : List Text) (w : Node) (a : Around) (n : Beyond) (is : job_of_w
     words_are = node_words w.turns w.me w.patience w.mode
 
     abbrev lines : List (List ℕ)
-    lines = node_lines r.good.node.stack (plans_of r.good.node.stack) (failed r.served.s)
-        (noted r.good.node.plan words_are r.served.s)
-        (played r.good.node.stack r.good.node.plan words_are r.served.s)
+    lines = node_lines r.good.node.stack (plans_of r.good.node.stack) (failed_sends r.served.s)
+        (node_notes r.good.node.plan words_are r.served.s)
+        (node_moments r.good.node.stack r.good.node.plan words_are r.served.s)
 
     abbrev sent : List Handed
     sent = handed_by r.good.node.stack r.good.node.plan words_are r.served.s
@@ -167,9 +167,9 @@ module _ (words : List Text) (w : Node) (a : Around) (n : Beyond) (is : job_of_w
     deaf_words = node_words w.turns w.me w.patience w.mode
 
     abbrev deaf_lines : List (List ℕ)
-    deaf_lines = note_lines r.good.node.stack (plans_of r.good.node.stack) (failed r.served.s)
-        (noted r.good.node.plan deaf_words r.served.s)
-        (played r.good.node.stack r.good.node.plan deaf_words r.served.s)
+    deaf_lines = note_lines r.good.node.stack (plans_of r.good.node.stack) (failed_sends r.served.s)
+        (node_notes r.good.node.plan deaf_words r.served.s)
+        (node_moments r.good.node.stack r.good.node.plan deaf_words r.served.s)
 
     abbrev deaf_sent : List Handed
     deaf_sent = handed_by r.good.node.stack r.good.node.plan deaf_words r.served.s
@@ -220,7 +220,7 @@ module _ (words : List Text) (w : Node) (a : Around) (n : Beyond) (is : job_of_w
       );
     }
 
-  -- it was broken off behind a part of what it writes
+  -- it was broken off after a part of what it writes
   module _ (good : Good w a.told) (sound : a.reads_after ≡ a.reads) (e : SinkError)
       (r : BrokenOff (task_of w a.told good) e (before a n) (behind a n)) where
     abbrev on : Surroundings
@@ -230,9 +230,9 @@ module _ (words : List Text) (w : Node) (a : Around) (n : Beyond) (is : job_of_w
     broken_words = node_words w.turns w.me w.patience w.mode
 
     abbrev broken_lines : List (List ℕ)
-    broken_lines = node_lines good.node.stack (plans_of good.node.stack) (failed r.s)
-        (noted good.node.plan broken_words on)
-        (played good.node.stack good.node.plan broken_words on)
+    broken_lines = node_lines good.node.stack (plans_of good.node.stack) (failed_sends r.s)
+        (node_notes good.node.plan broken_words on)
+        (node_moments good.node.stack good.node.plan broken_words on)
 
     began : (part rest : List ℕ) → concat broken_lines ≡ part ++ rest → (errors : Errors) (said : List ℕ) →
         Began printed_text (the_run (Some good.file) (Some good.second) r.s r.sent part errors said)
@@ -256,7 +256,7 @@ module _ (words : List Text) (w : Node) (a : Around) (n : Beyond) (is : job_of_w
       heard_all = r.told.faults;
     }
 
-  -- so it ended, behind that part
+  -- so it ended, after that part
   broken : (end : Ended) (e : SinkError) (r : Ran w a n (Broken e)) (part : List ℕ) →
       Appends a.output.contents a.output_after.contents part →
       ((errors : Errors) (said : List ℕ) →

@@ -18,7 +18,7 @@ use Rattle.job_ends.specs.Comes.{Around, Beside, Comes, Finds}
 use Rattle.node_loop.specs.Around as outside
 use Rattle.node_loop.specs.Serve.{BrokenOff, CouldNotListen, MadeAllTurns, Task, WentDeaf, Whereabouts, whereabouts}
 
--- A network and a clock before a job and behind it: how many listens and receives failed, how many sends, what the
+-- A network and a clock before a job and after it: how many listens and receives failed, how many sends, what the
 -- network tells, and the moments that the clock is to tell.
 pub record Beyond : Type 0 where
   pub faults : ℕ

@@ -9,7 +9,7 @@ use Rattle.program_mean.specs.Headline as program
 use Rattle.group_mean.specs.Node.{Surroundings}
 use Rattle.outside.specs.Said.{Errors}
 use Rattle.job_ends.specs.Comes.{Around, Finds, Beside}
-use Rattle.job_ends.specs.Seen.{counted}
+use Rattle.job_ends.specs.Seen.{counts_around}
 use Rattle.node_laws.specs.Network.{Tells}
 use Rattle.node_loop.specs.Around.{Told}
 use Rattle.node_loop.specs.Passing.{HandedSome}
@@ -26,11 +26,11 @@ run_of words a n e file second surroundings sent written said = record {
   third = None;
   surroundings = surroundings;
   sent = sent;
-  reads = counted a.reads a.reads_after;
-  puts = counted a.output.faults a.output_after.faults;
-  links = counted n.faults n.faults_after;
-  sends = counted n.sends n.sends_after;
-  errors = counted e.before.faults e.after.faults;
+  reads = counts_around a.reads a.reads_after;
+  puts = counts_around a.output.faults a.output_after.faults;
+  links = counts_around n.faults n.faults_after;
+  sends = counts_around n.sends n.sends_after;
+  errors = counts_around e.before.faults e.after.faults;
   written = written;
   said = said;
   status = e.status;

@@ -3,7 +3,7 @@
 ghost use Rattle.bypass_laws.specs.Making.{IsSound};
 ghost use Rattle.event_graph.specs.Answer.{stack_tree};
 ghost use Rattle.job_ends.specs.Comes.{around};
-ghost use Rattle.job_ends.specs.Shown.{shown};
+ghost use Rattle.job_ends.specs.Shown.{shown_end};
 ghost use Rattle.node_loop.specs.Around as outside;
 ghost use Rattle.node_loop.specs.Serve.{whereabouts};
 ghost use Rattle.node_jobs.specs.Comes.{NodeComes, beyond};
@@ -34,7 +34,7 @@ pub fn run_node<S: Shelf, O: Sink, N: Links, C: Clock>(
 ) -> Ending
     ensures { NodeComes (words_of node.now)
         (around S.Shelf O.Sink shelf.old shelf.new out.old out.new)
-        (beyond N.Links C.Clock links.old links.new clock.old clock.new) (shown result) }
+        (beyond N.Links C.Clock links.old links.new clock.old clock.new) (shown_end result) }
 {
     match fetch_stack(alloc, node.file, shelf) {
         Ok(stack) => match fetch_plan(alloc, node.plan, shelf) {
@@ -59,7 +59,7 @@ fn serve_plan<O: Sink, N: Links, C: Clock>(
     requires servable { IsServable plan.now }
     ensures { RunsPlan (stack_tree stack) plan.now (words_of node.now)
         (whereabouts (outside.around O.Sink N.Links out.old links.old) (C.told clock.old))
-        (whereabouts (outside.around O.Sink N.Links out.new links.new) (C.told clock.new)) (shown result) }
+        (whereabouts (outside.around O.Sink N.Links out.new links.new) (C.told clock.new)) (shown_end result) }
 {
     let count = plan.peers.slice().len() as u8;
     if !are_below(&node.members, count) {

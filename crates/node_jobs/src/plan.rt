@@ -17,7 +17,8 @@ pub(crate) fn fetch_plan<S: Shelf>(
     name: &str,
     shelf: &mut S,
 ) -> Result<NodePlan, Ending>
-    ensures { Fetches node_plan IsServable name.now (S.told shelf.old) (S.faults shelf.old) (S.faults shelf.new) result }
+    ensures { Fetches node_plan IsServable name.now (S.told shelf.old) (S.faults shelf.old) (S.faults shelf.new)
+        result }
 {
     match fetch_second(alloc, name, shelf) {
         Ok(text) => judged(alloc, &text),

@@ -1,7 +1,7 @@
 //! How a node ended whose group ran.
 
 ghost use Rattle.std.specs.Prelude.{◌≡◌};
-ghost use Rattle.job_ends.specs.Shown.{shown};
+ghost use Rattle.job_ends.specs.Shown.{shown_end};
 ghost use Rattle.node_jobs.specs.Plan.{end_of};
 
 use job_ends::Ending;
@@ -9,7 +9,7 @@ use node_loop::NodeError;
 
 /// How the job ends whose run came to this.
 pub(crate) fn ending(served: Result<(), NodeError>) -> Ending
-    ensures { shown result ≡ end_of served }
+    ensures { shown_end result ≡ end_of served }
 {
     match served {
         Ok(()) => Ending::Done,

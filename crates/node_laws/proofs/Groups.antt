@@ -34,8 +34,9 @@ use Rattle.member_laws.proofs.Members.{bits_le, cons_each, each_unit}
 use Rattle.run_mean.specs.Common.{plan_behind, plan_for, short_from, with_plans}
 use Rattle.run_mean.specs.Journal.{receivers, handed_output, handed_in}
 use Rattle.run_mean.specs.View.{first_view, mask_of, last_ltime}
-use Rattle.run_mean.specs.Member.{inside, out, opened, installed, Output, deliver_cast, deliver_send, block, announce}
-use Rattle.run_mean.specs.Member.{packet, nowhere, timer, quiet, packet_to, above, below, output_of, announced}
+use Rattle.run_mean.specs.Member.{inside, out, opened_member, installed_member, Output, deliver_cast, deliver_send}
+use Rattle.run_mean.specs.Member.{block, announce}
+use Rattle.run_mean.specs.Member.{packet, nowhere, timer, quiet, packet_to, above, below, output_of, announced_ranks}
 use Rattle.run_mean.specs.Member.{packet_in, step_from, member_behind}
 use Rattle.run_mean.specs.World.{World, member_at, Happening, here_of}
 use Rattle.node_laws.specs.Groups.{IsWithin, AreWithin, FirstViewsAreWithin, EventsKeepWithin, IsSendable}
@@ -79,7 +80,7 @@ twice k =
     let next : k + 1 ≡ suc k = omega arith in
     omega (arith, ap (λ k. 2 ^ k) next, pow-suc 2 k)
 
--- one more number in front of larger ones
+-- one more number before larger ones
 one_more : (b : Bool) (n first : ℕ) (kept : List ℕ) → AllByRecursion (λ id. id < n) (if b then first ∷ kept else kept) →
     (AllByRecursion (λ id. id < n) kept → sum_by (λ id. 2 ^ id) kept ≤ 2 ^ n - 2 ^ (first + 1)) →
     sum_by (λ id. 2 ^ id) (if b then first ∷ kept else kept) ≤ 2 ^ n - 2 ^ first
@@ -110,7 +111,7 @@ mask_below view ranks n h = omega (
 -- members
 
 opened_within : (stack : List LayerTree) (view : View) (id n : ℕ) → view.mask < 2 ^ n →
-    IsWithin n (opened stack view id)
+    IsWithin n (opened_member stack view id)
 opened_within stack view id n small = go (rank view id) where
   go : (o : Option ℕ) → IsWithin n
       (option_map_or (λ me. inside view (map (λ layer. fresh layer me (member_count view) view.ltime) stack)) o out)
@@ -118,9 +119,9 @@ opened_within stack view id n small = go (rank view id) where
   go (Some me) = ids_below view n small
 
 installed_within : (stack : List LayerTree) (view : View) (id ranks n : ℕ) → AllByRecursion (λ id. id < n) (ids view) →
-    IsWithin n (installed stack view id ranks)
+    IsWithin n (installed_member stack view id ranks)
 installed_within stack view id ranks n h = go (view.ltime == last_ltime) where
-  go : (b : Bool) → IsWithin n (option_map_or (λ next. opened stack next id)
+  go : (b : Bool) → IsWithin n (option_map_or (λ next. opened_member stack next id)
       (if b then None else Some record { ltime = view.ltime + 1; mask = mask_of view ranks }) out)
   go true = tt
   go false = opened_within stack (record { ltime = view.ltime + 1; mask = mask_of view ranks }) id n
@@ -128,7 +129,7 @@ installed_within stack view id ranks n h = go (view.ltime == last_ltime) where
 
 behind_within : (stack : List LayerTree) (view : View) (id n : ℕ) (states : List State) (first : Option ℕ) →
     AllByRecursion (λ id. id < n) (ids view) →
-    IsWithin n (option_map_or (λ m. m) (option_map (installed stack view id) first) (inside view states))
+    IsWithin n (option_map_or (λ m. m) (option_map (installed_member stack view id) first) (inside view states))
 behind_within stack view id n states None h = h
 behind_within stack view id n states (Some ranks) h = installed_within stack view id ranks n h
 
@@ -139,7 +140,7 @@ member_within w id n view states h is = subst (IsWithin n) is (each_or (IsWithin
 
 pub first_views_are_within : FirstViewsAreWithin
 first_views_are_within stack group stamp n few =
-    each_map (λ _. Unit {0}) (IsWithin n) (opened stack (first_view n))
+    each_map (λ _. Unit {0}) (IsWithin n) (opened_member stack (first_view n))
     (λ id _. opened_within stack (first_view n) id n (omega (arith, pow_pos n))) (range_with_len 0 n)
     (each_unit (range_with_len 0 n))
 
@@ -153,7 +154,7 @@ events_keep_within stack plans w event n h =
           let id = member_of event in
           let step = step_from stack (here_of w view id) id states what in
           each_set (IsWithin n) w.members id (member_behind view step) h
-          (behind_within stack view id n step.work.states (slice_get (filter_map announced step.outputs) 0)
+          (behind_within stack view id n step.work.states (slice_get (filter_map announced_ranks step.outputs) 0)
           (member_within w id n view states h is));
     }
 

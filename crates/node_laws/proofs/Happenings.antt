@@ -11,11 +11,12 @@ use Rattle.script_mean.specs.declared.event.ScriptEvent.{ScriptEvent}
 use Rattle.script_mean.specs.declared.event.ScriptEvent.TheVariants as script
 use Rattle.stack_mean.specs.Plan.{Plan}
 use Rattle.run_mean.specs.Member.{Member, inside, out, Input, cast, send, leave, tick, datagram, Refusal, is_out}
-use Rattle.run_mean.specs.Member.{Entered, entered, step_from}
+use Rattle.run_mean.specs.Member.{Entered, entered_input, step_from}
 use Rattle.run_mean.specs.World.{World, member_at, packet_number, taken, refused, absent, shown, Happening, only}
-use Rattle.run_mean.specs.World.{here_of, world_behind, stepped_inside, stepped_of, stepped, given, happens}
+use Rattle.run_mean.specs.World.{here_of, world_behind, stepped_inside, stepped_of, step_happening, given_packet}
+use Rattle.run_mean.specs.World.{happens}
 
--- it holds where the world stays as it is, and behind each step of a member that is in a view
+-- it holds where the world stays as it is, and after each step of a member that is in a view
 pub record Each (stack : List LayerTree) (w : World) (id : ℕ) (Holds : Happening → Type 0) : Type 0 where
   pub refusing : (refusal : Refusal) → Holds (only w (refused refusal))
   pub missing : Holds (only w absent)
@@ -33,12 +34,13 @@ module _ (stack : List LayerTree) (plans : List Plan) (w : World) (id : ℕ) (Ho
 
   of_member : (input : Input) (m : Member) → member_at w id ≡ m → Holds (stepped_of stack plans w id input m)
   of_member input out is = each.refusing is_out
-  of_member input (inside view states) is = of_entered view states (entered stack plans (here_of w view id) input) is
+  of_member input (inside view states) is = of_entered view states (entered_input stack plans (here_of w view id) input)
+      is
 
-  of_stepped : (input : Input) → Holds (stepped stack plans w id input)
+  of_stepped : (input : Input) → Holds (step_happening stack plans w id input)
   of_stepped input = of_member input (member_at w id) refl
 
-  of_given : (p : Option Packet) → Holds (given stack plans w id p)
+  of_given : (p : Option Packet) → Holds (given_packet stack plans w id p)
   of_given None = each.missing
   of_given (Some p) = of_stepped (datagram (full_bytes p))
 

@@ -1,4 +1,4 @@
--- The lines of losses stand behind those of their packets: the numbers of a packet's losses are its own.
+-- The lines of losses stand after those of their packets: the numbers of a packet's losses are its own.
 use Rattle.std.proofs.Common.{◌≡◌, ◌∙◌, ℕ, zero, suc, ◌+◌, ◌<◌, ◌≤◌, Bool, true, false, List, [], ◌∷◌, ◌++◌, length}
 use Rattle.std.proofs.Common.{take, drop, map, replicate, Option, None, refl, ap, subst, arith, append_assoc}
 use Rattle.std.proofs.Common.{length-append}
@@ -84,7 +84,7 @@ by_packet P sends other (timer a) =
 by_packet P sends other (quiet dir event) =
     other _ (record { number = λ k. refl; nobody = λ id. refl; none = refl; bare = λ failed k plan. refl })
 
--- the number behind outputs, and behind what an event came to
+-- the number after outputs, and after what an event came to
 
 abbrev number_after : ℕ → List (Output × Option ℕ) → ℕ
 number_after k [] = k
@@ -190,7 +190,7 @@ module _ (stack : List LayerTree) (plans : List Plan) (w : World) (event : Scrip
   abbrev did : Did
   did = (happens stack plans w event).did
 
-  -- the packets behind an event are numbered on
+  -- the packets after an event are numbered on
   numbered_on : first_in behind ≡ number_left plans (first_in w) did
   numbered_on = each_happens stack plans w event
       (λ (happening : Happening). first_in happening.world ≡ number_left plans (first_in w) happening.did) record {
@@ -269,7 +269,7 @@ module _ (stack : List LayerTree) (plans : List Plan) where
   lost_from w (asks id heard ∷ doings) failed = lost_from w doings failed
   lost_from w (bears id ∷ doings) failed = lost_from w doings failed
 
-  -- what is written behind losses of earlier packets
+  -- what is written after losses of earlier packets
   written_behind : (front : List ℕ) (w : World) (doings : List Doing) (failed : List (List Bool)) →
       AllByRecursion (λ x. x < first_in w) front →
       note_lines stack plans (often (front ++ lost_of stack plans w doings failed)) (filter_map note_in doings)

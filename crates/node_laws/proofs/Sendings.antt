@@ -1,4 +1,4 @@
--- Sendings, one behind the other: how many failed, and networks that tell.
+-- Sendings, one after the other: how many failed, and networks that tell.
 use Rattle.std.proofs.Common.{◌≡◌, ℕ, zero, suc, ◌+◌, Bool, true, false, List, [], ◌∷◌, ◌++◌, length, map, take, drop}
 use Rattle.std.proofs.Common.{refl, sym, ap, cond, ◌∙◌, arith, append_assoc, append-nil, Option, Some, None}
 use Rattle.std.proofs.lemmas.List.{drop-drop}
@@ -34,7 +34,7 @@ pub failures_none : (n : ℕ) → failures_in (take n []) ≡ 0
 failures_none zero = refl
 failures_none (suc n) = refl
 
--- Networks that tell, before and behind.
+-- Networks that tell, before and after.
 
 pub tells_then : {R S T : Network → Network → Type 0} (a b c : Option Network) → Tells R a b → Tells S b c →
     ((n n' n'' : Network) → R n n' → S n' n'' → T n n'') → Tells T a c
@@ -56,7 +56,7 @@ pub tells_same : (R : Network → Network → Type 0) (a : Option Network) → (
 tells_same R None f = tt
 tells_same R (Some n) f = f n
 
--- Sendings, one behind the other.
+-- Sendings, one after the other.
 
 pub sends_then : (xs ys : List Handed) (n : Network) → after_sends (xs ++ ys) n ≡ after_sends ys (after_sends xs n)
 sends_then [] ys n = refl

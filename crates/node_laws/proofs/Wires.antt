@@ -26,7 +26,7 @@ variable_few (None ∷ planned) [] = omega arith
 variable_few (Some constant ∷ planned) (n ∷ numbers) = let more = variable_few planned numbers in omega arith
 variable_few (None ∷ planned) (n ∷ numbers) = let more = variable_few planned numbers in omega arith
 
--- Headers in full have their fields in them, each behind its tag.
+-- Headers in full have their fields in them, each after its tag.
 headers_long : (hs : List Header) →
     length hs + 4 * length (flat_map (λ h. h.fields) hs) ≤ length (flat_map header_bytes hs)
 headers_long [] = omega arith

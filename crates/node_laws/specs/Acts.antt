@@ -1,5 +1,5 @@
 -- What a node does to its output and to its links, act by act and in order: a line is put, or a datagram handed on.
--- Each packet is handed on just behind its line, and a sending that failed is told just behind it.
+-- Each packet is handed on just after its line, and a sending that failed is told just after it.
 use Rattle.std.specs.Prelude.{◌≡◌, ℕ, Bool, true, false, List, [], ◌∷◌, ◌++◌, map, take, drop, Option, Some, None}
 use Rattle.std.specs.Prelude.{option_to_list}
 use Rattle.std.specs.List.{filter_map}

@@ -16,7 +16,7 @@ pub data Doing : Type 0 where
   bears : (id : ℕ) → Doing
 
 -- What is done as members ask in a turn, and how many failures may still be borne; none where one more came than may
--- be, behind which nothing is done.
+-- be, after which nothing is done.
 pub record Asking : Type 0 where
   pub doings : List Doing
   pub patience : Option ℕ

@@ -10,7 +10,7 @@ use Rattle.script_mean.specs.declared.event.ScriptEvent.{ScriptEvent}
 use Rattle.stack_mean.specs.Plan.{Plan}
 use Rattle.run_mean.specs.Mode.{Mode}
 use Rattle.run_mean.specs.Common.{with_plans}
-use Rattle.run_mean.specs.Journal.{Handed, receivers, handed, handed_in, journal, note_lines}
+use Rattle.run_mean.specs.Journal.{Handed, receivers, handed_datagrams, handed_in, journal, note_lines}
 use Rattle.run_mean.specs.Lines.{line}
 use Rattle.run_mean.specs.Member.{Output, packet}
 use Rattle.run_mean.specs.Report.{number_behind, output_lines, lines_of, moments, Moment}
@@ -35,7 +35,7 @@ deaf_line id = line (codes "deaf" ∷ decimal id ∷ [])
 abbrev pub journal_line : ScriptEvent → List ℕ
 journal_line event = line (codes ">" ∷ event_text event ∷ [])
 
--- The lines of outputs whose packets are numbered from k on: behind each packet's line one for each sending of it that
+-- The lines of outputs whose packets are numbered from k on: after each packet's line one for each sending of it that
 -- failed. Which sendings failed is told one by one; where less is told than was sent, the rest didn't.
 abbrev pub lossy_lines : List LayerTree → (id k : ℕ) → List (Output × Option ℕ) → List Bool → List (List ℕ)
 lossy_lines stack id k [] failed = []
@@ -81,7 +81,7 @@ abbrev pub first_of : List (List Bool) → List Bool
 first_of [] = []
 first_of (first ∷ rest) = first
 
--- The world behind what was done.
+-- The world after what was done.
 abbrev pub behind : List LayerTree → List Plan → World → List Doing → World
 behind stack plans w [] = w
 behind stack plans w (does event ∷ doings) = behind stack plans (happens stack plans w event).world doings
@@ -128,4 +128,4 @@ WrittenIsOfNotes = (stack : List LayerTree) (plans : List Plan) (w : World) (doi
 -- In whatever mode, it hands on the packets of its journal.
 abbrev pub SendsAreHanded : Type 0
 SendsAreHanded = (mode : Mode) (stack : List LayerTree) (plans : List Plan) (w : World) (doings : List Doing) →
-    handed mode stack plans (moments_of stack plans w doings) ≡ sends_of mode stack plans w doings
+    handed_datagrams mode stack plans (moments_of stack plans w doings) ≡ sends_of mode stack plans w doings

@@ -25,7 +25,7 @@ abbrev pub fates_of : ℕ → List Fate → List Bool
 fates_of zero fates = []
 fates_of (suc count) fates = is_failure (next_fate fates) ∷ fates_of count (drop 1 fates)
 
--- A network behind these sendings.
+-- A network after these sendings.
 abbrev pub after_sends : List Handed → Network → Network
 after_sends [] n = n
 after_sends (h ∷ handed) n = after_sends handed (after_send (sent_as h) n)
@@ -42,7 +42,7 @@ Goes mode stack plans w (asks id heard ∷ doings) failed n n' =
     (next_met id n ≡ met_as heard) × Goes mode stack plans w doings failed (after_recv id n) n'
 Goes mode stack plans w (bears id ∷ doings) failed n n' = Goes mode stack plans w doings failed n n'
 
--- Where a network tells, before and behind, something holds of what it tells.
+-- Where a network tells, before and after, something holds of what it tells.
 abbrev pub Tells : (Network → Network → Type 0) → Option Network → Option Network → Type 0
 Tells Holds None None = Unit {0}
 Tells Holds (Some n) (Some n') = Holds n n'

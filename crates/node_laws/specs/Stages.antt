@@ -50,7 +50,7 @@ heard_doings id (datagram bytes) = asks id (datagram bytes) ∷ does (Raw id byt
 heard_doings id silence = asks id silence ∷ []
 heard_doings id failure = asks id failure ∷ bears id ∷ []
 
--- How many failures are left to be borne behind what was heard.
+-- How many failures are left to be borne after what was heard.
 abbrev pub left_behind : ℕ → Heard → ℕ
 left_behind patience failure = patience - 1
 left_behind patience _ = patience
@@ -107,7 +107,7 @@ is_planned me t entry = (entry.0 == t) && list_any (λ id. member_of entry.1 == 
 abbrev pub planned_in : List ℕ → ℕ → List (ℕ × ScriptEvent) → List ScriptEvent
 planned_in me t entries = map (λ entry. entry.1) (filter (is_planned me t) entries)
 
--- Those of the whole plan are those of the lines behind the ones of earlier turns; and from a line of a later turn on
+-- Those of the whole plan are those of the lines after the ones of earlier turns; and from a line of a later turn on
 -- there are none.
 abbrev pub PlannedIsLeft : Type 0
 PlannedIsLeft = (plan : NodePlan) (me : List ℕ) (t k : ℕ) → AllByRecursion (λ entry. entry.0 < t) (take k plan.turns) →

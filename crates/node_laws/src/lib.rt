@@ -69,7 +69,7 @@ pub fn plans_ask()
     ensures { PlansAsk }
 {}
 
-/// The planned events of a turn are among the lines behind those of earlier turns.
+/// The planned events of a turn are among the lines after those of earlier turns.
 pub fn planned_is_left()
     ensures { PlannedIsLeft }
 {}

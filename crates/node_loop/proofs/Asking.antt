@@ -25,7 +25,7 @@ use Rattle.node_loop.specs.Bearing.{Bears, cut_short}
 use Rattle.node_loop.specs.Course.{Advances, Asked, Begun, CutOff, DeafAt, FedOn, Hears, Now, SoFar, Within}
 use Rattle.node_loop.specs.Course.{nothing_left, now}
 use Rattle.node_loop.specs.Feeding.{IsUp, RestsAgain}
-use Rattle.node_loop.specs.declared.desk.Desk.{Desk}
+use Rattle.node_loop.specs.declared.desk.NodeDesk.{NodeDesk}
 use Rattle.node_loop.specs.declared.error.NodeError.{NodeError}
 use Rattle.node_loop.specs.declared.error.NodeError.TheVariants.{Link, Write, Memory}
 use Rattle.node_loop.proofs.Steps.{asked_heard, asked_so, borne_so, cut_line, cut_none}
@@ -41,7 +41,7 @@ tells_met id met (Some n) after met_is is =
     subst (Tells (λ n n'. (next_met id n ≡ met) × (n' ≡ after_recv id n)) (Some n)) (sym is) (met_is, refl)
 
 -- A desk at which nothing but the room and the tools are others.
-pub record IsDesk (d d' : Desk) : Type 0 where
+pub record IsDesk (d d' : NodeDesk) : Type 0 where
   pub outputs : d'.outputs ≡ d.outputs
   pub events : d'.events ≡ d.events
 
@@ -90,7 +90,7 @@ same_around a a' output faults sends told = λ k.
     record { output = output k; faults = faults k; sends = sends k; told = told k }
 
 module _ (stack : List LayerTree) (plans : List Plan) where
-  pub same_rests : (g : Peopled) (d d' : Desk) → IsDesk d d' → RestsAgain stack plans g d g d'
+  pub same_rests : (g : Peopled) (d d' : NodeDesk) → IsDesk d d' → RestsAgain stack plans g d g d'
   same_rests g d d' same mode n w rests = (
     w,
     record {
@@ -99,14 +99,14 @@ module _ (stack : List LayerTree) (plans : List Plan) where
     },
   )
 
-  pub again_on : (g g' : Peopled) (d mid d' : Desk) (r : Result (Unit {0}) SinkError) → IsDesk d mid →
+  pub again_on : (g g' : Peopled) (d mid d' : NodeDesk) (r : Result (Unit {0}) SinkError) → IsDesk d mid →
       OnOk r (RestsAgain stack plans g mid g' d') →
       OnOk r (RestsAgain stack plans g d g' d')
   again_on g g' d mid d' (Ok done) same again = again_then stack plans g g g' d mid d' (same_rests g d mid same) again
   again_on g g' d mid d' (Err e) same again = tt
 
   -- What is told as a member asks.
-  abbrev pub AskedOn : (id before after : ℕ) → Peopled → Peopled → Desk → Desk → Around → Around →
+  abbrev pub AskedOn : (id before after : ℕ) → Peopled → Peopled → NodeDesk → NodeDesk → Around → Around →
       Result (Unit {0}) NodeError → Type 0
   AskedOn id before after g g' d d' a a' r = (c : Course) (b : Begun) (moments answers t borne : ℕ) (ids : List ℕ)
       (clock : Option (List ℕ)) →
@@ -116,7 +116,7 @@ module _ (stack : List LayerTree) (plans : List Plan) where
       r
 
   pub asked_on : (c : Course) (b : Begun) (m k borne left : ℕ) (rest : ℕ → List ℕ → List Heard → List Doing)
-      (least most : ℕ) (g : Peopled) (d : Desk) (a : Around)
+      (least most : ℕ) (g : Peopled) (d : NodeDesk) (a : Around)
       (clock : Option (List ℕ)) (r : Result (Unit {0}) SinkError) → k ≡ most → borne + left ≡ b.patience →
       Advances stack plans c b m k (rest left) borne (now g d a clock) r →
       Hears stack plans c b m least most rest left (now g d a clock) (cut_short r)
@@ -128,9 +128,9 @@ module _ (stack : List LayerTree) (plans : List Plan) where
   asked_on c b m k borne left rest least most g d a clock (Err sink.Failed) is sum cut = cut
   asked_on c b m k borne left rest least most g d a clock (Err sink.Memory) is sum cut = cut
 
-  module _ (id patience : ℕ) (g : Peopled) (d : Desk) (a : Around) where
+  module _ (id patience : ℕ) (g : Peopled) (d : NodeDesk) (a : Around) where
     -- a datagram came
-    pub came : (bytes bytes' : List ℕ) (g' : Peopled) (mid d' : Desk) (mids a' : Around)
+    pub came : (bytes bytes' : List ℕ) (g' : Peopled) (mid d' : NodeDesk) (mids a' : Around)
         (r : Result (Unit {0}) SinkError) → IsDesk d mid →
         Met_at id (Came bytes) a.faults a mids → bytes' ≡ bytes →
         FedOn stack plans (Raw id bytes') g g' mid d' mids a' r →
@@ -149,7 +149,7 @@ module _ (stack : List LayerTree) (plans : List Plan) where
         (tells_met id (Came bytes) a.told mids.told met.met_is met.told))))
 
     -- nothing came
-    pub quiet : (d' : Desk) (a' : Around) → IsDesk d d' → Met_at id Quiet a.faults a a' →
+    pub quiet : (d' : NodeDesk) (a' : Around) → IsDesk d d' → Met_at id Quiet a.faults a a' →
         AskedOn id patience patience g g d d' a a' (Ok tt)
     quiet d' a' same met c b moments answers t borne ids clock sum within so = record {
       borne = borne;
@@ -161,7 +161,8 @@ module _ (stack : List LayerTree) (plans : List Plan) where
     }
 
     -- memory ran out
-    pub wanted : (into : List ℕ) (d' : Desk) (a' : Around) (e : LinkError) → e ≡ links.Memory → a'.output ≡ a.output →
+    pub wanted : (into : List ℕ) (d' : NodeDesk) (a' : Around) (e : LinkError) → e ≡ links.Memory →
+        a'.output ≡ a.output →
         a'.faults ≡ faults_after_call {T = Option ℕ} a.faults (Err e) → a'.sends ≡ a.sends →
         Receives id into a.told a'.told (Err e) →
         AskedOn id patience patience g g d d' a a' (Err Memory)
@@ -173,7 +174,7 @@ module _ (stack : List LayerTree) (plans : List Plan) where
         (subst (λ e. Receives id into a.told a'.told (Err e)) is receives))
 
   -- it failed
-  module _ (id : ℕ) (g : Peopled) (d d' : Desk) (a mid a' : Around) (same : IsDesk d d')
+  module _ (id : ℕ) (g : Peopled) (d d' : NodeDesk) (a mid a' : Around) (same : IsDesk d d')
       (met : Met_at id Broke (next_count a.faults) a mid)
       (faults : a'.faults ≡ mid.faults) (sends : a'.sends ≡ mid.sends) (told : a'.told ≡ mid.told) where
     broke : (c : Course) (b : Begun) (m k borne : ℕ) (rest other : List ℕ → List Heard → List Doing)
@@ -254,7 +255,7 @@ module _ (stack : List LayerTree) (plans : List Plan) where
         cut_here before after sink.Memory bore.0 bore.1 c b moments answers t borne ids clock sum within so
 
   -- So many members asked.
-  pub record AskedSome (me : List ℕ) (i before after : ℕ) (g g' : Peopled) (d d' : Desk) (a a' : Around)
+  pub record AskedSome (me : List ℕ) (i before after : ℕ) (g g' : Peopled) (d d' : NodeDesk) (a a' : Around)
       (heard heard' : ℕ → Option ℕ) : Type 0 where
     pub told : (c : Course) (b : Begun) (moments answers t borne : ℕ) (clock : Option (List ℕ)) →
         borne + before ≡ b.patience →
@@ -267,7 +268,7 @@ module _ (stack : List LayerTree) (plans : List Plan) where
     pub listening : (m : ℕ) → heard' m ≡ heard m
 
   -- What is told of asking all.
-  abbrev pub AskedAll : (me : List ℕ) (before after : ℕ) → Peopled → Peopled → Desk → Desk → Around → Around →
+  abbrev pub AskedAll : (me : List ℕ) (before after : ℕ) → Peopled → Peopled → NodeDesk → NodeDesk → Around → Around →
       Result (Unit {0}) NodeError → Type 0
   AskedAll me before after g g' d d' a a' r = (c : Course) (b : Begun) (moments answers t borne : ℕ)
       (clock : Option (List ℕ)) →
@@ -292,7 +293,7 @@ module _ (stack : List LayerTree) (plans : List Plan) where
   wider c b m least most least' most' after after' rest rest' at Memory low high cut = cut
 
   module _ (me : List ℕ) (before : ℕ) where
-    pub asked_none : (g : Peopled) (d : Desk) (a : Around) (heard : ℕ → Option ℕ) →
+    pub asked_none : (g : Peopled) (d : NodeDesk) (a : Around) (heard : ℕ → Option ℕ) →
         AskedSome me 0 before before g g d d a a heard heard
     asked_none g d a heard = record {
       told = λ c b moments answers t borne clock sum within so. record {
@@ -306,14 +307,14 @@ module _ (stack : List LayerTree) (plans : List Plan) where
       listening = λ m. refl;
     }
 
-    module _ (i : ℕ) (lt : i < length me) {mid : ℕ} {g g' : Peopled} {d d' : Desk} {a a' : Around}
+    module _ (i : ℕ) (lt : i < length me) {mid : ℕ} {g g' : Peopled} {d d' : NodeDesk} {a a' : Around}
         {heard heard' : ℕ → Option ℕ}
         (some : AskedSome me i before mid g g' d d' a a' heard heard') where
       pub asked_up : IsUp stack plans g d heard me → IsUp stack plans g' d' heard' (get_or me i 0 ∷ [])
       asked_up up = up_at stack plans g' d' heard' me i lt
           (up_on stack plans g g' d d' heard heard' me up some.rests some.listening)
 
-      module _ (after : ℕ) (g'' : Peopled) (d'' : Desk) (a'' : Around) where
+      module _ (after : ℕ) (g'' : Peopled) (d'' : NodeDesk) (a'' : Around) where
         asked_next : (r : Result (Unit {0}) NodeError) → AskedOn (get_or me i 0) mid after g' g'' d' d'' a' a'' r →
             (c : Course) (b : Begun) (moments answers t borne : ℕ) (clock : Option (List ℕ)) →
             borne + before ≡ b.patience →
@@ -352,7 +353,7 @@ module _ (stack : List LayerTree) (plans : List Plan) where
           listening = λ m. same m ∙ some.listening m;
         }
 
-    module _ (i after : ℕ) {g g' : Peopled} {d d' : Desk} {a a' : Around} {heard heard' : ℕ → Option ℕ}
+    module _ (i after : ℕ) {g g' : Peopled} {d d' : NodeDesk} {a a' : Around} {heard heard' : ℕ → Option ℕ}
         (some : AskedSome me i before after g g' d d' a a' heard heard') where
       pub asked_all : i ≡ length me → AskedAll me before after g g' d d' a a' (Ok tt)
       asked_all is c b moments answers t borne clock sum within so =

@@ -20,7 +20,7 @@ use Rattle.script_mean.specs.declared.plan.NodePlan.{NodePlan}
 use Rattle.stack_mean.specs.Acceptance.{largest_weight}
 use Rattle.stack_mean.specs.Plan.{Plan}
 use Rattle.stack_mean.specs.Plans.{plans_of}
-use Rattle.run_mean.specs.Member.{opened}
+use Rattle.run_mean.specs.Member.{opened_member}
 use Rattle.run_mean.specs.Report.{end_line}
 use Rattle.run_mean.specs.View.{first_view}
 use Rattle.group_mean.specs.Node.{node_words}
@@ -39,7 +39,7 @@ use Rattle.node_loop.specs.Course.{Begun, Made, MadeAll, Now, SoFar, now}
 use Rattle.node_loop.specs.Feeding.{IsUp, Rests}
 use Rattle.node_loop.specs.Listening.{Listened, ListenedSome, ListensAll}
 use Rattle.node_loop.specs.Serve.{Serves, Task, after_listens, Whereabouts, first_of_plan, whereabouts}
-use Rattle.node_loop.specs.declared.desk.Desk.{Desk}
+use Rattle.node_loop.specs.declared.desk.NodeDesk.{NodeDesk}
 use Rattle.node_loop.specs.declared.error.NodeError.{NodeError}
 use Rattle.node_loop.specs.declared.error.NodeError.TheVariants.{Link, Write, Memory}
 use Rattle.node_loop.proofs.Served.{IsUntouched, Reaches, begun, broken, last_cut, listens_untouched, made_all}
@@ -67,7 +67,7 @@ module _ (stack : List LayerTree) (plan : NodePlan) (me : List ℕ) (turns patie
   task = record { stack = stack; plan = plan; words = node_words turns me patience mode }
 
   -- A group rests at its first world, with a desk at which nothing was done.
-  pub rests_first : (plans : List Plan) (c : Peopled) (d : Desk) → TypedStack stack → IsNumber plan.group →
+  pub rests_first : (plans : List Plan) (c : Peopled) (d : NodeDesk) → TypedStack stack → IsNumber plan.group →
       IsNumber plan.stamp → length plan.peers ≤ 32 →
       c.mode ≡ mode → c.stack ≡ stack → c.plans ≡ plans → Stands c (first_of_plan stack plan) →
       d.outputs.places ≡ largest_weight stack →
@@ -78,7 +78,7 @@ module _ (stack : List LayerTree) (plan : NodePlan) (me : List ℕ) (turns patie
       stack_is = stack_is;
       plans_are = plans_are;
       count = ap length (sym stands.members) ∙
-          length-map (range_with_len 0 (length plan.peers)) (opened stack (first_view (length plan.peers)))
+          length-map (range_with_len 0 (length plan.peers)) (opened_member stack (first_view (length plan.peers)))
           ∙ length-range_with_len 0 (length plan.peers);
       stands = stands;
       chained = first_world_is_chained stack plan.group plan.stamp (length plan.peers) typed group stamp few;
@@ -87,7 +87,7 @@ module _ (stack : List LayerTree) (plan : NodePlan) (me : List ℕ) (turns patie
     places = places;
   }
 
-  pub up_first : (plans : List Plan) (c : Peopled) (d : Desk) (listening : ℕ → Option ℕ) → TypedStack stack →
+  pub up_first : (plans : List Plan) (c : Peopled) (d : NodeDesk) (listening : ℕ → Option ℕ) → TypedStack stack →
       AreNumbered plans →
       Rests mode stack plans (length plan.peers) c d (first_of_plan stack plan) →
       AllByRecursion (λ id. id < length plan.peers) me →
@@ -102,7 +102,7 @@ module _ (stack : List LayerTree) (plan : NodePlan) (me : List ℕ) (turns patie
     listen = all_listen listening (length plan.peers) me few listen;
   }
 
-  so_first : (plans : List Plan) (c : Peopled) (d : Desk) →
+  so_first : (plans : List Plan) (c : Peopled) (d : NodeDesk) →
       Rests mode stack plans (length plan.peers) c d (first_of_plan stack plan) → d.events ≡ 0 →
       (from : Around) (clock : Option (List ℕ)) →
       SoFar stack plans course (begun stack plan me turns patience mode from clock) 0 0 (from_turn course 0 patience) 0
@@ -131,7 +131,7 @@ module _ (stack : List LayerTree) (plan : NodePlan) (me : List ℕ) (turns patie
   }
 
   -- What the turns of a node come to that begins.
-  pub made_first : (plans : List Plan) (c : Peopled) (d : Desk) →
+  pub made_first : (plans : List Plan) (c : Peopled) (d : NodeDesk) →
       Rests mode stack plans (length plan.peers) c d (first_of_plan stack plan) → d.events ≡ 0 →
       plans ≡ plans_of stack → (from : Around) (clock : Option (List ℕ)) (at : Now) (r : Result (Unit {0}) NodeError) →
       ((b : Begun) → b.patience ≡ patience →

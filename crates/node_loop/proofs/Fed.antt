@@ -22,7 +22,7 @@ use Rattle.run_mean.specs.Journal.{handed_in, handed_output}
 use Rattle.run_mean.specs.Lines.{refused_line}
 use Rattle.run_mean.specs.Member as member
 use Rattle.run_mean.specs.Member.{Input, Member, Output, inside, out, cast, send, leave, tick, datagram, Entered}
-use Rattle.run_mean.specs.Member.{entered}
+use Rattle.run_mean.specs.Member.{entered_input}
 use Rattle.run_mean.specs.Report.{installed_line}
 use Rattle.run_mean.specs.World as world
 use Rattle.run_mean.specs.World.{World, here_of, happens, member_at, stepped_inside, stepped_of}
@@ -44,10 +44,10 @@ use Rattle.node_loop.specs.Around.{Around}
 use Rattle.node_loop.specs.Feeding.{IsOwn, Rests, Somewhere}
 use Rattle.node_loop.specs.Passing.{Breaks, PassesAll}
 use Rattle.node_loop.specs.Sending.{sends_of_outputs, stepped_acts}
-use Rattle.node_loop.specs.declared.desk.Desk.{Desk}
+use Rattle.node_loop.specs.declared.desk.NodeDesk.{NodeDesk}
 use Rattle.node_loop.proofs.Passing.{breaks_first, breaks_then, memory_stops, passes_lines, passes_then}
 
--- An event happened in a mode: the world behind it, and what is told of it.
+-- An event happened in a mode: the world after it, and what is told of it.
 pub record Happened (mode : Mode) (stack : List LayerTree) (plans : List Plan) (w : World) (event : ScriptEvent)
     (c : Peopled)
     (outs : List (Output × Option ℕ)) (before after : ℕ) (d : Did) : Type 0 where
@@ -79,7 +79,7 @@ IsStep world.shown = ⊥
 module _ (mode : Mode) (stack : List LayerTree) (plans : List Plan) (w : World) where
   steps_are : (id : ℕ) (input : Input) (m : Member) → IsStep (stepped_of stack plans w id input m).did
   steps_are id input out = tt
-  steps_are id input (inside view states) = go (entered stack plans (here_of w view id) input) where
+  steps_are id input (inside view states) = go (entered_input stack plans (here_of w view id) input) where
     go : (r : Result Entered member.Refusal) → IsStep (stepped_inside stack w id view states r).did
     go (Err refusal) = tt
     go (Ok what) = tt
@@ -188,8 +188,8 @@ module _ (mode : Mode) (stack : List LayerTree) (plans : List Plan) (w : World) 
       (sends_are_sendable mode stack plans w event n limits
       (events_keep_chains stack plans w event typed numbered given chained) within)))
 
-  -- Where a group stands behind an event.
-  pub rests_again : (event : ScriptEvent) (n : ℕ) (c c' : Peopled) (d d' : Desk) (outs : List (Output × Option ℕ))
+  -- Where a group stands after an event.
+  pub rests_again : (event : ScriptEvent) (n : ℕ) (c c' : Peopled) (d d' : NodeDesk) (outs : List (Output × Option ℕ))
       (before after : ℕ) (told : Did) →
       TypedStack stack → AreNumbered plans → IsGivenEvent event → Rests mode stack plans n c d w → Stays c c' →
       Happened mode stack plans w event c' outs before after told → d'.outputs.places ≡ d.outputs.places →

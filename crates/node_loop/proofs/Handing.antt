@@ -1,4 +1,4 @@
--- The acts of outputs, one behind the other.
+-- The acts of outputs, one after the other.
 use Rattle.std.proofs.Common.{◌≡◌, ◌≢◌, ℕ, zero, suc, ◌+◌, ◌<◌, ◌≤◌, Bool, List, [], ◌∷◌, ◌++◌, length, map, take, drop}
 use Rattle.std.proofs.Common.{refl, sym, ap, subst, ◌∙◌, append_assoc, append-nil, arith, Option, Some, None}
 use Rattle.std.proofs.lemmas.List.{drop-append-le, length-drop, take-append-drop, take-append-le, take_all, take_more}
@@ -200,7 +200,7 @@ module _ (stack : List LayerTree) (plans : List Plan) (id : ℕ) where
         PassesAll (of_outputs first outs) a b
     outputs_end i a b past p = subst (λ outs. PassesAll (of_outputs first outs) a b) (take_all i outs past) p
 
-    -- Behind outputs comes the line of where the member is then.
+    -- After outputs comes the line of where the member is then.
     few_changes : (change : Option Change) → length (change_lines id change) ≤ 1
     few_changes None = omega arith
     few_changes (Some change) = omega arith

@@ -56,7 +56,7 @@ asked_nothing n = record {
 takes_none : (n : Network) → Takes [] [] n n
 takes_none n = record { failed_are = refl; is = refl }
 
--- Acts that were done, one behind the other.
+-- Acts that were done, one after the other.
 
 pub passes_none : (a : Around) → Passes [] [] a a
 passes_none a = record {
@@ -197,7 +197,7 @@ breaks_first a b acts e stopped faults sendings told = record {
   told = subst (Tells (WentOn [] [] []) a.told) (sym told) (tells_same (WentOn [] [] []) a.told asked_nothing);
 }
 
--- Acts follow those in front, and may have more behind.
+-- Acts follow those in front, and may have more after.
 pub record Follows (front : List Act) (f : List Bool) (part whole : List Bool → List Act) : Type 0 where
   pub more : (g : List Bool) → List Act
   pub are : (g : List Bool) → length g ≤ length (sends_in (part g)) → whole (f ++ g) ≡ front ++ (part g ++ more g)
@@ -244,7 +244,7 @@ breaks_then a b c xs part whole f e p q follow =
       });
     }
 
--- Acts that were broken off, with more behind.
+-- Acts that were broken off, with more after.
 pub breaks_longer : (a b : Around) (part more whole : List Bool → List Act) (e : SinkError) →
     ((g : List Bool) → whole g ≡ part g ++ more g) →
     Breaks part e a b → Breaks whole e a b
@@ -270,7 +270,7 @@ lines_handled a b lines (Ok done) few wrote faults sendings told =
 lines_handled a b lines (Err e) few wrote faults sendings told =
     lines_break a b lines [] (λ g. map puts lines) e few (sym (append-nil (map puts lines))) wrote faults sendings told
 
--- Acts that were done, and whatever came of those behind.
+-- Acts that were done, and whatever came of those after.
 pub handles_then : (a b c : Around) (xs : List Act) (part whole : List Bool → List Act) (f : List Bool)
     (r : Result (Unit {0}) SinkError) →
     Passes xs f a b → Handles part b c r →

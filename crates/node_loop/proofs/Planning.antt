@@ -18,7 +18,7 @@ use Rattle.node_laws.proofs.Stages.{planned_is_over}
 use Rattle.node_loop.specs.Around.{Around}
 use Rattle.node_loop.specs.Course.{Advances, Begun, SoFar, Within, now}
 use Rattle.node_loop.specs.Feeding.{IsUp, RestsAgain}
-use Rattle.node_loop.specs.declared.desk.Desk.{Desk}
+use Rattle.node_loop.specs.declared.desk.NodeDesk.{NodeDesk}
 use Rattle.node_loop.proofs.Turning.{again_then, up_on}
 
 -- Lines in order.
@@ -64,7 +64,7 @@ planned_step c me t left entry entries later more same =
 
 module _ (stack : List LayerTree) (plans : List Plan) where
   -- What is told of an event of the plan.
-  abbrev pub OwnOn : List ℕ → ScriptEvent → Peopled → Peopled → Desk → Desk → Around → Around →
+  abbrev pub OwnOn : List ℕ → ScriptEvent → Peopled → Peopled → NodeDesk → NodeDesk → Around → Around →
       Result (Unit {0}) SinkError → Type 0
   OwnOn me event g g' d d' a a' r = (c : Course) (b : Begun) (moments answers borne : ℕ)
       (rest : List ℕ → List Heard → List Doing) (clock : Option (List ℕ)) →
@@ -74,7 +74,8 @@ module _ (stack : List LayerTree) (plans : List Plan) where
       Advances stack plans c b moments answers rest borne (now g' d' a' clock) r
 
   -- What is told from a line of the plan on.
-  abbrev pub PlannedOn : List ℕ → List (ℕ × ScriptEvent) → (t start k : ℕ) → Peopled → Peopled → Desk → Desk → Around →
+  abbrev pub PlannedOn : List ℕ → List (ℕ × ScriptEvent) → (t start k : ℕ) → Peopled → Peopled → NodeDesk → NodeDesk →
+      Around →
       Around → Result (Unit {0}) SinkError → Type 0
   PlannedOn me turns t start k g g' d d' a a' r = (c : Course) (b : Begun) (moments answers left borne : ℕ)
       (clock : Option (List ℕ)) →
@@ -85,7 +86,8 @@ module _ (stack : List LayerTree) (plans : List Plan) where
       (now g' d' a' clock) r
 
   -- The lines up to one were gone through.
-  pub record PlannedSome (me : List ℕ) (turns : List (ℕ × ScriptEvent)) (t start k : ℕ) (g g' : Peopled) (d d' : Desk)
+  pub record PlannedSome (me : List ℕ) (turns : List (ℕ × ScriptEvent)) (t start k : ℕ) (g g' : Peopled)
+      (d d' : NodeDesk)
       (a a' : Around)
       (heard heard' : ℕ → Option ℕ) : Type 0 where
     pub told : PlannedOn me turns t start k g g' d d' a a' (Ok tt)
@@ -102,7 +104,7 @@ module _ (stack : List LayerTree) (plans : List Plan) where
   earlier_passed t (entry ∷ entries) h = let lt = h.0 in (omega (arith, lt), earlier_passed t entries h.1)
 
   module _ (me : List ℕ) (turns : List (ℕ × ScriptEvent)) (t start : ℕ) where
-    pub planned_none : (g : Peopled) (d : Desk) (a : Around) (heard : ℕ → Option ℕ) → start ≤ length turns →
+    pub planned_none : (g : Peopled) (d : NodeDesk) (a : Around) (heard : ℕ → Option ℕ) → start ≤ length turns →
         AllByRecursion (λ entry. entry.0 < t) (take start turns) →
         AllByRecursion (λ entry. t ≤ entry.0) (drop start turns) →
         PlannedSome me turns t start start g g d d a a heard heard
@@ -116,7 +118,7 @@ module _ (stack : List LayerTree) (plans : List Plan) where
       due = due;
     }
 
-    module _ (k : ℕ) {g g' : Peopled} {d d' : Desk} {a a' : Around} {heard heard' : ℕ → Option ℕ}
+    module _ (k : ℕ) {g g' : Peopled} {d d' : NodeDesk} {a a' : Around} {heard heard' : ℕ → Option ℕ}
         (some : PlannedSome me turns t start k g g' d d' a a' heard heard') where
       pub planned_up : IsUp stack plans g d heard me → IsUp stack plans g' d' heard' me
       planned_up up = up_on stack plans g g' d d' heard heard' me up some.rests some.listening
@@ -124,7 +126,7 @@ module _ (stack : List LayerTree) (plans : List Plan) where
       -- The next line is of this turn.
       module _ (entries : List (ℕ × ScriptEvent)) (is : entries ≡ turns) (inside : k < length entries)
           (first e : ℕ × ScriptEvent)
-          (of_turn : (get_or entries k first).0 ≡ t) (g'' : Peopled) (d'' : Desk) (a'' : Around) where
+          (of_turn : (get_or entries k first).0 ≡ t) (g'' : Peopled) (d'' : NodeDesk) (a'' : Around) where
         lt : k < length turns
         lt = subst (λ es. k < length es) is inside
 

@@ -1,4 +1,4 @@
--- A group rests again behind an event that was fed.
+-- A group rests again after an event that was fed.
 use Rattle.std.proofs.Common.{ℕ, List}
 use Rattle.std.specs.Prelude.{OnOk, Result, Ok, Err}
 use Rattle.outside.specs.declared.sink.SinkError.{SinkError}
@@ -10,9 +10,9 @@ use Rattle.run_mean.specs.World.{World, happens}
 use Rattle.group_feed.specs.Standing.{Peopled}
 use Rattle.node_loop.specs.Around.{Around}
 use Rattle.node_loop.specs.Feeding.{Feeds, Rests, RestsAgain}
-use Rattle.node_loop.specs.declared.desk.Desk.{Desk}
+use Rattle.node_loop.specs.declared.desk.NodeDesk.{NodeDesk}
 
-pub rests_on : (stack : List LayerTree) (plans : List Plan) (event : ScriptEvent) (c c' : Peopled) (d d' : Desk)
+pub rests_on : (stack : List LayerTree) (plans : List Plan) (event : ScriptEvent) (c c' : Peopled) (d d' : NodeDesk)
     (a a' : Around)
     (r : Result (Unit {0}) SinkError) →
     ((mode : Mode) (n : ℕ) (w : World) → Rests mode stack plans n c d w →

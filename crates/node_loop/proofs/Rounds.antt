@@ -21,7 +21,7 @@ use Rattle.node_loop.specs.Around.{Around, Told, moments_given}
 use Rattle.node_loop.specs.Bearing.{cut_short}
 use Rattle.node_loop.specs.Course.{Advances, Begun, Hears, Now, SoFar, Within, now}
 use Rattle.node_loop.specs.Feeding.{RestsAgain}
-use Rattle.node_loop.specs.declared.desk.Desk.{Desk}
+use Rattle.node_loop.specs.declared.desk.NodeDesk.{NodeDesk}
 use Rattle.node_loop.specs.declared.error.NodeError.{NodeError}
 use Rattle.node_loop.proofs.Asking.{AskedAll, asked_on, wider}
 use Rattle.node_loop.proofs.Turning.{again_then}
@@ -75,7 +75,8 @@ one_more n t = omega arith
 
 module _ (stack : List LayerTree) (plans : List Plan) (c : Course) (b : Begun) where
   -- one moment more was told
-  pub moment_so : (m k borne : ℕ) (rest other : List ℕ → List Heard → List Doing) (moment : ℕ) (g : Peopled) (d : Desk)
+  pub moment_so : (m k borne : ℕ) (rest other : List ℕ → List Heard → List Doing) (moment : ℕ) (g : Peopled)
+      (d : NodeDesk)
       (a : Around)
       (clock clock' : Option (List ℕ)) →
       ((later : List ℕ) (more : List Heard) → rest (moment ∷ later) more ≡ other later more) →
@@ -146,14 +147,14 @@ module _ (stack : List LayerTree) (plans : List Plan) (c : Course) (b : Begun) w
     }
 
     -- What is told of a turn's ticks, and of its planned events.
-    abbrev pub TickedOn : (moment patience : ℕ) → Peopled → Peopled → Desk → Desk → Around → Around →
+    abbrev pub TickedOn : (moment patience : ℕ) → Peopled → Peopled → NodeDesk → NodeDesk → Around → Around →
         Result (Unit {0}) SinkError → Type 0
     TickedOn moment patience g g' d d' a a' r = (moments answers borne : ℕ) (clock : Option (List ℕ)) →
         Within c b moments answers borne →
         SoFar stack plans c b moments answers (from_ticks c t patience moment c.me) borne (now g d a clock) →
         Advances stack plans c b moments answers (from_ticks c t patience moment []) borne (now g' d' a' clock) r
 
-    module _ (patience borne moment : ℕ) (sum : borne + patience ≡ b.patience) (g g' : Peopled) (d d' : Desk)
+    module _ (patience borne moment : ℕ) (sum : borne + patience ≡ b.patience) (g g' : Peopled) (d d' : NodeDesk)
         (a a' : Around) (clock clock' : Option (List ℕ))
         (moment_is : IfSome clock (λ moments. moment ≡ next_moment moments)) (kept : clock' ≡ option_map (drop 1) clock)
         (so : SoFar stack plans c b t (t * length c.me) (from_turn c t patience) borne (now g d a clock)) where
@@ -175,7 +176,7 @@ module _ (stack : List LayerTree) (plans : List Plan) (c : Course) (b : Begun) w
           (from_ticks c t patience moment []) (from_turn c (t + 1))
           (now g' d' a' clock') r e is (ticks r told)
 
-      module _ (ticked : TickedOn moment patience g g' d d' a a' (Ok tt)) (left : ℕ) (g'' : Peopled) (d'' : Desk)
+      module _ (ticked : TickedOn moment patience g g' d d' a a' (Ok tt)) (left : ℕ) (g'' : Peopled) (d'' : NodeDesk)
           (a'' : Around) where
         asks : (r : Result (Unit {0}) NodeError) → AskedAll stack plans c.me patience left g' g'' d' d'' a' a'' r →
             Hears stack plans c b (t + 1) (t * length c.me) (t * length c.me + length c.me)
@@ -195,7 +196,7 @@ module _ (stack : List LayerTree) (plans : List Plan) (c : Course) (b : Begun) w
 
         pub turn_end : (next : ℕ) → AllByRecursion (λ entry. entry.0 < t) (take next c.plan.turns) →
             AskedAll stack plans c.me patience left g' g'' d' d'' a' a'' (Ok tt) →
-            (g3 : Peopled) (d3 : Desk) (a3 : Around) (r : Result (Unit {0}) SinkError) →
+            (g3 : Peopled) (d3 : NodeDesk) (a3 : Around) (r : Result (Unit {0}) SinkError) →
             ((moments answers borne : ℕ) (clock : Option (List ℕ)) → Within c b moments answers borne →
             SoFar stack plans c b moments answers (from_planned c t left (planned_in c.me t (drop next c.plan.turns)))
             borne (now g'' d'' a'' clock) →
@@ -212,8 +213,8 @@ module _ (stack : List LayerTree) (plans : List Plan) (c : Course) (b : Begun) w
             (from_planned c t left events) here.borne (now g'' d'' a'' clock'))
             (planned_is_left c.plan c.me t next passed) here.so))
 
--- A group rests again behind a whole turn.
-pub rests_end : (stack : List LayerTree) (plans : List Plan) (g g' g'' g3 : Peopled) (d d' d'' d3 : Desk)
+-- A group rests again after a whole turn.
+pub rests_end : (stack : List LayerTree) (plans : List Plan) (g g' g'' g3 : Peopled) (d d' d'' d3 : NodeDesk)
     (r : Result (Unit {0}) SinkError) →
     RestsAgain stack plans g d g' d' → RestsAgain stack plans g' d' g'' d'' →
     OnOk r (RestsAgain stack plans g'' d'' g3 d3) →

@@ -15,11 +15,11 @@ use Rattle.script_mean.specs.declared.plan.NodePlan.{NodePlan}
 use Rattle.stack_mean.specs.Plan.{Plan}
 use Rattle.stack_mean.specs.Plans.{plans_of}
 use Rattle.run_mean.specs.Mode.{Mode}
-use Rattle.run_mean.specs.Journal.{failure, handed, node_lines, node_run, note_lines}
+use Rattle.run_mean.specs.Journal.{failure, handed_datagrams, node_lines, node_run, note_lines}
 use Rattle.run_mean.specs.Report.{end_line, moments}
 use Rattle.run_mean.specs.World.{World, happens}
 use Rattle.group_mean.specs.Node.{node_words}
-use Rattle.group_mean.specs.Node.{NodeWords, Surroundings, failures, handed_by, noted, played}
+use Rattle.group_mean.specs.Node.{NodeWords, Surroundings, failures, handed_by, node_notes, node_moments}
 use Rattle.outside.specs.Lines.{Gains, Wrote}
 use Rattle.outside.specs.Tells as output
 use Rattle.outside.proofs.Gaining.{gains_then}
@@ -148,42 +148,44 @@ module _ (stack : List LayerTree) (plan : NodePlan) (me : List ℕ) (turns patie
   -- A journal is of what was done.
 
   notes_are : (s : Surroundings) (doings : List Doing) → doings_in task s ≡ doings →
-      noted plan words s ≡ filter_map note_in doings
+      node_notes plan words s ≡ filter_map note_in doings
   notes_are s doings is = sym (notes_are_of_doings plan me 0 turns patience s.clock s.heard) ∙
       ap (filter_map note_in) is
 
   lines_are : (s : Surroundings) (doings : List Doing) (flags : List (List Bool)) (lost : List ℕ) →
       doings_in task s ≡ doings →
       lost ≡ lost_of stack plans first doings flags →
-      note_lines stack plans (λ k. count_by (λ l. l == k) lost) (noted plan words s) (played stack plan words s) ≡
+      note_lines stack plans (λ k. count_by (λ l. l == k) lost) (node_notes plan words s)
+      (node_moments stack plan words s) ≡
       written_of stack plans first doings flags
   lines_are s doings flags lost is lost_is =
-      ap (λ lost. note_lines stack plans (λ k. count_by (λ l. l == k) lost) (noted plan words s)
-      (played stack plan words s)) lost_is
+      ap (λ lost. note_lines stack plans (λ k. count_by (λ l. l == k) lost) (node_notes plan words s)
+      (node_moments stack plan words s)) lost_is
       ∙ ap (λ notes. note_lines stack plans (λ k. count_by (λ l. l == k) (lost_of stack plans first doings flags)) notes
       (node_run stack plans plan notes))
       (notes_are s doings is)
       ∙ written_is_of_notes stack plans first doings flags
 
   events_are : (s : Surroundings) (doings : List Doing) → doings_in task s ≡ doings →
-      length (played stack plan words s) ≡ length (events_of doings)
+      length (node_moments stack plan words s) ≡ length (events_of doings)
   events_are s doings is = ap (λ notes. length (node_run stack plans plan notes)) (notes_are s doings is) ∙
       run_length stack plans first (events_of doings)
 
   all_lines_are : (s : Surroundings) (doings : List Doing) (flags : List (List Bool)) (lost : List ℕ) →
       doings_in task s ≡ doings →
       lost ≡ lost_of stack plans first doings flags →
-      node_lines stack plans (λ k. count_by (λ l. l == k) lost) (noted plan words s) (played stack plan words s)
+      node_lines stack plans (λ k. count_by (λ l. l == k) lost) (node_notes plan words s)
+      (node_moments stack plan words s)
       ≡ written_of stack plans first doings flags ++ end_line (length (events_of doings)) ∷ []
   all_lines_are s doings flags lost is lost_is =
-      ap (λ lines. lines ++ end_line (length (played stack plan words s)) ∷ [])
+      ap (λ lines. lines ++ end_line (length (node_moments stack plan words s)) ∷ [])
       (lines_are s doings flags lost is lost_is)
       ∙ ap (λ n. written_of stack plans first doings flags ++ end_line n ∷ []) (events_are s doings is)
 
   handed_are : (s : Surroundings) (doings : List Doing) → doings_in task s ≡ doings → handed_by stack plan words s ≡
       sends_of mode stack plans first doings
   handed_are s doings is =
-      ap (λ notes. handed mode stack plans (node_run stack plans plan notes)) (notes_are s doings is) ∙
+      ap (λ notes. handed_datagrams mode stack plans (node_run stack plans plan notes)) (notes_are s doings is) ∙
       sends_are_handed mode stack plans first doings
 
   told_so : (OverNetwork : Network → Network → Type 0) (Over : Network → Network → Type 0) (a b : Whereabouts)

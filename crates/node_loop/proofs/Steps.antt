@@ -33,7 +33,7 @@ use Rattle.node_loop.specs.Around.{Around, count_on}
 use Rattle.node_loop.specs.Passing.{Breaks, Stops, Takes, WentOn}
 use Rattle.node_loop.specs.Feeding.{Feeds, IsFed}
 use Rattle.node_loop.specs.Course.{Advances, Begun, CutOff, Now, SoFar, Within, now}
-use Rattle.node_loop.specs.declared.desk.Desk.{Desk}
+use Rattle.node_loop.specs.declared.desk.NodeDesk.{NodeDesk}
 use Rattle.node_loop.proofs.Passing.{asked_nothing, count_on_add, line_stops, memory_stops, stops_longer, stops_then}
 
 pub failures_append : (xs ys : List Heard) → failures (xs ++ ys) ≡ failures xs + failures ys
@@ -71,7 +71,7 @@ module _ (stack : List LayerTree) (plans : List Plan) (c : Course) (b : Begun) w
 
   -- an event was fed
   pub fed_so : (m k borne : ℕ) (rest : List ℕ → List Heard → List Doing) (event : ScriptEvent) (g g' : Peopled)
-      (d d' : Desk) (a a' : Around)
+      (d d' : NodeDesk) (a a' : Around)
       (clk : Option (List ℕ)) → (so : So m k (λ later more. does event ∷ rest later more) borne (now g d a clk)) →
       IsFed b.mode stack plans b.members so.world event g' d d' a a' → So m k rest borne (now g' d' a' clk)
   fed_so m k borne rest event g g' d d' a a' clk so fed =
@@ -134,7 +134,7 @@ module _ (stack : List LayerTree) (plans : List Plan) (c : Course) (b : Begun) w
 
   -- a member asked and heard
   pub asked_so : (m k borne borne' : ℕ) (rest other : List ℕ → List Heard → List Doing) (id : ℕ) (x : Heard)
-      (g : Peopled) (d d' : Desk) (a a' : Around)
+      (g : Peopled) (d d' : NodeDesk) (a a' : Around)
       (clk : Option (List ℕ)) →
       ((later : List ℕ) (more : List Heard) → rest later (x ∷ more) ≡ asks id x ∷ other later more) →
       So m k rest borne (now g d a clk) → borne' ≡ borne + failures (x ∷ []) → d'.outputs ≡ d.outputs →
@@ -192,7 +192,7 @@ module _ (stack : List LayerTree) (plans : List Plan) (c : Course) (b : Begun) w
 
   -- what it then heard
   pub asked_heard : (m k borne borne' : ℕ) (rest other : List ℕ → List Heard → List Doing) (id : ℕ) (x : Heard)
-      (g : Peopled) (d d' : Desk) (a a' : Around)
+      (g : Peopled) (d d' : NodeDesk) (a a' : Around)
       (clk : Option (List ℕ)) (is : (later : List ℕ) (more : List Heard) → rest later (x ∷ more) ≡ asks id x ∷
       other later more)
       (so : So m k rest borne (now g d a clk)) (more : borne' ≡ borne + failures (x ∷ []))
@@ -206,7 +206,7 @@ module _ (stack : List LayerTree) (plans : List Plan) (c : Course) (b : Begun) w
   asked_heard m k borne borne' rest other id x g d d' a a' clk is so more outputs events output sends faults told = refl
 
   -- a failure was borne, and its line put
-  pub borne_so : (m k borne : ℕ) (rest : List ℕ → List Heard → List Doing) (id : ℕ) (g : Peopled) (d d' : Desk)
+  pub borne_so : (m k borne : ℕ) (rest : List ℕ → List Heard → List Doing) (id : ℕ) (g : Peopled) (d d' : NodeDesk)
       (a a' : Around) (clk : Option (List ℕ)) →
       So m k (λ later more. bears id ∷ rest later more) borne (now g d a clk) → d'.outputs ≡ d.outputs →
       d'.events ≡ d.events →
@@ -247,7 +247,7 @@ module _ (stack : List LayerTree) (plans : List Plan) (c : Course) (b : Begun) w
         clock_told = so.clock_told;
       }
 
-  -- A node that stops here could have gone on: behind what was done come the first of some acts of what is left.
+  -- A node that stops here could have gone on: after what was done come the first of some acts of what is left.
   module _ (m k borne : ℕ) (rest : List ℕ → List Heard → List Doing) (at : Now) (within : Within c b m k borne)
       (so : So m k rest borne at) where
     abbrev left : List Doing
@@ -334,7 +334,7 @@ module _ (stack : List LayerTree) (plans : List Plan) (c : Course) (b : Begun) w
         (tells_same (WentOn [] [] []) at.around.told asked_nothing))
 
   -- Where an event was broken off.
-  pub cut_so : (m k borne : ℕ) (rest : List ℕ → List Heard → List Doing) (g : Peopled) (d : Desk) (a a' : Around)
+  pub cut_so : (m k borne : ℕ) (rest : List ℕ → List Heard → List Doing) (g : Peopled) (d : NodeDesk) (a a' : Around)
       (clk : Option (List ℕ)) (e : SinkError)
       (event : ScriptEvent) → Within c b m k borne →
       (so : So m k (λ later more. does event ∷ rest later more) borne (now g d a clk)) →
@@ -359,7 +359,7 @@ module _ (stack : List LayerTree) (plans : List Plan) (c : Course) (b : Begun) w
       q.told
 
   -- Where the line of a failure that is borne was cut short.
-  pub cut_line : (m k borne : ℕ) (rest : List ℕ → List Heard → List Doing) (id : ℕ) (g : Peopled) (d : Desk)
+  pub cut_line : (m k borne : ℕ) (rest : List ℕ → List Heard → List Doing) (id : ℕ) (g : Peopled) (d : NodeDesk)
       (a a' : Around) (clk : Option (List ℕ))
       (e : SinkError) → Within c b m k borne →
       (so : So m k (λ later more. bears id ∷ rest later more) borne (now g d a clk)) →
@@ -376,7 +376,7 @@ module _ (stack : List LayerTree) (plans : List Plan) (c : Course) (b : Begun) w
 
   -- What a fed event comes to.
   pub feeds_so : (m k borne : ℕ) (rest : List ℕ → List Heard → List Doing) (event : ScriptEvent) (g g' : Peopled)
-      (d d' : Desk) (a a' : Around)
+      (d d' : NodeDesk) (a a' : Around)
       (clk : Option (List ℕ)) (r : Result (Unit {0}) SinkError) → Within c b m k borne →
       (so : So m k (λ later more. does event ∷ rest later more) borne (now g d a clk)) →
       Feeds b.mode stack plans b.members so.world event g' d d' a a' r →

@@ -18,7 +18,7 @@ use Rattle.node_laws.specs.Stages.{Course, from_ticks, own_doing}
 use Rattle.node_loop.specs.Around.{Around}
 use Rattle.node_loop.specs.Course.{Advances, Begun, FedOn, SoFar, Within, now}
 use Rattle.node_loop.specs.Feeding.{IsUp, RestsAgain}
-use Rattle.node_loop.specs.declared.desk.Desk.{Desk}
+use Rattle.node_loop.specs.declared.desk.NodeDesk.{NodeDesk}
 
 -- what holds of each holds of one
 pub each_at : {X : Type 0} (P : X → Type 0) (xs : List X) (i : ℕ) (d : X) → i < length xs → AllByRecursion P xs →
@@ -50,7 +50,7 @@ each_any P (y ∷ ys) x any h = go (x == y) refl (λ later. each_any P ys x late
   go false other later = later (ap (λ b. b || list_any (λ y. x == y) ys) (sym other) ∙ any)
 
 module _ (stack : List LayerTree) (plans : List Plan) where
-  pub again_then : (g g' g'' : Peopled) (d d' d'' : Desk) → RestsAgain stack plans g d g' d' →
+  pub again_then : (g g' g'' : Peopled) (d d' d'' : NodeDesk) → RestsAgain stack plans g d g' d' →
       RestsAgain stack plans g' d' g'' d'' →
       RestsAgain stack plans g d g'' d''
   again_then g g' g'' d d' d'' first second mode n w rests = let on = first mode n w rests in second mode n on.0 on.1
@@ -61,8 +61,8 @@ module _ (stack : List LayerTree) (plans : List Plan) where
   each_listens n heard heard' [] same h = tt
   each_listens n heard heard' (id ∷ ids) same h = ((h.0.0, same id ∙ h.0.1), each_listens n heard heard' ids same h.1)
 
-  -- a group is up behind a stage at which it rests again
-  pub up_on : (g g' : Peopled) (d d' : Desk) (heard heard' : ℕ → Option ℕ) (ids : List ℕ) →
+  -- a group is up after a stage at which it rests again
+  pub up_on : (g g' : Peopled) (d d' : NodeDesk) (heard heard' : ℕ → Option ℕ) (ids : List ℕ) →
       IsUp stack plans g d heard ids →
       RestsAgain stack plans g d g' d' → ((m : ℕ) → heard' m ≡ heard m) → IsUp stack plans g' d' heard' ids
   up_on g g' d d' heard heard' ids up again same =
@@ -77,7 +77,7 @@ module _ (stack : List LayerTree) (plans : List Plan) where
       }
 
   -- and with one of its members alone
-  pub up_at : (g : Peopled) (d : Desk) (heard : ℕ → Option ℕ) (ids : List ℕ) (i : ℕ) → i < length ids →
+  pub up_at : (g : Peopled) (d : NodeDesk) (heard : ℕ → Option ℕ) (ids : List ℕ) (i : ℕ) → i < length ids →
       IsUp stack plans g d heard ids → IsUp stack plans g d heard (get_or ids i 0 ∷ [])
   up_at g d heard ids i lt up = record {
     typed = up.typed;
@@ -89,7 +89,8 @@ module _ (stack : List LayerTree) (plans : List Plan) where
     listen = (each_at (λ id. (id < up.members) × (heard id ≡ Some up.members)) ids i 0 lt up.listen, tt);
   }
 
-  pub up_any : (g : Peopled) (d : Desk) (heard : ℕ → Option ℕ) (ids : List ℕ) (x : ℕ) → list_any (λ id. x == id) ids ≡
+  pub up_any : (g : Peopled) (d : NodeDesk) (heard : ℕ → Option ℕ) (ids : List ℕ) (x : ℕ) →
+      list_any (λ id. x == id) ids ≡
       true →
       IsUp stack plans g d heard ids → IsUp stack plans g d heard (x ∷ [])
   up_any g d heard ids x any up = record {
@@ -102,14 +103,14 @@ module _ (stack : List LayerTree) (plans : List Plan) where
     listen = (each_any (λ id. (id < up.members) × (heard id ≡ Some up.members)) ids x any up.listen, tt);
   }
 
-  pub of_bytes : (id : ℕ) (bytes bytes' : List ℕ) (g g' : Peopled) (d d' : Desk) (a a' : Around)
+  pub of_bytes : (id : ℕ) (bytes bytes' : List ℕ) (g g' : Peopled) (d d' : NodeDesk) (a a' : Around)
       (r : Result (Unit {0}) SinkError) → bytes' ≡ bytes →
       FedOn stack plans (Raw id bytes') g g' d d' a a' r → FedOn stack plans (Raw id bytes) g g' d d' a a' r
   of_bytes id bytes bytes' g g' d d' a a' r same fed =
       subst (λ bytes. FedOn stack plans (Raw id bytes) g g' d d' a a' r) same fed
 
   -- So many members took a tick.
-  pub record Ticked (moment : ℕ) (me : List ℕ) (i : ℕ) (g g' : Peopled) (d d' : Desk) (a a' : Around)
+  pub record Ticked (moment : ℕ) (me : List ℕ) (i : ℕ) (g g' : Peopled) (d d' : NodeDesk) (a a' : Around)
       (heard heard' : ℕ → Option ℕ) : Type 0 where
     pub told : (c : Course) (b : Begun) (moments answers t left borne : ℕ) (clock : Option (List ℕ)) →
         Within c b moments answers borne →
@@ -120,7 +121,7 @@ module _ (stack : List LayerTree) (plans : List Plan) where
     pub listening : (m : ℕ) → heard' m ≡ heard m
 
   module _ (moment : ℕ) (me : List ℕ) where
-    pub ticked_none : (g : Peopled) (d : Desk) (a : Around) (heard : ℕ → Option ℕ) →
+    pub ticked_none : (g : Peopled) (d : NodeDesk) (a : Around) (heard : ℕ → Option ℕ) →
         Ticked moment me 0 g g d d a a heard heard
     ticked_none g d a heard = record {
       told = λ c b moments answers t left borne clock within so. so;
@@ -129,12 +130,13 @@ module _ (stack : List LayerTree) (plans : List Plan) where
       listening = λ m. refl;
     }
 
-    module _ (i : ℕ) (lt : i < length me) {g g' : Peopled} {d d' : Desk} {a a' : Around} {heard heard' : ℕ → Option ℕ}
+    module _ (i : ℕ) (lt : i < length me) {g g' : Peopled} {d d' : NodeDesk} {a a' : Around}
+        {heard heard' : ℕ → Option ℕ}
         (ticked : Ticked moment me i g g' d d' a a' heard heard') where
       pub ticked_up : IsUp stack plans g d heard me → IsUp stack plans g' d' heard' (get_or me i 0 ∷ [])
       ticked_up up = up_at g' d' heard' me i lt (up_on g g' d d' heard heard' me up ticked.rests ticked.listening)
 
-      module _ (g'' : Peopled) (d'' : Desk) (a'' : Around) where
+      module _ (g'' : Peopled) (d'' : NodeDesk) (a'' : Around) where
         pub ticked_then : (r : Result (Unit {0}) SinkError) →
             FedOn stack plans (Tick (get_or me i 0) moment) g' g'' d' d'' a' a'' r →
             (c : Course) (b : Begun) (moments answers t left borne : ℕ) (clock : Option (List ℕ)) →
@@ -159,7 +161,7 @@ module _ (stack : List LayerTree) (plans : List Plan) where
           listening = λ m. same m ∙ ticked.listening m;
         }
 
-    module _ (i : ℕ) {g g' : Peopled} {d d' : Desk} {a a' : Around} {heard heard' : ℕ → Option ℕ}
+    module _ (i : ℕ) {g g' : Peopled} {d d' : NodeDesk} {a a' : Around} {heard heard' : ℕ → Option ℕ}
         (ticked : Ticked moment me i g g' d d' a a' heard heard') where
       pub ticked_all : length me ≤ i →
           (c : Course) (b : Begun) (moments answers t left borne : ℕ) (clock : Option (List ℕ)) →
@@ -172,8 +174,8 @@ module _ (stack : List LayerTree) (plans : List Plan) where
           (at_drop_all (λ ids. ids) me i all) (ticked.told c b moments answers t left borne clock within so)
 
   -- An event of the plan, if it is of an own member.
-  module _ (me : List ℕ) (event : ScriptEvent) (g : Peopled) (d : Desk) (a : Around) where
-    pub own_then : (g' : Peopled) (d' : Desk) (a' : Around) (r : Result (Unit {0}) SinkError) →
+  module _ (me : List ℕ) (event : ScriptEvent) (g : Peopled) (d : NodeDesk) (a : Around) where
+    pub own_then : (g' : Peopled) (d' : NodeDesk) (a' : Around) (r : Result (Unit {0}) SinkError) →
         list_any (λ id. member_of event == id) me ≡ true → FedOn stack plans event g g' d d' a a' r →
         (c : Course) (b : Begun) (moments answers borne : ℕ) (rest : List ℕ → List Heard → List Doing)
         (clock : Option (List ℕ)) →

@@ -23,7 +23,7 @@ use Rattle.node_loop.specs.Around.{Around, count_on, Told}
 use Rattle.node_loop.specs.Feeding.{Rests}
 use Rattle.node_loop.specs.Passing.{Stops, WentOn}
 use Rattle.node_loop.specs.declared.course.Course as code
-use Rattle.node_loop.specs.declared.desk.Desk.{Desk}
+use Rattle.node_loop.specs.declared.desk.NodeDesk.{NodeDesk}
 use Rattle.node_loop.specs.declared.error.NodeError.{NodeError}
 use Rattle.node_loop.specs.declared.error.NodeError.TheVariants.{Link, Write, Memory}
 
@@ -40,11 +40,11 @@ pub record Begun : Type 0 where
 -- Where a node is: its group and its desk, and what surrounds it.
 pub record Now : Type 0 where
   pub group : Peopled
-  pub desk : Desk
+  pub desk : NodeDesk
   pub around : Around
   pub clock : Option (List ℕ)
 
-abbrev pub now : Peopled → Desk → Around → Option (List ℕ) → Now
+abbrev pub now : Peopled → NodeDesk → Around → Option (List ℕ) → Now
 now group desk around clock = record { group = group; desk = desk; around = around; clock = clock }
 
 -- So far a node was told so many moments and answers; it did what they call for, wrote the lines of that and handed on
@@ -111,7 +111,8 @@ Advances stack plans c b moments answers rest borne at (Ok done) = SoFar stack p
 Advances stack plans c b moments answers rest borne at (Err e) = CutOff stack plans c b e at.around at.clock
 
 -- What it comes to that an event is fed which is the next thing to do.
-abbrev pub FedOn : List LayerTree → List Plan → ScriptEvent → Peopled → Peopled → Desk → Desk → Around → Around →
+abbrev pub FedOn : List LayerTree → List Plan → ScriptEvent → Peopled → Peopled → NodeDesk → NodeDesk → Around →
+    Around →
     Result (Unit {0}) SinkError → Type 0
 FedOn stack plans event g g' d d' a a' r =
     (c : Course) (b : Begun) (moments answers borne : ℕ) (rest : List ℕ → List Heard → List Doing)

@@ -11,7 +11,7 @@ use Rattle.script_mean.specs.declared.plan.NodePlan.{NodePlan}
 use Rattle.stack_mean.specs.Plans.{plans_of}
 use Rattle.run_mean.specs.Journal.{Heard, failure, Handed, note_lines, node_lines}
 use Rattle.run_mean.specs.World.{World, first_world}
-use Rattle.group_mean.specs.Node.{Surroundings, NodeWords, failed, failures, noted, played, handed_by}
+use Rattle.group_mean.specs.Node.{Surroundings, NodeWords, failed_sends, failures, node_notes, node_moments, handed_by}
 use Rattle.run_mean.specs.Report.{end_line}
 use Rattle.outside.specs.Lines.{Gains, Wrote}
 use Rattle.outside.specs.Tells as sink_lines
@@ -34,7 +34,7 @@ pub record Task : Type 0 where
 abbrev pub first_of_plan : List LayerTree → NodePlan → World
 first_of_plan stack plan = first_world stack plan.group plan.stamp (length plan.peers)
 
--- What surrounded a node, before and behind: its output and its links, and the moments that its clock was to tell.
+-- What surrounded a node, before and after: its output and its links, and the moments that its clock was to tell.
 pub record Whereabouts : Type 0 where
   pub around : Around
   pub clock : Option (List ℕ)
@@ -88,8 +88,8 @@ pub record MadeAllTurns (task : Task) (a b : Whereabouts) : Type 0 where
   pub answers : length s.heard ≡ task.words.turns * length task.words.me
   pub borne : failures s.heard ≤ task.words.patience
   pub written : Gains a.around.output b.around.output
-      (node_lines task.stack (plans_of task.stack) (failed s) (noted task.plan task.words s)
-      (played task.stack task.plan task.words s))
+      (node_lines task.stack (plans_of task.stack) (failed_sends s) (node_notes task.plan task.words s)
+      (node_moments task.stack task.plan task.words s))
   pub told : IsTold task s a b (RanOver task s)
 
 -- A member couldn't listen: of the listens, which come by ascending id, the one after so many failed.
@@ -118,8 +118,8 @@ pub record WentDeaf (task : Task) (a b : Whereabouts) : Type 0 where
   pub within : length s.heard ≤ length s.clock * length task.words.me
   pub begun : length s.clock * length task.words.me < length s.heard + length task.words.me
   pub written : Gains a.around.output b.around.output
-      (note_lines task.stack (plans_of task.stack) (failed s) (noted task.plan task.words s)
-      (played task.stack task.plan task.words s))
+      (note_lines task.stack (plans_of task.stack) (failed_sends s) (node_notes task.plan task.words s)
+      (node_moments task.stack task.plan task.words s))
   pub told : IsTold task s a b (RanOver task s)
 
 -- Surroundings that told more.
@@ -161,8 +161,10 @@ pub record BrokenOff (task : Task) (e : SinkError) (a b : Whereabouts) : Type 0 
   pub borne : failures (s.heard ++ heard_on) ≤ task.words.patience
   pub handed_on : sent ++ sent_on ≡ handed_by task.stack task.plan task.words (told_on s clock_on heard_on)
   pub written : Wrote
-      (node_lines task.stack (plans_of task.stack) (failed s) (noted task.plan task.words (told_on s clock_on heard_on))
-      (played task.stack task.plan task.words (told_on s clock_on heard_on))) a.around.output b.around.output (Err e)
+      (node_lines task.stack (plans_of task.stack) (failed_sends s)
+      (node_notes task.plan task.words (told_on s clock_on heard_on))
+      (node_moments task.stack task.plan task.words (told_on s clock_on heard_on))) a.around.output b.around.output
+      (Err e)
   pub performed : Performed task e s (told_on s clock_on heard_on) sent a.around.output b.around.output
   pub told : IsTold task s a b (LeftOff task s sent)
 

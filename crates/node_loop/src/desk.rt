@@ -10,7 +10,7 @@ use step_outputs::Outputs;
 /// The outputs of the last event, what lines and datagrams are built in, where a datagram is received, and how many
 /// events there were; and where memory is taken from.
 #[derive(Drop)]
-pub struct Desk {
+pub struct NodeDesk {
     pub alloc: Global,
     pub outputs: Outputs,
     pub tools: Tools,

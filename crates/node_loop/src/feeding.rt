@@ -15,7 +15,7 @@ ghost use Rattle.node_loop.specs.Course.{FedOn, plans_in, stack_in};
 ghost use Rattle.node_loop.specs.Feeding.{Feeds, IsOwn, IsUp, Rests, RestsAgain};
 
 use crate::course::Course;
-use crate::desk::Desk;
+use crate::desk::NodeDesk;
 use crate::outputs::pass_stepped;
 use crate::source::Source;
 use group_feed::Feed;
@@ -70,7 +70,7 @@ pub(crate) fn is_given(event: &ScriptEvent)
 pub(crate) fn feed_event<F: Feed, O: Sink, N: Links>(
     feed: &mut F,
     course: Course<'_>,
-    desk: &mut Desk,
+    desk: &mut NodeDesk,
     event: &ScriptEvent,
     out: &mut O,
     links: &mut N,
@@ -115,7 +115,7 @@ pub(crate) fn feed_event<F: Feed, O: Sink, N: Links>(
 pub(crate) fn feed_on<F: Feed, O: Sink, N: Links>(
     feed: &mut F,
     course: Course<'_>,
-    desk: &mut Desk,
+    desk: &mut NodeDesk,
     event: &ScriptEvent,
     out: &mut O,
     links: &mut N,

@@ -17,7 +17,7 @@ ghost use Rattle.group_feed.specs.Standing.{Stands};
 ghost use Rattle.msg_core.specs.View.{most_members};
 
 use crate::course::{Course, Progress, number_fits};
-use crate::desk::Desk;
+use crate::desk::NodeDesk;
 use crate::error::{NodeError, cut};
 use crate::tools::Tools;
 use crate::turns::turn;
@@ -39,13 +39,13 @@ fn room(alloc: Global) -> Result<Vec<u8>, AllocError>
 }
 
 /// A desk at which nothing was done.
-fn desk(alloc: Global, stack: &Stack) -> Result<Desk, Memory>
+fn desk(alloc: Global, stack: &Stack) -> Result<NodeDesk, Memory>
     ensures places { IfOk result (λ d. d.outputs.places ≡ largest_weight (stack_tree stack.now)) }
     ensures none { IfOk result (λ d. d.events ≡ 0) }
 {
     let outputs = Outputs::fresh(alloc, stack)?;
     let room = room(alloc)?;
-    Ok(Desk {
+    Ok(NodeDesk {
         alloc,
         outputs,
         tools: Tools {
@@ -81,7 +81,7 @@ fn listen_all<N: Links>(peers: &[Peer], me: &[u8], links: &mut N) -> Result<(), 
 fn make_turns<F: Feed, O: Sink, N: Links, C: Clock>(
     feed: &mut F,
     course: Course<'_>,
-    desk: &mut Desk,
+    desk: &mut NodeDesk,
     patience: u32,
     out: &mut O,
     links: &mut N,

@@ -20,7 +20,7 @@ ghost use Rattle.node_loop.specs.Feeding.{IsOwn, IsUp, RestsAgain};
 ghost use Rattle.msg_core.specs.View.{most_members};
 
 use crate::course::{Course, Progress, number_fits};
-use crate::desk::Desk;
+use crate::desk::NodeDesk;
 use crate::error::{NodeError, cut};
 use crate::feeding::feed_on;
 use group_feed::Feed;
@@ -32,7 +32,7 @@ use script_mean::{Bytes, ScriptEvent, member_of};
 fn tick_all<F: Feed, O: Sink, N: Links>(
     feed: &mut F,
     course: Course<'_>,
-    desk: &mut Desk,
+    desk: &mut NodeDesk,
     moment: u32,
     out: &mut O,
     links: &mut N,
@@ -86,13 +86,14 @@ fn bear<O: Sink>(line: &mut Line, id: u8, patience: &mut u32, out: &mut O) -> Re
 fn feed_datagram<F: Feed, O: Sink, N: Links>(
     feed: &mut F,
     course: Course<'_>,
-    desk: &mut Desk,
+    desk: &mut NodeDesk,
     id: u8,
     count: usize,
     out: &mut O,
     links: &mut N,
 ) -> Result<(), SinkError>
-    requires up { IsUp (stack_in course) (plans_in course) (F.group feed.old) desk.old (N.listening links.old) (id ∷ []) }
+    requires up { IsUp (stack_in course) (plans_in course) (F.group feed.old) desk.old (N.listening links.old)
+        (id ∷ []) }
     requires few { desk.old.events + 1 < 2 ^ 64 }
     requires count { count ≤ LONGEST_DATAGRAM }
     ensures told { FedOn (stack_in course.entry) (plans_in course.entry) (Raw id (take count desk.old.room.items))
@@ -116,13 +117,14 @@ fn feed_datagram<F: Feed, O: Sink, N: Links>(
 fn ask<F: Feed, O: Sink, N: Links>(
     feed: &mut F,
     course: Course<'_>,
-    desk: &mut Desk,
+    desk: &mut NodeDesk,
     id: u8,
     patience: &mut u32,
     out: &mut O,
     links: &mut N,
 ) -> Result<(), NodeError>
-    requires up { IsUp (stack_in course) (plans_in course) (F.group feed.old) desk.old (N.listening links.old) (id ∷ []) }
+    requires up { IsUp (stack_in course) (plans_in course) (F.group feed.old) desk.old (N.listening links.old)
+        (id ∷ []) }
     requires few { desk.old.events + 1 < 2 ^ 64 }
     ensures told { (c : stages.Course) (b : Begun) (moments answers t borne : ℕ) (ids : List ℕ)
         (clock : Option (List ℕ)) →
@@ -152,7 +154,7 @@ fn ask<F: Feed, O: Sink, N: Links>(
 fn ask_all<F: Feed, O: Sink, N: Links>(
     feed: &mut F,
     course: Course<'_>,
-    desk: &mut Desk,
+    desk: &mut NodeDesk,
     patience: &mut u32,
     out: &mut O,
     links: &mut N,
@@ -185,7 +187,7 @@ fn ask_all<F: Feed, O: Sink, N: Links>(
 fn feed_if_own<F: Feed, O: Sink, N: Links>(
     feed: &mut F,
     course: Course<'_>,
-    desk: &mut Desk,
+    desk: &mut NodeDesk,
     event: &ScriptEvent,
     out: &mut O,
     links: &mut N,
@@ -219,7 +221,7 @@ fn feed_if_own<F: Feed, O: Sink, N: Links>(
 fn feed_planned<F: Feed, O: Sink, N: Links>(
     feed: &mut F,
     course: Course<'_>,
-    desk: &mut Desk,
+    desk: &mut NodeDesk,
     t: u32,
     next: &mut usize,
     out: &mut O,
@@ -243,7 +245,8 @@ fn feed_planned<F: Feed, O: Sink, N: Links>(
     ensures rests { OnOk result
         (RestsAgain (stack_in course.entry) (plans_in course.entry) (F.group feed.old) desk.old (F.group feed.new)
         desk.new) }
-    ensures passed { OnOk result (AllByRecursion (λ entry. entry.0 < t + 1) (take next.new course.entry.plan.now.turns)) }
+    ensures passed { OnOk result
+        (AllByRecursion (λ entry. entry.0 < t + 1) (take next.new course.entry.plan.now.turns)) }
     ensures within { OnOk result (next.new ≤ length course.entry.plan.now.turns) }
     ensures due { OnOk result (AllByRecursion (λ entry. t + 1 ≤ entry.0) (drop next.new course.entry.plan.now.turns)) }
     ensures counted { OnOk result (desk.new.events + next.old ≤ desk.old.events + next.new) }
@@ -261,7 +264,7 @@ fn feed_planned<F: Feed, O: Sink, N: Links>(
 pub(crate) fn turn<F: Feed, O: Sink, N: Links, C: Clock>(
     feed: &mut F,
     course: Course<'_>,
-    desk: &mut Desk,
+    desk: &mut NodeDesk,
     progress: &mut Progress,
     out: &mut O,
     links: &mut N,
@@ -275,7 +278,8 @@ pub(crate) fn turn<F: Feed, O: Sink, N: Links, C: Clock>(
     requires passed { AllByRecursion (λ entry. entry.0 < progress.old.turn)
         (take progress.old.next course.plan.now.turns) }
     requires within { progress.old.next ≤ length course.plan.now.turns }
-    requires due { AllByRecursion (λ entry. progress.old.turn ≤ entry.0) (drop progress.old.next course.plan.now.turns) }
+    requires due { AllByRecursion (λ entry. progress.old.turn ≤ entry.0)
+        (drop progress.old.next course.plan.now.turns) }
     requires members { length course.me.now ≤ most_members }
     requires few { desk.old.events ≤ 64 * progress.old.turn + progress.old.next }
     ensures told { (b : Begun) (borne : ℕ) →
@@ -292,10 +296,12 @@ pub(crate) fn turn<F: Feed, O: Sink, N: Links, C: Clock>(
         (RestsAgain (stack_in course.entry) (plans_in course.entry) (F.group feed.old) desk.old (F.group feed.new)
         desk.new) }
     ensures passed { OnOk result
-        (AllByRecursion (λ entry. entry.0 < progress.old.turn + 1) (take progress.new.next course.entry.plan.now.turns)) }
+        (AllByRecursion (λ entry. entry.0 < progress.old.turn + 1)
+        (take progress.new.next course.entry.plan.now.turns)) }
     ensures within { OnOk result (progress.new.next ≤ length course.entry.plan.now.turns) }
     ensures due { OnOk result
-        (AllByRecursion (λ entry. progress.old.turn + 1 ≤ entry.0) (drop progress.new.next course.entry.plan.now.turns)) }
+        (AllByRecursion (λ entry. progress.old.turn + 1 ≤ entry.0)
+        (drop progress.new.next course.entry.plan.now.turns)) }
     ensures few { OnOk result (desk.new.events ≤ 64 * (progress.old.turn + 1) + progress.new.next) }
     ensures listening { (m : ℕ) → N.listening links.new m ≡ N.listening links.old m }
 {

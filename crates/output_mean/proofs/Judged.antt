@@ -6,7 +6,8 @@ use Rattle.layer_mean.specs.Tree.{LayerTree}
 use Rattle.fault_mean.specs.Faults as faults
 use Rattle.fault_mean.specs.FileFault.{file_fault}
 use Rattle.file_mean.specs.Stack.{stack_of}
-use Rattle.stack_mean.specs.Acceptance.{accepted, too_many, too_many_joins, held_at_most, without_cycle, largest_weight}
+use Rattle.stack_mean.specs.Acceptance.{acceptance, too_many, too_many_joins, held_at_most, without_cycle}
+use Rattle.stack_mean.specs.Acceptance.{largest_weight}
 use Rattle.stack_mean.specs.Acceptance.{largest_joins, weight_limit, joins_limit}
 use Rattle.stack_mean.specs.Graph.{Node, first_on_cycle}
 use Rattle.output_mean.specs.Judged.{judged_by, said_accepted}
@@ -30,7 +31,7 @@ accepted_same s t None is = heavy (nat_lt weight_limit (largest_weight s)) (nat_
 -- the stack of a file without faults
 pub record IsOwn (file : FileTree) (t : List LayerTree) : Type 0 where
   pub faultless : file_fault file ≡ None
-  pub accepts : accepted (stack_of file) ≡ Ok (stack_of file)
+  pub accepts : acceptance (stack_of file) ≡ Ok (stack_of file)
   pub is : stack_of file ≡ t
 
 pub own_stack : (file : FileTree) (t : List LayerTree) (fault : Option faults.FileFault) → file_fault file ≡ fault →

@@ -8,8 +8,8 @@ use Rattle.fault_mean.specs.Faults as faults
 use Rattle.fault_mean.specs.FileFault.{file_fault}
 use Rattle.file_mean.specs.Library.{IsFile}
 use Rattle.file_mean.specs.Stack.{stack_of}
-use Rattle.stack_mean.specs.Acceptance as acceptance
-use Rattle.stack_mean.specs.Acceptance.{accepted}
+use Rattle.stack_mean.specs.Acceptance as limits
+use Rattle.stack_mean.specs.Acceptance.{acceptance}
 use Rattle.end_mean.specs.Status.{FileFault, too_large, bad_token, unexpected, unknown, twice, over_limit, wrong_kind}
 use Rattle.end_mean.specs.Status.{arity, direction, header, initial, cycle, too_many, too_many_joins}
 
@@ -30,31 +30,31 @@ abbrev pub said_fault : faults.FileFault → FileFault
 said_fault (faults.of_names fault) = said_name fault
 said_fault (faults.of_types fault) = said_type fault
 
-abbrev pub said_refusal : acceptance.Refusal → FileFault
-said_refusal (acceptance.cycle place kind) = cycle place kind
-said_refusal (acceptance.too_many weight) = too_many weight
-said_refusal acceptance.too_many_joins = too_many_joins
+abbrev pub said_refusal : limits.Refusal → FileFault
+said_refusal (limits.cycle place kind) = cycle place kind
+said_refusal (limits.too_many weight) = too_many weight
+said_refusal limits.too_many_joins = too_many_joins
 
 -- An accepted stack, or why it isn't.
-abbrev pub said_accepted : Result (List LayerTree) acceptance.Refusal → Result (List LayerTree) FileFault
+abbrev pub said_accepted : Result (List LayerTree) limits.Refusal → Result (List LayerTree) FileFault
 said_accepted (Ok stack) = Ok stack
 said_accepted (Err refusal) = Err (said_refusal refusal)
 
 -- A file is judged by its first fault; without one, by the stack that it means.
 abbrev pub judged_by : FileTree → Option faults.FileFault → Result (List LayerTree) FileFault
 judged_by file (Some fault) = Err (said_fault fault)
-judged_by file None = said_accepted (accepted (stack_of file))
+judged_by file None = said_accepted (acceptance (stack_of file))
 
 -- The accepted stack of a file, or the first cause for which the file is refused: names, then types, then the stack.
-abbrev pub judged : FileTree → Result (List LayerTree) FileFault
-judged file = judged_by file (file_fault file)
+abbrev pub judged_stack : FileTree → Result (List LayerTree) FileFault
+judged_stack file = judged_by file (file_fault file)
 
 -- The bytes of a file mean an accepted stack.
 pub record Means (text : List ℕ) (stack : List LayerTree) : Type 0 where
   pub small : length text ≤ longest_file
   pub file : FileTree
   pub is_file : IsFile text file
-  pub accepted : judged file ≡ Ok stack
+  pub accepted : judged_stack file ≡ Ok stack
 
 -- The bytes of a file mean a stack.
 pub record IsGood (text : List ℕ) : Type 0 where
@@ -66,7 +66,7 @@ pub record Condemns (text : List ℕ) (fault : FileFault) : Type 0 where
   pub small : length text ≤ longest_file
   pub file : FileTree
   pub is_file : IsFile text file
-  pub refused : judged file ≡ Err fault
+  pub refused : judged_stack file ≡ Err fault
 
 -- Why the bytes of a file are refused: there are too many; or they stop being the beginning of a file, at a bad token,
 -- at a token that no file goes on with or at their end; or the file that they spell is refused.

@@ -18,7 +18,7 @@ use Rattle.run_mean.specs.Journal.{Heard, failure, note_lines, node_lines, Hande
 use Rattle.run_mean.specs.Report.{output_in}
 use Rattle.run_mean.specs.Tally.{tally, accepted_lines}
 use Rattle.miss_mean.specs.Text.{explained_lines}
-use Rattle.group_mean.specs.Node.{Surroundings, NodeWords, failed, failures, noted, played, handed_by}
+use Rattle.group_mean.specs.Node.{Surroundings, NodeWords, failed_sends, failures, node_notes, node_moments, handed_by}
 use Rattle.group_mean.specs.Room.{HasRoom}
 use Rattle.output_mean.specs.Judged.{Means}
 
@@ -77,8 +77,8 @@ pub record Serves (file plan_text : List ℕ) (words : NodeWords) (s : Surroundi
   pub answers : length s.heard ≡ words.turns * length words.me
   pub borne : failures s.heard ≤ words.patience
   pub written :
-      out ≡ concat (node_lines node.stack (plans_of node.stack) (failed s) (noted node.plan words s)
-      (played node.stack node.plan words s))
+      out ≡ concat (node_lines node.stack (plans_of node.stack) (failed_sends s) (node_notes node.plan words s)
+      (node_moments node.stack node.plan words s))
   pub handed_on : sent ≡ handed_by node.stack node.plan words s
 
 -- A node that couldn't listen made no turn.
@@ -102,8 +102,8 @@ pub record GoesDeaf (file plan_text : List ℕ) (words : NodeWords) (s : Surroun
   pub within : length s.heard ≤ length s.clock * length words.me
   pub begun : length s.clock * length words.me < length s.heard + length words.me
   pub written :
-      out ≡ concat (note_lines node.stack (plans_of node.stack) (failed s) (noted node.plan words s)
-      (played node.stack node.plan words s))
+      out ≡ concat (note_lines node.stack (plans_of node.stack) (failed_sends s) (node_notes node.plan words s)
+      (node_moments node.stack node.plan words s))
   pub handed_on : sent ≡ handed_by node.stack node.plan words s
 
 -- The line of an audit's finding.

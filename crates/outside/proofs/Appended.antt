@@ -22,7 +22,7 @@ appends_then (Some as_) (Some bs) None xs ys first second = absurd second
 appends_then (Some as_) (Some bs) (Some cs) xs ys first second = second ∙ ap (λ l. l ++ ys) first ∙
     append_assoc as_ xs ys
 
--- a prefix behind puts
+-- a prefix after puts
 pub appends_then_prefix : (a b c : Option (List ℕ)) (xs ys : List ℕ) → Appends a b xs → AppendsPrefix b c ys →
     AppendsPrefix a c (xs ++ ys)
 appends_then_prefix a b c xs ys first (n, second) =

@@ -18,7 +18,7 @@ next_count-later n = grind arith
 pub rose_next : (n : ℕ) → Rose n (next_count n)
 rose_next n = grind arith
 
--- what rose has risen, whatever calls come behind
+-- what rose has risen, whatever calls come after
 pub rose_then : (a b c : ℕ) → a ≤ b → b ≤ c → Rose a b → Rose a c
 rose_then a b c ab bc rose = elim rose [ inl more ↦ inl (omega arith) | inr last ↦ grind arith ]
 

@@ -28,7 +28,7 @@ drops_none (Some xs) = refl
 pub gains_none : (a : Tells) → Gains a a []
 gains_none a = record { gained = appends_none a.contents; puts = drops_none a.failures; sound = refl }
 
--- what is left of a list behind some, and then behind some more
+-- what is left of a list after some, and then after some more
 drops_then : {A : Type 0} (m n : ℕ) (o : Option (List A)) → option_map (drop n) (option_map (drop m) o) ≡
     option_map (drop (m + n)) o
 drops_then m n None = refl
@@ -164,7 +164,7 @@ pub lines_more : (lines : List (List ℕ)) (i : ℕ) (line : List ℕ) → i < l
     take (i + 1) lines ≡ take i lines ++ line ∷ []
 lines_more lines i line lt is = take_more lines i line lt ∙ ap (λ l. take i lines ++ l ∷ []) (sym is)
 
--- the lines up to and with one, and those behind
+-- the lines up to and with one, and those after
 pub lines_whole : (lines : List (List ℕ)) (i : ℕ) (line : List ℕ) → i < length lines → line ≡ get_or lines i line →
     lines ≡ take i lines ++ (line ∷ []) ++ drop (i + 1) lines
 lines_whole lines i line lt is =

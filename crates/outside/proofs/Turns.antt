@@ -15,7 +15,7 @@ pub wrote_as : (a b : Tells) (xs ys : List (List ℕ)) (r : Result (Unit {0}) Si
     Wrote ys a b r
 wrote_as a b xs ys r same h = subst (λ lines. Wrote lines a b r) same h
 
--- lines in front, and whatever came of those behind
+-- lines in front, and whatever came of those after
 pub wrote_both : (a b c : Tells) (xs ys : List (List ℕ)) (r : Result (Unit {0}) SinkError) → Gains a b xs →
     Wrote ys b c r → Wrote (xs ++ ys) a c r
 wrote_both a b c xs ys (Ok done) h k = gains_then a b c xs ys (xs ++ ys) h k refl

@@ -32,7 +32,7 @@ pub record Fails (old new : Tells) (lines : List (List ℕ)) : Type 0 where
   pub puts : new.failures ≡ option_map (drop (length front + 1)) old.failures
   pub rose : Rose old.faults new.faults
 
--- Lines were written to a sink: all, or those in front of a put that failed, or a prefix of their bytes before memory
+-- Lines were written to a sink: all, or those before a put that failed, or a prefix of their bytes before memory
 -- ran out.
 abbrev pub Wrote : List (List ℕ) → Tells → Tells → Result (Unit {0}) SinkError → Type 0
 Wrote lines old new (Ok done) = Gains old new lines

@@ -62,7 +62,7 @@ is_failure Once = false
 is_failure Twice = false
 is_failure First = false
 
--- what waits after a send of this fate: a datagram may be lost, come once or twice behind the others, or overtake them
+-- what waits after a send of this fate: a datagram may be lost, come once or twice after the others, or overtake them
 abbrev pub waiting_after : Fate → Sent → List Sent → List Sent
 waiting_after Fails sent waiting = waiting
 waiting_after Lost sent waiting = waiting

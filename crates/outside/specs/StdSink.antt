@@ -8,5 +8,5 @@ HandsOn old new bytes (Ok done) = Appends old new bytes
 HandsOn old new bytes (Err n) = Appends old new (take n bytes) × (n ≤ length bytes)
 
 -- the bytes of a stream, and then those that are held for it, but for so many that it has
-abbrev pub gathered : Option (List ℕ) → ℕ → List ℕ → Option (List ℕ)
-gathered stream done held = append_known stream (drop done held)
+abbrev pub gathered_bytes : Option (List ℕ) → ℕ → List ℕ → Option (List ℕ)
+gathered_bytes stream done held = append_known stream (drop done held)

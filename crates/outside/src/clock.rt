@@ -3,7 +3,7 @@ ghost use Rattle.std.specs.Prelude.{◌≡◌, ℕ, List, Option, IfSome, drop};
 ghost use Rattle.std.specs.Option.{option_map};
 ghost use Rattle.outside.specs.Clock.{next_moment};
 
-/// What tells the time, in milliseconds that begin again at 0 behind 2^32 - 1.
+/// What tells the time, in milliseconds that begin again at 0 after 2^32 - 1.
 pub trait Clock {
     /// The moments to come, where the clock tells them.
     ghost told: { Self → Option (List ℕ) };

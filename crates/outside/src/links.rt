@@ -51,7 +51,7 @@ pub enum Fate {
     Fails,
     /// It never arrives.
     Lost,
-    /// It arrives behind those that wait.
+    /// It arrives after those that wait.
     Once,
     /// It arrives twice.
     Twice,
@@ -92,7 +92,8 @@ pub trait Links {
         ensures counted { send_faults self.new ≡ faults_after_call (send_faults self.old) result }
         ensures faults { faults self.new ≡ faults self.old }
         ensures listening { (m : ℕ) → listening self.new m ≡ listening self.old m }
-        ensures told { Sends (record { from = from; to = to; bytes = bytes.now }) (told self.old) (told self.new) result };
+        ensures told { Sends (record { from = from; to = to; bytes = bytes.now }) (told self.old) (told self.new)
+            result };
 
     /// Takes a datagram that waits for a member that listens: its bytes are the first of `into`, of which all others
     /// stay as they were. None waits where the answer is None; then, and on an error, `into` is as before.

@@ -3,7 +3,7 @@ ghost use Rattle.std.specs.Prelude.{◌≡◌, Some, drop};
 
 use crate::Clock;
 
-/// A clock that gives these moments in turn, and behind them 0.
+/// A clock that gives these moments in turn, and after them 0.
 #[derive(Drop)]
 pub struct MemClock {
     moments: Vec<u32>,

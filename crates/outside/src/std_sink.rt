@@ -6,7 +6,7 @@ ghost use Rattle.std.specs.Option.{option_map};
 ghost use Rattle.std.specs.Io.KnownBytes.{Keeps};
 ghost use Rattle.outside.specs.declared.sink.SinkError.TheVariants.{Memory};
 ghost use Rattle.outside.specs.Sink.{Puts, faults_after_put};
-ghost use Rattle.outside.specs.StdSink.{HandsOn, gathered};
+ghost use Rattle.outside.specs.StdSink.{HandsOn, gathered_bytes};
 
 use crate::count::count_after;
 use crate::{Sink, SinkError};
@@ -83,8 +83,8 @@ impl<W: Write + Drop> StdSink<W> {
 
     // Whether the stream took what is held.
     fn hand_on(&mut self) -> bool
-        ensures kept { Keeps (gathered (W.contents self.old.stream) self.old.done self.old.held.items)
-            (gathered (W.contents self.new.stream) self.new.done self.new.held.items) }
+        ensures kept { Keeps (gathered_bytes (W.contents self.old.stream) self.old.done self.old.held.items)
+            (gathered_bytes (W.contents self.new.stream) self.new.done self.new.held.items) }
         ensures emptied { OnTrue result ((self.new.held.items ≡ []) × (self.new.done ≡ 0)) }
         ensures capacity { vec_capacity self.new.held ≡ vec_capacity self.old.held }
         ensures faults { self.new.faults ≡ self.old.faults }
@@ -106,14 +106,14 @@ impl<W: Write + Drop> StdSink<W> {
 impl<W: Write + Drop> Sink for StdSink<W> {
     ghost faults = { λ sink. sink.faults };
 
-    ghost contents = { λ sink. gathered (W.contents sink.stream) sink.done sink.held.items };
+    ghost contents = { λ sink. gathered_bytes (W.contents sink.stream) sink.done sink.held.items };
 
     ghost failures = { λ _. None };
 
     fn put(&mut self, bytes: &[u8]) -> Result<(), SinkError>
         ensures counted { self.new.faults ≡ faults_after_put self.old.faults result }
-        ensures put { Puts None (gathered (W.contents self.old.stream) self.old.done self.old.held.items)
-            (gathered (W.contents self.new.stream) self.new.done self.new.held.items) bytes.now result }
+        ensures put { Puts None (gathered_bytes (W.contents self.old.stream) self.old.done self.old.held.items)
+            (gathered_bytes (W.contents self.new.stream) self.new.done self.new.held.items) bytes.now result }
         ensures memory { result ≢ Err Memory }
     {
         if !self.has_room_for(bytes) && !self.hand_on() {

@@ -42,7 +42,7 @@ notes_count : (n : ℕ) → length (map note_name (range_with_len 0 n)) ≡ n
 notes_count n = length-map (range_with_len 0 n) note_name ∙ length-range_with_len 0 n
 
 module _ (stack : List LayerTree) where
-  -- an operation's line is put behind those before
+  -- an operation's line is put after those before
   pub writes_one : (before : List (List ℕ)) (s : Named) (o : Operation) →
       writes true stack (written_with before s) o ≡ written_with (before ++ line_with stack before s o ∷ [])
       (naming stack s o)
@@ -77,7 +77,7 @@ module _ (stack : List LayerTree) where
         lines = before ++ line_with stack before s (note m) ∷ [];
       })
 
-  -- operations, as they are written behind what may be named and whatever lines
+  -- operations, as they are written after what may be named and whatever lines
   abbrev AreWritten : Named → List Operation → List (List ℕ) → Type 0
   AreWritten s operations lines =
       (before : List (List ℕ)) → (fold (writes true stack) (written_with before s) operations).lines ≡ before ++ lines

@@ -13,7 +13,7 @@ use Rattle.trace_mean.specs.Trace as trace
 use Rattle.trace_mean.specs.Trace.{Atom, Core, TraceNumber, element, square, TraceMessage, Link, Chained, Operation}
 use Rattle.trace_mean.specs.Trace.{bind, note, check, set, set_square, push, output}
 use Rattle.trace_mean.specs.Fuse.{fields_of}
-use Rattle.bypass_mean.specs.Text.{layer_of, sign_text, listed, atom_text, core_text, number_text, message_text}
+use Rattle.bypass_mean.specs.Text.{layer_of, sign_text, bracketed_list, atom_text, core_text, number_text, message_text}
 use Rattle.bypass_mean.specs.Text.{link_text, behind, pushed_text}
 use Rattle.pack_mean.specs.Reader.{Reader, ◌>>=◌, yields, the_text, a_word, each_of, more_of}
 use Rattle.pack_mean.specs.Named.{Named, items_at, atom_named, core_named, kind_named}
@@ -86,7 +86,7 @@ module _ (stack : List LayerTree) (before : List (List ℕ)) (s : Named) where
             name_text name ++ codes "(" ++ parted (map AtomText fields) ++ codes ")" ≡
             LinkText (record { place = place; tag = tag; fields = fields })
         ends name tag fields is = in_brackets (name_text name) (parted (map AtomText fields)) ∙
-            ap (λ l. l ++ listed (map AtomText fields)) (tag_written (layer_of stack place) name tag is)
+            ap (λ l. l ++ bracketed_list (map AtomText fields)) (tag_written (layer_of stack place) name tag is)
 
   abbrev LinksText : List Link → List ℕ
   LinksText chain = flat_map (λ l. codes "/" ++ LinkText l) chain
@@ -148,7 +148,7 @@ module _ (stack : List LayerTree) (before : List (List ℕ)) (s : Named) where
   chained_is place = writes_then CoreText [] _ _ _ core_is
       (λ c. writes_then BehindText _ _ _ _ (chain_is place) (λ chain. writes_value _ _ _ refl))
 
-  -- what stands behind the numbers of a row
+  -- what stands after the numbers of a row
   abbrev RowText : List (List ℕ) → Option Chained → List ℕ
   RowText [] message = parted (map PushedText (option_to_list message))
   RowText (name ∷ names) message = behind_commas (map PushedText (option_to_list message))

@@ -15,7 +15,7 @@ use Rattle.trace_form_laws.specs.Names as names
 use Rattle.trace_form_laws.specs.Names.{Name, NumberNames, MessageNames, AtomNames, LinkNames, ChainedNames, SentNames}
 use Rattle.trace_form_laws.specs.Names.{OperationNames}
 use Rattle.bypass_mean.specs.Text.{layer_of}
-use Rattle.pack_mean.specs.Reader.{Reader, ◌>>=◌, yields, given, the_text, a_word, each_of}
+use Rattle.pack_mean.specs.Reader.{Reader, ◌>>=◌, yields, option_reader, the_text, a_word, each_of}
 use Rattle.pack_mean.specs.Named.{Named, items_at, atom_named, core_named, kind_named}
 use Rattle.pack_mean.specs.Expression.{inside, most_brackets, a_cell, a_number, a_message, a_queue}
 use Rattle.pack_mean.specs.Operation.{an_atom, tag_named, a_link, links_behind, some_links, a_chain, a_chained}
@@ -175,10 +175,10 @@ module _ (stack : List LayerTree) (s : Named) (So : Name → Type 0) (spelled : 
   set_is : Gives (OperationNames So) (a_set stack s)
   set_is = gives_text _ (codes " ") _ (λ _. gives_name _ _ (λ name.
       gives_then (NumberNames So) _ (a_cell stack (inside stack s most_brackets) name)
-      (λ target. the_text (codes " = ") >>= λ _. a_number stack s >>= λ x. given (setting target x))
+      (λ target. the_text (codes " = ") >>= λ _. a_number stack s >>= λ x. option_reader (setting target x))
       (cell_is stack s So spelled (inside stack s most_brackets) deepest_is name)
       (λ target target_is. gives_text _ (codes " = ") _ (λ _.
-      gives_then (NumberNames So) _ (a_number stack s) (λ x. given (setting target x)) any_number (λ x x_is.
+      gives_then (NumberNames So) _ (a_number stack s) (λ x. option_reader (setting target x)) any_number (λ x x_is.
       gives_given (OperationNames So) (setting target x) (setting_is target target_is x x_is))))))
 
   push_is : Gives (OperationNames So) (a_push stack s)

@@ -3,7 +3,7 @@ use Rattle.std.proofs.Common.{◌≡◌, ℕ, Bool, true, false, List, [], ◌�
 use Rattle.std.proofs.Common.{bytes_eq, refl, ap, subst}
 use Rattle.std.specs.Prelude.{if◌then◌else◌}
 use Rattle.std.specs.List.{AllByRecursion}
-use Rattle.pack_mean.specs.Reader.{Reader, ◌>>=◌, yields, given, nowhere, the_text, a_name, a_word, whole}
+use Rattle.pack_mean.specs.Reader.{Reader, ◌>>=◌, yields, option_reader, nowhere, the_text, a_name, a_word, whole}
 use Rattle.pack_mean.specs.Reader.{nothing_behind, each_of, more_of}
 
 -- where two steps gave something, the first did, and the second then gave this
@@ -22,7 +22,8 @@ pub record Gives {A : Type 0} (P : A → Type 0) (read : Reader A) : Type 0 wher
 pub gives_value : {A : Type 0} (P : A → Type 0) (x : A) → P x → Gives P (yields x)
 gives_value P x h = record { said = λ text y rest is. some_same (λ q. P q.0) is h }
 
-pub gives_given : {A : Type 0} (P : A → Type 0) (o : Option A) → ((x : A) → o ≡ Some x → P x) → Gives P (given o)
+pub gives_given : {A : Type 0} (P : A → Type 0) (o : Option A) → ((x : A) → o ≡ Some x → P x) →
+    Gives P (option_reader o)
 gives_given P None h = record { said = λ text y rest is. absurd (cc is) }
 gives_given P (Some x) h = record { said = λ text y rest is. some_same (λ q. P q.0) is (h x refl) }
 
@@ -39,13 +40,13 @@ gives_then {A = A} {B = B} P Q read next h k = record { said = λ text y rest is
     go text y rest None e is = absurd (cc is)
     go text y rest (Some t) e is = (k t.0 (h.said text t.0 t.1 e)).said t.1 y rest is
 
--- Behind what isn't looked at.
+-- After what isn't looked at.
 pub gives_past : {A B : Type 0} (Q : B → Type 0) (read : Reader A) (next : A → Reader B) →
     ((x : A) → Gives Q (next x)) →
     Gives Q (read >>= next)
 gives_past Q read next k = gives_then (λ x. Unit {0}) Q read next record { said = λ text x rest is. tt } (λ x h. k x)
 
--- The same behind a name, a word, what there is, and a text.
+-- The same after a name, a word, what there is, and a text.
 pub gives_name : {B : Type 0} (Q : B → Type 0) (next : List (List ℕ) → Reader B) →
     ((name : List (List ℕ)) → Gives Q (next name)) →
     Gives Q (a_name >>= next)
@@ -56,8 +57,8 @@ pub gives_word : {B : Type 0} (Q : B → Type 0) (next : List ℕ → Reader B) 
 gives_word Q next k = gives_past Q a_word next k
 
 pub gives_known : {A B : Type 0} (Q : B → Type 0) (o : Option A) (next : A → Reader B) → ((x : A) → Gives Q (next x)) →
-    Gives Q (given o >>= next)
-gives_known Q o next k = gives_past Q (given o) next k
+    Gives Q (option_reader o >>= next)
+gives_known Q o next k = gives_past Q (option_reader o) next k
 
 pub gives_text : {B : Type 0} (Q : B → Type 0) (wanted : List ℕ) (next : Unit {0} → Reader B) →
     ((u : Unit {0}) → Gives Q (next u)) →

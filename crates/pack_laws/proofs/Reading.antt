@@ -57,7 +57,7 @@ module _ (stack : List LayerTree) where
   reach_push r [] o = refl
   reach_push r (x ∷ os) o = reach_push (reaching stack r x) os o
 
-  -- the operations of a case that is open, and what may be named behind them
+  -- the operations of a case that is open, and what may be named after them
   record Held (d : Due) (s : Named) (held : List Operation) : Type 0 where
     form : InForm stack d held
     reach : fold (reaching stack) (at_first d.fields) held ≡ reach_of s
@@ -77,7 +77,7 @@ module _ (stack : List LayerTree) where
   }
 
   module _ (all : List Due) where
-    -- the traces so far are of the cases in front of those that are due
+    -- the traces so far are of the cases before those that are due
     record Front (due : List Due) (traces : List (List Operation)) : Type 0 where
       before : List Due
       split : before ++ due ≡ all

@@ -27,7 +27,7 @@ use Rattle.symbol_laws.proofs.Replaced.{replaced_are_of_stack}
 use Rattle.pack_mean.specs.File.{Due, within_limit, due_from, due_of}
 use Rattle.pack_mean.specs.Accepted.{SameActs}
 use Rattle.pack_laws.specs.Form.{at_first, InForm}
-use Rattle.pack_laws.specs.Replaced.{chosen, filled, second_filled, with_entry, from_entries, from_file}
+use Rattle.pack_laws.specs.Replaced.{chosen_trace, filled_case, second_filled, with_entry, from_entries, from_file}
 use Rattle.pack_laws.specs.Replaced.{AcceptedAreOfStack, OwnTracesGiveOwn, MayReplace, AcceptedMayReplace}
 use Rattle.pack_laws.proofs.Readers.{some_same}
 use Rattle.pack_laws.proofs.Reading.{what_is_read_is_in_form}
@@ -59,7 +59,7 @@ module _ (stack : List LayerTree) (sound : IsSound stack) where
   module _ (n : ℕ) (e : Entry) (case : Case) where
     chosen_replaces : (own trace : List Operation) → trace_of case stack e.known e.fields ≡ Ok own →
         Fits (due_with n e case own) trace →
-        Replaces stack e own (chosen own trace)
+        Replaces stack e own (chosen_trace own trace)
     chosen_replaces own trace made fits = go (nat_le (trace_joins trace) (trace_joins own)) refl where
       go : (b : Bool) → nat_le (trace_joins trace) (trace_joins own) ≡ b →
           Replaces stack e own (if b then trace else own)
@@ -76,10 +76,10 @@ module _ (stack : List LayerTree) (sound : IsSound stack) where
         joins = le_refl (trace_joins own);
       }
 
-    -- what is made of a case, and the traces that are left for those that are due behind it
+    -- what is made of a case, and the traces that are left for those that are due after it
     record IsFilled (more : List Due) (traces : List (List Operation)) (own : Made) : Type 0 where
-      made : IsReplaced stack e own (filled own traces).0
-      rest : AllZip Fits more (filled own traces).1
+      made : IsReplaced stack e own (filled_case own traces).0
+      rest : AllZip Fits more (filled_case own traces).1
 
     fill : (more : List Due) (traces : List (List Operation)) (s : Result Shape NoShape)
         (r : Result (List Operation) NoShape) →
@@ -138,10 +138,10 @@ module _ (stack : List LayerTree) (sound : IsSound stack) where
       (trace_of First stack e.known e.fields)
       (λ own is. is) (subst (λ ds. AllZip Fits ds traces) (append_assoc firsts seconds (due_from stack (suc n) es)) h)
       in
-      let y = fill_second n e (due_from stack (suc n) es) (filled (made_of simplest First stack e) traces).1
+      let y = fill_second n e (due_from stack (suc n) es) (filled_case (made_of simplest First stack e) traces).1
       (has_second_case stack e.known) refl x.rest in
       let more = fill_all (suc n) es
-      (second_filled (second_of simplest stack e) (filled (made_of simplest First stack e) traces).1).1 y.rest in
+      (second_filled (second_of simplest stack e) (filled_case (made_of simplest First stack e) traces).1).1 y.rest in
       record { made = (x.made, more.made); second = (y.made, more.second) }
 
 pub accepted_are_of_stack : AcceptedAreOfStack
@@ -216,7 +216,7 @@ accepted_may_replace stack text file =
     (what_is_read_is_in_form stack text file.traces file.read) file.same
 
 -- the own traces in their own place
-chosen_own : (trace : List Operation) → chosen trace trace ≡ trace
+chosen_own : (trace : List Operation) → chosen_trace trace trace ≡ trace
 chosen_own trace = go (nat_le (trace_joins trace) (trace_joins trace)) where
   go : (b : Bool) → (if b then trace else trace) ≡ trace
   go true = refl
@@ -227,17 +227,17 @@ owns due = map (λ d. d.own) due
 
 refilled : (n : ℕ) (e : Entry) (case : Case) (s : Result Shape NoShape) (r : Result (List Operation) NoShape)
     (rest : List (List Operation)) →
-    filled (made_with simplest (lack_of s) r)
+    filled_case (made_with simplest (lack_of s) r)
     (owns (option_to_list (option_map (due_with n e case) (within_limit s r))) ++ rest) ≡
     (made_with simplest (lack_of s) r, rest)
 refilled n e case (Err reason) r rest = refl
 refilled n e case (Ok s) (Err reason) rest = go (nat_le s.length longest_shape) where
-  go : (b : Bool) → filled (made_with simplest (if b then None else Some no_shape.long) (Err reason)) rest ≡
+  go : (b : Bool) → filled_case (made_with simplest (if b then None else Some no_shape.long) (Err reason)) rest ≡
       (made_with simplest (if b then None else Some no_shape.long) (Err reason), rest)
   go true = refl
   go false = refl
 refilled n e case (Ok s) (Ok own) rest = go (nat_le s.length longest_shape) where
-  go : (b : Bool) → filled (made_with simplest (if b then None else Some no_shape.long) (Ok own))
+  go : (b : Bool) → filled_case (made_with simplest (if b then None else Some no_shape.long) (Ok own))
       (owns (option_to_list (option_map (due_with n e case) (if b then Some own else None))) ++ rest) ≡
       (made_with simplest (if b then None else Some no_shape.long) (Ok own), rest)
   go true = ap (λ t. (fused t (simplest t), rest)) (chosen_own own)

@@ -7,7 +7,8 @@ use Rattle.layer_ast.specs.declared.syntax.Shape.TheVariants.{One, Array, Square
 use Rattle.layer_mean.specs.Tree.{Carried, Form, LayerTree, numbers, queue, queues}
 use Rattle.trace_mean.specs.Trace.{Atom, number, Core, TraceNumber, atom, item, binary, TraceMessage, held}
 use Rattle.trace_mean.specs.Fuse.{form_at}
-use Rattle.bypass_mean.specs.Text.{layer_of, indexed, listed, with_index, cell_name, cell_text, number_text}
+use Rattle.bypass_mean.specs.Text.{layer_of, bracketed_index, bracketed_list, with_index, cell_name, cell_text}
+use Rattle.bypass_mean.specs.Text.{number_text}
 use Rattle.bypass_mean.specs.Text.{message_text, sign_text}
 use Rattle.layer_ast.specs.Printed.{function_sign}
 use Rattle.pack_mean.specs.Reader.{◌>>=◌, the_text, a_name}
@@ -42,7 +43,7 @@ module _ (stack : List LayerTree) (before : List (List ℕ)) (s : Named) where
     pub queue : Writes [] QueueText inner.queue
 
   module _ (inner : Inner) (deeper : InnerWrites inner) where
-    index_is : Writes [] (λ e. indexed (NumberText e)) (an_index inner)
+    index_is : Writes [] (λ e. bracketed_index (NumberText e)) (an_index inner)
     index_is = writes_text (codes "[") [] _ _ (λ u. writes_then NumberText _ _ _ _ deeper.number (λ e.
         writes_text (codes "]") _ _ _ (λ v. writes_value _ _ e refl)))
 
@@ -50,12 +51,13 @@ module _ (stack : List LayerTree) (before : List (List ℕ)) (s : Named) where
         Writes (cell_name stack p c) NumberText (number_of_cell inner p c form)
     number_of_cell_is p c (Some (numbers One initial)) is =
         writes_value _ _ _ (sym (ap (λ f. with_index f (cell_name stack p c) (NumberText (atom (number 0)))) is))
-    number_of_cell_is p c (Some (numbers Array initial)) is = writes_then (λ e. indexed (NumberText e)) _ _ _ _ index_is
+    number_of_cell_is p c (Some (numbers Array initial)) is = writes_then (λ e. bracketed_index (NumberText e)) _ _ _ _
+        index_is
         (λ e.
         writes_value _ _ _ (sym (ap (λ f. with_index f (cell_name stack p c) (NumberText e)) is)))
     number_of_cell_is p c (Some (numbers Square initial)) is =
-        writes_then (λ e. indexed (NumberText e)) _ _ _ _ index_is (λ row.
-        writes_then (λ e. indexed (NumberText e)) _ _ _ _ index_is (λ column. writes_value _ _ _ refl))
+        writes_then (λ e. bracketed_index (NumberText e)) _ _ _ _ index_is (λ row.
+        writes_then (λ e. bracketed_index (NumberText e)) _ _ _ _ index_is (λ column. writes_value _ _ _ refl))
     number_of_cell_is p c (Some (queue capacity items)) is = writes_nowhere _ _
     number_of_cell_is p c (Some (queues capacity items)) is = writes_nowhere _ _
     number_of_cell_is p c None is = writes_nowhere _ _
@@ -70,7 +72,8 @@ module _ (stack : List LayerTree) (before : List (List ℕ)) (s : Named) where
         Writes (cell_name stack p c) QueueText (index_of_queue inner p c form)
     index_of_queue_is p c (Some (queue capacity items)) is =
         writes_value _ _ _ (sym (ap (λ f. with_index f (cell_name stack p c) (NumberText (atom (number 0)))) is))
-    index_of_queue_is p c (Some (queues capacity items)) is = writes_then (λ e. indexed (NumberText e)) _ _ _ _ index_is
+    index_of_queue_is p c (Some (queues capacity items)) is = writes_then (λ e. bracketed_index (NumberText e)) _ _ _ _
+        index_is
         (λ e.
         writes_value _ _ _ (sym (ap (λ f. with_index f (cell_name stack p c) (NumberText e)) is)))
     index_of_queue_is p c (Some (numbers One initial)) is = writes_nowhere _ _
@@ -92,13 +95,13 @@ module _ (stack : List LayerTree) (before : List (List ℕ)) (s : Named) where
 
     item_named_is : (q : QueueNamed) (row : TraceNumber) (name : List (List ℕ)) (e : TraceNumber) →
         item_named stack q row name ≡ Some e →
-        codes "at" ++ listed (QueueText q ∷ NumberText row ∷ []) ++ codes "." ++ name_text name ≡ NumberText e
+        codes "at" ++ bracketed_list (QueueText q ∷ NumberText row ∷ []) ++ codes "." ++ name_text name ≡ NumberText e
     item_named_is q row [] e is = absurd (cc is)
     item_named_is q row (word ∷ another ∷ more) e is = absurd (cc is)
     item_named_is q row (word ∷ []) e is = some_mapped
-        (λ x. codes "at" ++ listed (QueueText q ∷ NumberText row ∷ []) ++ codes "." ++ word ≡ NumberText x)
+        (λ x. codes "at" ++ bracketed_list (QueueText q ∷ NumberText row ∷ []) ++ codes "." ++ word ≡ NumberText x)
         (item q.place q.cell q.index row) (place_of word (items_at stack q.place q.cell).numbers) (λ k k_is.
-        ap (λ x. codes "at" ++ listed (QueueText q ∷ NumberText row ∷ []) ++ codes "." ++ x)
+        ap (λ x. codes "at" ++ bracketed_list (QueueText q ∷ NumberText row ∷ []) ++ codes "." ++ x)
         (place_written word (items_at stack q.place q.cell).numbers k k_is ∙
         ap (λ names. slice_index_or names k []) (called (form_at (layer_of stack q.place) q.cell)))) e is
 
@@ -168,9 +171,9 @@ module _ (stack : List LayerTree) (before : List (List ℕ)) (s : Named) where
 
     held_named_is : (q : QueueNamed) (row : TraceNumber) (message : Option (List ℕ × Carried)) (m : TraceMessage) →
         held_in stack q row message ≡ Some m →
-        codes "held" ++ listed (QueueText q ∷ NumberText row ∷ []) ≡ MessageText m
+        codes "held" ++ bracketed_list (QueueText q ∷ NumberText row ∷ []) ≡ MessageText m
     held_named_is q row message m is =
-        some_mapped (λ x. codes "held" ++ listed (QueueText q ∷ NumberText row ∷ []) ≡ MessageText x)
+        some_mapped (λ x. codes "held" ++ bracketed_list (QueueText q ∷ NumberText row ∷ []) ≡ MessageText x)
         (λ c. held q.place q.cell q.index row c.1) message (λ c c_is. refl) m is
 
     held_is : Writes (codes "held") MessageText (a_held stack inner)

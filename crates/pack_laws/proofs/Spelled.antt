@@ -169,7 +169,7 @@ module _ (stack : List LayerTree) (s : Named) where
   size_at (Some (queue capacity items)) = refl
   size_at (Some (queues capacity items)) = refl
 
-  -- behind an operation there is what may be named then
+  -- after an operation there is what may be named then
   pub reach_behind : (o : Operation) → reach_of (naming stack s o) ≡ reaching stack (reach_of s) o
   reach_behind (bind e) = refl
   reach_behind (note m) = refl

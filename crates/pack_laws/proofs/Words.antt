@@ -22,7 +22,7 @@ use Rattle.layer_ast.specs.declared.tokens.Dir.{Dir}
 use Rattle.layer_ast.specs.declared.tokens.Kind.{Kind}
 use Rattle.layer_ast.specs.Printed.{direction_sign, function_sign, operator_sign}
 use Rattle.layer_ast.specs.Spelling.{beside, kinds, kind_word, reserved, symbols}
-use Rattle.layer_mean.specs.Headers.{declared, header_none}
+use Rattle.layer_mean.specs.Headers.{header_of_tag, header_none}
 use Rattle.layer_mean.specs.Tree.{CellTree, Form, HeaderTree, ItemsTree, LayerTree, numbers, queue, queues}
 use Rattle.script_mean.specs.Words.{is_plain, within, number_of}
 use Rattle.trace_mean.specs.Trace.{Atom, number, peer, field, bound, Core, body, noted, nothing}
@@ -162,7 +162,7 @@ cell_written stack (place ∷ name ∷ []) cell is = through _ (below (length st
     (option_map_or (λ (x : CellTree). x.name) (slice_get (layer_of stack p).cells c) [])))))
 
 pub tag_written : (layer : LayerTree) (name : List (List ℕ)) (tag : ℕ) → tag_named layer name ≡ Some tag →
-    name_text name ≡ layer.name ++ codes "." ++ option_map_or (λ h. h.name) (declared layer tag) []
+    name_text name ≡ layer.name ++ codes "." ++ option_map_or (λ h. h.name) (header_of_tag layer tag) []
 tag_written layer [] tag is = absurd (cc is)
 tag_written layer (name ∷ []) tag is = absurd (cc is)
 tag_written layer (name ∷ header ∷ more ∷ words) tag is = absurd (cc is)
@@ -170,12 +170,14 @@ tag_written layer (name ∷ header ∷ []) tag is = go (bytes_eq name layer.name
   go : (b : Bool) → bytes_eq name layer.name ≡ b →
       (if b then place_of header (map (λ (h : HeaderTree). h.name) (header_none ∷ layer.headers)) else None) ≡
       Some tag →
-      name ++ (46 ∷ header) ≡ layer.name ++ codes "." ++ option_map_or (λ (h : HeaderTree). h.name) (declared layer tag)
+      name ++ (46 ∷ header) ≡ layer.name ++ codes "." ++
+      option_map_or (λ (h : HeaderTree). h.name) (header_of_tag layer tag)
       []
   go true e k = ap₂ (λ a b. a ++ (46 ∷ b)) ((bytes_eq-Decides name layer.name).0 e)
       (place_written header (map (λ (h : HeaderTree). h.name) (header_none ∷ layer.headers)) tag k ∙
       shown_at (λ (h : HeaderTree). h.name) (header_none ∷ layer.headers) tag) ∙
-      sym (append_assoc layer.name (codes ".") (option_map_or (λ (h : HeaderTree). h.name) (declared layer tag) []))
+      sym (append_assoc layer.name (codes ".")
+      (option_map_or (λ (h : HeaderTree). h.name) (header_of_tag layer tag) []))
   go false e k = absurd (cc k)
 
 pub called : (form : Option Form) → (unwrap_or (items_in form) no_items).numbers ≡ numbers_called form

@@ -7,12 +7,13 @@ use Rattle.std.specs.List.{join_by, join_with_byte, position_or_len}
 use Rattle.std.proofs.lemmas.List.{take-append-drop}
 use Rattle.std.proofs.lemmas.List.Splits.{join_with_byte-slice_split}
 use Rattle.std.proofs.lemmas.Slice.Eq.{bytes_eq-Decides}
-use Rattle.bypass_mean.specs.Text.{listed}
-use Rattle.pack_mean.specs.Reader.{Reader, ◌>>=◌, yields, given, nowhere, the_text, is_name_byte, a_name, a_word, whole}
+use Rattle.bypass_mean.specs.Text.{bracketed_list}
+use Rattle.pack_mean.specs.Reader.{Reader, ◌>>=◌, yields, option_reader, nowhere, the_text, is_name_byte, a_name}
+use Rattle.pack_mean.specs.Reader.{a_word, whole}
 use Rattle.pack_mean.specs.Reader.{nothing_behind, each_of, more_of}
 use Rattle.pack_laws.proofs.Readers.{some_same, Gives}
 
--- Behind some bytes a reader finds what these and its own bytes show.
+-- After some bytes a reader finds what these and its own bytes show.
 pub record Writes {A : Type 0} (front : List ℕ) (shown : A → List ℕ) (read : Reader A) : Type 0 where
   pub said : (text : List ℕ) (x : A) (rest : List ℕ) → read text ≡ Some (x, rest) → front ++ text ≡ shown x ++ rest
 
@@ -22,7 +23,7 @@ writes_value front shown x same =
     record { said = λ text y rest is. some_same (λ q. front ++ text ≡ shown q.0 ++ q.1) is (ap (λ f. f ++ text) same) }
 
 pub writes_given : {A : Type 0} (front : List ℕ) (shown : A → List ℕ) (o : Option A) →
-    ((x : A) → o ≡ Some x → front ≡ shown x) → Writes front shown (given o)
+    ((x : A) → o ≡ Some x → front ≡ shown x) → Writes front shown (option_reader o)
 writes_given front shown None h = record { said = λ text y rest is. absurd (cc is) }
 writes_given front shown (Some x) h =
     record {
@@ -45,7 +46,7 @@ writes_then {A = A} {B = B} first front shown read next h k =
           ap (λ l. front ++ l) (h.said text t.0 t.1 e) ∙ sym (append_assoc front (first t.0) t.1) ∙
           (k t.0).said t.1 y rest is
 
--- the same where the first finds what it shows behind some bytes, and gives something of which more is known
+-- the same where the first finds what it shows after some bytes, and gives something of which more is known
 pub writes_such : {A B : Type 0} (P : A → Type 0) (first : A → List ℕ) (before front : List ℕ) (shown : B → List ℕ)
     (read : Reader A)
     (next : A → Reader B) → Gives P read → Writes front first read →
@@ -69,7 +70,7 @@ writes_also P first front shown read next such h k =
     (writes_such P first front [] shown read next such h k)
 
 pub writes_known : {A B : Type 0} (front : List ℕ) (shown : B → List ℕ) (o : Option A) (next : A → Reader B) →
-    ((x : A) → o ≡ Some x → Writes front shown (next x)) → Writes front shown (given o >>= next)
+    ((x : A) → o ≡ Some x → Writes front shown (next x)) → Writes front shown (option_reader o >>= next)
 writes_known front shown None next h = record { said = λ text y rest is. absurd (cc is) }
 writes_known front shown (Some x) next h = record { said = λ text y rest is. (h x refl).said text y rest is }
 
@@ -159,12 +160,12 @@ module _ {A B : Type 0} (shown : A → List ℕ) (read : Reader A) (h : Writes [
   writes_each (b ∷ bs) = writes_then shown [] _ _ _ h (λ x.
       writes_then (λ xs. behind_commas (map shown xs)) _ _ _ _ (writes_more bs) (λ xs. writes_value _ _ (x ∷ xs) refl))
 
--- parts in brackets behind some bytes
-pub one_listed : (front a : List ℕ) → front ++ codes "(" ++ a ++ codes ")" ≡ front ++ listed (a ∷ [])
+-- parts in brackets after some bytes
+pub one_listed : (front a : List ℕ) → front ++ codes "(" ++ a ++ codes ")" ≡ front ++ bracketed_list (a ∷ [])
 one_listed front a = simp (append_assoc, append-nil) refl
 
 pub two_listed : (front a b : List ℕ) → front ++ codes "(" ++ a ++ codes "," ++ b ++ codes ")" ≡ front ++
-    listed (a ∷ b ∷ [])
+    bracketed_list (a ∷ b ∷ [])
 two_listed front a b = simp (append_assoc, append-nil) refl
 
 pub in_brackets : (front a : List ℕ) → front ++ codes "(" ++ a ++ codes ")" ≡ front ++ (codes "(" ++ a ++ codes ")")
@@ -178,7 +179,7 @@ three_parts f a b c = ap (λ l. l ++ codes "," ++ c) (append_assoc (f ++ a) (cod
     ap (λ l. f ++ (a ++ ((codes "," ++ b) ++ l))) (sym (append-nil (codes "," ++ c)))
 
 pub three_listed : (front a b c : List ℕ) →
-    front ++ codes "(" ++ a ++ codes "," ++ b ++ codes "," ++ c ++ codes ")" ≡ front ++ listed (a ∷ b ∷ c ∷ [])
+    front ++ codes "(" ++ a ++ codes "," ++ b ++ codes "," ++ c ++ codes ")" ≡ front ++ bracketed_list (a ∷ b ∷ c ∷ [])
 three_listed front a b c = ap (λ l. l ++ codes ")") (three_parts (front ++ codes "(") a b c) ∙
     in_brackets front (a ++ ((codes "," ++ b) ++ (codes "," ++ c ++ [])))
 

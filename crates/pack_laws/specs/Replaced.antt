@@ -13,19 +13,20 @@ use Rattle.pack_mean.specs.File.{Due, due_of}
 use Rattle.pack_mean.specs.Accepted.{Accepts}
 
 -- A trace of a file is run in place of the own one where it joins no more.
-abbrev pub chosen : (own trace : List Operation) → List Operation
-chosen own trace = if nat_le (trace_joins trace) (trace_joins own) then trace else own
+abbrev pub chosen_trace : (own trace : List Operation) → List Operation
+chosen_trace own trace = if nat_le (trace_joins trace) (trace_joins own) then trace else own
 
--- What is made of a case with the first of a file's traces, and the traces behind that. Where nothing is made none is
+-- What is made of a case with the first of a file's traces, and the traces after that. Where nothing is made none is
 -- due.
-abbrev pub filled : Made → List (List Operation) → Made × List (List Operation)
-filled (fused own guarded) [] = (fused own guarded, [])
-filled (fused own guarded) (trace ∷ traces) = (fused (chosen own trace) (simplest (chosen own trace)), traces)
-filled (absent reason) traces = (absent reason, traces)
+abbrev pub filled_case : Made → List (List Operation) → Made × List (List Operation)
+filled_case (fused own guarded) [] = (fused own guarded, [])
+filled_case (fused own guarded) (trace ∷ traces) =
+    (fused (chosen_trace own trace) (simplest (chosen_trace own trace)), traces)
+filled_case (absent reason) traces = (absent reason, traces)
 
 abbrev pub second_filled : Option Made → List (List Operation) → Option Made × List (List Operation)
 second_filled None traces = (None, traces)
-second_filled (Some own) traces = (Some (filled own traces).0, (filled own traces).1)
+second_filled (Some own) traces = (Some (filled_case own traces).0, (filled_case own traces).1)
 
 -- What is made of one entry more.
 abbrev pub with_entry : Made → Option Made → Bypasses → Bypasses
@@ -35,7 +36,7 @@ with_entry first second b = record { made = first ∷ b.made; second = second �
 abbrev pub from_entries : List LayerTree → List Entry → List (List Operation) → Bypasses
 from_entries stack [] traces = record { made = []; second = [] }
 from_entries stack (e ∷ es) traces =
-    let first = filled (made_of simplest First stack e) traces in
+    let first = filled_case (made_of simplest First stack e) traces in
     let second = second_filled (second_of simplest stack e) first.1 in
     with_entry first.0 second.0 (from_entries stack es second.1)
 

@@ -10,7 +10,7 @@ use Rattle.layer_ast.specs.declared.syntax.Shape.TheVariants.{One, Array, Square
 use Rattle.layer_mean.specs.declared.run.Case.TheVariants.{First, Second}
 use Rattle.layer_mean.specs.Tree as tree
 use Rattle.layer_mean.specs.Tree.{ItemsTree, numbers, queue, queues, LayerTree, part}
-use Rattle.stack_mean.specs.SampleLayers.{counter, silent, named, with_fields, kept_rows}
+use Rattle.stack_mean.specs.SampleLayers.{counter, silent_layer, named_cell, with_fields, kept_rows}
 use Rattle.trace_mean.specs.Trace as trace
 use Rattle.trace_mean.specs.Trace.{number, peer, field, bound, taken_number, Core, body, noted, taken_message, nothing}
 use Rattle.trace_mean.specs.Trace.{TraceNumber, atom, me, count, ltime, element, square, rows, item, size, binary}
@@ -56,7 +56,7 @@ with_other k line = read_of (file_text (slice_set small_file k line))
 
 -- Another first line, a cell that isn't there, a number that isn't bound next, one that isn't bound yet, a field that
 -- the case doesn't have, and a heading out of its turn are refused where they stand. Where the end is missing that is
--- one past the last line. Behind the end nothing may stand, also no empty line, and an empty text doesn't begin.
+-- one past the last line. After the end nothing may stand, also no empty line, and an empty text doesn't begin.
 abbrev pub SmallIsRefused : Type 0
 SmallIsRefused =
     (with_other 0 (codes "bypasses 2") ≡ Err 1) × (with_other 2 (codes "bind t.0 = 0.q") ≡ Err 3) ×
@@ -80,15 +80,15 @@ abbrev pub forms : LayerTree
 forms = record {
   name = codes "forms";
   cells =
-      named (codes "k") (numbers One (tree.number 0)) ∷ named (codes "e") (numbers Array (tree.number 0)) ∷
-      named (codes "s") (numbers Square (tree.number 0)) ∷ named (codes "q") (queue 4 kept_items) ∷
-      named (codes "p") (queues 4 plain_items) ∷ named (codes "r") (queue 4 part_items) ∷ [];
+      named_cell (codes "k") (numbers One (tree.number 0)) ∷ named_cell (codes "e") (numbers Array (tree.number 0)) ∷
+      named_cell (codes "s") (numbers Square (tree.number 0)) ∷ named_cell (codes "q") (queue 4 kept_items) ∷
+      named_cell (codes "p") (queues 4 plain_items) ∷ named_cell (codes "r") (queue 4 part_items) ∷ [];
   headers = with_fields (codes "tag") 2 ∷ [];
   handlers = [];
 }
 
 abbrev pub stack : List LayerTree
-stack = counter ∷ forms ∷ silent ∷ []
+stack = counter ∷ forms ∷ silent_layer ∷ []
 
 -- Two fields, three binds, two notes and two rows may be named.
 abbrev pub named_so_far : Named
@@ -129,13 +129,14 @@ NumbersAreRead =
     (codes "check size(join(cut(m.1,0,2),tail(held(1.q,0),1)))")
 
 -- Each operator is.
-abbrev pub operated : Operator → Operation
-operated operator = check (binary operator (lit 1) (binary operator (lit 2) (lit 3)))
+abbrev pub operator_check : Operator → Operation
+operator_check operator = check (binary operator (lit 1) (binary operator (lit 2) (lit 3)))
 
 abbrev pub OperatorsAreRead : Type 0
 OperatorsAreRead =
-    map (λ operator. operation_said stack named_so_far (line_of stack written_so_far (operated operator))) operators ≡
-    map (λ operator. Some (operated operator)) operators
+    map (λ operator. operation_said stack named_so_far (line_of stack written_so_far (operator_check operator)))
+    operators ≡
+    map (λ operator. Some (operator_check operator)) operators
 
 abbrev pub MessagesAreRead : Type 0
 MessagesAreRead =

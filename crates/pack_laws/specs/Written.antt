@@ -12,7 +12,7 @@ use Rattle.pack_mean.specs.Operation.{operation_said}
 abbrev pub note_name : ℕ → List ℕ
 note_name n = codes "m." ++ decimal n
 
--- What may be named on a line behind others, as it is written: of each row what its numbers are called, of each note
+-- What may be named on a line after others, as it is written: of each row what its numbers are called, of each note
 -- its name.
 abbrev pub written_with : List (List ℕ) → Named → Written
 written_with before s = record {

@@ -24,7 +24,7 @@ pub record Accepts (stack : List LayerTree) (text : List ℕ) : Type 0 where
   pub read : traces_in stack text ≡ Ok traces
   pub same : AllZip SameActs (due_of stack) traces
 
--- Two lists differ at a place first: they are equal in front of it, and not at it, where one of them may have ended.
+-- Two lists differ at a place first: they are equal before it, and not at it, where one of them may have ended.
 pub record DifferAt {X : Type 0} (xs ys : List X) (k : ℕ) : Type 0 where
   pub equal : take k xs ≡ take k ys
   pub other : slice_get xs k ≡ slice_get ys k → ⊥

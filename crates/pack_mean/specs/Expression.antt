@@ -8,7 +8,7 @@ use Rattle.trace_mean.specs.Trace.{Atom, number, Core, TraceNumber, atom, me, co
 use Rattle.trace_mean.specs.Trace.{size, binary, apply, pick, TraceMessage, core, held, cut, tail, join}
 use Rattle.trace_mean.specs.Fuse.{form_at}
 use Rattle.bypass_mean.specs.Text.{layer_of}
-use Rattle.pack_mean.specs.Reader.{Reader, ◌>>=◌, yields, given, nowhere, the_text, a_name, a_word}
+use Rattle.pack_mean.specs.Reader.{Reader, ◌>>=◌, yields, option_reader, nowhere, the_text, a_name, a_word}
 use Rattle.pack_mean.specs.Named.{Named, items_at, place_of, atom_named, core_named, cell_named, function_named}
 use Rattle.pack_mean.specs.Named.{operator_named}
 
@@ -35,7 +35,7 @@ an_index inner = do
   _ ← the_text (codes "]")
   yields index
 
--- A number of a cell, behind its name.
+-- A number of a cell, after its name.
 abbrev pub number_of_cell : Inner → ℕ → ℕ → Option Form → Reader TraceNumber
 number_of_cell inner p c (Some (numbers One initial)) = yields (element p c (atom (number 0)))
 number_of_cell inner p c (Some (numbers Array initial)) = do
@@ -49,10 +49,10 @@ number_of_cell inner p c _ = nowhere
 
 abbrev pub a_cell : List LayerTree → Inner → List (List ℕ) → Reader TraceNumber
 a_cell stack inner name = do
-  cell ← given (cell_named stack name)
+  cell ← option_reader (cell_named stack name)
   number_of_cell inner cell.0 cell.1 (form_at (layer_of stack cell.0) cell.1)
 
--- A queue, behind its name.
+-- A queue, after its name.
 abbrev pub index_of_queue : Inner → ℕ → ℕ → Option Form → Reader QueueNamed
 index_of_queue inner p c (Some (queue capacity items)) =
     yields (record { place = p; cell = c; index = atom (number 0) })
@@ -64,10 +64,10 @@ index_of_queue inner p c _ = nowhere
 abbrev pub queue_with : List LayerTree → Inner → Reader QueueNamed
 queue_with stack inner = do
   name ← a_name
-  cell ← given (cell_named stack name)
+  cell ← option_reader (cell_named stack name)
   index_of_queue inner cell.0 cell.1 (form_at (layer_of stack cell.0) cell.1)
 
--- `len(QUEUE)`, `at(QUEUE,ROW).NAME`, `size(MESSAGE)`, `pick(CONDITION,FIRST,SECOND)` and `FUNCTION(NUMBER)`, behind
+-- `len(QUEUE)`, `at(QUEUE,ROW).NAME`, `size(MESSAGE)`, `pick(CONDITION,FIRST,SECOND)` and `FUNCTION(NUMBER)`, after
 -- their word.
 abbrev pub a_length : Inner → Reader TraceNumber
 a_length inner = do
@@ -89,7 +89,7 @@ an_item stack inner = do
   row ← inner.number
   _ ← the_text (codes ").")
   name ← a_name
-  given (item_named stack q row name)
+  option_reader (item_named stack q row name)
 
 abbrev pub a_size : Inner → Reader TraceNumber
 a_size inner = do
@@ -116,13 +116,13 @@ an_application inner function = do
   _ ← the_text (codes ")")
   yields (apply function operand)
 
--- `(FIRST OPERATOR SECOND)`, behind its bracket.
+-- `(FIRST OPERATOR SECOND)`, after its bracket.
 abbrev pub an_operation : Inner → Reader TraceNumber
 an_operation inner = do
   first ← inner.number
   _ ← the_text (codes " ")
   word ← a_word
-  operator ← given (operator_named word)
+  operator ← option_reader (operator_named word)
   _ ← the_text (codes " ")
   second ← inner.number
   _ ← the_text (codes ")")
@@ -138,7 +138,7 @@ begun_by stack inner (word ∷ []) =
     else if bytes_eq word (codes "at") then an_item stack inner
     else if bytes_eq word (codes "size") then a_size inner
     else if bytes_eq word (codes "pick") then a_choice inner
-    else given (function_named (word ∷ [])) >>= an_application inner
+    else option_reader (function_named (word ∷ [])) >>= an_application inner
 begun_by stack inner name = a_cell stack inner name
 
 abbrev pub number_named : List LayerTree → Named → Inner → List (List ℕ) → Option Atom → Reader TraceNumber
@@ -150,7 +150,7 @@ number_with stack s inner text =
     if bytes_eq (take 1 text) (codes "(") then (the_text (codes "(") >>= λ _. an_operation inner) text
     else (a_name >>= λ name. number_named stack s inner name (atom_named s name)) text
 
--- `held(QUEUE,ROW)`, `cut(MESSAGE,FROM,LENGTH)`, `tail(MESSAGE,FROM)` and `join(FIRST,SECOND)`, behind their word.
+-- `held(QUEUE,ROW)`, `cut(MESSAGE,FROM,LENGTH)`, `tail(MESSAGE,FROM)` and `join(FIRST,SECOND)`, after their word.
 abbrev pub held_in : List LayerTree → QueueNamed → TraceNumber → Option (List ℕ × Carried) → Option TraceMessage
 held_in stack q row message = option_map (λ m. held q.place q.cell q.index row m.1) message
 
@@ -161,7 +161,7 @@ a_held stack inner = do
   _ ← the_text (codes ",")
   row ← inner.number
   _ ← the_text (codes ")")
-  given (held_in stack q row (items_at stack q.place q.cell).message)
+  option_reader (held_in stack q row (items_at stack q.place q.cell).message)
 
 abbrev pub a_cut : Inner → Reader TraceMessage
 a_cut inner = do
@@ -214,7 +214,7 @@ message_with stack s inner = do
 abbrev pub most_brackets : ℕ
 most_brackets = 200
 
--- How what stands in a bracket is read, behind which so many may be opened.
+-- How what stands in a bracket is read, after which so many may be opened.
 abbrev pub inside : List LayerTree → Named → ℕ → Inner
 inside stack s zero = nothing_inside
 inside stack s (suc n) = record {

@@ -67,15 +67,15 @@ heading entry case = codes "entry " ++ entry_name entry ++ codes " case " ++ dec
 abbrev pub most_operations : ℕ
 most_operations = 4096
 
--- Where in a file a line stands: in front of the first, behind it, in a case that may have so many operations more, or
--- behind `end`; and the cases that are still due.
+-- Where in a file a line stands: before the first, after it, in a case that may have so many operations more, or
+-- after `end`; and the cases that are still due.
 pub data Stage : Type 0 where
   opening : (due : List Due) → Stage
   idle : (due : List Due) → Stage
   within : (due : List Due) (named : Named) (left : ℕ) → Stage
   ended : Stage
 
--- What was read: the operations of the case that is open, and the traces of those in front of it.
+-- What was read: the operations of the case that is open, and the traces of those before it.
 pub record Reading : Type 0 where
   pub stage : Stage
   pub held : List Operation
@@ -84,7 +84,7 @@ pub record Reading : Type 0 where
 abbrev pub begun : List Due → Reading
 begun due = record { stage = opening due; held = []; traces = [] }
 
--- The line with which the next case begins, or behind the last the file ends.
+-- The line with which the next case begins, or after the last the file ends.
 abbrev pub next_case : List Due → List (List Operation) → List ℕ → Option Reading
 next_case [] traces line =
     if bytes_eq line (codes "end") then Some (record { stage = ended; held = []; traces = traces }) else None
@@ -121,7 +121,7 @@ line_read stack r (within due s left) line =
     case_line stack due s left r line (next_case due (r.traces ++ r.held ∷ []) line)
 line_read stack r ended line = None
 
--- A file may end behind `end` alone; else that is missing.
+-- A file may end after `end` alone; else that is missing.
 abbrev pub traces_at_end : Stage → ℕ → List (List Operation) → Result (List (List Operation)) ℕ
 traces_at_end ended number traces = Ok traces
 traces_at_end _ number traces = Err number

@@ -26,7 +26,7 @@ pub record Named : Type 0 where
   pub notes : ℕ
   pub rows : List ItemsTree
 
--- In front of the first line of an entry.
+-- Before the first line of an entry.
 abbrev pub nothing_named : ℕ → Named
 nothing_named fields = record { fields = fields; binds = 0; notes = 0; rows = [] }
 
@@ -42,7 +42,7 @@ no_items = record { numbers = []; message = None }
 abbrev pub items_at : List LayerTree → ℕ → ℕ → ItemsTree
 items_at stack p c = unwrap_or (items_in (form_at (layer_of stack p) c)) no_items
 
--- What may be named behind an operation.
+-- What may be named after an operation.
 abbrev pub naming : List LayerTree → Named → Operation → Named
 naming stack s (bind e) = record s { binds = s.binds + 1 }
 naming stack s (note m) = record s { notes = s.notes + 1 }

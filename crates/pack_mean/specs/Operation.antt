@@ -15,7 +15,8 @@ use Rattle.trace_mean.specs.Trace.{Atom, Core, TraceNumber, element, square, Lin
 use Rattle.trace_mean.specs.Trace.{check, set, set_square, push, output}
 use Rattle.trace_mean.specs.Fuse.{fields_of}
 use Rattle.bypass_mean.specs.Text.{layer_of, sign_text}
-use Rattle.pack_mean.specs.Reader.{Reader, ◌>>=◌, yields, given, nowhere, the_text, a_name, a_word, whole, each_of}
+use Rattle.pack_mean.specs.Reader.{Reader, ◌>>=◌, yields, option_reader, nowhere, the_text, a_name, a_word, whole}
+use Rattle.pack_mean.specs.Reader.{each_of}
 use Rattle.pack_mean.specs.Reader.{more_of}
 use Rattle.pack_mean.specs.Named.{Named, items_at, place_of, atom_named, core_named, kind_named}
 use Rattle.pack_mean.specs.Expression.{QueueNamed, inside, most_brackets, a_cell, a_number, a_message, a_queue}
@@ -24,12 +25,12 @@ use Rattle.pack_mean.specs.Expression.{QueueNamed, inside, most_brackets, a_cell
 abbrev pub an_atom : Named → Reader Atom
 an_atom s = do
   name ← a_name
-  given (atom_named s name)
+  option_reader (atom_named s name)
 
 abbrev pub a_core : Named → Reader Core
 a_core s = do
   name ← a_name
-  given (core_named s name)
+  option_reader (core_named s name)
 
 -- A known header of the layer at a place: LAYER.HEADER(F,F), with as many fields as it has.
 abbrev pub tag_named : LayerTree → List (List ℕ) → Option ℕ
@@ -40,7 +41,7 @@ tag_named layer _ = None
 abbrev pub a_link : List LayerTree → Named → ℕ → Reader Link
 a_link stack s place = do
   name ← a_name
-  tag ← given (tag_named (layer_of stack place) name)
+  tag ← option_reader (tag_named (layer_of stack place) name)
   _ ← the_text (codes "(")
   fields ← each_of (an_atom s) (replicate (fields_of (layer_of stack place) tag) place)
   _ ← the_text (codes ")")
@@ -64,19 +65,19 @@ some_links stack s place = do
   more ← links_behind stack s (place + 1) (length stack)
   yields (first ∷ more)
 
--- Those behind what they are of, which may be missing.
+-- Those after what they are of, which may be missing.
 abbrev pub a_chain : List LayerTree → Named → ℕ → Reader (List Link)
 a_chain stack s place [] = Some ([], [])
 a_chain stack s place (byte ∷ bytes) = if byte == 32 then some_links stack s place bytes else Some ([], byte ∷ bytes)
 
--- A message with its known headers behind it.
+-- A message with its known headers after it.
 abbrev pub a_chained : List LayerTree → Named → ℕ → Reader Chained
 a_chained stack s place = do
   c ← a_core s
   chain ← a_chain stack s place
   yields (record { chain = chain; core = c })
 
--- The message of a row to be pushed, where its queue's rows have one: it stands behind their numbers, and a comma where
+-- The message of a row to be pushed, where its queue's rows have one: it stands after their numbers, and a comma where
 -- there are some.
 abbrev pub comma_behind : List (List ℕ) → Reader (Unit {0})
 comma_behind [] = yields tt
@@ -90,7 +91,7 @@ row_message stack s place names (Some carried) = do
   m ← a_chained stack s place
   yields (Some m)
 
--- What stands in the brackets of an output: numbers, and a message behind these where it has one.
+-- What stands in the brackets of an output: numbers, and a message after these where it has one.
 pub record Sent : Type 0 where
   pub numbers : List Atom
   pub message : Option Core
@@ -103,15 +104,15 @@ with_number a sent = record sent { numbers = a ∷ sent.numbers }
 
 abbrev pub a_last : Named → List (List ℕ) → Reader Sent
 a_last s name = do
-  c ← given (core_named s name)
+  c ← option_reader (core_named s name)
   yields (record { numbers = []; message = Some c })
 
--- What follows behind a comma, if one stands here.
+-- What follows after a comma, if one stands here.
 abbrev pub or_no_more : Reader Sent → Reader Sent
 or_no_more more text = if bytes_eq (take 1 text) (codes ",") then (the_text (codes ",") >>= λ _. more) text else Some
     (nothing_sent, text)
 
--- What a name is, and what follows it: behind a number there may be more.
+-- What a name is, and what follows it: after a number there may be more.
 abbrev pub sent_by : Named → Reader Sent → List (List ℕ) → Option Atom → Reader Sent
 sent_by s more name (Some a) = do
   sent ← or_no_more more
@@ -131,7 +132,7 @@ abbrev pub what_is_sent : Named → Reader Sent
 what_is_sent s text = if bytes_eq (take 1 text) (codes ")") then Some (nothing_sent, text) else sent_within
     s most_fields text
 
--- Its message, with its known headers behind the bracket.
+-- Its message, with its known headers after the bracket.
 abbrev pub chained_behind : List LayerTree → Named → Option Core → Reader (Option Chained)
 chained_behind stack s None = yields None
 chained_behind stack s (Some c) = do
@@ -142,13 +143,13 @@ chained_behind stack s (Some c) = do
 abbrev pub directions : List (List ℕ × Dir)
 directions = (sign_text (direction_sign Up), Up) ∷ (sign_text (direction_sign Down), Down) ∷ []
 
--- What is set, behind its text: a number of a cell.
+-- What is set, after its text: a number of a cell.
 abbrev pub setting : TraceNumber → TraceNumber → Option Operation
 setting (element p c e) x = Some (set p c e x)
 setting (square p c row column) x = Some (set_square p c row column x)
 setting _ x = None
 
--- Each kind of operation, behind its word.
+-- Each kind of operation, after its word.
 abbrev pub a_bind : List LayerTree → Named → Reader Operation
 a_bind stack s = do
   _ ← the_text (codes " t." ++ decimal s.binds ++ codes " = ")
@@ -174,7 +175,7 @@ a_set stack s = do
   target ← a_cell stack (inside stack s most_brackets) name
   _ ← the_text (codes " = ")
   x ← a_number stack s
-  given (setting target x)
+  option_reader (setting target x)
 
 abbrev pub a_push : List LayerTree → Named → Reader Operation
 a_push stack s = do
@@ -198,10 +199,10 @@ abbrev pub an_output : List LayerTree → Named → Reader Operation
 an_output stack s = do
   _ ← the_text (codes " ")
   direction ← a_word
-  dir ← given (beside directions direction)
+  dir ← option_reader (beside directions direction)
   _ ← the_text (codes " ")
   name ← a_name
-  kind ← given (kind_named name)
+  kind ← option_reader (kind_named name)
   _ ← the_text (codes "(")
   sent ← what_is_sent s
   _ ← the_text (codes ")")

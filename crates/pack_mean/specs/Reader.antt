@@ -4,12 +4,12 @@ use Rattle.std.specs.Prelude.{Some, None, option_and_then, option_map, if◌then
 use Rattle.std.specs.List.{position_or_len, slice_split}
 use Rattle.layer_ast.specs.Spelling.{is_word_byte}
 
--- A reader takes bytes from the front: what they spell and the bytes behind them, or nothing where they don't fit.
+-- A reader takes bytes from the front: what they spell and the bytes after them, or nothing where they don't fit.
 abbrev pub Reader : Type 0 → Type 0
 Reader A = List ℕ → Option (A × List ℕ)
 
 infixl 10 ◌>>=◌
--- One reader, and then the next on the bytes behind.
+-- One reader, and then the next on the bytes after.
 abbrev pub ◌>>=◌ : {A B : Type 0} → Reader A → (A → Reader B) → Reader B
 (read >>= next) text = option_and_then (λ taken. next taken.0 taken.1) (read text)
 
@@ -18,8 +18,8 @@ abbrev pub yields : {A : Type 0} → A → Reader A
 yields value text = Some (value, text)
 
 -- This, where there is one.
-abbrev pub given : {A : Type 0} → Option A → Reader A
-given value text = option_map (λ v. (v, text)) value
+abbrev pub option_reader : {A : Type 0} → Option A → Reader A
+option_reader value text = option_map (λ v. (v, text)) value
 
 -- No such text.
 abbrev pub nowhere : {A : Type 0} → Reader A
@@ -47,7 +47,7 @@ a_name = do
 abbrev pub a_word : Reader (List ℕ)
 a_word = run_of (λ byte. not (byte == 32))
 
--- What a whole text spells, with nothing behind it.
+-- What a whole text spells, with nothing after it.
 abbrev pub nothing_behind : {A : Type 0} → A × List ℕ → Option A
 nothing_behind (value, []) = Some value
 nothing_behind (value, byte ∷ bytes) = None

@@ -11,7 +11,7 @@ use Rattle.fault_mean.specs.Declared.{declared_name, is_cell, is_header, is_para
 use Rattle.fault_mean.specs.Faults.{twice, too_many}
 use Rattle.fault_mean.specs.Forms.{items_of, labels_of}
 use Rattle.fault_mean.specs.Limits.{capacity_in, numbers_beyond, messages_inside}
-use Rattle.fault_mean.specs.NameFaults.{repeated, same_word, twice_among, too_many_of, row_faults, uses_faults}
+use Rattle.fault_mean.specs.NameFaults.{repetitions, same_word, twice_among, too_many_of, row_faults, uses_faults}
 use Rattle.fault_mean.specs.NameFaults.{size_faults, declaration_uses, declaration_name_faults, names_where}
 use Rattle.fault_mean.specs.NameFaults.{declared_faults, handler_name_faults, layer_name_faults, same_events}
 use Rattle.fault_mean.specs.Scope.{layer_scope}
@@ -24,11 +24,12 @@ use Rattle.packed_laws.specs.Told.{IsWord, AreApart, AreTold, IsTold}
 use Rattle.packed_laws.proofs.Walked.{IsName, NamesDeclaration, WalkedLayer}
 
 -- names none of which was there before
-new_to : (earlier names : List Name) → repeated same_word earlier names ≡ [] →
+new_to : (earlier names : List Name) → repetitions same_word earlier names ≡ [] →
     AllByRecursion (λ name. list_any (same_word name) earlier ≡ false) names
 new_to earlier [] h = tt
 new_to earlier (x ∷ rest) h =
-    let parts = nils (if list_any (same_word x) earlier then x ∷ [] else []) (repeated same_word (x ∷ earlier) rest) h
+    let parts = nils (if list_any (same_word x) earlier then x ∷ [] else []) (repetitions same_word (x ∷ earlier) rest)
+    h
     in (
       first (list_any (same_word x) earlier) parts.0,
       each_so (λ y. list_any (same_word y) (x ∷ earlier) ≡ false) (λ y. list_any (same_word y) earlier ≡ false)
@@ -47,10 +48,11 @@ mapped_all : (names : List Name) (P : List ℕ → Type 0) → AllByRecursion (�
 mapped_all [] P h = tt
 mapped_all (x ∷ names) P h = (h.0, mapped_all names P h.1)
 
-names_apart : (earlier names : List Name) → repeated same_word earlier names ≡ [] → AreApart (words_of names)
+names_apart : (earlier names : List Name) → repetitions same_word earlier names ≡ [] → AreApart (words_of names)
 names_apart earlier [] h = tt
 names_apart earlier (x ∷ rest) h =
-    let parts = nils (if list_any (same_word x) earlier then x ∷ [] else []) (repeated same_word (x ∷ earlier) rest) h
+    let parts = nils (if list_any (same_word x) earlier then x ∷ [] else []) (repetitions same_word (x ∷ earlier) rest)
+    h
     in (
       mapped_all rest (λ other. bytes_eq other x.word ≡ false)
           (each_so (λ y. list_any (same_word y) (x ∷ earlier) ≡ false) (λ y. same_word y x ≡ false)
@@ -60,7 +62,7 @@ names_apart earlier (x ∷ rest) h =
     )
 
 twice_apart : (names : List Name) → twice_among [] names ≡ [] → AreApart (words_of names)
-twice_apart names h = names_apart [] names (map_nil (λ (name : Name). twice name.at) (repeated same_word [] names) h)
+twice_apart names h = names_apart [] names (map_nil (λ (name : Name). twice name.at) (repetitions same_word [] names) h)
 
 taken_apart : (n : ℕ) (names : List (List ℕ)) → AreApart names → AreApart (take n names)
 taken_apart zero names h = tt
@@ -182,7 +184,7 @@ module _ (p : Placed) where
   layer_told walked named =
       let layer = p.layer in
       let a = declared_faults layer in
-      let b = map (λ (h : ast.HandlerTree). twice h.at) (repeated same_events [] layer.handlers) in
+      let b = map (λ (h : ast.HandlerTree). twice h.at) (repetitions same_events [] layer.handlers) in
       let c = map (λ (h : ast.HandlerTree). too_many h.at) (drop 64 layer.handlers) in
       let one = nils (a ++ b ++ c) (flat_map (handler_name_faults layer) layer.handlers) named in
       let two = nils (a ++ b) c one.0 in

@@ -4,14 +4,14 @@ use Rattle.std.proofs.Common.{codes, refl, sym, ap, ◌∙◌, subst, arith, app
 use Rattle.std.specs.List.{AllByRecursion}
 use Rattle.std.specs.Option.{option_map_or}
 use Rattle.std.proofs.lemmas.List.{length-replicate}
-use Rattle.layer_mean.specs.Headers.{declared}
+use Rattle.layer_mean.specs.Headers.{header_of_tag}
 use Rattle.layer_mean.specs.Tree.{HeaderTree, LayerTree}
 use Rattle.trace_mean.specs.Trace.{Atom, Core, Link, Chained}
 use Rattle.trace_mean.specs.Fuse.{fields_of}
 use Rattle.trace_form_laws.specs.Names.{AtomNames, LinkNames, ChainedNames}
 use Rattle.trace_form_laws.specs.Closed.{CoreIsMade, IsMade}
 use Rattle.bypass_mean.specs.Text.{layer_of, atom_text, core_text, link_text, behind, pushed_text}
-use Rattle.pack_mean.specs.Reader.{Reader, ◌>>=◌, yields, given, the_text, is_name_byte, each_of, more_of}
+use Rattle.pack_mean.specs.Reader.{Reader, ◌>>=◌, yields, option_reader, the_text, is_name_byte, each_of, more_of}
 use Rattle.pack_mean.specs.Named.{Named, atom_named, core_named}
 use Rattle.pack_mean.specs.Operation.{an_atom, a_core, tag_named, a_link, links_behind, some_links, a_chain, a_chained}
 use Rattle.pack_laws.specs.Written.{written_with}
@@ -38,7 +38,7 @@ pub commas_stop : (parts : List (List ℕ)) (rest : List ℕ) → Stops is_name_
 commas_stop [] rest stops = stops
 commas_stop (part ∷ parts) rest stops = refl
 
--- texts in front of what follows
+-- texts before what follows
 link_any : (n o p c rest : List ℕ) → n ++ (o ++ p ++ c) ++ rest ≡ n ++ (o ++ (p ++ (c ++ rest)))
 link_any n o p c rest = simp append_assoc refl
 
@@ -63,7 +63,8 @@ module _ (stack : List LayerTree) (told : AreToldApart stack) (few : length stac
   pub atom_back : (a : Atom) → Made a → AtomFits a → Reading (an_atom s) (AtomText a) a
   atom_back a made fits = let x = atom_names before s small a made fits in
       record {
-        said = λ rest stops. finds_name (atom_named s) (AtomText a) a x (λ name. given (atom_named s name)) rest a rest
+        said = λ rest stops. finds_name (atom_named s) (AtomText a) a x (λ name. option_reader (atom_named s name)) rest
+            a rest
             stops
             (finds_known (atom_named s (x.first ∷ x.more)) rest a x.said);
       }
@@ -71,7 +72,8 @@ module _ (stack : List LayerTree) (told : AreToldApart stack) (few : length stac
   pub core_back : (c : Core) → CoreIsMade (reach_of s) c → CoreFits s.rows c → Reading (a_core s) (CoreText c) c
   core_back c made fits = let x = core_names before s small c made fits in
       record {
-        said = λ rest stops. finds_name (core_named s) (CoreText c) c x.names (λ name. given (core_named s name)) rest c
+        said = λ rest stops. finds_name (core_named s) (CoreText c) c x.names
+            (λ name. option_reader (core_named s name)) rest c
             rest stops
             (finds_known (core_named s (x.names.first ∷ x.names.more)) rest c x.names.said);
       }
@@ -136,13 +138,14 @@ module _ (stack : List LayerTree) (told : AreToldApart stack) (few : length stac
       (record { place = place; tag = tag; fields = fields }) rest
   link_back place tag fields rest fits made =
       let layer = layer_of stack place in
-      let name = layer.name ++ codes "." ++ option_map_or (λ (h : HeaderTree). h.name) (declared layer tag) [] in
+      let name = layer.name ++ codes "." ++ option_map_or (λ (h : HeaderTree). h.name) (header_of_tag layer tag) [] in
       let x = tag_names stack told few place tag fits.inside fits.declares in
       let count : length fields ≡ length (replicate (fields_of layer tag) place) = fits.count ∙
       sym (length-replicate (fields_of layer tag) place) in
       finds_same (a_link stack s place) _ _ _ rest
       (link_any name (codes "(") (parted (map AtomText fields)) (codes ")") rest)
-      (finds_name (tag_named layer) name tag x (λ words. given (tag_named layer words) >>= FieldsOf place) _ _ rest refl
+      (finds_name (tag_named layer) name tag x (λ words. option_reader (tag_named layer words) >>= FieldsOf place) _ _
+      rest refl
       (finds_given (tag_named layer (x.first ∷ x.more)) (FieldsOf place) _ tag _ rest x.said
       (finds_text (codes "(") _ _ _ _
       (finds_then (each_of (an_atom s) (replicate (fields_of layer tag) place)) _ _ fields _ _ _

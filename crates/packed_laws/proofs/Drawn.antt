@@ -17,7 +17,7 @@ use Rattle.layer_mean.specs.Visit.{is_for, handler_for}
 use Rattle.layer_mean.specs.Way.{Step, test, fork, set_slot, set_number, set_square, put, get, send, loop, handler_way}
 use Rattle.layer_mean.specs.Way.{way_length}
 use Rattle.layer_mean.specs.Queue.{Task, Line, Turn, beyond, is_place, layer_at, tasks_of, next_of, run_for, taken_turn}
-use Rattle.layer_mean.specs.Marked.{Log, Logged, Marked, marked, marked_sent, marked_start}
+use Rattle.layer_mean.specs.Marked.{Log, Logged, Marked, marking_player, marked_sent, marked_start}
 use Rattle.stack_mean.specs.Acceptance.{weight_limit}
 use Rattle.stack_mean.specs.Drawn.{DrawnHeader, DrawnMessage, chained, unknown, DrawnEvent, constant_of, drawn_row}
 use Rattle.stack_mean.specs.Drawn.{drawn_message, Drawing, with_header, sent_headers, emission_headers, with_sent}
@@ -261,7 +261,8 @@ module _ (stack : List LayerTree) where
         (log : Log Progressed DrawnEvent) →
         AllByRecursion TaskIs (t ∷ rest) →
         OutsAre log.outs →
-        let r = next_of (length stack) (marked (shaper case stack)) (t ∷ rest) log in AllByRecursion TaskIs r.tasks ×
+        let r = next_of (length stack) (marking_player (shaper case stack)) (t ∷ rest) log in
+        AllByRecursion TaskIs r.tasks ×
         OutsAre r.world.outs
     next_drawn t rest log h outs = go (is_place (length stack) t.at) refl where
       turn : Turn Progressed DrawnEvent
@@ -269,8 +270,8 @@ module _ (stack : List LayerTree) where
 
       line : Bool → Line (Log Progressed DrawnEvent) (Marked DrawnEvent)
       line b = if b
-          then taken_turn t.at rest ((marked (shaper case stack)).visit t.at t.dir t.event log)
-          else record { world = (marked (shaper case stack)).output t.dir t.event log; tasks = rest }
+          then taken_turn t.at rest ((marking_player (shaper case stack)).visit t.at t.dir t.event log)
+          else record { world = (marking_player (shaper case stack)).output t.dir t.event log; tasks = rest }
 
       go : (b : Bool) → is_place (length stack) t.at ≡ b → AllByRecursion TaskIs (line b).tasks ×
           OutsAre (line b).world.outs
@@ -289,12 +290,12 @@ module _ (stack : List LayerTree) where
 
     run_drawn : (n : ℕ) (tasks : List (Task (Marked DrawnEvent))) (log : Log Progressed DrawnEvent) →
         AllByRecursion TaskIs tasks → OutsAre log.outs →
-        OutsAre (run_for (length stack) (marked (shaper case stack)) n
+        OutsAre (run_for (length stack) (marking_player (shaper case stack)) n
         (record { world = log; tasks = tasks })).world.outs
     run_drawn zero tasks log h outs = outs
     run_drawn (suc n) [] log h outs = outs
     run_drawn (suc n) (t ∷ rest) log h outs =
-        let r = next_of (length stack) (marked (shaper case stack)) (t ∷ rest) log in
+        let r = next_of (length stack) (marking_player (shaper case stack)) (t ∷ rest) log in
         let is = next_drawn t rest log h outs in
         run_drawn n r.tasks r.world is.0 is.1
 
@@ -321,7 +322,7 @@ module _ (stack : List LayerTree) where
   first_drawn fits k case =
       let known : Known = record { dir = Down; kind = k; tags = [] } in
       let first = marked_start undrawn (entry_task stack known) in
-      let log = (run_for (length stack) (marked (shaper case stack)) weight_limit first).world in
+      let log = (run_for (length stack) (marking_player (shaper case stack)) weight_limit first).world in
       outs_drawn log log.world
       (run_drawn case fits weight_limit first.tasks first.world (record { way = omega arith; event = tt }, tt) tt)
 

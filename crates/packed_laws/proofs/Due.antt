@@ -16,7 +16,7 @@ use Rattle.chain_laws.proofs.Orderly.{typed_is_orderly}
 use Rattle.chain_laws.proofs.Lists.{each_append}
 use Rattle.run_mean.specs.Common.{longest_shape}
 use Rattle.trace_mean.specs.Trace.{Operation, bind, note, check, set, set_square, push, take, output}
-use Rattle.trace_mean.specs.Counts.{counted, a_note, trace_length, trace_notes}
+use Rattle.trace_mean.specs.Counts.{operation_length, a_note, trace_length, trace_notes}
 use Rattle.trace_mean.specs.Fuse.{trace_of}
 use Rattle.trace_laws.specs.Shapes.{told_by_shape, told_by_trace}
 use Rattle.trace_laws.proofs.Shapes.{traces_stand_for_shapes}
@@ -38,12 +38,12 @@ use Rattle.packed_laws.proofs.Traced.{traces_fit}
 all_counted : (os : List Operation) → length os ≡ trace_length os + trace_notes os
 all_counted [] = refl
 all_counted (o ∷ os) =
-    let a = sum_by-cons counted o os in
+    let a = sum_by-cons operation_length o os in
     let b = sum_by-cons a_note o os in
     let c = all_counted os in
     let d = one o in
     omega (arith, a, b, c, d) where
-      one : (o : Operation) → counted o + a_note o ≡ 1
+      one : (o : Operation) → operation_length o + a_note o ≡ 1
       one (bind e) = refl
       one (note m) = refl
       one (check e) = refl

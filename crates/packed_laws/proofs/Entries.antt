@@ -6,7 +6,7 @@ use Rattle.std.specs.List.{All, AllByRecursion}
 use Rattle.std.specs.Option.{option_map_or}
 use Rattle.std.proofs.lemmas.List.{length-take-le, length-drop}
 use Rattle.std.proofs.lemmas.List.Elements.{All-head, All-tail}
-use Rattle.layer_mean.specs.Headers.{declared, header_none}
+use Rattle.layer_mean.specs.Headers.{header_of_tag, header_none}
 use Rattle.layer_mean.specs.Tree.{HeaderTree, LayerTree, no_layer}
 use Rattle.msg_core.specs.Headers.{most_fields}
 use Rattle.stack_mean.specs.Plan.{Plan}
@@ -95,7 +95,7 @@ module _ (stack : List LayerTree) where
         record {
           at = refl;
           inside = front.inside;
-          declares = subst (λ l. is_some (declared l tag) ≡ true) (sym front.is) declares.0;
+          declares = subst (λ l. is_some (header_of_tag l tag) ≡ true) (sym front.is) declares.0;
           count = length-take-le n atoms (omega (arith, most, same)) ∙ sym same;
           fields_fit = each_take AtomFits n atoms fit;
         },

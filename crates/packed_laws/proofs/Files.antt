@@ -10,7 +10,7 @@ use Rattle.audit_mean.specs.Report.{◌>>=◌, in_form}
 use Rattle.layer_mean.specs.Tree.{ItemsTree, LayerTree}
 use Rattle.chain_laws.proofs.Lists.{each_append}
 use Rattle.trace_mean.specs.Trace.{Operation, bind, note, check, set, set_square, push, take, output}
-use Rattle.trace_mean.specs.Counts.{counted, trace_length}
+use Rattle.trace_mean.specs.Counts.{operation_length, trace_length}
 use Rattle.trace_form_laws.specs.Names.{OperationNames}
 use Rattle.trace_form_laws.specs.Closed.{IsMade, Closed}
 use Rattle.trace_form_laws.specs.There.{AreThere}
@@ -30,7 +30,7 @@ use Rattle.packed_laws.proofs.Operations.{operation_back}
 use Rattle.packed_laws.proofs.Plain.{IsPlain, line_plain, plain_both, decimal_plain}
 
 module _ (stack : List LayerTree) where
-  -- the lines of operations, behind lines and what may be named
+  -- the lines of operations, after lines and what may be named
   abbrev pub lines_from : List (List ℕ) → Named → List Operation → List (List ℕ)
   lines_from before s [] = []
   lines_from before s (o ∷ os) = line_with stack before s o ∷ lines_from (before ++ line_with stack before s o ∷ [])
@@ -47,7 +47,7 @@ module _ (stack : List LayerTree) where
       lines_from [] (nothing_named fields) os
   lines_are fields os = written [] (nothing_named fields) os
 
-  -- a line read, and the others behind it
+  -- a line read, and the others after it
   then_back : (r next : Reading) (number : ℕ) (line : List ℕ) (lines : List (List ℕ)) (all : List (List Operation)) →
       line_read stack r r.stage line ≡ Some next → traces_from stack next (suc number) lines ≡ Ok all →
       traces_from stack r number (line ∷ lines) ≡ Ok all
@@ -82,11 +82,11 @@ module _ (stack : List LayerTree) where
     more : trace_length os ≤ behind
 
   counts : (o : Operation) (os : List Operation) (left : ℕ) → trace_length (o ∷ os) ≤ left →
-      counted o + trace_length os ≤ left
-  counts o os left h = let both = sum_by-cons counted o os in omega (arith, both, h)
+      operation_length o + trace_length os ≤ left
+  counts o os left h = let both = sum_by-cons operation_length o os in omega (arith, both, h)
 
   other : (due : List Due) (s : Named) (left : ℕ) (r : Reading) (o : Operation) (os : List Operation) →
-      counted o + trace_length os ≤ left → counted o ≡ 1 →
+      operation_length o + trace_length os ≤ left → operation_length o ≡ 1 →
       ((n : ℕ) → with_operation stack due s (suc n) r o ≡
       Some (record { stage = within due (naming stack s o) n; held = r.held ++ o ∷ []; traces = r.traces })) →
       Took due s left r o os
@@ -94,7 +94,7 @@ module _ (stack : List LayerTree) where
   other due s (suc n) r o os h one is = record { behind = n; is = is n; more = omega (arith, h, one) }
 
   took : (due : List Due) (s : Named) (left : ℕ) (r : Reading) (o : Operation) (os : List Operation) →
-      counted o + trace_length os ≤ left →
+      operation_length o + trace_length os ≤ left →
       Took due s left r o os
   took due s left r (note m) os h = record { behind = left; is = refl; more = omega (arith, h) }
   took due s left r (bind e) os h = other due s left r (bind e) os h refl (λ n. refl)
@@ -173,7 +173,7 @@ module _ (stack : List LayerTree) where
       told = each_append _ s.rows (items_at stack p c ∷ []) room.told (rows_told stack told few p c made.0, tt);
     }
 
-    -- operations in front of what is read behind any of them
+    -- operations before what is read after any of them
     operations_back : (os : List Operation) (before : List (List ℕ)) (s : Named) (left : ℕ) (due : List Due)
         (held : List Operation)
         (traces all : List (List Operation)) (rest : List (List ℕ)) (number : ℕ) → Closed stack (reach_of s) os →
@@ -224,7 +224,7 @@ module _ (stack : List LayerTree) where
         let none : 0 + length d.own ≤ largest_number = omega (arith, long) in
         record { fields = can.fields; binds = none; notes = none; rows = none; told = tt }
 
-    -- the cases that are due, in front of which others were read
+    -- the cases that are due, before which others were read
     cases_back : (due : List Due) (traces : List (List Operation)) (r : Reading) (number : ℕ) →
         AllByRecursion (CanBeRead stack) due →
         ((line : List ℕ) (next : Reading) → next_case due traces line ≡ Some next → line_read stack r r.stage line ≡

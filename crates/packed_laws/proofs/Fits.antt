@@ -2,7 +2,7 @@
 use Rattle.std.specs.Prelude.{◌≡◌, ℕ, suc, ◌+◌, ◌<◌, ◌≤◌, List, [], ◌∷◌, length, slice_index_or, Option, Some, None}
 use Rattle.std.specs.Prelude.{option_map, is_some, true}
 use Rattle.std.specs.List.{AllByRecursion}
-use Rattle.layer_mean.specs.Headers.{declared}
+use Rattle.layer_mean.specs.Headers.{header_of_tag}
 use Rattle.layer_mean.specs.Tree.{Carried, ItemsTree, LayerTree}
 use Rattle.msg_core.specs.Headers.{most_fields}
 use Rattle.trace_mean.specs.Trace.{Atom, number, Core, taken_message, TraceNumber, atom, me, count, ltime, element}
@@ -66,7 +66,7 @@ abbrev mutual
 pub record LinkFits (stack : List LayerTree) (place : ℕ) (l : Link) : Type 0 where
   pub at : l.place ≡ place
   pub inside : place < length stack
-  pub declares : is_some (declared (layer_of stack place) l.tag) ≡ true
+  pub declares : is_some (header_of_tag (layer_of stack place) l.tag) ≡ true
   pub count : length l.fields ≡ fields_of (layer_of stack place) l.tag
   pub fields_fit : AllByRecursion AtomFits l.fields
 
@@ -93,7 +93,7 @@ RowFits stack taken place _ _ = ⊥
 abbrev pub index_brackets : ℕ
 index_brackets = 199
 
--- An operation, behind which these rows were taken: a row that is pushed has as many numbers as its queue's rows, and
+-- An operation, after which these rows were taken: a row that is pushed has as many numbers as its queue's rows, and
 -- what is put out has at most as many as an event has; its known headers stand from the lowest place on, and those of a
 -- row from the place above its queue.
 abbrev pub OperationFits : List LayerTree → List ItemsTree → Operation → Type 0

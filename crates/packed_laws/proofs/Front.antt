@@ -17,10 +17,10 @@ use Rattle.std.proofs.lemmas.Slice.Eq.{bytes_eq-Decides}
 use Rattle.std.proofs.lemmas.Str.Parse.{numerals_by_value, tells_all_ascii_digits}
 use Rattle.layer_ast.specs.Spelling.{is_word_byte}
 use Rattle.script_mean.specs.Words.{is_plain, within, number_of}
-use Rattle.pack_mean.specs.Reader.{Reader, ◌>>=◌, yields, given, the_text, run_of, is_name_byte, a_name}
+use Rattle.pack_mean.specs.Reader.{Reader, ◌>>=◌, yields, option_reader, the_text, run_of, is_name_byte, a_name}
 use Rattle.packed_laws.specs.Told.{IsWord}
 
--- At the front of a text a reader finds this, and these bytes behind it.
+-- At the front of a text a reader finds this, and these bytes after it.
 pub record Finds {A : Type 0} (read : Reader A) (text : List ℕ) (x : A) (rest : List ℕ) : Type 0 where
   pub said : read text ≡ Some (x, rest)
 
@@ -48,14 +48,14 @@ finds_text wanted next text y rest h = finds_then (the_text wanted) next (wanted
 
 pub finds_given : {A B : Type 0} (o : Option A) (next : A → Reader B) (text : List ℕ) (x : A) (y : B) (rest : List ℕ) →
     o ≡ Some x →
-    Finds (next x) text y rest → Finds (given o >>= next) text y rest
+    Finds (next x) text y rest → Finds (option_reader o >>= next) text y rest
 finds_given o next text x y rest is h =
-    finds_then (given o) next text x text y rest record { said = ap (λ q. option_map (λ v. (v, text)) q) is } h
+    finds_then (option_reader o) next text x text y rest record { said = ap (λ q. option_map (λ v. (v, text)) q) is } h
 
-pub finds_known : {A : Type 0} (o : Option A) (text : List ℕ) (x : A) → o ≡ Some x → Finds (given o) text x text
+pub finds_known : {A : Type 0} (o : Option A) (text : List ℕ) (x : A) → o ≡ Some x → Finds (option_reader o) text x text
 finds_known o text x is = record { said = ap (λ q. option_map (λ v. (v, text)) q) is }
 
--- behind another text that is the same
+-- after another text that is the same
 pub finds_same : {A : Type 0} (read : Reader A) (text other : List ℕ) (x : A) (rest : List ℕ) → text ≡ other →
     Finds read other x rest →
     Finds read text x rest

@@ -4,7 +4,7 @@ use Rattle.std.specs.List.{AllByRecursion}
 use Rattle.layer_ast.specs.declared.tokens.Dir.{Dir}
 use Rattle.layer_ast.specs.declared.tokens.Dir.TheVariants.{Up, Down}
 use Rattle.layer_mean.specs.declared.run.Case.{Case}
-use Rattle.layer_mean.specs.Headers.{declared}
+use Rattle.layer_mean.specs.Headers.{header_of_tag}
 use Rattle.layer_mean.specs.Tree.{Carried, ExpressionTree, number, me, count, ltime, local, element, square, rows, item}
 use Rattle.layer_mean.specs.Tree.{size, binary, apply, pick, MessageTree, message, nothing, held, cut, tail, join}
 use Rattle.layer_mean.specs.Tree.{ContentTree, EmissionTree, RowTree, ItemsTree, HandlerTree, LayerTree}
@@ -80,7 +80,7 @@ TakenFits layer c (Some slot) = Carries (cell_items layer c) slot.1
 -- A header that is put on going down is one of the layer's, with as many fields as it has.
 abbrev pub HeaderFits : LayerTree → Dir → ContentTree → Type 0
 HeaderFits layer Up c = Unit {0}
-HeaderFits layer Down c = (is_some (declared layer c.tag) ≡ true) × (length c.fields ≡ fields_of layer c.tag)
+HeaderFits layer Down c = (is_some (header_of_tag layer c.tag) ≡ true) × (length c.fields ≡ fields_of layer c.tag)
 
 pub record ContentFits (layer : LayerTree) (dir : Dir) (c : ContentTree) : Type 0 where
   pub message_fits : MessageFits layer most_nested c.message

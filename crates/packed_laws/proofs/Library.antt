@@ -6,7 +6,7 @@ use Rattle.std.specs.Map.{lookup}
 use Rattle.std.proofs.lemmas.Bool.{and_parts}
 use Rattle.std.specs.Option.{option_map_or}
 use Rattle.layer_ast.specs.declared.tokens.Token.{Token}
-use Rattle.layer_ast.specs.Cut.{cut, piece}
+use Rattle.layer_ast.specs.Cut.{text_tokens, piece}
 use Rattle.layer_ast.specs.Depth.{room_behind, IsWithin, WithRoom}
 use Rattle.layer_ast.specs.Print as print
 use Rattle.layer_ast.specs.Spelling.{reserved, kinds, symbols, word_token, symbol_at}
@@ -35,7 +35,7 @@ shallow_within (t ∷ tokens) room h = go (room_behind t room) (λ left k. shall
   go (Some left) so k = so left k
 
 abbrev text_shallow : List ℕ → Bool
-text_shallow text = is_shallow 100 (map (λ l. l.token) (cut text).tokens)
+text_shallow text = is_shallow 100 (map (λ l. l.token) (text_tokens text).tokens)
 
 bottom_shallow : text_shallow bottom ≡ true
 unfolding bottom piece reserved kinds symbols word_token symbol_at
@@ -150,7 +150,7 @@ library_walked [] (l ∷ ls) shallow h = absurd h
 library_walked (text ∷ texts) [] shallow h = absurd h
 library_walked (text ∷ texts) (l ∷ ls) shallow h = (
   (layer_walk l 98 (omega arith) [] (text_walked 100 (print.layer l []) text h.0.fits
-      (shallow_within (map (λ l. l.token) (cut text).tokens) 100 shallow.0))).0,
+      (shallow_within (map (λ l. l.token) (text_tokens text).tokens) 100 shallow.0))).0,
   library_walked texts ls shallow.1 h.1,
 )
 

@@ -9,7 +9,7 @@ use Rattle.std.proofs.lemmas.Bool.{lt-ltb}
 use Rattle.std.proofs.lemmas.List.{length-map}
 use Rattle.std.proofs.lemmas.List.FromFn.{get_or-map-range_with_len}
 use Rattle.std.proofs.lemmas.Slice.Eq.{bytes_eq-Decides}
-use Rattle.layer_mean.specs.Headers.{declared, header_none}
+use Rattle.layer_mean.specs.Headers.{header_of_tag, header_none}
 use Rattle.layer_mean.specs.Tree.{Carried, CellTree, HeaderTree, ItemsTree, LayerTree, no_layer}
 use Rattle.trace_mean.specs.Trace.{Atom, number, peer, field, bound, taken_number, value, Core, body, noted}
 use Rattle.trace_mean.specs.Trace.{taken_message, nothing}
@@ -238,10 +238,10 @@ module _ (stack : List LayerTree) (told : AreToldApart stack) (few : length stac
   is_declared (h ∷ hs) zero is = omega arith
   is_declared (h ∷ hs) (suc tag) is = let more = is_declared hs tag is in omega (arith, more)
 
-  pub tag_names : (p tag : ℕ) → p < length stack → is_some (declared (layer_of stack p) tag) ≡ true →
+  pub tag_names : (p tag : ℕ) → p < length stack → is_some (header_of_tag (layer_of stack p) tag) ≡ true →
       Names (tag_named (layer_of stack p))
       ((layer_of stack p).name ++ codes "." ++ option_map_or (λ (h : HeaderTree). h.name)
-      (declared (layer_of stack p) tag) []) tag
+      (header_of_tag (layer_of stack p) tag) []) tag
   tag_names p tag inside is =
       let layer = layer_of stack p in
       let names = map (λ (h : HeaderTree). h.name) (header_none ∷ layer.headers) in

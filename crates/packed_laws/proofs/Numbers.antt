@@ -23,9 +23,10 @@ use Rattle.trace_mean.specs.Fuse.{form_at}
 use Rattle.trace_form_laws.specs.Names.{NumberNames, MessageNames}
 use Rattle.trace_form_laws.specs.Closed.{AtomIsMade, IsMade}
 use Rattle.trace_form_laws.specs.There.{HasNumber, HasSquare, HasRows, HasQueue, IsThere}
-use Rattle.bypass_mean.specs.Text.{layer_of, indexed, listed, with_index, cell_name, cell_text, number_text}
+use Rattle.bypass_mean.specs.Text.{layer_of, bracketed_index, bracketed_list, with_index, cell_name, cell_text}
+use Rattle.bypass_mean.specs.Text.{number_text}
 use Rattle.bypass_mean.specs.Text.{message_text, sign_text}
-use Rattle.pack_mean.specs.Reader.{Reader, ◌>>=◌, yields, given, the_text, is_name_byte, a_name, a_word}
+use Rattle.pack_mean.specs.Reader.{Reader, ◌>>=◌, yields, option_reader, the_text, is_name_byte, a_name, a_word}
 use Rattle.pack_mean.specs.Named.{Named, items_in, no_items, items_at, atom_named, core_named, cell_named}
 use Rattle.pack_mean.specs.Named.{function_named, operator_named}
 use Rattle.pack_mean.specs.Expression.{QueueNamed, Inner, an_index, number_of_cell, index_of_queue, queue_with}
@@ -41,7 +42,7 @@ use Rattle.packed_laws.proofs.Front.{Stops, run_back, Leads, leads_not, decimal_
 use Rattle.packed_laws.proofs.Names.{all_at, place_back, IsSmall, atom_names, core_names, cell_names, rows_told}
 use Rattle.packed_laws.proofs.Names.{finds_name, finds_word}
 
--- what stands in brackets, in front of what follows; the signs are any
+-- what stands in brackets, before what follows; the signs are any
 one_any : (f o a c rest : List ℕ) → f ++ (o ++ (a ++ []) ++ c) ++ rest ≡ f ++ (o ++ (a ++ (c ++ rest)))
 one_any f o a c rest = simp (append_assoc, append-nil) refl
 
@@ -70,27 +71,27 @@ item_any : (f o a m b c d n rest : List ℕ) →
     (o ++ (a ++ (m ++ (b ++ (c ++ (d ++ (n ++ rest)))))))
 item_any f o a m b c d n rest = simp (append_assoc, append-nil) refl
 
-one_text : (f a rest : List ℕ) → f ++ listed (a ∷ []) ++ rest ≡ f ++ (codes "(" ++ (a ++ (codes ")" ++ rest)))
+one_text : (f a rest : List ℕ) → f ++ bracketed_list (a ∷ []) ++ rest ≡ f ++ (codes "(" ++ (a ++ (codes ")" ++ rest)))
 one_text f a rest = one_any f (codes "(") a (codes ")") rest
 
-two_text : (f a b rest : List ℕ) → f ++ listed (a ∷ b ∷ []) ++ rest ≡ f ++
+two_text : (f a b rest : List ℕ) → f ++ bracketed_list (a ∷ b ∷ []) ++ rest ≡ f ++
     (codes "(" ++ (a ++ (codes "," ++ (b ++ (codes ")" ++ rest)))))
 two_text f a b rest = two_any f (codes "(") a (codes ",") b (codes ")") rest
 
 three_text : (f a b c rest : List ℕ) →
-    f ++ listed (a ∷ b ∷ c ∷ []) ++ rest ≡ f ++
+    f ++ bracketed_list (a ∷ b ∷ c ∷ []) ++ rest ≡ f ++
     (codes "(" ++ (a ++ (codes "," ++ (b ++ (codes "," ++ (c ++ (codes ")" ++ rest)))))))
 three_text f a b c rest = three_any f (codes "(") a (codes ",") b c (codes ")") rest
 
-item_text : (q r n rest : List ℕ) → codes "at" ++ listed (q ∷ r ∷ []) ++ codes "." ++ n ++ rest ≡
+item_text : (q r n rest : List ℕ) → codes "at" ++ bracketed_list (q ∷ r ∷ []) ++ codes "." ++ n ++ rest ≡
     codes "at" ++ (codes "(" ++ (q ++ (codes "," ++ (r ++ (codes ")." ++ (n ++ rest))))))
 item_text q r n rest = item_any (codes "at") (codes "(") q (codes ",") r (codes ")") (codes ".") n rest
 
-index_text : (f a rest : List ℕ) → f ++ indexed a ++ rest ≡ f ++ (codes "[" ++ (a ++ (codes "]" ++ rest)))
+index_text : (f a rest : List ℕ) → f ++ bracketed_index a ++ rest ≡ f ++ (codes "[" ++ (a ++ (codes "]" ++ rest)))
 index_text f a rest = index_any f (codes "[") a (codes "]") rest
 
 square_text : (f a b rest : List ℕ) →
-    f ++ indexed a ++ indexed b ++ rest ≡ f ++
+    f ++ bracketed_index a ++ bracketed_index b ++ rest ≡ f ++
     (codes "[" ++ (a ++ (codes "]" ++ (codes "[" ++ (b ++ (codes "]" ++ rest))))))
 square_text f a b rest = square_any f (codes "[") a (codes "]") b rest
 
@@ -140,7 +141,7 @@ record Applied (stack : List LayerTree) (s : Named) (f : Function) : Type 0 wher
   leads : Leads word
   no_number : atom_named s (word ∷ []) ≡ None
   begins : (inner : Inner) → begun_by stack inner (word ∷ []) ≡
-      (given (function_named (word ∷ [])) >>= an_application inner)
+      (option_reader (function_named (word ∷ [])) >>= an_application inner)
   said : function_named (word ∷ []) ≡ Some f
 
 applied : (stack : List LayerTree) (s : Named) (f : Function) → Applied stack s f
@@ -228,11 +229,11 @@ module _ (stack : List LayerTree) (told : AreToldApart stack) (few : length stac
   abbrev pub QueueText : ℕ → ℕ → TraceNumber → List ℕ
   QueueText p c e = cell_text stack p c (NumberText e)
 
-  -- in front of what ends a name, a reader finds this in its text
+  -- before what ends a name, a reader finds this in its text
   pub record Reads {A : Type 0} (read : Reader A) (text : List ℕ) (x : A) : Type 0 where
     pub said : (rest : List ℕ) → Stops is_name_byte rest → Finds read (text ++ rest) x rest
 
-  -- behind a cell's name a reader finds what its text says
+  -- after a cell's name a reader finds what its text says
   pub record Behind {A : Type 0} (read : Reader A) (p c : ℕ) (text : List ℕ) (x : A) (rest : List ℕ) : Type 0 where
     pub there : c < length (layer_of stack p).cells
     pub more : List ℕ
@@ -275,7 +276,7 @@ module _ (stack : List LayerTree) (told : AreToldApart stack) (few : length stac
     array_of p c (queues capacity items) e rest is h = absurd (cc is)
 
     array_shown : (form : Form) (name index : List ℕ) → shape_in form ≡ Some Array → with_index (Some form) name index ≡
-        name ++ indexed index
+        name ++ bracketed_index index
     array_shown (numbers One initial) name index is = absurd (cc is)
     array_shown (numbers Array initial) name index is = refl
     array_shown (numbers Square initial) name index is = absurd (cc is)
@@ -318,12 +319,12 @@ module _ (stack : List LayerTree) (told : AreToldApart stack) (few : length stac
         finds_then (an_index inner) _ _ e rest _ _ (index_back e rest h) (finds_value _ rest)
 
     among_shown : (form : Form) (items : ItemsTree) (name index : List ℕ) → among_in form ≡ Some items →
-        with_index (Some form) name index ≡ name ++ indexed index
+        with_index (Some form) name index ≡ name ++ bracketed_index index
     among_shown (numbers shape initial) items name index is = absurd (cc is)
     among_shown (queue capacity own) items name index is = absurd (cc is)
     among_shown (queues capacity own) items name index is = refl
 
-    -- behind the names of cells and queues
+    -- after the names of cells and queues
     pub element_behind : (p c : ℕ) (e : TraceNumber) (rest : List ℕ) → HasNumber (layer_of stack p) c e →
         Reads inner.number (NumberText e) e →
         Stops is_name_byte rest →
@@ -415,7 +416,7 @@ module _ (stack : List LayerTree) (told : AreToldApart stack) (few : length stac
           let n = cell_names stack told few s p c inside b.there in
           finds_same (queue_with stack inner) _ _ _ rest b.text_is
           (finds_name (cell_named stack) (cell_name stack p c) (p, c) n.names
-          (λ name. given (cell_named stack name) >>= QueueOf) b.more _ rest b.stops
+          (λ name. option_reader (cell_named stack name) >>= QueueOf) b.more _ rest b.stops
           (finds_given (cell_named stack (n.names.first ∷ n.names.more)) QueueOf b.more (p, c) _ rest n.names.said
           b.said));
     }
@@ -436,7 +437,7 @@ module _ (stack : List LayerTree) (told : AreToldApart stack) (few : length stac
           (leads_not 40 text rest refl leads) ∙ h.said;
     }
 
-    -- the name of a cell in front of its number
+    -- the name of a cell before its number
     pub cell_back : (p c : ℕ) (text : List ℕ) (e : TraceNumber) (rest : List ℕ) → p < length stack →
         Behind (number_of_cell inner p c (form_at (layer_of stack p) c)) p c text e rest →
         Finds (number_with stack s inner) (text ++ rest) e rest
@@ -453,12 +454,12 @@ module _ (stack : List LayerTree) (told : AreToldApart stack) (few : length stac
     -- a number of a row is named by a name of these
     item_back : (q : QueueNamed) (row : TraceNumber) (k : ℕ) (rest : List ℕ) → q.place < length stack →
         k < length (items_at stack q.place q.cell).numbers →
-        Stops is_name_byte rest → Finds (a_name >>= λ name. given (item_named stack q row name))
+        Stops is_name_byte rest → Finds (a_name >>= λ name. option_reader (item_named stack q row name))
         (slice_index_or (items_at stack q.place q.cell).numbers k [] ++ rest) (item q.place q.cell q.index row k) rest
     item_back q row k rest inside below stops =
         let names = (items_at stack q.place q.cell).numbers in
         let told_rows = rows_told stack told few q.place q.cell inside in
-        finds_word (slice_index_or names k []) (λ name. given (item_named stack q row name)) rest _ rest
+        finds_word (slice_index_or names k []) (λ name. option_reader (item_named stack q row name)) rest _ rest
         (all_at IsWord names k [] told_rows.words below) stops
         (finds_known (item_named stack q row (slice_index_or names k [] ∷ [])) rest _
         (ap (λ o. option_map (item q.place q.cell q.index row) o) (place_back names k told_rows.apart below)))
@@ -479,7 +480,7 @@ module _ (stack : List LayerTree) (told : AreToldApart stack) (few : length stac
         of_among (queue capacity own) is = absurd (cc is)
         of_among (queues capacity own) is = ap (λ o. unwrap_or o no_items) is
 
-  -- what is read in a bracket behind which so many may be opened
+  -- what is read in a bracket after which so many may be opened
   abbrev At : ℕ → Inner
   At n = inside stack s n
 
@@ -517,7 +518,7 @@ module _ (stack : List LayerTree) (told : AreToldApart stack) (few : length stac
   applied_back inner f a h = record {
     said = λ rest stops. let w = applied stack s f in
         finds_same (number_with stack s inner) _ _ (apply f a) rest
-        (ap (λ l. l ++ listed (NumberText a ∷ []) ++ rest) w.text_is ∙ one_text w.word (NumberText a) rest)
+        (ap (λ l. l ++ bracketed_list (NumberText a ∷ []) ++ rest) w.text_is ∙ one_text w.word (NumberText a) rest)
         (word_back inner w.word _ (apply f a) rest w.is_word w.leads refl w.no_number
         (subst (λ r. Finds r (codes "(" ++ (NumberText a ++ (codes ")" ++ rest))) (apply f a) rest)
         (sym (w.begins inner))
@@ -537,7 +538,7 @@ module _ (stack : List LayerTree) (told : AreToldApart stack) (few : length stac
         (NumberText a ++ (codes " " ++
         (sign_text (operator_sign o) ++ (codes " " ++ (NumberText b ++ (codes ")" ++ rest)))))) (binary o a b) rest
     behind rest = finds_then inner.number _ _ a _ _ _ (h.said _ refl) (finds_text (codes " ") _ _ _ _
-        (finds_then a_word (λ word. given (operator_named word) >>= λ operator. the_text (codes " ") >>= λ v.
+        (finds_then a_word (λ word. option_reader (operator_named word) >>= λ operator. the_text (codes " ") >>= λ v.
         inner.number >>= λ second.
         the_text (codes ")") >>= λ w. yields (binary operator a second)) _ (sign_text (operator_sign o)) _ _ _
         (run_back (λ byte. not (byte == 32)) (sign_text (operator_sign o)) _ (operator_word o) refl)
@@ -625,7 +626,7 @@ module _ (stack : List LayerTree) (told : AreToldApart stack) (few : length stac
         has.below in
         record {
           said = λ rest stops. finds_same (number_with stack s (At (suc (suc n)))) _ _ (item p c e row k) rest
-              (ap (λ names. codes "at" ++ listed (QueueText p c e ∷ NumberText row ∷ []) ++ codes "." ++
+              (ap (λ names. codes "at" ++ bracketed_list (QueueText p c e ∷ NumberText row ∷ []) ++ codes "." ++
               slice_index_or names k [] ++ rest)
               (sym (called (form_at (layer_of stack p) c))) ∙
               item_text (QueueText p c e) (NumberText row) (slice_index_or (items_at stack p c).numbers k []) rest)

@@ -23,9 +23,11 @@ use Rattle.trace_mean.specs.Fuse.{form_at}
 use Rattle.trace_form_laws.specs.Names.{AtomNames, SentNames, NumberNames, OperationNames}
 use Rattle.trace_form_laws.specs.Closed.{CoreIsMade, IsMade}
 use Rattle.trace_form_laws.specs.There.{HasQueue, IsThere}
-use Rattle.bypass_mean.specs.Text.{layer_of, sign_text, listed, atom_text, core_text, cell_name, cell_text, number_text}
+use Rattle.bypass_mean.specs.Text.{layer_of, sign_text, bracketed_list, atom_text, core_text, cell_name, cell_text}
+use Rattle.bypass_mean.specs.Text.{number_text}
 use Rattle.bypass_mean.specs.Text.{message_text, behind, pushed_text}
-use Rattle.pack_mean.specs.Reader.{Reader, ◌>>=◌, yields, given, the_text, is_name_byte, a_name, a_word, nothing_behind}
+use Rattle.pack_mean.specs.Reader.{Reader, ◌>>=◌, yields, option_reader, the_text, is_name_byte, a_name, a_word}
+use Rattle.pack_mean.specs.Reader.{nothing_behind}
 use Rattle.pack_mean.specs.Reader.{each_of}
 use Rattle.pack_mean.specs.Named.{Named, items_at, atom_named, core_named, cell_named, kind_named}
 use Rattle.pack_mean.specs.Expression.{QueueNamed, Inner, inside, most_brackets, number_of_cell, a_cell, a_number}
@@ -72,7 +74,7 @@ kind_back kind.Flushed = (refl, refl)
 kind_back kind.View = (refl, refl)
 kind_back kind.Leave = (refl, refl)
 
--- texts in front of what follows
+-- texts before what follows
 set_any : (s t e x rest : List ℕ) → s ++ t ++ e ++ x ++ rest ≡ s ++ (t ++ (e ++ (x ++ rest)))
 set_any s t e x rest = simp append_assoc refl
 
@@ -111,7 +113,7 @@ module _ (stack : List LayerTree) (told : AreToldApart stack) (few : length stac
   abbrev Made : Atom → Type 0
   Made a = AtomNames (IsMade stack (reach_of s)) a
 
-  -- what is sent: a message behind numbers, in front of a bracket
+  -- what is sent: a message after numbers, before a bracket
   record SentCore (o : Option Core) : Type 0 where
     made : AllByRecursion (λ c. CoreIsMade (reach_of s) c) (option_to_list o)
     fits : AllByRecursion (λ c. CoreFits s.rows c) (option_to_list o)
@@ -142,7 +144,7 @@ module _ (stack : List LayerTree) (told : AreToldApart stack) (few : length stac
         (record { numbers = []; message = Some c }) rest)
         (sym x.no_number) last)
 
-  -- behind a number
+  -- after a number
   more_sent : (more : Reader Sent) (numbers : List Atom) (o : Option Core) (rest : List ℕ) →
       (SomeSent numbers o →
       Finds more (parted (Parts numbers o) ++ (41 ∷ rest)) (record { numbers = numbers; message = o }) (41 ∷ rest)) →
@@ -210,7 +212,7 @@ module _ (stack : List LayerTree) (told : AreToldApart stack) (few : length stac
       (leads_more (AtomText a) _ (atom_leads stack told few before s small a made.0 fits.0))
       (sent_back most_fields (a ∷ numbers) o rest most made fits core tt)
 
-  -- an operation behind its word
+  -- an operation after its word
   abbrev Line : Reader Operation
   Line = a_word >>= operation_by stack s
 
@@ -277,7 +279,7 @@ module _ (stack : List LayerTree) (told : AreToldApart stack) (few : length stac
 
   -- what is set: a number of a cell
   abbrev Given : TraceNumber → Reader Operation
-  Given target = the_text (codes " = ") >>= λ u. a_number stack s >>= λ x. given (setting target x)
+  Given target = the_text (codes " = ") >>= λ u. a_number stack s >>= λ x. option_reader (setting target x)
 
   abbrev CellOf : ℕ × ℕ → Reader TraceNumber
   CellOf cell = number_of_cell Deepest cell.0 cell.1 (form_at (layer_of stack cell.0) cell.1)
@@ -301,8 +303,8 @@ module _ (stack : List LayerTree) (told : AreToldApart stack) (few : length stac
       (finds_then (a_cell stack Deepest (n.names.first ∷ n.names.more)) Given b.more target
       (codes " = " ++ (NumberText x ++ [])) o []
       (finds_given (cell_named stack (n.names.first ∷ n.names.more)) CellOf b.more (p, c) target _ n.names.said b.said)
-      (finds_text (codes " = ") (λ u. a_number stack s >>= λ y. given (setting target y)) _ _ _
-      (finds_then (a_number stack s) (λ y. given (setting target y)) _ x _ _ _ (h.said [] tt)
+      (finds_text (codes " = ") (λ u. a_number stack s >>= λ y. option_reader (setting target y)) _ _ _
+      (finds_then (a_number stack s) (λ y. option_reader (setting target y)) _ x _ _ _ (h.said [] tt)
       (finds_known (setting target x) [] o is))))))))
 
   -- a row that is pushed
@@ -448,7 +450,7 @@ module _ (stack : List LayerTree) (told : AreToldApart stack) (few : length stac
   KindOf dir k = the_text (codes "(") >>= λ v. what_is_sent s >>= Sending dir k
 
   abbrev KindBehind : Dir → Reader Operation
-  KindBehind dir = the_text (codes " ") >>= λ u. a_name >>= λ name. given (kind_named name) >>= KindOf dir
+  KindBehind dir = the_text (codes " ") >>= λ u. a_name >>= λ name. option_reader (kind_named name) >>= KindOf dir
 
   output_back : (dir : Dir) (k : Kind) (numbers : List Atom) (message : Option Chained) → AllByRecursion Made numbers →
       MadeSent message →
@@ -461,18 +463,19 @@ module _ (stack : List LayerTree) (told : AreToldApart stack) (few : length stac
       let kinds_back = kind_back k in
       finds_same Line _ (codes "out" ++
       (codes " " ++ (d ++ (codes " " ++ (kind_word k ++ (codes "(" ++ (parts ++ (codes ")" ++ (b ++ []))))))))) _ []
-      (ap (λ cs. codes "out " ++ d ++ codes " " ++ kind_word k ++ listed (map AtomText numbers ++ cs) ++ b)
+      (ap (λ cs. codes "out " ++ d ++ codes " " ++ kind_word k ++ bracketed_list (map AtomText numbers ++ cs) ++ b)
       (cores_are message) ∙
       sym (append-nil _) ∙ output_any (codes "out ") d (codes " ") (kind_word k) (codes "(") parts (codes ")") b [])
       (led_by (codes "out")
       (codes " " ++ (d ++ (codes " " ++ (kind_word k ++ (codes "(" ++ (parts ++ (codes ")" ++ (b ++ [])))))))) _
       refl refl
-      (finds_text (codes " ") (λ u. a_word >>= λ direction. given (beside directions direction) >>= KindBehind) _ _ _
-      (finds_then a_word (λ direction. given (beside directions direction) >>= KindBehind) _ d _ _ _
+      (finds_text (codes " ") (λ u. a_word >>= λ direction. option_reader (beside directions direction) >>= KindBehind)
+      _ _ _
+      (finds_then a_word (λ direction. option_reader (beside directions direction) >>= KindBehind) _ d _ _ _
       (run_back (λ byte. not (byte == 32)) d _ (direction_word dir) refl)
       (finds_given (beside directions d) KindBehind _ dir _ _ (direction_back dir)
-      (finds_text (codes " ") (λ u. a_name >>= λ name. given (kind_named name) >>= KindOf dir) _ _ _
-      (finds_word (kind_word k) (λ name. given (kind_named name) >>= KindOf dir) _ _ _ kinds_back.1 refl
+      (finds_text (codes " ") (λ u. a_name >>= λ name. option_reader (kind_named name) >>= KindOf dir) _ _ _
+      (finds_word (kind_word k) (λ name. option_reader (kind_named name) >>= KindOf dir) _ _ _ kinds_back.1 refl
       (finds_given (kind_named (kind_word k ∷ [])) (KindOf dir) _ k _ _ kinds_back.0
       (finds_text (codes "(") (λ v. what_is_sent s >>= Sending dir k) _ _ _
       (finds_then (what_is_sent s) (Sending dir k) _

@@ -18,7 +18,7 @@ use Rattle.packed_laws.specs.Told.{AreToldApart}
 use Rattle.packed_laws.proofs.Fits.{largest_number, ChainFits, OperationFits}
 use Rattle.packed_laws.proofs.Layers.{LayersFit}
 
--- the rows that were taken behind an operation, and a trace each of whose operations fits where it stands
+-- the rows that were taken after an operation, and a trace each of whose operations fits where it stands
 abbrev pub taken_behind : List LayerTree → List ItemsTree → Operation → List ItemsTree
 taken_behind stack taken (take p c e) = taken ++ items_at stack p c ∷ []
 taken_behind stack taken _ = taken

@@ -22,7 +22,7 @@ use Rattle.layer_ast.specs.declared.syntax.Operator.TheVariants.{BitOr, BitXor}
 use Rattle.layer_ast.specs.declared.syntax.Shape.TheVariants.{One, Array, Square}
 use Rattle.layer_ast.specs.Printed.{direction_sign, function_sign, operator_sign}
 use Rattle.layer_ast.specs.Spelling.{is_word_byte, kinds, kind_word, reserved, symbols}
-use Rattle.layer_mean.specs.Headers.{declared}
+use Rattle.layer_mean.specs.Headers.{header_of_tag}
 use Rattle.layer_mean.specs.Tree.{Carried, Form, HeaderTree, ItemsTree, LayerTree, numbers, queue, queues}
 use Rattle.file_laws.specs.Named.{shape_in, alone_in, among_in}
 use Rattle.chain_laws.proofs.Lists.{each_append}
@@ -32,7 +32,8 @@ use Rattle.trace_mean.specs.Fuse.{form_at}
 use Rattle.trace_form_laws.specs.Names.{AtomNames, LinkNames, SentNames, NumberNames, MessageNames, OperationNames}
 use Rattle.trace_form_laws.specs.Closed.{AtomIsMade, CoreIsMade, IsMade}
 use Rattle.trace_form_laws.specs.There.{HasNumber, HasRows, HasQueue, HasItem, IsThere}
-use Rattle.bypass_mean.specs.Text.{layer_of, sign_text, listed, indexed, with_index, atom_text, core_text, cell_name}
+use Rattle.bypass_mean.specs.Text.{layer_of, sign_text, bracketed_list, bracketed_index, with_index, atom_text}
+use Rattle.bypass_mean.specs.Text.{core_text, cell_name}
 use Rattle.bypass_mean.specs.Text.{cell_text, number_text, message_text, link_text, chain_text, behind, pushed_text}
 use Rattle.pack_mean.specs.Named.{Named, items_at, atom_named, core_named, cell_named}
 use Rattle.pack_mean.specs.Expression.{most_brackets}
@@ -106,32 +107,36 @@ parts_plain {A = A} shown between (x ∷ xs) h all = plain_both (shown x) (flat_
       more (y ∷ ys) each = plain_both (between ++ shown y) (flat_map (λ z. between ++ shown z) ys)
           (plain_both between (shown y) h each.0) (more ys each.1)
 
-pub listed_plain : (parts : List (List ℕ)) → AllByRecursion IsPlain parts → IsPlain (listed parts)
+pub listed_plain : (parts : List (List ℕ)) → AllByRecursion IsPlain parts → IsPlain (bracketed_list parts)
 listed_plain parts all = plain_both (codes "(" ++ join_by (λ part. part) (codes ",") parts) (codes ")")
     (plain_both (codes "(") (join_by (λ part. part) (codes ",") parts) refl
     (parts_plain (λ part. part) (codes ",") parts refl all)) refl
 
-pub one_plain : (f a : List ℕ) → IsPlain f → IsPlain a → IsPlain (f ++ listed (a ∷ []))
-one_plain f a h k = plain_both f (listed (a ∷ [])) h (listed_plain (a ∷ []) (k, tt))
+pub one_plain : (f a : List ℕ) → IsPlain f → IsPlain a → IsPlain (f ++ bracketed_list (a ∷ []))
+one_plain f a h k = plain_both f (bracketed_list (a ∷ [])) h (listed_plain (a ∷ []) (k, tt))
 
-pub two_plain : (f a b : List ℕ) → IsPlain f → IsPlain a → IsPlain b → IsPlain (f ++ listed (a ∷ b ∷ []))
-two_plain f a b h k l = plain_both f (listed (a ∷ b ∷ [])) h (listed_plain (a ∷ b ∷ []) (k, (l, tt)))
+pub two_plain : (f a b : List ℕ) → IsPlain f → IsPlain a → IsPlain b → IsPlain (f ++ bracketed_list (a ∷ b ∷ []))
+two_plain f a b h k l = plain_both f (bracketed_list (a ∷ b ∷ [])) h (listed_plain (a ∷ b ∷ []) (k, (l, tt)))
 
 pub three_plain : (f a b c : List ℕ) → IsPlain f → IsPlain a → IsPlain b → IsPlain c →
-    IsPlain (f ++ listed (a ∷ b ∷ c ∷ []))
-three_plain f a b c h k l m = plain_both f (listed (a ∷ b ∷ c ∷ [])) h (listed_plain (a ∷ b ∷ c ∷ []) (k, (l, (m, tt))))
+    IsPlain (f ++ bracketed_list (a ∷ b ∷ c ∷ []))
+three_plain f a b c h k l m =
+    plain_both f (bracketed_list (a ∷ b ∷ c ∷ [])) h (listed_plain (a ∷ b ∷ c ∷ []) (k, (l, (m, tt))))
 
-pub indexed_plain : (index : List ℕ) → IsPlain index → IsPlain (indexed index)
+pub indexed_plain : (index : List ℕ) → IsPlain index → IsPlain (bracketed_index index)
 indexed_plain index h = plain_both (codes "[" ++ index) (codes "]") (plain_both (codes "[") index refl h) refl
 
 pub shown_plain : (form : Option Form) (name index : List ℕ) → IsPlain name → IsPlain index →
     IsPlain (with_index form name index)
-shown_plain None name index h k = plain_both name (indexed index) h (indexed_plain index k)
+shown_plain None name index h k = plain_both name (bracketed_index index) h (indexed_plain index k)
 shown_plain (Some (numbers One initial)) name index h k = h
-shown_plain (Some (numbers Array initial)) name index h k = plain_both name (indexed index) h (indexed_plain index k)
-shown_plain (Some (numbers Square initial)) name index h k = plain_both name (indexed index) h (indexed_plain index k)
+shown_plain (Some (numbers Array initial)) name index h k =
+    plain_both name (bracketed_index index) h (indexed_plain index k)
+shown_plain (Some (numbers Square initial)) name index h k =
+    plain_both name (bracketed_index index) h (indexed_plain index k)
 shown_plain (Some (queue capacity items)) name index h k = h
-shown_plain (Some (queues capacity items)) name index h k = plain_both name (indexed index) h (indexed_plain index k)
+shown_plain (Some (queues capacity items)) name index h k =
+    plain_both name (bracketed_index index) h (indexed_plain index k)
 
 operator_plain : (o : Operator) → IsPlain (sign_text (operator_sign o))
 unfolding reserved symbols
@@ -238,8 +243,9 @@ module _ (stack : List LayerTree) (told : AreToldApart stack) (few : length stac
       let below : k < length names = subst (λ (items : ItemsTree). k < length items.numbers)
       (sym (rows_are stack told few before s small p c e has.items has.listed)) has.below in
       let name = all_at IsWord names k [] (rows_told stack told few p c inside).words below in
-      plain_both (codes "at" ++ listed (cell_text stack p c (NumberText e) ∷ NumberText row ∷ []) ++ codes ".") _
-      (plain_both (codes "at" ++ listed (cell_text stack p c (NumberText e) ∷ NumberText row ∷ [])) (codes ".")
+      plain_both (codes "at" ++ bracketed_list (cell_text stack p c (NumberText e) ∷ NumberText row ∷ []) ++ codes ".")
+      _
+      (plain_both (codes "at" ++ bracketed_list (cell_text stack p c (NumberText e) ∷ NumberText row ∷ [])) (codes ".")
       (two_plain (codes "at") (cell_text stack p c (NumberText e)) (NumberText row) refl
       (index_plain p c (NumberText e) inside there h) l) refl)
       (subst (λ ns. IsPlain (slice_index_or ns k [])) (called (form_at (layer_of stack p) c))
@@ -256,8 +262,8 @@ module _ (stack : List LayerTree) (told : AreToldApart stack) (few : length stac
         index_plain p c (NumberText e) made.0 (number_there (layer_of stack p) c e there.0)
         (number_plain n e made.1 there.1 fits)
     number_plain (suc n) (trace.square p c a b) made there fits =
-        plain_both (cell_name stack p c ++ indexed (NumberText a)) (indexed (NumberText b))
-        (plain_both (cell_name stack p c) (indexed (NumberText a))
+        plain_both (cell_name stack p c ++ bracketed_index (NumberText a)) (bracketed_index (NumberText b))
+        (plain_both (cell_name stack p c) (bracketed_index (NumberText a))
         (cell_plain p c made.0 (form_of shape_in (layer_of stack p) c Square there.0).there)
         (indexed_plain (NumberText a) (number_plain n a made.1 there.1 fits.0)))
         (indexed_plain (NumberText b) (number_plain n b made.2 there.2 fits.1))
@@ -337,10 +343,10 @@ module _ (stack : List LayerTree) (told : AreToldApart stack) (few : length stac
       IsPlain (link_text stack AtomText l)
   link_plain place l fits made =
       let x = tag_names stack told few l.place l.tag (subst (λ p. p < length stack) (sym fits.at) fits.inside)
-      (subst (λ p. is_some (declared (layer_of stack p) l.tag) ≡ true) (sym fits.at) fits.declares) in
+      (subst (λ p. is_some (header_of_tag (layer_of stack p) l.tag) ≡ true) (sym fits.at) fits.declares) in
       plain_both ((layer_of stack l.place).name ++ codes "." ++
-      option_map_or (λ (h : HeaderTree). h.name) (declared (layer_of stack l.place) l.tag) [])
-      (listed (map AtomText l.fields)) (names_plain (tag_named (layer_of stack l.place)) _ l.tag x)
+      option_map_or (λ (h : HeaderTree). h.name) (header_of_tag (layer_of stack l.place) l.tag) [])
+      (bracketed_list (map AtomText l.fields)) (names_plain (tag_named (layer_of stack l.place)) _ l.tag x)
       (listed_plain (map AtomText l.fields) (atoms_plain l.fields made fits.fields_fit))
 
   links_plain : (place : ℕ) (ls : List Link) → ChainFits stack place ls →
@@ -421,15 +427,15 @@ module _ (stack : List LayerTree) (told : AreToldApart stack) (few : length stac
       (number_plain index_brackets e made.1 there.1 fits.0))
       (number_plain most_brackets x made.2 there.2 fits.1)
   line_plain (trace.set_square p c a b x) made there fits = set_plain (NumberText (trace.square p c a b)) (NumberText x)
-      (plain_both (cell_name stack p c ++ indexed (NumberText a)) (indexed (NumberText b))
-      (plain_both (cell_name stack p c) (indexed (NumberText a))
+      (plain_both (cell_name stack p c ++ bracketed_index (NumberText a)) (bracketed_index (NumberText b))
+      (plain_both (cell_name stack p c) (bracketed_index (NumberText a))
       (cell_plain p c made.0 (form_of shape_in (layer_of stack p) c Square there.0).there)
       (indexed_plain (NumberText a) (number_plain index_brackets a made.1 there.1 fits.0)))
       (indexed_plain (NumberText b) (number_plain index_brackets b made.2 there.2 fits.1)))
       (number_plain most_brackets x made.3 there.3 fits.2)
   line_plain (trace.push p c e xs message) made there fits =
       let parts = map NumberText xs ++ map (pushed_text stack (written_with before s)) (option_to_list message) in
-      plain_both (codes "push " ++ cell_text stack p c (NumberText e) ++ codes " ") (listed parts)
+      plain_both (codes "push " ++ cell_text stack p c (NumberText e) ++ codes " ") (bracketed_list parts)
       (plain_both (codes "push " ++ cell_text stack p c (NumberText e)) (codes " ")
       (plain_both (codes "push ") (cell_text stack p c (NumberText e)) refl
       (queue_plain p c e made.0 made.1 there.0 there.1 fits.0)) refl)
@@ -444,8 +450,8 @@ module _ (stack : List LayerTree) (told : AreToldApart stack) (few : length stac
   line_plain (trace.output dir k xs message) made there fits =
       let parts = map AtomText xs ++ map (λ (m : Chained). core_text (written_with before s) m.core)
       (option_to_list message) in
-      plain_both (codes "out " ++ sign_text (direction_sign dir) ++ codes " " ++ kind_word k ++ listed parts) _
-      (plain_both (codes "out " ++ sign_text (direction_sign dir) ++ codes " " ++ kind_word k) (listed parts)
+      plain_both (codes "out " ++ sign_text (direction_sign dir) ++ codes " " ++ kind_word k ++ bracketed_list parts) _
+      (plain_both (codes "out " ++ sign_text (direction_sign dir) ++ codes " " ++ kind_word k) (bracketed_list parts)
       (plain_both (codes "out " ++ sign_text (direction_sign dir) ++ codes " ") (kind_word k)
       (plain_both (codes "out " ++ sign_text (direction_sign dir)) (codes " ")
       (plain_both (codes "out ") (sign_text (direction_sign dir)) refl (direction_plain dir)) refl) (kind_plain k))

@@ -35,11 +35,13 @@ use Rattle.trace_mean.specs.Trace.{taken_message, nothing, TraceNumber, TraceMes
 use Rattle.trace_mean.specs.Trace.{Chained, Operation, bind, note, check}
 use Rattle.trace_mean.specs.Scope.{Named, Names, no_number, no_message, Worded, traced_number, traced_message, bounds}
 use Rattle.trace_mean.specs.Scope.{fill_numbers, fill_message, taken_name, taken_names}
-use Rattle.trace_mean.specs.Fuse.{TracedEvent, Made, Tracing, settled, notes_of, notes_in, core_of, chained_of, is_zero}
+use Rattle.trace_mean.specs.Fuse.{TracedEvent, Made, Tracing, core_if_settled, notes_of, notes_in, core_of, chained_of}
+use Rattle.trace_mean.specs.Fuse.{is_zero}
 use Rattle.trace_mean.specs.Fuse.{queues_of, form_at, items_of, is_alone, room_check, room_in, row_in, pushing}
 use Rattle.trace_mean.specs.Fuse.{row_word, binding, sent_chain, sending, sending_message, sending_known, traced_send}
 use Rattle.trace_mean.specs.Fuse.{stepping, trace_step, trace_steps, TracedVisit, TracedMet, popped_chain, traced_met}
-use Rattle.trace_mean.specs.Fuse.{traced_on, traced_unhandled, traced_arguments, named, traced_entered, traced_way}
+use Rattle.trace_mean.specs.Fuse.{traced_on, traced_unhandled, traced_arguments, named_chain, traced_entered}
+use Rattle.trace_mean.specs.Fuse.{traced_way}
 use Rattle.trace_mean.specs.Fuse.{traced_handled, traced_visit, Fused, with_output, field_atoms, entry_chain}
 use Rattle.trace_mean.specs.Fuse.{traced_task, trace_of}
 use Rattle.trace_form_laws.proofs.Turns.{IfMade, from_made, more_made, steps_keep, placed, traced}
@@ -55,7 +57,7 @@ use Rattle.packed_laws.proofs.Layers.{SentContentFits, EmissionFits, StepFits, W
 use Rattle.packed_laws.proofs.Layers.{LayersFit}
 
 module _ (stack : List LayerTree) (taken : List ItemsTree) where
-  -- behind one more bracket
+  -- after one more bracket
   mutual
     number_one : (n : ℕ) (e : TraceNumber) → NumberFits stack taken n e → NumberFits stack taken (suc n) e
     number_one n (trace.atom a) h = h
@@ -291,7 +293,7 @@ module _ (stack : List LayerTree) where
         h.messages_fit;
   }
 
-  -- operations, and the rows that were taken behind them
+  -- operations, and the rows that were taken after them
   abbrev Behind : List ItemsTree → List Operation → List ItemsTree
   Behind taken os = fold (taken_behind stack) taken os
 
@@ -325,7 +327,7 @@ module _ (stack : List LayerTree) where
 
   notes_lead : (taken : List ItemsTree) (m : TraceMessage) → MessageFits stack taken most_nested m →
       Leads taken (notes_of m) taken
-  notes_lead taken m h = go (settled m) where
+  notes_lead taken m h = go (core_if_settled m) where
     go : (s : Option Core) → Leads taken (option_map_or (λ c. []) s (note m ∷ [])) taken
     go None = record { fits = (message_more stack taken m h, tt); is = refl }
     go (Some c) = record { fits = tt; is = refl }
@@ -380,7 +382,7 @@ module _ (stack : List LayerTree) where
       scope = scope;
     }
 
-    -- operations behind which no more rows were taken
+    -- operations after which no more rows were taken
     quiet : (y : Tracing) (os : List Operation) (b n : ℕ) (names : Names) (h : ShutVisit p from y) →
         Leads h.shut.taken os h.shut.taken →
         ScopeFits stack h.shut.taken (p + 1) names → ShutVisit p from (stepping y os b n 0 names)
@@ -664,7 +666,7 @@ module _ (stack : List LayerTree) where
   arguments_fit _ ns h = (each_or AtomFits ns 0 no_number h (omega arith), tt)
 
   own_named : (taken : List ItemsTree) (place : ℕ) (m : Option Chained) → MessageAt taken place m →
-      AllByRecursion (NamedFits stack taken place) (option_to_list (option_map named m))
+      AllByRecursion (NamedFits stack taken place) (option_to_list (option_map named_chain m))
   own_named taken place None h = tt
   own_named taken place (Some m) h = (h, tt)
 

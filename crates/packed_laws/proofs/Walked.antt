@@ -32,7 +32,7 @@ use Rattle.layer_ast.specs.declared.syntax.Shape.TheVariants.{One, Array, Square
 use Rattle.layer_ast.specs.declared.syntax.Sort.{Sort}
 use Rattle.layer_ast.specs.declared.syntax.Sort.TheVariants.{Int, Msg, Part}
 use Rattle.layer_ast.specs.Cut.{Piece, gap, one, bad, word_piece, number_piece, symbol_piece, piece, place_behind}
-use Rattle.layer_ast.specs.Cut.{Tokens, is_numeral, with_piece, cut_from, cut}
+use Rattle.layer_ast.specs.Cut.{Tokens, is_numeral, with_piece, cut_from, text_tokens}
 use Rattle.layer_ast.specs.Depth.{room_behind, WithRoom, IsWithin}
 use Rattle.layer_ast.specs.Print as print
 use Rattle.layer_ast.specs.Printed as printed
@@ -172,9 +172,10 @@ walked room (p ∷ printed) (l ∷ lexed) fits are within = (
       (ap (λ t. room_behind t room) fits.0) (λ left h. walked left printed lexed fits.2 are.1 h) within,
 )
 
-pub text_walked : (room : ℕ) (printed : List Printed) (text : List ℕ) → Fits printed (cut text).tokens →
-    IsWithin room (map (λ l. l.token) (cut text).tokens) → Walk room printed
-text_walked room printed text fits within = walked room printed (cut text).tokens fits (cut_named false 0 text _) within
+pub text_walked : (room : ℕ) (printed : List Printed) (text : List ℕ) → Fits printed (text_tokens text).tokens →
+    IsWithin room (map (λ l. l.token) (text_tokens text).tokens) → Walk room printed
+text_walked room printed text fits within =
+    walked room printed (text_tokens text).tokens fits (cut_named false 0 text _) within
 
 -- words that are no brackets leave the room as it is
 pass : (t : Token) (room : ℕ) (P : ℕ → Type 0) → room_behind t room ≡ Some room → WithRoom (room_behind t room) P →

@@ -13,7 +13,7 @@ use Rattle.layer_ast.specs.declared.tokens.Dir.TheVariants.{Up, Down}
 use Rattle.layer_mean.specs.declared.run.Case.{Case}
 use Rattle.layer_mean.specs.declared.run.Case.TheVariants.{First, Second}
 use Rattle.layer_mean.specs.Event.{carries}
-use Rattle.layer_mean.specs.Headers.{declared}
+use Rattle.layer_mean.specs.Headers.{header_of_tag}
 use Rattle.layer_mean.specs.Tree.{Carried, ExpressionTree, MessageTree, ContentTree, Form, numbers, queue, queues}
 use Rattle.layer_mean.specs.Tree.{ItemsTree, RowTree, StatementTree, bind, assign, assign_square, push, take, branch}
 use Rattle.layer_mean.specs.Tree.{each, emit, StatementTrees, none, more, Expected, always, common, rare, HandlerTree}
@@ -127,7 +127,7 @@ module _ (layer : LayerTree) (blank : List Header) (cells : AllByRecursion (λ c
           message_fits = fits.0;
           fields_fit = fits.1;
           header_fits =
-              header_fits (declared layer c.tag) (length c.fields) _ sends.declares;
+              header_fits (header_of_tag layer c.tag) (length c.fields) _ sends.declares;
         }
 
     mutual

@@ -1,4 +1,4 @@
--- The headers of a datagram are read one behind the other.
+-- The headers of a datagram are read one after the other.
 use Rattle.std.proofs.Common.{◌≡◌, ℕ, suc, ◌+◌, ◌-◌, ◌<◌, ◌≤◌, Bool, true, false, List, [], ◌∷◌, ◌++◌, Option, Some}
 use Rattle.std.proofs.Common.{None}
 use Rattle.std.proofs.Common.{refl, sym, ap, ◌∙◌, subst, add-one, append_assoc, arith, length, drop, take}
@@ -6,33 +6,33 @@ use Rattle.std.specs.Prelude.{if◌then◌else◌, option_map, option_and_then, 
 use Rattle.std.proofs.lemmas.List.{take_more_set}
 use Rattle.std.proofs.Math.Seq.{drop-cons}
 use Rattle.msg_core.specs.declared.message.Header.{Header}
-use Rattle.layer_mean.specs.Headers.{declared}
+use Rattle.layer_mean.specs.Headers.{header_of_tag}
 use Rattle.layer_mean.specs.Tree.{HeaderTree, LayerTree, no_layer}
-use Rattle.packet_mean.specs.Reading.{Reader, ◌>>=◌, given, known, numbers, chain}
+use Rattle.packet_mean.specs.Reading.{Reader, ◌>>=◌, value_reader, option_reader, numbers, chain}
 use Rattle.packet_laws.proofs.Numbers.{same_read}
 use Rattle.packet_full.specs.Chain.{header_read, none_at}
 use Rattle.packet_full.specs.Form.{form_of}
 use Rattle.packet_full.specs.Taking.{with_front}
 
--- the headers behind one
+-- the headers after one
 abbrev others : Bool → Header → Reader (List Header) → Reader (List Header)
 others ends header above = do
-  more ← if ends then given [] else above
-  given (header ∷ more)
+  more ← if ends then value_reader [] else above
+  value_reader (header ∷ more)
 
--- the headers behind a tag, and the first of them alone
+-- the headers after a tag, and the first of them alone
 abbrev behind_tag : Option HeaderTree → ℕ → ℕ → Reader (List Header) → Reader (List Header)
 behind_tag o place tag above = do
-  d ← known o
+  d ← option_reader o
   fields ← numbers d.fields
-  others ← if d.ends then given [] else above
-  given (record { layer = place; tag = tag; fields = fields } ∷ others)
+  others ← if d.ends then value_reader [] else above
+  value_reader (record { layer = place; tag = tag; fields = fields } ∷ others)
 
 abbrev first_behind : Option HeaderTree → ℕ → ℕ → Reader (Header × Bool)
 first_behind o place tag = do
-  form ← known (option_map form_of o)
+  form ← option_reader (option_map form_of o)
   fields ← numbers form.fields
-  given (record { layer = place; tag = tag; fields = fields }, form.ends)
+  value_reader (record { layer = place; tag = tag; fields = fields }, form.ends)
 
 none_behind : (o : Option HeaderTree) (place tag : ℕ) (above : Reader (List Header)) (bytes : List ℕ) →
     first_behind o place tag bytes ≡ None → behind_tag o place tag above bytes ≡ None
@@ -64,7 +64,8 @@ no_first : (layer : LayerTree) (above : List LayerTree) (place : ℕ) (bytes : L
     None →
     chain (layer ∷ above) place bytes ≡ None
 no_first layer above place [] none = refl
-no_first layer above place (tag ∷ bytes) none = none_behind (declared layer tag) place tag (chain above (suc place))
+no_first layer above place (tag ∷ bytes) none =
+    none_behind (header_of_tag layer tag) place tag (chain above (suc place))
     bytes none
 
 a_first : (layer : LayerTree) (above : List LayerTree) (place : ℕ) (bytes : List ℕ) (h : Header) (ends : Bool)
@@ -73,7 +74,7 @@ a_first : (layer : LayerTree) (above : List LayerTree) (place : ℕ) (bytes : Li
     others ends h (chain above (suc place)) rest
 a_first layer above place [] h ends rest some = absurd (cc some)
 a_first layer above place (tag ∷ bytes) h ends rest some =
-    some_behind (declared layer tag) place tag (chain above (suc place)) bytes h ends rest some
+    some_behind (header_of_tag layer tag) place tag (chain above (suc place)) bytes h ends rest some
 
 -- no header of a place's layer
 pub no_header : (stack : List LayerTree) (place : ℕ) (bytes : List ℕ) → place < length stack →
@@ -82,7 +83,7 @@ no_header stack place bytes below none =
     ap (λ layers. chain layers place bytes) (drop-cons stack place no_layer below)
     ∙ no_first (slice_index_or stack place no_layer) (drop (suc place) stack) place bytes none
 
--- a header of a place's layer, and what is behind it
+-- a header of a place's layer, and what is after it
 pub a_header : (stack : List LayerTree) (place : ℕ) (bytes : List ℕ) (h : Header) (ends : Bool) (rest : List ℕ) →
     place < length stack →
     header_read (slice_index_or stack place no_layer) place bytes ≡ Some ((h, ends), rest) →
@@ -100,9 +101,9 @@ pub last_header : (stack : List LayerTree) (place : ℕ) (bytes : List ℕ) (h :
 last_header stack place bytes h ends rest below closes some =
     rw (a_header stack place bytes h ends rest below some, closes) refl
 
--- The headers that are read are set one behind the other.
+-- The headers that are read are set one after the other.
 one_front : (h : Header) (o : Option (List Header × List ℕ)) →
-    option_and_then (λ (read : List Header × List ℕ). given (h ∷ read.0) read.1) o ≡ with_front (h ∷ []) o
+    option_and_then (λ (read : List Header × List ℕ). value_reader (h ∷ read.0) read.1) o ≡ with_front (h ∷ []) o
 one_front h None = refl
 one_front h (Some (more, behind)) = refl
 
@@ -114,7 +115,7 @@ longer_front front h (Some (more, behind)) = ap (λ headers. Some (headers, behi
 module _ (stack : List LayerTree) (place at : ℕ) (headers : List Header) (whole : Option (List Header × List ℕ))
     (order : place ≤ at)
     (count : length headers ≡ length stack - place) where
-  -- those in front of a place, and what is read from there on
+  -- those before a place, and what is read from there on
   abbrev So : (bytes : List ℕ) → Type 0
   So bytes = with_front (take (at - place) headers) (chain (drop at stack) at bytes) ≡ whole
 

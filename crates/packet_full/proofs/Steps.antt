@@ -22,7 +22,7 @@ use Rattle.packet_full.specs.Steps.{Closes, opened, contents, closed}
 use Rattle.packet_full.specs.Scanned.{Scans, packet_scanned}
 use Rattle.packet_full.specs.Taking.{IsOwn, preamble_tree}
 
--- the headers and the body behind what stands in front
+-- the headers and the body after what stands in front
 abbrev inside : List LayerTree → List Plan → reading.Preamble × List ℕ → Result Packet Stray
 inside stack plans q = contents stack plans q.0 q.1 >>= closed q.0
 
@@ -82,7 +82,7 @@ pub not_opened : (stack : List LayerTree) (plans : List Plan) (here : Here) (byt
     received stack plans here bytes ≡ Err e
 not_opened stack plans here bytes e is = in_steps stack plans here bytes ∙ ap (λ r. r >>= inside stack plans) is
 
--- one that is opened is what is behind
+-- one that is opened is what is after
 pub behind_opened : (stack : List LayerTree) (plans : List Plan) (here : Here) (bytes : List ℕ) (p : reading.Preamble)
     (behind : List ℕ) →
     opened here bytes ≡ Ok (p, behind) → received stack plans here bytes ≡ (contents stack plans p behind >>= closed p)
@@ -97,7 +97,7 @@ pub not_contents : (stack : List LayerTree) (plans : List Plan) (here : Here) (b
 not_contents stack plans here bytes p behind e is none =
     behind_opened stack plans here bytes p behind is ∙ ap (λ r. r >>= closed p) none
 
--- bytes end in a body, which is behind a place
+-- bytes end in a body, which is after a place
 pub record EndsIn (bytes body : List ℕ) : Type 0 where
   pub at : drop (length bytes - length body) bytes ≡ body
   pub less : length body ≤ length bytes

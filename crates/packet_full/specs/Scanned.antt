@@ -5,7 +5,7 @@ use Rattle.msg_core.specs.declared.packet.Stray.{Stray}
 use Rattle.packet_mean.specs.declared.here.Here.{Here}
 use Rattle.packet_full.specs.declared.scan.Scan.{Scan}
 
--- A scan of a datagram that a member takes: what stands in front is the member's, and the body is behind a place of the
+-- A scan of a datagram that a member takes: what stands in front is the member's, and the body is after a place of the
 -- datagram.
 abbrev pub packet_scanned : Here → List ℕ → Scan → Packet
 packet_scanned here bytes scan = record {

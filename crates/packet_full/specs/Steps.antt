@@ -17,7 +17,7 @@ use Rattle.packet_full.specs.declared.opened.Opened.{Opened}
 use Rattle.packet_full.specs.declared.scan.Scan.{Scan}
 use Rattle.packet_full.specs.Taking.{left, preamble_tree}
 
--- What stands in front of a datagram of one of the two forms that is meant for a member, and the bytes behind; or the
+-- What stands in front of a datagram of one of the two forms that is meant for a member, and the bytes after; or the
 -- first cause for which it isn't one.
 unfoldable pub opened : Here → List ℕ → Result (reading.Preamble × List ℕ) Stray
 opened here bytes = do
@@ -26,7 +26,7 @@ opened here bytes = do
   _ ← meant_for here p
   Ok (p, behind)
 
--- The headers behind what stands in front, and the body.
+-- The headers after what stands in front, and the body.
 unfoldable pub contents : List LayerTree → List Plan → reading.Preamble → List ℕ → Result (List Header × List ℕ) Stray
 contents stack plans p behind = do
   (plan, behind) ← ok_or (named_plan plans p behind) cause.Plan
@@ -49,11 +49,12 @@ Opens is_opened (Ok o) = is_opened ≡ Ok (preamble_tree o.front, left o.cursor)
 Opens is_opened (Err cause) = is_opened ≡ Err cause
 
 -- What is told of a datagram whose last bytes are the body.
-abbrev pub told : List ℕ → Preamble → List Header → (body : List ℕ) → Scan
-told bytes front headers body =
+abbrev pub datagram_scan : List ℕ → Preamble → List Header → (body : List ℕ) → Scan
+datagram_scan bytes front headers body =
     record { sender = front.sender; dest = front.dest; headers = headers; body = length bytes - length body }
 
 -- The last step's answer.
 abbrev pub Closes : List ℕ → Preamble → List Header → (body : List ℕ) → Result (Unit {0}) Stray → Scan → Type 0
-Closes bytes front headers body (Ok _) scan = (length body ≤ longest_body) × (scan ≡ told bytes front headers body)
+Closes bytes front headers body (Ok _) scan = (length body ≤ longest_body) ×
+    (scan ≡ datagram_scan bytes front headers body)
 Closes bytes front headers body (Err refusal) scan = (longest_body < length body) × (refusal ≡ cause.Body)

@@ -2,7 +2,7 @@
 
 ghost use Rattle.std.specs.Prelude.{◌≡◌, ◌<◌, ◌≤◌, IfSome, length, option_map, slice_index_or};
 ghost use Rattle.event_graph.specs.Answer.{stack_tree};
-ghost use Rattle.layer_mean.specs.Headers.{declared};
+ghost use Rattle.layer_mean.specs.Headers.{header_of_tag};
 ghost use Rattle.layer_mean.specs.Tree.{no_layer};
 ghost use Rattle.typed_layer.specs.View.{layer_tree};
 ghost use Rattle.packet_full.specs.Form.{form_of};
@@ -20,7 +20,7 @@ pub struct Form {
 
 /// The header of a layer that a tag stands for; the header `none` has the tag 0.
 fn declared_form(layer: &TypedLayer, tag: u8) -> Option<Form>
-    ensures is { result ≡ option_map form_of (declared (layer_tree layer.now) tag) }
+    ensures is { result ≡ option_map form_of (header_of_tag (layer_tree layer.now) tag) }
     ensures few { IfSome result (λ form. form.fields ≤ most_fields) }
 {
     if tag == 0 {
@@ -39,7 +39,8 @@ fn declared_form(layer: &TypedLayer, tag: u8) -> Option<Form>
 /// The header of a place's layer that a tag stands for.
 pub fn form_at(stack: &Stack, place: u8, tag: u8) -> Option<Form>
     requires { place < length (stack_tree stack.now) }
-    ensures is { result ≡ option_map form_of (declared (slice_index_or (stack_tree stack.now) place no_layer) tag) }
+    ensures is { result ≡
+        option_map form_of (header_of_tag (slice_index_or (stack_tree stack.now) place no_layer) tag) }
     ensures few { IfSome result (λ form. form.fields ≤ most_fields) }
 {
     declared_form(stack.layer(place), tag)

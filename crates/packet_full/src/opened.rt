@@ -1,9 +1,9 @@
-//! A datagram behind what stands in front of it.
+//! A datagram after what stands before it.
 
 use crate::cursor::Cursor;
 use crate::front::Preamble;
 
-/// What stands in front of a datagram, and a cursor behind it.
+/// What stands in front of a datagram, and a cursor after it.
 #[derive(Drop)]
 pub struct Opened<'a> {
     pub front: Preamble,

@@ -30,7 +30,7 @@ fn dest_byte(dest: Dest) -> u8
     }
 }
 
-/// Puts a number behind the others, the highest byte first.
+/// Puts a number after the others, the highest byte first.
 pub fn put_number(number: u32, into: &mut Vec<u8>)
     requires { vec_len into.old + 4 ≤ vec_capacity into.old }
     ensures items { into.new.items ≡ into.old.items ++ spelling.number_bytes number }
@@ -118,7 +118,7 @@ fn put_front(here: &Here, dest: Dest, headers: &Headers, into: &mut Vec<u8>)
     *into = bytes;
 }
 
-/// Puts in full what a member sends to a destination, with these headers and this body, behind what a vector holds. It
+/// Puts in full what a member sends to a destination, with these headers and this body, after what a vector holds. It
 /// takes no memory: there is to be room for 17 bytes of each header, and for the rest.
 pub fn put_full_of(here: &Here, dest: Dest, headers: &Headers, body: &[u8], into: &mut Vec<u8>)
     requires { vec_len into.old + room_needed (sent_packet here.now dest headers.now body.now) ≤ vec_capacity into.old }

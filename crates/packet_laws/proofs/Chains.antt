@@ -5,10 +5,10 @@ use Rattle.std.specs.Prelude.{flat_map, MatchBool, IsSomeAnd, if◌then◌else�
 use Rattle.std.proofs.lemmas.List.{append_assoc}
 use Rattle.msg_core.specs.declared.message.Header.{Header}
 use Rattle.layer_mean.specs.Tree.{LayerTree}
-use Rattle.layer_mean.specs.Headers.{declared}
+use Rattle.layer_mean.specs.Headers.{header_of_tag}
 use Rattle.packet_mean.specs.Chained.{IsChain}
 use Rattle.packet_mean.specs.Spelling.{number_bytes, header_bytes}
-use Rattle.packet_mean.specs.Reading.{given, numbers, chain}
+use Rattle.packet_mean.specs.Reading.{value_reader, numbers, chain}
 use Rattle.packet_laws.proofs.Each.{Each, Numbers, Bytes}
 use Rattle.packet_laws.proofs.Numbers.{through, through_known, same_read, numbers_back, numbers_read}
 
@@ -25,11 +25,11 @@ pub there : {A C : Type 0} (o : Option A) (P : A → Type 0) → IsSomeAnd o P �
 there None P h k = absurd h
 there (Some x) P h k = k x refl h
 
--- behind a header that ends nothing is read
+-- after a header that ends nothing is read
 others_back : (ends : Bool) (above : List LayerTree) (place : ℕ) (hs : List Header) (rest : List ℕ) →
     MatchBool ends (hs ≡ []) (IsChain above place hs) →
     (IsChain above place hs → chain above place (written hs ++ rest) ≡ Some (hs, rest)) →
-    (if ends then given [] else chain above place) (written hs ++ rest) ≡ Some (hs, rest)
+    (if ends then value_reader [] else chain above place) (written hs ++ rest) ≡ Some (hs, rest)
 others_back true above place hs rest none more = rw none refl
 others_back false above place hs rest is more = more is
 
@@ -39,7 +39,7 @@ pub chain_back : (layers : List LayerTree) (place : ℕ) (hs : List Header) (res
 chain_back [] place hs rest is fields = rw is refl
 chain_back (layer ∷ above) place [] rest is fields = absurd is
 chain_back (layer ∷ above) place (h ∷ hs) rest is fields =
-    there (declared layer h.tag) _ is (λ d declares is_d.
+    there (header_of_tag layer h.tag) _ is (λ d declares is_d.
     rw (
       declares,
       append_assoc (flat_map number_bytes h.fields) (written hs) rest,
@@ -58,7 +58,7 @@ pub record ChainRead (layers : List LayerTree) (place : ℕ) (bytes : List ℕ) 
     pub spelled : bytes ≡ written hs ++ rest
     pub behind : Bytes rest
 
--- what reading the headers behind one says
+-- what reading the headers after one says
 record OthersRead (ends : Bool) (layers : List LayerTree) (place : ℕ) (bytes : List ℕ) (hs : List Header)
     (rest : List ℕ) : Type 0 where
   follow : MatchBool ends (hs ≡ []) (IsChain layers place hs)
@@ -68,7 +68,7 @@ record OthersRead (ends : Bool) (layers : List LayerTree) (place : ℕ) (bytes :
 
 others_read : (ends : Bool) (above : List LayerTree) (place : ℕ) (bytes : List ℕ) (hs : List Header) (rest : List ℕ) →
     Bytes bytes →
-    (if ends then given [] else chain above place) bytes ≡ Some (hs, rest) →
+    (if ends then value_reader [] else chain above place) bytes ≡ Some (hs, rest) →
     (chain above place bytes ≡ Some (hs, rest) → ChainRead above place bytes hs rest) →
     OthersRead ends above place bytes hs rest
 others_read true above place bytes hs rest h is more =
@@ -89,15 +89,15 @@ chain_read [] place bytes hs rest h is =
     record { chained = refl; fields = tt; spelled = refl; behind = h }
 chain_read (layer ∷ above) place [] hs rest h is = absurd (cc is)
 chain_read (layer ∷ above) place (tag ∷ bytes) hs rest h is =
-    through_known _ (declared layer tag) bytes _ is (λ d declares is_d.
+    through_known _ (header_of_tag layer tag) bytes _ is (λ d declares is_d.
     through _ (numbers d.fields bytes) _ is_d (λ (ns, r) reads is_ns.
-    through _ ((if d.ends then given [] else chain above (suc place)) r) _ is_ns (λ (others, s) follow is_s.
+    through _ ((if d.ends then value_reader [] else chain above (suc place)) r) _ is_ns (λ (others, s) follow is_s.
     let own = numbers_read d.fields bytes ns r h.1 reads in
     let more = others_read d.ends above (suc place) r others s own.behind follow
     (chain_read above (suc place) r others s own.behind) in
     subst (λ q. ChainRead (layer ∷ above) place (tag ∷ bytes) q.0 q.1) (same_read is_s)
     record {
-      chained = some_and (declared layer tag) _ d declares (refl, own.count, more.follow);
+      chained = some_and (header_of_tag layer tag) _ d declares (refl, own.count, more.follow);
       fields = (own.small, more.fields);
       spelled = ap (λ xs. tag ∷ xs) (own.written ∙ ap (λ xs. flat_map number_bytes ns ++ xs) more.spelled
           ∙ sym (append_assoc (flat_map number_bytes ns) (written others) s));

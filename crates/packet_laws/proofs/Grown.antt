@@ -6,7 +6,7 @@ use Rattle.msg_core.specs.Chain.{Content, first_of, popped}
 use Rattle.msg_core.specs.Parts.{longest_body}
 use Rattle.msg_core.specs.declared.message.Header.{Header}
 use Rattle.layer_mean.specs.Tree.{HeaderTree, LayerTree}
-use Rattle.layer_mean.specs.Headers.{declared}
+use Rattle.layer_mean.specs.Headers.{header_of_tag}
 use Rattle.packet_mean.specs.Chained.{IsChain, IsChained}
 use Rattle.packet_laws.specs.Chains.{IsOf, GoesOn, PushedIsChained, PoppedGoesOn, NoneAboveTheTop}
 use Rattle.packet_laws.proofs.Chains.{there, some_and}
@@ -28,7 +28,7 @@ chain_behind false stack place m is = is.chain
 pub pushed_is_chained : PushedIsChained
 pushed_is_chained stack place layer h d m listed is short on = record {
   chain = rw (from_place stack place layer listed)
-      (some_and (declared layer h.tag) _ d is.tag (is.at, is.fields, chain_behind d.ends stack place m on));
+      (some_and (header_of_tag layer h.tag) _ d is.tag (is.at, is.fields, chain_behind d.ends stack place m on));
   body = short;
 }
 
@@ -45,7 +45,7 @@ chain_popped : (stack : List LayerTree) (place : ℕ) (layer : LayerTree) (hs : 
     (h : Header) × (d : HeaderTree) × (first_of hs ≡ Some h) × IsOf layer place h d
     × GoesOn stack place d (popped record { headers = hs; body = body })
 chain_popped stack place layer [] body short is = absurd is
-chain_popped stack place layer (h ∷ hs) body short is = there (declared layer h.tag) _ is (λ d declares is_d. (
+chain_popped stack place layer (h ∷ hs) body short is = there (header_of_tag layer h.tag) _ is (λ d declares is_d. (
   h,
   d,
   refl,

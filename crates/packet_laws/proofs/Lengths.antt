@@ -7,11 +7,11 @@ use Rattle.std.proofs.lemmas.List.{length-append}
 use Rattle.msg_core.specs.declared.message.Header.{Header}
 use Rattle.msg_core.specs.declared.packet.Packet.{Packet}
 use Rattle.layer_mean.specs.Tree.{HeaderTree, LayerTree}
-use Rattle.layer_mean.specs.Headers.{header_none, declared}
+use Rattle.layer_mean.specs.Headers.{header_none, header_of_tag}
 use Rattle.packet_mean.specs.Chained.{IsChain}
 use Rattle.packet_mean.specs.Plan.{variable, variable_fields}
 use Rattle.stack_mean.specs.Plan.{Plan}
-use Rattle.packet_mean.specs.Reading.{Reader, ◌>>=◌, given, byte, number, preamble}
+use Rattle.packet_mean.specs.Reading.{Reader, ◌>>=◌, value_reader, byte, number, preamble}
 use Rattle.packet_mean.specs.Spelling.{number_bytes, full_bytes, short_bytes, SpellsShort}
 use Rattle.packet_laws.specs.Lengths.{PreambleIs19, DatagramsFit}
 use Rattle.packet_laws.proofs.Chains.{written, there}
@@ -25,7 +25,7 @@ record Takes {A : Type 0} (k : ℕ) (r : Reader A) : Type 0 where
   long : (bytes : List ℕ) → k ≤ length bytes → (x : A) × (rest : List ℕ) × (r bytes ≡ Some (x, rest)) ×
       (length rest + k ≡ length bytes)
 
-takes_given : {A : Type 0} (x : A) → Takes 0 (given x)
+takes_given : {A : Type 0} (x : A) → Takes 0 (value_reader x)
 takes_given x = record {
   short = λ bytes few. absurd (omega arith);
   long = λ bytes enough.
@@ -101,7 +101,7 @@ abbrev Few : List LayerTree → Type 0
 Few layers = Each (λ layer. Each (λ d. d.fields ≤ 4) layer.headers) layers
 
 few_fields : (layer : LayerTree) (tag : ℕ) (d : HeaderTree) → Each (λ d. d.fields ≤ 4) layer.headers →
-    declared layer tag ≡ Some d →
+    header_of_tag layer tag ≡ Some d →
     d.fields ≤ 4
 few_fields layer tag d few is = each_at (λ d. d.fields ≤ 4) (header_none ∷ layer.headers) tag d (omega arith, few) is
 
@@ -123,7 +123,7 @@ chain_length : (layers : List LayerTree) (place : ℕ) (hs : List Header) → Fe
 chain_length [] place hs few is = rw is (omega arith, omega arith)
 chain_length (layer ∷ above) place [] few is = absurd is
 chain_length (layer ∷ above) place (h ∷ hs) few is =
-    there (declared layer h.tag) _ is (λ d declares is_d.
+    there (header_of_tag layer h.tag) _ is (λ d declares is_d.
     let own = few_fields layer h.tag d few.0 declares in
     let more = others_fit d.ends hs (length above) _ is_d.2 (chain_length above (suc place) hs few.1) in
     let bytes = length-append (flat_map number_bytes h.fields) (written hs) in

@@ -5,7 +5,7 @@ use Rattle.std.specs.Prelude.{length, flat_map, slice_index, unwrap_or, option_a
 use Rattle.std.specs.Int.{w32, from_be_bytes, to_be_bytes}
 use Rattle.std.proofs.lemmas.Nat.{from_be_bytes-to_be_bytes_4, be_bytes_4}
 use Rattle.packet_mean.specs.Spelling.{number_bytes}
-use Rattle.packet_mean.specs.Reading.{known, number, numbers}
+use Rattle.packet_mean.specs.Reading.{option_reader, number, numbers}
 use Rattle.packet_laws.proofs.Each.{Numbers, Bytes}
 
 -- where two steps gave something, the first gave something, and the second then gave this
@@ -16,7 +16,7 @@ through f (Some x) y h k = k x refl h
 
 -- the same where the first step is a value that was there before
 pub through_known : {A B C : Type 0} (f : A × List ℕ → Option B) (o : Option A) (bytes : List ℕ) (y : B) →
-    option_and_then f (known o bytes) ≡ Some y → ((x : A) → o ≡ Some x → f (x, bytes) ≡ Some y → C) → C
+    option_and_then f (option_reader o bytes) ≡ Some y → ((x : A) → o ≡ Some x → f (x, bytes) ≡ Some y → C) → C
 through_known f None bytes y h k = absurd (cc h)
 through_known f (Some x) bytes y h k = k x refl h
 

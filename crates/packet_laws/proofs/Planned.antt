@@ -9,11 +9,11 @@ use Rattle.std.proofs.Math.Seq.{take-append_seam, drop-append_seam}
 use Rattle.std.proofs.lemmas.Nat.{from_be_bytes-to_be_bytes_4}
 use Rattle.msg_core.specs.declared.message.Header.{Header}
 use Rattle.layer_mean.specs.Tree.{LayerTree}
-use Rattle.layer_mean.specs.Headers.{declared}
+use Rattle.layer_mean.specs.Headers.{header_of_tag}
 use Rattle.packet_mean.specs.Chained.{IsChain}
 use Rattle.packet_mean.specs.Plan.{agree, variable}
 use Rattle.packet_mean.specs.Spelling.{number_bytes}
-use Rattle.packet_mean.specs.Reading.{known, number, planned, first, dealt}
+use Rattle.packet_mean.specs.Reading.{option_reader, number, planned_fields, first, dealt}
 use Rattle.packet_laws.proofs.Chains.{there, some_and}
 use Rattle.packet_laws.proofs.Each.{Each, Numbers, Bytes}
 use Rattle.packet_laws.proofs.Numbers.{through, through_known, same_read, number_read}
@@ -24,7 +24,7 @@ both true b h = (refl, h)
 both false b h = absurd (cc h)
 
 pub planned_back : (ps : List (Option ℕ)) (ns rest : List ℕ) → agree ps ns ≡ true → Numbers ns →
-    planned ps (flat_map number_bytes (variable ps ns) ++ rest) ≡ Some (ns, rest)
+    planned_fields ps (flat_map number_bytes (variable ps ns) ++ rest) ≡ Some (ns, rest)
 planned_back [] [] rest is h = refl
 planned_back (Some c ∷ ps) (n ∷ ns) rest is h =
     let at = both (n == c) (agree ps ns) is in
@@ -46,12 +46,12 @@ pub record PlannedRead (ps : List (Option ℕ)) (bytes ns rest : List ℕ) : Typ
   pub behind : Bytes rest
 
 pub planned_read : (ps : List (Option ℕ)) (bytes ns rest : List ℕ) → Constants ps → Bytes bytes →
-    planned ps bytes ≡ Some (ns, rest) → PlannedRead ps bytes ns rest
+    planned_fields ps bytes ≡ Some (ns, rest) → PlannedRead ps bytes ns rest
 planned_read [] bytes ns rest known h is =
     subst (λ q. PlannedRead [] bytes q.0 q.1) (same_read is) record
     { agrees = refl; small = tt; spelled = refl; behind = h }
 planned_read (Some c ∷ ps) bytes ns rest small h is =
-    through _ (planned ps bytes) _ is (λ (ms, s) more is_s.
+    through _ (planned_fields ps bytes) _ is (λ (ms, s) more is_s.
     let others = planned_read ps bytes ms s small.1 h more in
     subst (λ q. PlannedRead (Some c ∷ ps) bytes q.0 q.1) (same_read is_s)
     record {
@@ -61,7 +61,7 @@ planned_read (Some c ∷ ps) bytes ns rest small h is =
       behind = others.behind;
     })
 planned_read (None ∷ ps) bytes ns rest small h is =
-    through _ (number bytes) _ is (λ (n, r) one is_n. through _ (planned ps r) _ is_n (λ (ms, s) more is_s.
+    through _ (number bytes) _ is (λ (n, r) one is_n. through _ (planned_fields ps r) _ is_n (λ (ms, s) more is_s.
     let first = number_read bytes n r h one in
     let others = planned_read ps r ms s small.1 first.behind more in
     subst (λ q. PlannedRead (None ∷ ps) bytes q.0 q.1) (same_read is_s)
@@ -110,7 +110,7 @@ pub dealt_back : (layers : List LayerTree) (place : ℕ) (hs : List Header) (res
 dealt_back [] place hs rest is = rw is refl
 dealt_back (layer ∷ above) place [] rest is = absurd is
 dealt_back (layer ∷ above) place (h ∷ hs) rest is =
-    there (declared layer h.tag) _ is (λ d declares is_d.
+    there (header_of_tag layer h.tag) _ is (λ d declares is_d.
     rw (
       declares,
       append_assoc h.fields (fields hs) rest,
@@ -127,7 +127,7 @@ pub record DealtRead (layers : List LayerTree) (place : ℕ) (ts xs : List ℕ) 
     pub tagged : tags hs ≡ ts
     pub collected : xs ≡ fields hs ++ rest
 
--- what dealing out behind a header says
+-- what dealing out after a header says
 record OthersRead (ends : Bool) (layers : List LayerTree) (place : ℕ) (ts xs : List ℕ) (hs : List Header)
     (rest : List ℕ) : Type 0 where
   follow : MatchBool ends (hs ≡ []) (IsChain layers place hs)
@@ -157,7 +157,7 @@ pub dealt_read : (layers : List LayerTree) (place : ℕ) (ts xs : List ℕ) (hs 
 dealt_read [] place ts xs hs rest is = none_read place ts xs hs rest is
 dealt_read (layer ∷ above) place [] xs hs rest is = absurd (cc is)
 dealt_read (layer ∷ above) place (t ∷ ts) xs hs rest is =
-    through_known _ (declared layer t) xs _ is (λ d declares is_d.
+    through_known _ (header_of_tag layer t) xs _ is (λ d declares is_d.
     through _ (first d.fields xs) _ is_d (λ (ns, r) reads is_ns.
     through _ ((if d.ends then dealt [] (suc place) ts else dealt above (suc place) ts) r) _ is_ns
     (λ (others, s) follow is_s.
@@ -165,7 +165,7 @@ dealt_read (layer ∷ above) place (t ∷ ts) xs hs rest is =
     let more = others_read d.ends above (suc place) ts r others s follow (dealt_read above (suc place) ts r others s) in
     subst (λ q. DealtRead (layer ∷ above) place (t ∷ ts) xs q.0 q.1) (same_read is_s)
     record {
-      chained = some_and (declared layer t) _ d declares (refl, own.0, more.follow);
+      chained = some_and (header_of_tag layer t) _ d declares (refl, own.0, more.follow);
       tagged = ap (λ us. t ∷ us) more.tagged;
       collected = own.1 ∙ ap (λ ys. ns ++ ys) more.collected ∙ sym (append_assoc ns (fields others) s);
     })))

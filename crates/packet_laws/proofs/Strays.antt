@@ -20,7 +20,7 @@ use Rattle.packet_laws.proofs.Each.{Each, each_of_all, each_so}
 use Rattle.packet_laws.proofs.Planned.{both, Constants}
 use Rattle.packet_laws.proofs.Whole.{spelled_read, read_spelled}
 
--- steps that agree, behind one step
+-- steps that agree, after one step
 behind_one : {A B : Type 0} (r : Result A Stray) (f g : A → Result B Stray) → ((x : A) → f x ≡ g x) →
     (r >>= f) ≡ (r >>= g)
 behind_one (Ok x) f g h = h x
@@ -37,7 +37,7 @@ received_as_meant stack plans here bytes p spells =
       le-leb (length p.message.body) longest_body spells.spellable.chained.body,
     ) refl))
 
--- a step behind one that met no cause, one behind a value that is there, and one behind a test that passed
+-- a step after one that met no cause, one after a value that is there, and one after a test that passed
 behind_ok : {A B C : Type 0} (f : A → Result B Stray) (r : Result A Stray) (y : B) → (r >>= f) ≡ Ok y →
     ((x : A) → r ≡ Ok x → f x ≡ Ok y → C) → C
 behind_ok f (Ok x) y h k = k x refl h

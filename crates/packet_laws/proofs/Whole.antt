@@ -15,7 +15,8 @@ use Rattle.packet_mean.specs.Chained.{IsChain}
 use Rattle.packet_mean.specs.Plan.{kind_of, agree, variable, variable_fields, fits}
 use Rattle.stack_mean.specs.Plan.{Plan}
 use Rattle.packet_mean.specs.Reading as reading
-use Rattle.packet_mean.specs.Reading.{Preamble, preamble_of, byte, given, known, plan_for, named_plan, planned, dealt}
+use Rattle.packet_mean.specs.Reading.{Preamble, preamble_of, byte, value_reader, option_reader, plan_for, named_plan}
+use Rattle.packet_mean.specs.Reading.{planned_fields, dealt}
 use Rattle.packet_mean.specs.Reading.{whole, headers}
 use Rattle.packet_mean.specs.Received.{packet_of}
 use Rattle.packet_mean.specs.Spelling.{full_form, short_form, number_bytes, preamble_bytes, full_bytes, short_bytes}
@@ -107,8 +108,8 @@ spelled_read stack plans bytes p is = either_read stack plans bytes p is.spellab
 named_read : (C : Option Plan → List ℕ → Type 0) (plans : List Plan) (f : Preamble) (behind : List ℕ)
     (plan : Option Plan) (rest : List ℕ)
     (full : Bool) → (f.form == full_form) ≡ full → (full || (f.form == short_form)) ≡ true →
-    (if full then given None else reading.◌>>=◌ byte
-    (λ k. reading.◌>>=◌ (known (plan_for plans f.dest k)) (λ p. given (Some p)))) behind
+    (if full then value_reader None else reading.◌>>=◌ byte
+    (λ k. reading.◌>>=◌ (option_reader (plan_for plans f.dest k)) (λ p. value_reader (Some p)))) behind
     ≡ Some (plan, rest) →
     (f.form ≡ full_form → C None behind) →
     ((k : ℕ) (p : Plan) (more : List ℕ) → f.form ≡ short_form → behind ≡ k ∷ more → slice_get plans k ≡ Some p →
@@ -124,7 +125,8 @@ named_read C plans f (k ∷ more) plan rest false is either read in_full in_shor
     subst (λ q. C q.0 q.1) (same_read gives)
     (subst (λ q. C (Some q) more) test.1 (in_short k q more (eqb-true f.form short_form either) refl listed test.0))))
 
-known_read : {A : Type 0} (o : Option A) (bytes : List ℕ) (x : A) (rest : List ℕ) → known o bytes ≡ Some (x, rest) →
+known_read : {A : Type 0} (o : Option A) (bytes : List ℕ) (x : A) (rest : List ℕ) →
+    option_reader o bytes ≡ Some (x, rest) →
     (o ≡ Some x) × (bytes ≡ rest)
 known_read None bytes x rest is = absurd (cc is)
 known_read (Some y) bytes x rest is = let same = same_read is in (ap (λ q. Some q.0) same, ap (λ q. q.1) same)
@@ -179,7 +181,7 @@ short_spelled : (stack : List LayerTree) (plans : List Plan) (bytes : List ℕ) 
     sameb kind_row.the_type p.kind (kind_of f.dest) ≡ true → headers stack (Some p) more ≡ Some (hs, body) →
     SpellsPacket stack plans bytes (packet_of f hs body)
 short_spelled stack plans bytes f behind hs body constants front short k p more form at listed same read =
-    through _ (planned p.fields more) _ read (λ (ns, r) reads deals.
+    through _ (planned_fields p.fields more) _ read (λ (ns, r) reads deals.
     let bs : Bytes (k ∷ more) = subst Bytes at front.behind in
     let numbers = planned_read p.fields more ns r (each_at _ plans k p constants listed) bs.1 reads in
     let known_is = known_read (whole (dealt stack 0 p.tags ns)) r hs body deals in

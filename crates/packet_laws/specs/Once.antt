@@ -18,7 +18,7 @@ OneFullSpelling = (stack : List LayerTree) (plans : List Plan) (p : Packet) → 
     × ((bytes : List ℕ) → SpellsPacket stack plans bytes p → slice_get bytes 0 ≡ Some full_form → bytes ≡ full_bytes p)
 
 -- It has one short spelling under each plan of the list that it fits and whose number is a byte; the number stands
--- behind the preamble.
+-- after the preamble.
 abbrev pub OneShortSpelling : Type 0
 OneShortSpelling = (stack : List LayerTree) (plans : List Plan) (p : Packet) (k : ℕ) (plan : Plan) →
     IsSpellable stack p → k < 256 →

@@ -51,7 +51,7 @@ pub fn pushed_is_chained()
     ensures { PushedIsChained }
 {}
 
-/// A message that is chained from a place has a header of that place, and goes on behind it.
+/// A message that is chained from a place has a header of that place, and goes on after it.
 pub fn popped_goes_on()
     ensures { PoppedGoesOn }
 {}

@@ -3,7 +3,7 @@ use Rattle.std.specs.Prelude.{◌≡◌, ℕ, suc, ◌≤◌, MatchBool, List, [
 use Rattle.msg_core.specs.Chain.{Content}
 use Rattle.msg_core.specs.Parts.{longest_body}
 use Rattle.msg_core.specs.declared.message.Header.{Header}
-use Rattle.layer_mean.specs.Headers.{declared}
+use Rattle.layer_mean.specs.Headers.{header_of_tag}
 use Rattle.layer_mean.specs.Tree.{LayerTree}
 
 -- Headers are a chain of these layers, the first of which stands at a place: each layer has one, of a tag that it
@@ -12,7 +12,7 @@ use Rattle.layer_mean.specs.Tree.{LayerTree}
 abbrev pub IsChain : (layers : List LayerTree) (place : ℕ) → List Header → Type 0
 IsChain [] place headers = headers ≡ []
 IsChain (layer ∷ above) place [] = ⊥
-IsChain (layer ∷ above) place (header ∷ headers) = IsSomeAnd (declared layer header.tag) (λ d.
+IsChain (layer ∷ above) place (header ∷ headers) = IsSomeAnd (header_of_tag layer header.tag) (λ d.
     (header.layer ≡ place) × (length header.fields ≡ d.fields) ×
     MatchBool d.ends (headers ≡ []) (IsChain above (suc place) headers))
 

@@ -10,28 +10,28 @@ use Rattle.msg_core.specs.declared.packet.Packet.{Packet}
 use Rattle.msg_core.specs.declared.packet.View.{View}
 use Rattle.layer_ast.specs.contracts.tokens.Kind as kind_row
 use Rattle.layer_mean.specs.Tree.{LayerTree}
-use Rattle.layer_mean.specs.Headers.{declared}
+use Rattle.layer_mean.specs.Headers.{header_of_tag}
 use Rattle.packet_mean.specs.Plan.{kind_of}
 use Rattle.stack_mean.specs.Plan.{Plan}
 use Rattle.packet_mean.specs.Spelling.{full_form, everyone}
 
--- A reader gives what it read and the bytes behind, or nothing where the bytes don't begin with such a thing.
+-- A reader gives what it read and the bytes after, or nothing where the bytes don't begin with such a thing.
 abbrev pub Reader : Type 0 → Type 0
 Reader A = List ℕ → Option (A × List ℕ)
 
 infixl 10 ◌>>=◌
--- One reader, and then the next on the bytes behind.
+-- One reader, and then the next on the bytes after.
 abbrev pub ◌>>=◌ : {A B : Type 0} → Reader A → (A → Reader B) → Reader B
 (reader >>= next) bytes = option_and_then (λ read. next read.0 read.1) (reader bytes)
 
 -- Nothing is taken off, and this is what was read.
-abbrev pub given : {A : Type 0} → A → Reader A
-given x bytes = Some (x, bytes)
+abbrev pub value_reader : {A : Type 0} → A → Reader A
+value_reader x bytes = Some (x, bytes)
 
 -- The same, if there is a value.
-abbrev pub known : {A : Type 0} → Option A → Reader A
-known None bytes = None
-known (Some x) bytes = Some (x, bytes)
+abbrev pub option_reader : {A : Type 0} → Option A → Reader A
+option_reader None bytes = None
+option_reader (Some x) bytes = Some (x, bytes)
 
 -- One byte.
 abbrev pub byte : Reader ℕ
@@ -45,11 +45,11 @@ number _ = None
 
 -- So many numbers.
 abbrev pub numbers : ℕ → Reader (List ℕ)
-numbers zero = given []
+numbers zero = value_reader []
 numbers (suc k) = do
   n ← number
   more ← numbers k
-  given (n ∷ more)
+  value_reader (n ∷ more)
 
 -- What stands in front of a datagram.
 pub record Preamble : Type 0 where
@@ -85,7 +85,7 @@ preamble = do
   mask ← number
   sender ← byte
   dest ← byte
-  given record {
+  value_reader record {
     form = form;
     group = group;
     stamp = stamp;
@@ -102,32 +102,32 @@ plan_for plans dest k =
 
 -- The plan that a short spelling names; a full one names none.
 abbrev pub named_plan : List Plan → Preamble → Reader (Option Plan)
-named_plan plans p = if p.form == full_form then given None else do
+named_plan plans p = if p.form == full_form then value_reader None else do
   k ← byte
-  plan ← known (plan_for plans p.dest k)
-  given (Some plan)
+  plan ← option_reader (plan_for plans p.dest k)
+  value_reader (Some plan)
 
 -- The headers of the layers from a place on, each its tag and as many fields as it declares, through the first that
 -- ends the chain.
 abbrev pub chain : List LayerTree → (place : ℕ) → Reader (List Header)
-chain [] place = given []
+chain [] place = value_reader []
 chain (layer ∷ above) place = do
   tag ← byte
-  d ← known (declared layer tag)
+  d ← option_reader (header_of_tag layer tag)
   fields ← numbers d.fields
-  others ← if d.ends then given [] else chain above (suc place)
-  given (record { layer = place; tag = tag; fields = fields } ∷ others)
+  others ← if d.ends then value_reader [] else chain above (suc place)
+  value_reader (record { layer = place; tag = tag; fields = fields } ∷ others)
 
 -- Planned fields: a constant is known, and a variable one is a number that is read.
-abbrev pub planned : List (Option ℕ) → Reader (List ℕ)
-planned [] = given []
-planned (Some constant ∷ fields) = do
-  more ← planned fields
-  given (constant ∷ more)
-planned (None ∷ fields) = do
+abbrev pub planned_fields : List (Option ℕ) → Reader (List ℕ)
+planned_fields [] = value_reader []
+planned_fields (Some constant ∷ fields) = do
+  more ← planned_fields fields
+  value_reader (constant ∷ more)
+planned_fields (None ∷ fields) = do
   n ← number
-  more ← planned fields
-  given (n ∷ more)
+  more ← planned_fields fields
+  value_reader (n ∷ more)
 
 -- The first so many of a list of numbers, as a reader of that list.
 abbrev pub first : ℕ → Reader (List ℕ)
@@ -135,13 +135,13 @@ first k fields = if nat_le k (length fields) then Some (take k fields, drop k fi
 
 -- The headers of the layers from a place on that have these tags, as a reader of the list of their fields.
 abbrev pub dealt : List LayerTree → (place : ℕ) → (tags : List ℕ) → Reader (List Header)
-dealt [] place [] = given []
+dealt [] place [] = value_reader []
 dealt (layer ∷ above) place (tag ∷ tags) = do
-  d ← known (declared layer tag)
+  d ← option_reader (header_of_tag layer tag)
   fields ← first d.fields
   others ← if d.ends then dealt [] (suc place) tags else dealt above (suc place) tags
-  given (record { layer = place; tag = tag; fields = fields } ∷ others)
-dealt _ place tags = known None
+  value_reader (record { layer = place; tag = tag; fields = fields } ∷ others)
+dealt _ place tags = option_reader None
 
 -- What was read, if nothing is left.
 abbrev pub whole : {A : Type 0} → Option (A × List ℕ) → Option A
@@ -152,5 +152,5 @@ whole _ = None
 abbrev pub headers : List LayerTree → Option Plan → Reader (List Header)
 headers stack None = chain stack 0
 headers stack (Some plan) = do
-  fields ← planned plan.fields
-  known (whole (dealt stack 0 plan.tags fields))
+  fields ← planned_fields plan.fields
+  option_reader (whole (dealt stack 0 plan.tags fields))

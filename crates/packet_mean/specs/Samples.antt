@@ -22,8 +22,8 @@ abbrev pub layer : List ℕ → List HeaderTree → LayerTree
 layer name headers = record { name = name; cells = []; headers = headers; handlers = [] }
 
 -- The stack `bottom; mnak; local; total`.
-abbrev pub ordered : List LayerTree
-ordered =
+abbrev pub ordering_stack : List LayerTree
+ordering_stack =
     layer (codes "bottom") (passing (codes "net") 1 ∷ []) ∷
     layer (codes "mnak") (passing (codes "num") 1 ∷ ending (codes "nak") 2 ∷ ending (codes "again") 1 ∷
     ending (codes "last") 1 ∷ []) ∷

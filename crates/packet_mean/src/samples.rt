@@ -5,14 +5,14 @@ ghost use Rattle.msg_core.specs.declared.packet.Stray.TheVariants as cause;
 ghost use Rattle.packet_mean.specs.Chained.{IsChained};
 ghost use Rattle.packet_mean.specs.Plan.{fits, least_fit};
 ghost use Rattle.packet_mean.specs.Received.{received, stray};
-ghost use Rattle.packet_mean.specs.Samples.{ordered, ordered_cast, ordered_plan, ordered_request, counter};
+ghost use Rattle.packet_mean.specs.Samples.{ordering_stack, ordered_cast, ordered_plan, ordered_request, counter};
 ghost use Rattle.packet_mean.specs.Samples.{counter_cast, counter_plans, counter_stray, second, small, front};
 ghost use Rattle.packet_mean.specs.Spelling.{full_bytes, short_bytes};
 
 /// The messages of the samples are chained from the lowest place.
 pub fn chained()
-    ensures cast { IsChained ordered 0 ordered_cast.message }
-    ensures request { IsChained ordered 0 ordered_request.message }
+    ensures cast { IsChained ordering_stack 0 ordered_cast.message }
+    ensures request { IsChained ordering_stack 0 ordered_request.message }
     ensures count { IsChained counter 0 counter_cast.message }
 {}
 
@@ -36,12 +36,12 @@ pub fn spell_counter()
         0x69 ∷ []) }
 {}
 
-/// The packets are read again, in both forms; a header that ends the chain has none behind it.
+/// The packets are read again, in both forms; a header that ends the chain has none after it.
 pub fn read_samples()
-    ensures ordered_full { received ordered [] (second 1 3) (full_bytes ordered_cast) ≡ Ok ordered_cast }
-    ensures ordered_short { received ordered (ordered_plan ∷ []) (second 1 3) (short_bytes 0 ordered_plan ordered_cast) ≡
+    ensures ordered_full { received ordering_stack [] (second 1 3) (full_bytes ordered_cast) ≡ Ok ordered_cast }
+    ensures ordered_short { received ordering_stack (ordered_plan ∷ []) (second 1 3) (short_bytes 0 ordered_plan ordered_cast) ≡
         Ok ordered_cast }
-    ensures request { received ordered [] (second 1 3) (full_bytes ordered_request) ≡ Ok ordered_request }
+    ensures request { received ordering_stack [] (second 1 3) (full_bytes ordered_request) ≡ Ok ordered_request }
     ensures counter_full { received counter counter_plans (second 7 7) (full_bytes counter_cast) ≡ Ok counter_cast }
     ensures counter_short { received counter counter_plans (second 7 7) (front 0xE6 1 7 0 7 0 0xFF ++ 0 ∷ small 0 ++ codes "hi") ≡
         Ok counter_cast }

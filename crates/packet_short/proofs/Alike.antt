@@ -1,4 +1,4 @@
--- Headers agree with a plan one behind the other.
+-- Headers agree with a plan one after the other.
 use Rattle.std.proofs.Common.{◌≡◌, ◌≢◌, ℕ, zero, suc, ◌+◌, ◌<◌, ◌≤◌, Bool, true, false, List, [], ◌∷◌, ◌++◌, Option}
 use Rattle.std.proofs.Common.{Some, None, refl, sym, ap, ◌∙◌, add-one, arith, length, drop, get_or, map}
 use Rattle.std.specs.Prelude.{◌==◌, ◌&&◌, bytes_eq, flat_map, if◌then◌else◌}
@@ -21,7 +21,7 @@ none_left [] (suc k) past = refl
 none_left (x ∷ xs) zero past = absurd (omega arith)
 none_left (x ∷ xs) (suc k) past = none_left xs k (omega arith)
 
--- whether further numbers agree behind some
+-- whether further numbers agree after some
 abbrev agreed : Option (List (Option ℕ)) → List ℕ → Bool
 agreed None more = false
 agreed (Some rest) more = agree rest more
@@ -95,7 +95,7 @@ goes_on tags planned rest hs k h tagged below is same some =
     agrees_on (drop k tags) (get_or tags k 0) (drop (k + 1) tags) planned rest hs k h below is
     (numbers_at tags k tagged) same some
 
--- a field behind the last planned one
+-- a field after the last planned one
 pub none_behind : (planned : List (Option ℕ)) (fields : List ℕ) (k : ℕ) → k < length fields → planned ≡ [] →
     behind planned (drop k fields) ≡ None
 none_behind planned fields k below none = rw (none, numbers_at fields k below) refl

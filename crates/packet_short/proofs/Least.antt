@@ -24,12 +24,12 @@ abbrev pub still : List Plan → Option ℕ → ℕ
 still plans None = 0
 still plans (Some k) = length plans - k
 
--- the place of the next plan, behind the last one where there is none
+-- the place of the next plan, after the last one where there is none
 abbrev pub place : List Plan → Option ℕ → ℕ
 place plans None = length plans
 place plans (Some k) = k
 
--- the next plan is one of the print, and no plan in front of it fits
+-- the next plan is one of the print, and no plan before it fits
 pub record Stands (plans : List Plan) (fit : Plan → Bool) (print : ℕ) (next : Option ℕ) : Type 0 where
   pub found : IfSome next (λ k. (k < length plans) × (print_at plans k ≡ print))
   pub unfit : (j : ℕ) (d : Plan) → j < place plans next → fit (get_or plans j d) ≡ false

@@ -1,11 +1,11 @@
--- Planned fields and headers are read one behind the other.
+-- Planned fields and headers are read one after the other.
 use Rattle.std.proofs.Common.{◌≡◌, ℕ, suc, ◌+◌, ◌<◌, ◌≤◌, Bool, true, false, List, [], ◌∷◌, ◌++◌, Option, Some, None}
 use Rattle.std.proofs.Common.{refl, sym, ap, ◌∙◌, append_assoc, add-one, arith, length, drop}
 use Rattle.std.specs.Prelude.{option_and_then, if◌then◌else◌, slice_index_or}
 use Rattle.std.proofs.Math.Seq.{drop-cons}
 use Rattle.msg_core.specs.declared.message.Header.{Header}
 use Rattle.layer_mean.specs.Tree.{LayerTree, no_layer}
-use Rattle.packet_mean.specs.Reading.{given}
+use Rattle.packet_mean.specs.Reading.{value_reader}
 use Rattle.packet_short.specs.Dealing.{field, fields, with_front, header, done, dealing}
 use Rattle.packet_short.proofs.Alike.{none_left}
 
@@ -13,11 +13,12 @@ abbrev Fields : Type 0
 Fields = List ℕ × List (Option ℕ)
 
 one_more : (front : List ℕ) (n : ℕ) (read : Option (Fields × List ℕ)) →
-    with_front (front ++ n ∷ []) read ≡ with_front front (option_and_then (λ r. given (n ∷ r.0.0, r.0.1) r.1) read)
+    with_front (front ++ n ∷ []) read ≡
+    with_front front (option_and_then (λ r. value_reader (n ∷ r.0.0, r.0.1) r.1) read)
 one_more front n None = refl
 one_more front n (Some ((more, rest), behind)) = ap (λ xs. Some ((xs, rest), behind)) (append_assoc front (n ∷ []) more)
 
--- where a field was read, those behind it are read
+-- where a field was read, those after it are read
 pub fields_go_on : (front : List ℕ) (n k j : ℕ) (planned : List (Option ℕ)) (p : Option ℕ) (ps : List (Option ℕ))
     (bytes rest : List ℕ) →
     k ≡ suc j → planned ≡ p ∷ ps → field p bytes ≡ Some (n, rest) →
@@ -27,7 +28,7 @@ fields_go_on front n k j planned p ps bytes rest count is read =
 
 -- headers with one in front
 abbrev pub with_first : Header → Option (List Header × List ℕ) → Option (List Header × List ℕ)
-with_first h read = option_and_then (λ r. given (h ∷ r.0) r.1) read
+with_first h read = option_and_then (λ r. value_reader (h ∷ r.0) r.1) read
 
 -- no layers are left
 pub none_dealt : (stack : List LayerTree) (place : ℕ) (tags : List ℕ) (planned : List (Option ℕ)) (bytes : List ℕ)
@@ -58,7 +59,7 @@ a_first : (layer : LayerTree) (above : List LayerTree) (place : ℕ) (tags : Lis
     ≡ with_first h ((if ends then done more rest else dealing above (suc place) more rest) behind)
 a_first layer above place tags planned bytes h ends more rest behind some = rw some refl
 
--- what is behind a header that ends or goes on
+-- what is after a header that ends or goes on
 onward : (stack : List LayerTree) (place next : ℕ) (ends : Bool) (more : List ℕ) (rest : List (Option ℕ))
     (behind : List ℕ) →
     next ≡ (if ends then length stack else place + 1) →
@@ -68,7 +69,7 @@ onward stack place next true more rest behind is = sym (rw (none_left stack next
 onward stack place next false more rest behind is = ap (λ at. dealing (drop at stack) at more rest behind)
     (sym (is ∙ add-one place))
 
--- a header of a place's layer, and those behind it
+-- a header of a place's layer, and those after it
 pub a_header : (stack : List LayerTree) (place next : ℕ) (tags : List ℕ) (planned : List (Option ℕ)) (bytes : List ℕ)
     (h : Header) (ends : Bool) (more : List ℕ) (rest : List (Option ℕ)) (behind : List ℕ) → place < length stack →
     header (slice_index_or stack place no_layer) place tags planned bytes ≡ Some (((h, ends), (more, rest)), behind) →

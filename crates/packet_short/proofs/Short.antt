@@ -5,7 +5,7 @@ use Rattle.msg_core.specs.declared.message.Header.{Header}
 use Rattle.msg_core.specs.declared.packet.Stray.TheVariants as cause
 use Rattle.layer_mean.specs.Tree.{LayerTree}
 use Rattle.stack_mean.specs.Plan.{Plan}
-use Rattle.packet_mean.specs.Reading.{Preamble, given, named_plan}
+use Rattle.packet_mean.specs.Reading.{Preamble, value_reader, named_plan}
 use Rattle.packet_mean.specs.Spelling.{full_form}
 use Rattle.packet_full.specs.Steps.{contents}
 use Rattle.packet_short.specs.Contents.{plan_named}
@@ -18,7 +18,7 @@ no_full form other = no_same form full_form (form == full_form) refl other
 
 -- the plan that a short datagram names
 pub named_is : (plans : List Plan) (p : Preamble) (bytes : List ℕ) → (p.form == full_form) ≡ false →
-    named_plan plans p bytes ≡ option_and_then (λ r. given (Some r.0) r.1) (plan_named plans p.dest bytes)
+    named_plan plans p bytes ≡ option_and_then (λ r. value_reader (Some r.0) r.1) (plan_named plans p.dest bytes)
 named_is plans p [] short = rw short refl
 named_is plans p (k ∷ bytes) short = rw short refl
 

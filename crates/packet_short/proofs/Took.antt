@@ -6,10 +6,10 @@ use Rattle.msg_core.specs.Parts.{longest_body}
 use Rattle.msg_core.specs.declared.message.Header.{Header}
 use Rattle.msg_core.specs.declared.packet.Stray.{Stray}
 use Rattle.msg_core.specs.declared.packet.Stray.TheVariants as cause
-use Rattle.layer_mean.specs.Headers.{header_none, declared}
+use Rattle.layer_mean.specs.Headers.{header_none, header_of_tag}
 use Rattle.layer_mean.specs.Tree.{HeaderTree, LayerTree}
 use Rattle.stack_mean.specs.Plan.{Plan}
-use Rattle.packet_mean.specs.Reading.{Preamble, preamble, given, known, headers, number, plan_for}
+use Rattle.packet_mean.specs.Reading.{Preamble, preamble, value_reader, option_reader, headers, number, plan_for}
 use Rattle.packet_mean.specs.Received.{◌>>=◌, packet_of}
 use Rattle.packet_mean.specs.Spelling.{full_form, preamble_bytes, AreBytes}
 use Rattle.packet_mean.specs.declared.here.Here.{Here}
@@ -26,7 +26,7 @@ use Rattle.packet_short.specs.Dealing.{field, fields, header, done, dealing}
 use Rattle.packet_short.proofs.Dealt.{dealt_at_once}
 use Rattle.packet_short.proofs.Short.{named_is}
 
--- at most so many bytes are in front of others
+-- at most so many bytes are before others
 record Behind (n : ℕ) (bytes rest : List ℕ) : Type 0 where
   front : List ℕ
   is : bytes ≡ front ++ rest
@@ -80,13 +80,15 @@ header_took : (layer : LayerTree) (place : ℕ) (tags : List ℕ) (ps : List (Op
     (q : (Header × Bool) × (List ℕ × List (Option ℕ))) (rest : List ℕ) → Each (λ d. d.fields ≤ 4) layer.headers →
     header layer place tags ps bytes ≡ Some (q, rest) → Behind 16 bytes rest
 header_took layer place [] ps bytes q rest few is = absurd (cc is)
-header_took layer place (t ∷ ts) ps bytes q rest few is = go (declared layer t) refl is
+header_took layer place (t ∷ ts) ps bytes q rest few is = go (header_of_tag layer t) refl is
   where
-    go : (o : Option HeaderTree) → declared layer t ≡ o →
+    go : (o : Option HeaderTree) → header_of_tag layer t ≡ o →
         option_and_then (λ read.
-        option_and_then (λ r. given ((record { layer = place; tag = t; fields = r.0.0 }, read.0.ends), (ts, r.0.1))
+        option_and_then (λ r.
+        value_reader ((record { layer = place; tag = t; fields = r.0.0 }, read.0.ends), (ts, r.0.1))
         r.1)
-        (fields read.0.fields ps read.1)) (known (option_map form_of o) bytes) ≡ Some (q, rest) → Behind 16 bytes rest
+        (fields read.0.fields ps read.1)) (option_reader (option_map form_of o) bytes) ≡ Some (q, rest) →
+        Behind 16 bytes rest
     go None at h = absurd (cc h)
     go (Some d) at h =
         through _ (fields d.fields ps bytes) _ h (λ (own, r) reads is_r.
@@ -130,13 +132,13 @@ some_read : {A : Type 0} (o : Option A) (e : Stray) (x : A) → ok_or o e ≡ Ok
 some_read (Some y) e x is = ap Some (cc is)
 some_read None e x is = absurd (cc is)
 
--- the headers of a short datagram and the byte in front of them
+-- the headers of a short datagram and the byte before them
 abbrev reading_on : List LayerTree → Option (Option Plan × List ℕ) → Result (List Header × List ℕ) Stray
 reading_on stack o = ok_or o cause.Plan >>= λ q. ok_or (headers stack q.0 q.1) cause.Chain
 
 behind_plan : (stack : List LayerTree) (k : ℕ) (more : List ℕ) (hs : List Header) (body : List ℕ) (o : Option Plan) →
     Few stack →
-    reading_on stack (option_and_then (λ r. given (Some r.0) r.1) (known o more)) ≡ Ok (hs, body) →
+    reading_on stack (option_and_then (λ r. value_reader (Some r.0) r.1) (option_reader o more)) ≡ Ok (hs, body) →
     Behind (1 + 16 * length stack) (k ∷ more) body
 behind_plan stack k more hs body None few is = absurd (cc is)
 behind_plan stack k more hs body (Some plan) few is =

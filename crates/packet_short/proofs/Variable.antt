@@ -1,4 +1,4 @@
--- The variable fields are put one header behind the other.
+-- The variable fields are put one header after the other.
 use Rattle.std.proofs.Common.{◌≡◌, ℕ, ◌≤◌, List, [], ◌∷◌, ◌++◌, Option, Some, None, refl, sym, ap, ◌∙◌, append-nil}
 use Rattle.std.proofs.Common.{length, drop}
 use Rattle.std.specs.Prelude.{flat_map}
@@ -7,7 +7,7 @@ use Rattle.packet_mean.specs.Plan.{variable}
 use Rattle.packet_mean.specs.Spelling.{number_bytes}
 use Rattle.packet_short.proofs.Alike.{none_left}
 
--- what is to be put behind some bytes is what is still to be put behind others, whatever comes behind
+-- what is to be put after some bytes is what is still to be put after others, whatever comes after
 abbrev pub GoesOn : (planned : List (Option ℕ)) (numbers : List ℕ) (planned' : List (Option ℕ)) (numbers' : List ℕ)
     (old new : List ℕ) → Type 0
 GoesOn planned numbers planned' numbers' old new = (more : List ℕ) →

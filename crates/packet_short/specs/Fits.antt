@@ -24,7 +24,7 @@ abbrev pub first_fits : (Plan → Bool) → List Plan → Bool
 first_fits fit [] = false
 first_fits fit (plan ∷ plans) = fit plan
 
--- The planned fields behind those of some numbers, if the numbers agree with theirs.
+-- The planned fields after those of some numbers, if the numbers agree with theirs.
 abbrev pub behind : (planned : List (Option ℕ)) (numbers : List ℕ) → Option (List (Option ℕ))
 behind planned [] = Some planned
 behind (Some constant ∷ planned) (v ∷ numbers) = if v == constant then behind planned numbers else None

@@ -16,7 +16,7 @@ short_under plan k packet = if fits plan packet then Some (short_bytes k plan pa
 abbrev pub shortened : List Plan → (k : ℕ) → Packet → Option (List ℕ)
 shortened plans k packet = option_and_then (λ plan. short_under plan k packet) (slice_get plans k)
 
--- The bytes are put behind others; where there are none, nothing changes.
+-- The bytes are put after others; where there are none, nothing changes.
 abbrev pub Puts : Option (List ℕ) → (old new : List ℕ) → Result (Unit {0}) refused.NotFitting → Type 0
 Puts (Some bytes) old new (Ok done) = new ≡ old ++ bytes
 Puts None old new (Err refusal) = new ≡ old
@@ -26,13 +26,13 @@ Puts _ old new _ = ⊥
 abbrev pub short_room : Packet → ℕ
 short_room packet = suc (room_needed packet)
 
--- The variable ones of a header's fields were put behind bytes, and these are planned behind them.
+-- The variable ones of a header's fields were put after bytes, and these are planned after them.
 abbrev pub PutsVariable : (planned : List (Option ℕ)) (fields : List ℕ) (rest : List (Option ℕ)) (old new : List ℕ) →
     Type 0
 PutsVariable planned fields rest old new = (more : List ℕ) →
     old ++ flat_map number_bytes (variable planned (fields ++ more)) ≡ new ++ flat_map number_bytes (variable rest more)
 
--- The same where the fields themselves were put behind numbers.
+-- The same where the fields themselves were put after numbers.
 abbrev pub KeepsVariable : (planned : List (Option ℕ)) (fields : List ℕ) (rest : List (Option ℕ)) (old new : List ℕ) →
     Type 0
 KeepsVariable planned fields rest old new = (more : List ℕ) → old ++ variable planned (fields ++ more) ≡ new ++

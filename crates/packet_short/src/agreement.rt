@@ -17,7 +17,7 @@ pub(crate) fn agrees(planned: Option<u32>, number: u32) -> bool
     }
 }
 
-/// The planned fields behind those of a header, if its fields agree with theirs.
+/// The planned fields after those of a header, if its fields agree with theirs.
 fn behind<'a>(planned: &'a [Option<u32>], fields: &Fields) -> Option<&'a [Option<u32>]>
     ensures { option_map (λ rest. rest.now) result ≡ behind planned.now fields.now }
 {
@@ -34,7 +34,7 @@ fn behind<'a>(planned: &'a [Option<u32>], fields: &Fields) -> Option<&'a [Option
     Some(left)
 }
 
-/// The planned fields behind those of a header, if its fields agree with theirs. Most headers have none.
+/// The planned fields after those of a header, if its fields agree with theirs. Most headers have none.
 fn behind_header<'a>(planned: &'a [Option<u32>], header: &Header) -> Option<&'a [Option<u32>]>
     ensures { option_map (λ rest. rest.now) result ≡ behind planned.now header.now.fields }
 {

@@ -29,7 +29,7 @@ fn named<'a>(plans: &'a Plans, dest: Dest, cursor: &mut Cursor<'_>) -> Option<&'
     }
 }
 
-/// Reads the headers behind what stands in front of a datagram; the bytes that are left are its body.
+/// Reads the headers after what stands in front of a datagram; the bytes that are left are its body.
 pub(crate) fn contents(
     stack: &Stack,
     plans: &Plans,

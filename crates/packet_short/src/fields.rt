@@ -11,7 +11,7 @@ use crate::agreement::agrees;
 use msg_core::{Fields, Header, Headers};
 use stack_shapes::Plan;
 
-/// Puts a number behind others, unless it is planned as a constant.
+/// Puts a number after others, unless it is planned as a constant.
 fn keep_variable(planned: Option<u32>, number: u32, into: &mut Vec<u32>)
     requires { vec_len into.old + 1 ≤ vec_capacity into.old }
     ensures items { into.new.items ≡ into.old.items ++ variable (planned ∷ []) (number ∷ []) }
@@ -24,7 +24,7 @@ fn keep_variable(planned: Option<u32>, number: u32, into: &mut Vec<u32>)
     }
 }
 
-/// Puts the variable ones of a header's fields behind others, and answers what is planned behind them.
+/// Puts the variable ones of a header's fields after others, and answers what is planned after them.
 fn keep_fields<'a>(
     planned: &'a [Option<u32>],
     fields: &Fields,
@@ -46,7 +46,7 @@ fn keep_fields<'a>(
     left
 }
 
-/// Puts the fields of headers that a plan leaves variable, from the lowest layer up, behind what a vector holds. It
+/// Puts the fields of headers that a plan leaves variable, from the lowest layer up, after what a vector holds. It
 /// takes no memory: there is to be room for as many numbers as the plan has fields.
 pub fn variable_fields(plan: &Plan, headers: &Headers, into: &mut Vec<u32>)
     requires { vec_len into.old + length plan.now.fields.items ≤ vec_capacity into.old }
@@ -60,8 +60,8 @@ pub fn variable_fields(plan: &Plan, headers: &Headers, into: &mut Vec<u32>)
     }
 }
 
-/// The planned fields behind those of a header, if its fields agree with theirs; the variable ones of these are put
-/// behind others.
+/// The planned fields after those of a header, if its fields agree with theirs; the variable ones of these are put
+/// after others.
 fn keep_agreeing<'a>(
     planned: &'a [Option<u32>],
     fields: &Fields,
@@ -69,7 +69,8 @@ fn keep_agreeing<'a>(
 ) -> Option<&'a [Option<u32>]>
     requires { vec_len into.old + length planned.now ≤ vec_capacity into.old }
     ensures rest { option_map (λ rest. rest.now) result ≡ behind planned.now fields.now }
-    ensures items { IfSome result (λ rest. KeepsVariable planned.now fields.now rest.now into.old.items into.new.items) }
+    ensures items { IfSome result
+        (λ rest. KeepsVariable planned.now fields.now rest.now into.old.items into.new.items) }
     ensures len { IfSome result (λ rest. vec_len into.new + length rest.now ≤ vec_len into.old + length planned.now) }
     ensures capacity { vec_capacity into.new ≡ vec_capacity into.old }
 {

@@ -148,7 +148,8 @@ pub fn fits_with_fields(plans: &Plans, scan: &Scan, into: &mut Vec<u32>) -> Opti
     requires room { AllByRecursion (HasAtMost (vec_capacity into.old)) (plans_tree plans.now) }
     ensures fits { (here : Here) (bytes : List ℕ) →
         result ≡ least_fit (plans_tree plans.now) (packet_scanned here bytes scan.now) }
-    ensures fields { into.new.items ≡ kept_by (plans_tree plans.now) result (flat_map (λ h. h.fields) scan.now.headers) }
+    ensures fields { into.new.items ≡
+        kept_by (plans_tree plans.now) result (flat_map (λ h. h.fields) scan.now.headers) }
     ensures capacity { vec_capacity into.new ≡ vec_capacity into.old }
 {
     least_keeping(plans, kind_of(scan.dest), &scan.headers, into)

@@ -30,7 +30,7 @@ fn field(cursor: &mut Cursor<'_>, planned: Option<u32>) -> Option<u32>
     }
 }
 
-/// The place behind a header: the one above, or none where it closes the chain.
+/// The place after a header: the one above, or none where it closes the chain.
 fn next_place(stack: &Stack, place: u8, ends: bool) -> u8
     requires { place < length (stack_tree stack.now) }
     ensures { result ≡ (if ends then length (stack_tree stack.now) else place + 1) }

@@ -36,7 +36,7 @@ fn put_variable(planned: Option<u32>, number: u32, into: &mut Vec<u8>)
     }
 }
 
-/// Puts the variable ones of a header's fields, and answers what is planned behind them.
+/// Puts the variable ones of a header's fields, and answers what is planned after them.
 fn put_fields<'a>(
     planned: &'a [Option<u32>],
     fields: &Fields,
@@ -80,7 +80,7 @@ pub fn short_room_of(headers: &Headers, body: &[u8]) -> usize
 }
 
 /// Puts in its short form, under a plan and its number, what a member sends to a destination, with these headers and
-/// this body, behind what a vector holds, as the plan says and without asking whether it fits. It takes no memory:
+/// this body, after what a vector holds, as the plan says and without asking whether it fits. It takes no memory:
 /// there is to be room for 17 bytes of each header, the body and 20 more.
 pub fn put_short(
     plan: &Plan,

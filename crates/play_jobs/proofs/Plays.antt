@@ -24,7 +24,7 @@ use Rattle.group_mean.specs.Room.{HasRoom}
 use Rattle.miss_mean.specs.Text.{explained_lines}
 use Rattle.program_mean.specs.Headline.{whole_end}
 use Rattle.output_mean.specs.Judged.{Means}
-use Rattle.program_mean.specs.Second.{crowded, after_script, second_fault}
+use Rattle.program_mean.specs.Second.{crowd_fault, after_script, second_fault}
 use Rattle.job_ends.specs.Comes.{Around, surrounding, Beside, Behind, Finds, IsOutput, Good, Comes}
 use Rattle.job_ends.proofs.Comes.{written}
 use Rattle.file_jobs.specs.Stack.{IsStack}
@@ -37,7 +37,7 @@ use Rattle.play_jobs.specs.declared.error.PlayError.TheVariants.{TooManyRows, Fa
 
 -- too many rows are a fault
 too_many : (stack : List LayerTree) (members : ℕ) → most_rows < rows_of stack members →
-    crowded stack members ≡ Some too_many_rows
+    crowd_fault stack members ≡ Some too_many_rows
 too_many stack members more = go (nat_le (rows_of stack members) most_rows) refl where
   go : (b : Bool) → nat_le (rows_of stack members) most_rows ≡ b → (if b then None else Some too_many_rows) ≡
       Some too_many_rows
@@ -45,7 +45,7 @@ too_many stack members more = go (nat_le (rows_of stack members) most_rows) refl
   go false is = refl
 
 -- and few enough are none
-enough : (stack : List LayerTree) (members : ℕ) → HasRoom stack members → crowded stack members ≡ None
+enough : (stack : List LayerTree) (members : ℕ) → HasRoom stack members → crowd_fault stack members ≡ None
 enough stack members room = rw (le-leb (rows_of stack members) most_rows room) refl
 
 -- A job that plays over a stack whose file was found, beside its second file: its members have room or too many rows,
@@ -55,7 +55,7 @@ module _ (job : Job) (a : Around) (stack : List LayerTree) (members : ℕ) (file
     (beside : Beside job a.told (Some second)) (behind : Behind job a.told (Some [])) (means : Means file stack)
     (lines : List (List ℕ))
     (output : HasRoom stack members → IsOutput job file second [] lines)
-    (whole : whole_end job file ≡ done) (judged : second_fault job stack second ≡ crowded stack members)
+    (whole : whole_end job file ≡ done) (judged : second_fault job stack second ≡ crowd_fault stack members)
     (sound : a.reads_after ≡ a.reads) where
   abbrev good : HasRoom stack members → Good job a.told
   good room = record {

@@ -13,7 +13,7 @@ use Rattle.bypass_member.specs.declared.error.OpenError.TheVariants as opening
 use Rattle.play_jobs.specs.declared.error.PlayError.{PlayError}
 use Rattle.play_jobs.specs.declared.error.PlayError.TheVariants.{TooManyRows, Failed, Memory}
 
--- Where so many members of a stack have room, lines were written: all, or those in front of a put that failed, or a
+-- Where so many members of a stack have room, lines were written: all, or those before a put that failed, or a
 -- prefix of their bytes before memory ran out; where they have none, and where memory ran out before, nothing was.
 abbrev pub Plays : List LayerTree → (members : ℕ) → List (List ℕ) → Tells → Tells → Result (Unit {0}) PlayError → Type 0
 Plays stack members lines old new (Ok run) = HasRoom stack members × Gains old new lines

@@ -12,7 +12,7 @@ use Rattle.end_mean.specs.Status.{too_many_rows}
 use Rattle.file_jobs.specs.Stack.{IsMissed}
 use Rattle.group_mean.specs.Room.{HasRoom}
 use Rattle.job_ends.specs.Comes.{Around}
-use Rattle.job_ends.specs.Shown.{shown}
+use Rattle.job_ends.specs.Shown.{shown_end}
 use Rattle.job_ends.specs.declared.ending.Ending.{Ending}
 use Rattle.layer_mean.specs.Tree.{LayerTree}
 use Rattle.pack_mean.specs.Accepted.{Accepts, IsFault, PackFault, too_large, bad_line, differs}
@@ -39,7 +39,7 @@ RefusedTraces stack text _ = ⊥
 
 abbrev pub JudgesTraces : List LayerTree → List ℕ → Result Bypasses Ending → Type 0
 JudgesTraces stack text (Ok b) = Accepts stack text × AreOfStack stack (bypasses_tree b)
-JudgesTraces stack text (Err ending) = RefusedTraces stack text (shown ending)
+JudgesTraces stack text (Err ending) = RefusedTraces stack text (shown_end ending)
 
 -- The next read of this name found traces that are accepted for a stack.
 pub record AreTraces (stack : List LayerTree) (name : Text) (told : Option Shelved) (reads reads_after : ℕ) : Type 0
@@ -71,7 +71,7 @@ abbrev pub FetchesTraces : List LayerTree → Text → Option Shelved → (reads
 FetchesTraces stack name told reads reads_after (Ok b) = AreTraces stack name told reads reads_after ×
     AreOfStack stack (bypasses_tree b)
 FetchesTraces stack name told reads reads_after (Err ending) =
-    StopsAtTraces stack name told reads reads_after (shown ending)
+    StopsAtTraces stack name told reads reads_after (shown_end ending)
 
 -- A script was played over a stack whose members have room, by accepted traces, and what is put out came to something.
 pub record PlayedSo (Came : Type 0) (stack : List LayerTree) (s : Script) (name : Text) (a : Around) : Type 0 where

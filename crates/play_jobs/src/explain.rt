@@ -2,7 +2,7 @@
 
 ghost use Rattle.job_mean.specs.Job as job;
 ghost use Rattle.job_ends.specs.Comes.{Comes, around};
-ghost use Rattle.job_ends.specs.Shown.{shown};
+ghost use Rattle.job_ends.specs.Shown.{shown_end};
 
 use crate::explaining::explain_steps;
 use crate::played::ending;
@@ -23,7 +23,7 @@ pub fn explain_script<S: Shelf, O: Sink>(
     out: &mut O,
 ) -> Ending
     ensures { Comes (job.explain explain.now.file.now explain.now.script.now)
-        (around S.Shelf O.Sink shelf.old shelf.new out.old out.new) (shown result) }
+        (around S.Shelf O.Sink shelf.old shelf.new out.old out.new) (shown_end result) }
 {
     match fetch_file(alloc, explain.file, shelf) {
         Ok(found) => match fetch_script(alloc, explain.script, shelf) {

@@ -4,7 +4,7 @@ ghost use Rattle.std.specs.Prelude.{◌≤◌, length};
 ghost use Rattle.bypass_laws.specs.Making.{IsSound};
 ghost use Rattle.event_graph.specs.Answer.{stack_tree};
 ghost use Rattle.job_ends.specs.Comes.{Comes, around};
-ghost use Rattle.job_ends.specs.Shown.{shown};
+ghost use Rattle.job_ends.specs.Shown.{shown_end};
 ghost use Rattle.job_mean.specs.Job as job;
 ghost use Rattle.play_jobs.specs.Traces.{PlaysTraces};
 ghost use Rattle.script_mean.specs.Script.{IsRunnable};
@@ -33,7 +33,7 @@ pub fn replay_with<S: Shelf, O: Sink>(
 ) -> Ending
     ensures { Comes (job.replay_with replay.now.file.now replay.now.script.now replay.now.traces.now replay.now.wire
         replay.now.count)
-        (around S.Shelf O.Sink shelf.old shelf.new out.old out.new) (shown result) }
+        (around S.Shelf O.Sink shelf.old shelf.new out.old out.new) (shown_end result) }
 {
     match fetch_stack(alloc, replay.file, shelf) {
         Ok(stack) => match fetch_script(alloc, replay.script, shelf) {
@@ -58,7 +58,7 @@ fn play_traces<S: Shelf, O: Sink>(
     requires runs { IsRunnable script.now }
     requires few { length script.now.events ≤ most_events }
     ensures { PlaysTraces (stack_tree stack) script.now replay.now.traces.now replay.now.wire replay.now.count
-        (around S.Shelf O.Sink shelf.old shelf.new out.old out.new) (shown result) }
+        (around S.Shelf O.Sink shelf.old shelf.new out.old out.new) (shown_end result) }
 {
     if !has_room(&stack, script.members) {
         return Ending::TooManyRows;

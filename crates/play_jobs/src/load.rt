@@ -3,7 +3,7 @@
 ghost use Rattle.std.specs.Prelude.{◌≡◌};
 ghost use Rattle.job_mean.specs.Job as job;
 ghost use Rattle.job_ends.specs.Comes.{Comes, around};
-ghost use Rattle.job_ends.specs.Shown.{shown};
+ghost use Rattle.job_ends.specs.Shown.{shown_end};
 ghost use Rattle.group_mean.specs.Shown.{shown_mode};
 
 use crate::counting::play_load;
@@ -42,7 +42,7 @@ pub fn load_stack<S: Shelf, O: Sink>(
 ) -> Ending
     ensures { Comes (job.load load.now.file.now load.now.seed load.now.events load.now.members load.now.raw
         (shown_mode load.now.mode))
-        (around S.Shelf O.Sink shelf.old shelf.new out.old out.new) (shown result) }
+        (around S.Shelf O.Sink shelf.old shelf.new out.old out.new) (shown_end result) }
 {
     match fetch_stack(alloc, load.file, shelf) {
         Ok(stack) => ending(play_load(alloc, load.mode, stack, workload_of(load), out)),

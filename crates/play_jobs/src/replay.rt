@@ -2,7 +2,7 @@
 
 ghost use Rattle.job_mean.specs.Job as job;
 ghost use Rattle.job_ends.specs.Comes.{Comes, around};
-ghost use Rattle.job_ends.specs.Shown.{shown};
+ghost use Rattle.job_ends.specs.Shown.{shown_end};
 ghost use Rattle.group_mean.specs.Shown.{shown_mode};
 
 use crate::played::ending;
@@ -23,7 +23,7 @@ pub fn replay_script<S: Shelf, O: Sink>(
 ) -> Ending
     ensures { Comes (job.replay replay.now.file.now replay.now.script.now (shown_mode replay.now.mode) replay.now.wire
         replay.now.count)
-        (around S.Shelf O.Sink shelf.old shelf.new out.old out.new) (shown result) }
+        (around S.Shelf O.Sink shelf.old shelf.new out.old out.new) (shown_end result) }
 {
     match fetch_stack(alloc, replay.file, shelf) {
         Ok(stack) => match fetch_script(alloc, replay.script, shelf) {

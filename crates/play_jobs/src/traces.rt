@@ -3,7 +3,7 @@
 ghost use Rattle.std.specs.Prelude.{◌≡◌};
 ghost use Rattle.bypass_laws.specs.Making.{IsSound};
 ghost use Rattle.event_graph.specs.Answer.{stack_tree};
-ghost use Rattle.job_ends.specs.Shown.{shown};
+ghost use Rattle.job_ends.specs.Shown.{shown_end};
 ghost use Rattle.play_jobs.specs.Traces.{FetchesTraces, JudgesTraces, refused_as};
 
 use bypass_file::{BypassError, read_bypasses};
@@ -47,7 +47,7 @@ fn judged(alloc: Global, stack: &Stack, text: &[u8]) -> Result<Bypasses, Ending>
 
 /// How a job ends whose file of traces is refused.
 fn refusal(error: BypassError) -> Ending
-    ensures { shown result ≡ refused_as error }
+    ensures { shown_end result ≡ refused_as error }
 {
     match error {
         BypassError::TooLarge => Ending::TracesTooLarge,

@@ -15,11 +15,13 @@ use Rattle.layer_mean.specs.Tree.{StatementTrees, none, more, Expected, always, 
 use Rattle.layer_mean.specs.State.{State, has_room, row_at, with_row, without_front}
 use Rattle.layer_mean.specs.Value.{Scope, is_true, val}
 use Rattle.layer_mean.specs.Effect.{Outcome, Act, done, after, in_order, decides, usual, unusual, turns, with_slot}
-use Rattle.layer_mean.specs.Effect.{with_taken, row_of, chosen, taking, does, acts}
-use Rattle.layer_mean.specs.Visit.{Met, Visited, met, handler_for, entered, sent_on, unhandled, expecting, handled}
+use Rattle.layer_mean.specs.Effect.{with_taken, row_of, chosen_outcome, taking, does, acts}
+use Rattle.layer_mean.specs.Visit.{Met, Visited, met, handler_for, entered_scope, sent_on, unhandled_visit, expecting}
+use Rattle.layer_mean.specs.Visit.{handled_visit}
 use Rattle.layer_mean.specs.Visit.{step, no_state}
-use Rattle.layer_mean.specs.Queue.{Task, Work, is_place, layer_at, state_at, visited, taken_turn, next_of, run_for, run}
-use Rattle.layer_mean.specs.Queue.{layers, unstarted}
+use Rattle.layer_mean.specs.Queue.{Task, Work, is_place, layer_at, state_at, visit_turn, taken_turn, next_of, run_for}
+use Rattle.layer_mean.specs.Queue.{run}
+use Rattle.layer_mean.specs.Queue.{layers, unstarted_work}
 use Rattle.chain_laws.proofs.Lists.{each_change}
 use Rattle.pool_laws.specs.Rows.{RunsKeepCounts, RunsStayWithin}
 
@@ -29,7 +31,7 @@ if_same n true o p h i = h
 if_same n false o p h i = i
 
 chosen_same : (n : ℕ) (b : Bool) (likely : Likely) (o p : Outcome) → o.state.count ≡ n → p.state.count ≡ n →
-    (chosen b likely o p).state.count ≡ n
+    (chosen_outcome b likely o p).state.count ≡ n
 chosen_same n true likely.First o p h i = h
 chosen_same n true likely.Else o p h i = h
 chosen_same n true likely.Two o p h i = h
@@ -88,7 +90,7 @@ module _ (place : ℕ) where
   passed_same false v w n h i = i
 
   unhandled_same : (s : State) (dir : Dir) (e : Event) (m : Met) (content : Option Content) →
-      (unhandled place s dir e m content).state.count ≡ s.count
+      (unhandled_visit place s dir e m content).state.count ≡ s.count
   unhandled_same s dir e m None = refl
   unhandled_same s Down e m (Some content) = refl
   unhandled_same s Up e m (Some content) =
@@ -96,9 +98,9 @@ module _ (place : ℕ) where
       s.count refl refl
 
   handled_same : (h : Option HandlerTree) (s : State) (dir : Dir) (e : Event) (m : Met) →
-      (handled place h s dir e m).state.count ≡ s.count
+      (handled_visit place h s dir e m).state.count ≡ s.count
   handled_same None s dir e m = unhandled_same s dir e m m.message
-  handled_same (Some h) s dir e m = let l = entered h e m in
+  handled_same (Some h) s dir e m = let l = entered_scope h e m in
       expecting_same s.count h.expected s l (in_order (acts place h.block) s l) (acts_same h.block (done s l))
 
 step_same : (place : ℕ) (layer : LayerTree) (s : State) (dir : Dir) (e : Event) →
@@ -117,7 +119,7 @@ module _ (stack : List LayerTree) (Q : ℕ → Type 0) where
     v = step (t.at - 1) (layer_at stack t.at) (state_at w t.at) t.dir t.event
 
     go : (b : Bool) → AllByRecursion (λ (s : State). Q s.count)
-        (if b then taken_turn t.at rest (visited t.at w v)
+        (if b then taken_turn t.at rest (visit_turn t.at w v)
         else record { world = record w { outs = w.outs ++ (t.dir, t.event) ∷ [] }; tasks = rest }).world.states
     go true = each_change (λ (s : State). Q s.count) w.states (t.at - 1) v.state no_state h
         (λ is. subst Q (sym (step_same (t.at - 1) (layer_at stack t.at) (state_at w t.at) t.dir t.event)) is)
@@ -134,9 +136,9 @@ module _ (stack : List LayerTree) (Q : ℕ → Type 0) where
 pub runs_keep_counts : RunsKeepCounts
 unfolding run
 runs_keep_counts turns stack states first n h = turns_keep stack (λ count. count ≡ n) turns (first ∷ [])
-    (unstarted states) h
+    (unstarted_work states) h
 
 pub runs_stay_within : RunsStayWithin
 unfolding run
 runs_stay_within turns stack states first most h =
-    record { within = turns_keep stack (λ count. count ≤ most) turns (first ∷ []) (unstarted states) h.within }
+    record { within = turns_keep stack (λ count. count ≤ most) turns (first ∷ []) (unstarted_work states) h.within }

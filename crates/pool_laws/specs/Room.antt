@@ -7,7 +7,7 @@ use Rattle.slot_pool.specs.References.{Exact, Covers}
 use Rattle.layer_mean.specs.Tree.{LayerTree}
 use Rattle.layer_mean.specs.State.{State}
 use Rattle.stack_mean.specs.Acceptance.{rows_of, most_rows, largest_weight, largest_joins, weight_limit, joins_limit}
-use Rattle.stack_mean.specs.Acceptance.{accepted}
+use Rattle.stack_mean.specs.Acceptance.{acceptance}
 use Rattle.chain_laws.specs.Runs.{AreChainedStates}
 use Rattle.layer_stage.specs.Room.{CountsWithin}
 use Rattle.stack_queue.specs.Stages.{most_at_first}
@@ -45,7 +45,7 @@ pub record HasRoom (p : List Held) (xs : List ℕ) : Type 0 where
   pub counts : CountsWithin most_at_first p
 
 -- Such a pool isn't full; it has room for a run that begins without a body; and so it has for one that begins with a
--- body, once this is put. (What the run's event refers to stands behind the other references.)
+-- body, once this is put. (What the run's event refers to stands after the other references.)
 abbrev pub NotFull : Type 0
 NotFull = (rows : ℕ) (p : List Held) (xs : List ℕ) → IsPoolFor rows p xs → IsFull p → ⊥
 
@@ -58,5 +58,5 @@ RoomBehindPut = (rows : ℕ) (p q : List Held) (xs body : List ℕ) (s : ℕ) �
 
 -- What an accepted stack's entries weigh and join at most is within the limits.
 abbrev pub AcceptedIsLight : Type 0
-AcceptedIsLight = (stack : List LayerTree) → accepted stack ≡ Ok stack → (largest_weight stack ≤ weight_limit) ×
+AcceptedIsLight = (stack : List LayerTree) → acceptance stack ≡ Ok stack → (largest_weight stack ≤ weight_limit) ×
     (largest_joins stack ≤ joins_limit)

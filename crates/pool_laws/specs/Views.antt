@@ -4,6 +4,6 @@ use Rattle.msg_core.specs.View.{member_count}
 use Rattle.msg_core.specs.declared.packet.View.{View}
 use Rattle.run_mean.specs.View.{next_view}
 
--- A view behind a view has no more members.
+-- A view after a view has no more members.
 abbrev pub ViewsShrink : Type 0
 ViewsShrink = (view next : View) (ranks : ℕ) → next_view view ranks ≡ Some next → member_count next ≤ member_count view

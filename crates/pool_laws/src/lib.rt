@@ -26,7 +26,7 @@ pub fn states_stay_within()
     ensures same { RunsKeepCounts }
 {}
 
-/// A view behind a view has no more members; so states that are made anew for it stay within what there is room for.
+/// A view after a view has no more members; so states that are made anew for it stay within what there is room for.
 pub fn views_shrink()
     ensures { ViewsShrink }
 {}

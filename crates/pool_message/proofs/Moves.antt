@@ -3,7 +3,8 @@ use Rattle.std.proofs.Common.{◌≡◌, ℕ, ◌+◌, ◌<◌, ◌≤◌, get_o
 use Rattle.std.proofs.Common.{Option, Some, sym, ap, subst, ◌∙◌, arith}
 use Rattle.std.proofs.lemmas.Bool.{le-leb}
 use Rattle.std.proofs.lemmas.List.{length-append}
-use Rattle.slot_pool.specs.Held.{Held, held, unused, held_at, count_at, bytes_at, one_less, range, spare, IsFull, Puts}
+use Rattle.slot_pool.specs.Held.{Held, held_bytes, unused, held_at, count_at, bytes_at, one_less, range, spare, IsFull}
+use Rattle.slot_pool.specs.Held.{Puts}
 use Rattle.slot_pool.specs.References.{Moved, Covers}
 use Rattle.slot_pool.specs.Times.{times}
 use Rattle.slot_pool.proofs.Times.{hit_same}
@@ -20,7 +21,8 @@ use Rattle.pool_message.proofs.Ranges.{length-range, range_all}
 pub is_used : (p : List Held) (s : ℕ) (xs : List ℕ) → Covers p (s ∷ xs) → 0 < count_at p s
 is_used p s xs covers = let one = hit_same s in let there = covers.covers s in omega arith
 
-pub kept_one : (p q : List Held) (s : ℕ) → Covers p (s ∷ []) → q ≡ set p s (held (count_at p s + 1) (bytes_at p s)) →
+pub kept_one : (p q : List Held) (s : ℕ) → Covers p (s ∷ []) →
+    q ≡ set p s (held_bytes (count_at p s + 1) (bytes_at p s)) →
     Kept p q (s ∷ [])
 kept_one p q s covers is =
     let used = is_used p s [] covers in
@@ -49,8 +51,8 @@ module _ (p q r : List Held) (bs : List ℕ) (s : ℕ) (xs : List ℕ) (puts : P
   none_of : times s xs ≡ 0
   none_of = let free = puts.free in let there = covers.covers s in omega arith
 
-  holds : held_at q s ≡ held 1 bs
-  holds = ap (λ x. held_at x s) puts.holds ∙ get_or-set_same p s (held 1 bs) unused puts.within
+  holds : held_at q s ≡ held_bytes 1 bs
+  holds = ap (λ x. held_at x s) puts.holds ∙ get_or-set_same p s (held_bytes 1 bs) unused puts.within
 
   -- Bytes are put into a slot, and then these references are given back.
   pub put_then : (part : Part) → part.slot ≡ s → part.from ≡ 0 → part.len ≡ length bs → BodyMade p r xs bs (Some part)

@@ -1,4 +1,4 @@
--- Messages one behind the other: the last one is changed, or goes, and another takes the place of one.
+-- Messages one after the other: the last one is changed, or goes, and another takes the place of one.
 use Rattle.std.proofs.Common.{◌≡◌, ℕ, zero, suc, ◌+◌, ◌-◌, ◌<◌, ◌≤◌, List, [], ◌∷◌, ◌++◌, set, get_or, take, length}
 use Rattle.std.proofs.Common.{refl, sym, ap, ◌∙◌, arith}
 use Rattle.std.specs.Prelude.{slice_get, Some}
@@ -71,7 +71,7 @@ changed_last f ms n d m some few is =
     ap (λ j. take j (set ms (n - 1) m)) one ∙ changed_at f ms (n - 1) d m (omega (arith, some, few)) is
     ∙ sym (ap (λ j. last_changed f (take j ms)) one)
 
--- one comes behind others
+-- one comes after others
 pub last_more : (xs : List PoolMessage) (m : PoolMessage) → last_item (xs ++ m ∷ []) ≡ Some m
 last_more xs m = slice_get-last xs m (length (xs ++ m ∷ []) - 1) (omega (arith, length-append xs (m ∷ [])))
 

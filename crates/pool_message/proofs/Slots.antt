@@ -260,7 +260,7 @@ pub number_of_none : (order : List ℕ) → slice_get order 0 ≡ None → 0 ≡
 number_of_none [] at = refl
 number_of_none (i ∷ order) at = absurd (cc)
 
--- a number more behind some, of which there is none, or is one
+-- a number more after some, of which there is none, or is one
 pub first_alone : (order : List ℕ) (k : ℕ) → length order ≡ 0 → IsFirst k (order ++ k ∷ [])
 first_alone [] k none = λ some. refl
 first_alone (i ∷ order) k none = absurd (omega (arith, none))
@@ -413,7 +413,7 @@ module _ (xs olds : List (Dir × PoolEvent)) (e : Dir × PoolEvent) (order free 
   pub back_stands : (y : Dir × PoolEvent) → standing (set xs k y) order ≡ olds ++ y ∷ []
   back_stands y = ap (standing (set xs k y)) split ∙ last_stands xs init free k y behind ∙ (λ j. both.0 j ++ y ∷ [])
 
--- the last of some events, behind those in front of it
+-- the last of some events, after those before it
 pub last_whole : (es : List (Dir × PoolEvent)) → 0 < length es → es ≡ in_front_of_last es ++ last_sent es ∷ []
 last_whole [] some = absurd (omega (arith, some))
 last_whole (e ∷ []) some = refl

@@ -5,7 +5,7 @@ use Rattle.slot_pool.specs.References.{Moved, Covers}
 use Rattle.slot_pool.proofs.Times.{hit_same}
 use Rattle.slot_pool.proofs.References.{others-keep}
 use Rattle.layer_ast.specs.declared.tokens.Dir.{Dir}
-use Rattle.pool_message.specs.Seen.{body_refs, body_seen, BodyLies, refs, seen, Lies, refs_if, seen_if, LiesIf}
+use Rattle.pool_message.specs.Seen.{body_refs, body_seen, BodyLies, refs, content_seen, Lies, refs_if, seen_if, LiesIf}
 use Rattle.pool_message.specs.Seen.{row_refs, row_seen, RowLies, event_refs, event_seen, EventLies}
 use Rattle.pool_message.specs.Sent.{sent_refs, sent_seen, SentLie}
 use Rattle.pool_message.specs.declared.event.PoolEvent.{PoolEvent}
@@ -24,7 +24,8 @@ module _ (p q : List Held) (a b : List ℕ) (moved : Moved p q a b) where
       let long = ap length kept.1 in let within = lies.within in
       (record { used = kept.0; within = omega arith }, ap (range part.from part.len) kept.1)
 
-  pub message_stays : (m : PoolMessage) → Covers p (a ++ refs m) → Lies p m → Lies q m × (seen q m ≡ seen p m)
+  pub message_stays : (m : PoolMessage) → Covers p (a ++ refs m) → Lies p m →
+      Lies q m × (content_seen q m ≡ content_seen p m)
   message_stays m covers lies =
       let kept = body_stays m.body covers lies in
       (kept.0, ap (λ bytes. record { headers = m.headers; body = bytes }) kept.1)

@@ -21,7 +21,7 @@ abbrev pub lends_listed : MutBor (Buffer (Dir × PoolEvent)) → MutBor (Dir × 
 lends_listed es r = Lends list.the_row (Tuple (dir.the_row ∷ event.the_row ∷ [])) es r
     (λ w. buffer (w ∷ drop 1 es.now.items) es.now.capacity)
 
--- the last of some events, and those in front of it
+-- the last of some events, and those before it
 abbrev pub last_sent : List (Dir × PoolEvent) → Dir × PoolEvent
 last_sent [] = first_sent []
 last_sent (e ∷ []) = e

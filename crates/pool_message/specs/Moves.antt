@@ -6,7 +6,7 @@ use Rattle.slot_pool.specs.Times.{times}
 use Rattle.msg_core.specs.Chain.{Content}
 use Rattle.msg_core.specs.Parts as parts
 use Rattle.msg_core.specs.Parts.{longest_body}
-use Rattle.pool_message.specs.Seen.{body_refs, body_seen, BodyLies, refs, seen, Lies}
+use Rattle.pool_message.specs.Seen.{body_refs, body_seen, BodyLies, refs, content_seen, Lies}
 use Rattle.pool_message.specs.declared.message.PoolMessage.{PoolMessage}
 use Rattle.pool_message.specs.declared.part.Part.{Part}
 
@@ -26,7 +26,7 @@ pub record Returned (p q : List Held) (xs : List ℕ) : Type 0 where
 
 -- A message has so many bytes, in each pool in which it lies.
 pub record Counts (m : PoolMessage) (n : ℕ) : Type 0 where
-  pub bytes : (p : List Held) → Lies p m → length (seen p m).body ≡ n
+  pub bytes : (p : List Held) → Lies p m → length (content_seen p m).body ≡ n
   pub few : n ≤ longest_body
 
 -- A part of a part: it refers to the same slot, lies where that one lies, and shows this of what that one shows.
@@ -39,14 +39,14 @@ pub record Shortened (f : List ℕ → List ℕ) (x y : Part) : Type 0 where
 pub record Derived (f : Content → Content) (x y : PoolMessage) : Type 0 where
   pub slots : refs y ≡ refs x
   pub lies : (p : List Held) → Lies p x → Lies p y
-  pub shows : (p : List Held) → seen p y ≡ f (seen p x)
+  pub shows : (p : List Held) → content_seen p y ≡ f (content_seen p x)
 
 -- A message was made of these references, which are gone, and shows this. It took one slot at most.
 pub record Made (p q : List Held) (from : List ℕ) (content : Content) (m : PoolMessage) : Type 0 where
   pub moved : Moved p q from (refs m)
   pub slots : spare p ≤ spare q + 1
   pub lies : Lies q m
-  pub shows : seen q m ≡ content
+  pub shows : content_seen q m ≡ content
 
 -- Two bodies have bytes, which are no more than one body has, and no slot is left for them. They are given back.
 pub record NoSlot (p q : List Held) (from : List ℕ) (x y : List ℕ) : Type 0 where
@@ -58,8 +58,8 @@ pub record NoSlot (p q : List Held) (from : List ℕ) (x y : List ℕ) : Type 0 
 
 -- The message that joins two, or none.
 abbrev pub Joined : List Held → List Held → PoolMessage → PoolMessage → Option PoolMessage → Type 0
-Joined p q x y (Some m) = Made p q (refs x ++ refs y) (parts.join (seen p x) (seen p y)) m
-Joined p q x y None = NoSlot p q (refs x ++ refs y) (seen p x).body (seen p y).body
+Joined p q x y (Some m) = Made p q (refs x ++ refs y) (parts.join (content_seen p x) (content_seen p y)) m
+Joined p q x y None = NoSlot p q (refs x ++ refs y) (content_seen p x).body (content_seen p y).body
 
 -- The same of bodies.
 abbrev pub joined_bytes : List ℕ → List ℕ → List ℕ

@@ -1,4 +1,4 @@
--- Messages one behind the other, the newest last.
+-- Messages one after the other, the newest last.
 use Rattle.std.specs.Prelude.{ℕ, ◌-◌, List, [], ◌∷◌, take, length}
 use Rattle.std.specs.List.{flat_map}
 use Rattle.msg_core.specs.declared.message.Header.{Header}
@@ -10,7 +10,7 @@ use Rattle.pool_message.specs.declared.message.PoolMessage.{PoolMessage}
 abbrev pub pile_refs : List PoolMessage → List ℕ
 pile_refs ms = flat_map refs ms
 
--- Those in front of the last.
+-- Those before the last.
 abbrev pub without_last : List PoolMessage → List PoolMessage
 without_last ms = take (length ms - 1) ms
 

@@ -33,8 +33,8 @@ BodyLies p (Some part) = LiesIn p part
 abbrev pub refs : PoolMessage → List ℕ
 refs m = body_refs m.body
 
-abbrev pub seen : List Held → PoolMessage → Content
-seen p m = record { headers = m.headers; body = body_seen p m.body }
+abbrev pub content_seen : List Held → PoolMessage → Content
+content_seen p m = record { headers = m.headers; body = body_seen p m.body }
 
 abbrev pub Lies : List Held → PoolMessage → Type 0
 Lies p m = BodyLies p m.body
@@ -45,7 +45,7 @@ refs_if None = []
 refs_if (Some m) = refs m
 
 abbrev pub seen_if : List Held → Option PoolMessage → Option Content
-seen_if p m = option_map (seen p) m
+seen_if p m = option_map (content_seen p) m
 
 abbrev pub LiesIf : List Held → Option PoolMessage → Type 0
 LiesIf p None = Unit {0}

@@ -33,7 +33,7 @@ abbrev pub first_sent : List (Dir × PoolEvent) → Dir × PoolEvent
 first_sent [] = (Up, record { kind = kind.Timer; peer = 0; a = 0; b = 0; message = None })
 first_sent (x ∷ xs) = x
 
--- The first header of a message, if there is one; the message behind one header more, and without its first.
+-- The first header of a message, if there is one; the message after one header more, and without its first.
 abbrev pub first_header : Option PoolMessage → Option Header
 first_header None = None
 first_header (Some m) = first_of m.headers
@@ -44,7 +44,7 @@ with_header header m = record m { headers = header ∷ m.headers }
 abbrev pub without_first : PoolMessage → PoolMessage
 without_first m = record m { headers = rest_of m.headers }
 
--- A message as it is sent: going up as it is, and going down behind a header.
+-- A message as it is sent: going up as it is, and going down after a header.
 abbrev pub sent_behind : Dir → Header → PoolMessage → PoolMessage
 sent_behind Up header m = m
 sent_behind Down header m = with_header header m
@@ -62,8 +62,8 @@ abbrev pub envelope_of : PoolEvent → Envelope
 envelope_of e = record { kind = e.kind; peer = e.peer; a = e.a; b = e.b }
 
 -- An event without its message.
-abbrev pub bared : Dir × PoolEvent → Dir × PoolEvent
-bared x = (x.0, record x.1 { message = None })
+abbrev pub without_message : Dir × PoolEvent → Dir × PoolEvent
+without_message x = (x.0, record x.1 { message = None })
 
 -- A message that goes down has room for one header more.
 abbrev pub CanPass : Dir → Option PoolMessage → Type 0

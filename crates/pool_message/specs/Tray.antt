@@ -1,4 +1,4 @@
--- What lies on a tray, on which the event that a layer takes stays in front of those that it sends until it goes on.
+-- What lies on a tray, on which the event that a layer takes stays before those that it sends until it goes on.
 use Rattle.std.specs.Prelude.{◌≡◌, ℕ, ◌<◌, true, List, [], ◌∷◌, ◌++◌, drop, length, slice_index_or, Option, None}
 use Rattle.std.specs.Prelude.{option_to_list, is_some}
 use Rattle.circular_buffer.specs.Buffer.{Buffer, buffer}
@@ -49,7 +49,7 @@ HasSpare Gone ms = Unit {0}
 HasSpare Arrived ms = Unit {0}
 HasSpare Bound ms = length ms.items < ms.capacity
 
--- An event with this envelope and this message is sent behind others.
+-- An event with this envelope and this message is sent after others.
 abbrev pub also_sent : Dir → Envelope → Option PoolMessage → OnTray → OnTray
 also_sent dir envelope message t = record t {
   sent = buffer (t.sent.items ++ (dir, pool_event envelope message) ∷ []) t.sent.capacity;

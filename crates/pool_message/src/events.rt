@@ -9,7 +9,8 @@ ghost use Rattle.pool_message.specs.Moves.{CanKeep, Kept, Returned};
 ghost use Rattle.pool_message.specs.Piled.{without_last};
 ghost use Rattle.pool_message.specs.Put.{Puts};
 ghost use Rattle.pool_message.specs.Seen.{refs, event_refs};
-ghost use Rattle.pool_message.specs.Sent.{sent_refs, most_sent, first_sent, sent_behind, bared, message_passed};
+ghost use Rattle.pool_message.specs.Sent.{sent_refs, most_sent, first_sent, sent_behind, without_message};
+ghost use Rattle.pool_message.specs.Sent.{message_passed};
 ghost use Rattle.pool_message.specs.Sent.{pool_event, CanPass};
 
 use crate::event::PoolEvent;
@@ -112,7 +113,7 @@ impl Events {
         self.list.go_round();
     }
 
-    /// Puts an event with this envelope and with what lies in a place, behind the others. The place is empty then.
+    /// Puts an event with this envelope and with what lies in a place, after the others. The place is empty then.
     #[tactic(auto, using(crate::proofs::Slots::last_pushed, crate::proofs::Slots::rest_pushed))]
     #[inline(always)]
     pub fn push_from(&mut self, direction: Dir, envelope: Envelope, message: &mut MessagePlace)
@@ -125,7 +126,7 @@ impl Events {
         fill_from(self.list.last_mut(), message);
     }
 
-    /// Puts an event with this envelope and without a message, behind the others.
+    /// Puts an event with this envelope and without a message, after the others.
     pub fn push_bare(&mut self, direction: Dir, envelope: Envelope)
         requires { length self.old.items < self.old.capacity }
         ensures { self.new ≡ buffer (self.old.items ++ (direction, pool_event envelope None) ∷ []) self.old.capacity }
@@ -133,7 +134,7 @@ impl Events {
         self.list.push_bare(direction, envelope);
     }
 
-    /// Puts an event with this envelope and with the last of some messages, if there is one, behind the others. That
+    /// Puts an event with this envelope and with the last of some messages, if there is one, after the others. That
     /// message is taken out.
     #[tactic(auto, using(crate::proofs::Slots::last_pushed, crate::proofs::Slots::rest_pushed))]
     #[inline(always)]
@@ -148,7 +149,7 @@ impl Events {
         fill_last(self.list.last_mut(), messages);
     }
 
-    /// Puts an event with this envelope and with a message of these headers and a copy of these bytes, behind the
+    /// Puts an event with this envelope and with a message of these headers and a copy of these bytes, after the
     /// others: the bytes in a slot that was unused, and the headers where the event stands. False where the pool is
     /// full, and then nothing has changed.
     #[inline(always)]
@@ -177,7 +178,7 @@ impl Events {
         true
     }
 
-    /// Puts an event with this envelope and with a message of these headers before this body, behind the others.
+    /// Puts an event with this envelope and with a message of these headers before this body, after the others.
     #[tactic(auto, using(crate::proofs::Slots::last_pushed, crate::proofs::Slots::rest_pushed))]
     #[inline(always)]
     fn push_made(&mut self, direction: Dir, envelope: Envelope, headers: &Headers, body: Part)
@@ -192,7 +193,7 @@ impl Events {
         fill_made(self.list.last_mut(), headers, body);
     }
 
-    /// Puts an event with this envelope and with a message once more, which goes down behind this header, behind the
+    /// Puts an event with this envelope and with a message once more, which goes down after this header, after the
     /// others. The two share the message's bytes, to which there is one more reference.
     #[tactic(auto, using(crate::proofs::Slots::last_pushed, crate::proofs::Slots::rest_pushed))]
     pub fn push_kept(
@@ -318,7 +319,7 @@ fn fill_last(sent: &mut (Dir, PoolEvent), messages: &mut Messages)
     messages.pop_to(&mut sent.1.message);
 }
 
-/// An event without a message gets one once more, which goes down behind a header.
+/// An event without a message gets one once more, which goes down after a header.
 fn fill_kept(
     sent: &mut (Dir, PoolEvent),
     direction: Dir,
@@ -346,7 +347,7 @@ fn fill_kept(
 fn move_event(sent: &mut (Dir, PoolEvent), to: &mut Events)
     requires { length to.old.items < to.old.capacity }
     ensures moved { to.new ≡ buffer (to.old.items ++ sent.old ∷ []) to.old.capacity }
-    ensures left { sent.new ≡ bared sent.old }
+    ensures left { sent.new ≡ without_message sent.old }
 {
     let direction = sent.0;
     let event = &mut sent.1;
@@ -356,7 +357,7 @@ fn move_event(sent: &mut (Dir, PoolEvent), to: &mut Events)
 /// An event lets its message go, whose reference goes back.
 fn drop_message(sent: &mut (Dir, PoolEvent), pool: &mut Pool)
     requires { Covers pool.old (event_refs sent.old.1) }
-    ensures left { sent.new ≡ bared sent.old }
+    ensures left { sent.new ≡ without_message sent.old }
     ensures returned { Returned pool.old pool.new (event_refs sent.old.1) }
 {
     sent.1.message.let_go(pool);

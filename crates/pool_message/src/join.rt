@@ -10,7 +10,7 @@ use crate::part::Part;
 use msg_core::LONGEST_BODY;
 use slot_pool::Pool;
 
-/// The bytes of `front` and, behind them, those of `back`.
+/// The bytes of `front` and, after them, those of `back`.
 pub(crate) fn join_bodies(
     front: Option<Part>,
     back: Option<Part>,

@@ -4,7 +4,8 @@ ghost use Rattle.std.specs.Prelude.{◌≡◌, ℕ, ◌≤◌, List, ◌++◌, O
 ghost use Rattle.slot_pool.specs.Held.{Held};
 ghost use Rattle.slot_pool.specs.References.{Moved, Covers};
 ghost use Rattle.layer_ast.specs.declared.tokens.Dir.{Dir};
-ghost use Rattle.pool_message.specs.Seen.{refs, seen, Lies, refs_if, seen_if, LiesIf, row_refs, row_seen, RowLies};
+ghost use Rattle.pool_message.specs.Seen.{refs, content_seen, Lies, refs_if, seen_if, LiesIf, row_refs, row_seen};
+ghost use Rattle.pool_message.specs.Seen.{RowLies};
 ghost use Rattle.pool_message.specs.Seen.{event_refs, event_seen, EventLies};
 ghost use Rattle.pool_message.specs.Sent.{sent_refs, sent_seen, SentLie};
 ghost use Rattle.pool_message.specs.declared.event.PoolEvent.{PoolEvent};
@@ -14,7 +15,7 @@ ghost use Rattle.pool_message.specs.declared.row.PoolRow.{PoolRow};
 /// While other references move, what lies in a pool lies there still, and shows the same.
 pub fn what_lies_stays()
     ensures message { (p q : List Held) (a b : List ℕ) → Moved p q a b → (m : PoolMessage) → Covers p (a ++ refs m) →
-        Lies p m → Lies q m × (seen q m ≡ seen p m) }
+        Lies p m → Lies q m × (content_seen q m ≡ content_seen p m) }
     ensures any { (p q : List Held) (a b : List ℕ) → Moved p q a b → (m : Option PoolMessage) →
         Covers p (a ++ refs_if m) → LiesIf p m → LiesIf q m × (seen_if q m ≡ seen_if p m) }
     ensures row { (p q : List Held) (a b : List ℕ) → Moved p q a b → (r : PoolRow) → Covers p (a ++ row_refs r) →

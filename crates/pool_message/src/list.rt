@@ -117,7 +117,7 @@ impl List {
         self.first = first_of(&self.order);
     }
 
-    /// Puts an event with this envelope and without a message, behind the others.
+    /// Puts an event with this envelope and without a message, after the others.
     pub fn push_bare(&mut self, direction: Dir, envelope: Envelope)
         requires { length self.old.items < self.old.capacity }
         ensures { self.new ≡ buffer (self.old.items ++ (direction, pool_event envelope None) ∷ []) self.old.capacity }

@@ -23,7 +23,7 @@ impl PoolMessage {
     ghost use Rattle.msg_core.specs.Headers.{most_headers};
     ghost use Rattle.msg_core.specs.Parts as parts;
     ghost use Rattle.layer_mean.specs.Visit.{none_header};
-    ghost use Rattle.pool_message.specs.Seen.{refs, seen, Lies, bodiless};
+    ghost use Rattle.pool_message.specs.Seen.{refs, content_seen, Lies, bodiless};
     ghost use Rattle.pool_message.specs.Moves.{CanKeep, Kept, Returned, Derived, Counts, Joined};
 
     /// A message without headers and without bytes.
@@ -68,7 +68,7 @@ impl PoolMessage {
     /// Its bytes.
     pub fn body<'p>(&'p self, pool: &'p Pool) -> &'p [u8]
         requires { Lies pool.now self.now }
-        ensures { result.now ≡ (seen pool.now self.now).body }
+        ensures { result.now ≡ (content_seen pool.now self.now).body }
     {
         match &self.body {
             Some(part) => part.bytes(pool),
@@ -142,7 +142,7 @@ impl PoolMessage {
         }
     }
 
-    /// Puts `header` in front of the others.
+    /// Puts `header` before the others.
     pub fn push_header(&mut self, header: Header)
         requires { length self.old.headers < most_headers }
         ensures { self.new ≡ record self.old { headers = header ∷ self.old.headers } }
@@ -254,7 +254,7 @@ impl PoolMessage {
         }
     }
 
-    /// The bytes of `first` in front of those of `second`, behind the headers of `second`; `second` alone where they
+    /// The bytes of `first` before those of `second`, after the headers of `second`; `second` alone where they
     /// would be more than a body has. A slot is taken only where both have bytes, and there is none where the pool is
     /// full then: both are given back.
     pub fn join(first: PoolMessage, second: PoolMessage, pool: &mut Pool) -> Option<PoolMessage>

@@ -101,7 +101,7 @@ impl MessagePlace {
         self.is_full = true;
     }
 
-    /// Puts a header in front of those of the message, if there is one.
+    /// Puts a header before those of the message, if there is one.
     pub fn push_header(&mut self, header: Header)
         requires { IfSome self.old (λ m. length m.headers < most_headers) }
         ensures { self.new ≡ option_map (with_header header) self.old }

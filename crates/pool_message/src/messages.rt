@@ -1,4 +1,4 @@
-//! Messages one behind the other.
+//! Messages one after the other.
 
 ghost use Rattle.std.specs.Prelude.{◌≡◌};
 
@@ -85,7 +85,7 @@ impl Messages {
         }
     }
 
-    /// Puts a message without headers and bytes behind the others.
+    /// Puts a message without headers and bytes after the others.
     pub fn push_bare(&mut self)
         requires { length self.old.items < self.old.capacity }
         ensures { self.new ≡ buffer (self.old.items ++ bodiless [] ∷ []) self.old.capacity }
@@ -98,7 +98,7 @@ impl Messages {
         self.count += 1;
     }
 
-    /// Puts a message behind the others.
+    /// Puts a message after the others.
     pub fn push(&mut self, message: PoolMessage)
         requires { length self.old.items < self.old.capacity }
         ensures { self.new ≡ buffer (self.old.items ++ message ∷ []) self.old.capacity }
@@ -110,7 +110,7 @@ impl Messages {
         message.close();
     }
 
-    /// Puts a message once more behind the others.
+    /// Puts a message once more after the others.
     pub fn push_kept(&mut self, message: &PoolMessage, pool: &mut Pool)
         requires room { length self.old.items < self.old.capacity }
         requires there { Covers pool.old (refs message.now) }
@@ -123,7 +123,7 @@ impl Messages {
         self.places[last].keep_from(message, pool);
     }
 
-    /// Puts a message without headers and with a copy of these bytes behind the others, in a slot that was unused.
+    /// Puts a message without headers and with a copy of these bytes after the others, in a slot that was unused.
     /// False where the pool is full, and then nothing has changed.
     pub fn push_put(&mut self, bytes: &[u8], pool: &mut Pool) -> bool
         requires room { length self.old.items < self.old.capacity }
@@ -142,7 +142,7 @@ impl Messages {
         true
     }
 
-    /// Puts a message without headers and with this body behind the others.
+    /// Puts a message without headers and with this body after the others.
     fn push_part(&mut self, part: Part)
         requires { length self.old.items < self.old.capacity }
         ensures { self.new ≡ buffer (self.old.items ++ record { headers = []; body = Some part } ∷ [])
@@ -153,7 +153,7 @@ impl Messages {
         self.places[last].set_body(Some(part));
     }
 
-    /// Puts a header in front of those of the last message, if there is one.
+    /// Puts a header before those of the last message, if there is one.
     pub fn push_header_on_last(&mut self, header: Header)
         requires { (m : PoolMessage) → last_item self.old.items ≡ Some m → length m.headers < most_headers }
         ensures { self.new ≡ buffer (with_header_last header self.old.items) self.old.capacity }

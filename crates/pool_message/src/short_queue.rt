@@ -8,8 +8,8 @@ use circular_buffer::HeapCircularBuffer;
 use std::alloc::{AllocError, Global};
 use std::marker::Model;
 
-/// Items in order, of which there is a most. The first stands by itself, and those behind it in a ring: mostly there is
-/// no other, and it is looked up and changed far more often than one comes behind it.
+/// Items in order, of which there is a most. The first stands by itself, and those after it in a ring: mostly there is
+/// no other, and it is looked up and changed far more often than one comes after it.
 #[derive(Drop)]
 pub struct ShortQueue<T> {
     count: usize,
@@ -109,7 +109,7 @@ impl<T: Copy> ShortQueue<T> {
         self.first = item;
     }
 
-    /// Puts an item behind the others, or hands it back where there is no room.
+    /// Puts an item after the others, or hands it back where there is no room.
     pub fn try_push_back(&mut self, item: T) -> Result<(), T>
         ensures variant { IsOk result ↔ (length self.old.items < self.old.capacity) }
         ensures ok { OnOk result (self.new ≡ buffer (self.old.items ++ item ∷ []) self.old.capacity) }
@@ -174,7 +174,7 @@ impl<T: Copy> ShortQueue<T> {
     }
 }
 
-/// Puts an item behind others, for which there is room.
+/// Puts an item after others, for which there is room.
 fn push_other<T: Copy>(others: &mut HeapCircularBuffer<T>, item: T)
     requires { length others.old.items < others.old.capacity }
     ensures { others.new ≡ buffer (others.old.items ++ item ∷ []) others.old.capacity }

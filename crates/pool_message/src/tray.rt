@@ -35,12 +35,12 @@ enum Front {
 }
 
 /// The event that a layer takes, the messages of the scope of its handler's block, and what the layer sends. The event
-/// stays where it stands in the list, in front of the others, and its message with it: so nothing is moved where the
+/// stays where it stands in the list, before the others, and its message with it: so nothing is moved where the
 /// layer sends it on. A tray can't be let go: it is emptied, and then closed.
 pub struct Tray {
     front: Front,
     events: Events,
-    /// The messages of the scope behind one that is bound.
+    /// The messages of the scope after one that is bound.
     messages: Messages,
 }
 
@@ -93,7 +93,7 @@ impl Tray {
         }
     }
 
-    /// Takes the first of some events, behind which what is sent will come, and says its direction and its envelope.
+    /// Takes the first of some events, after which what is sent will come, and says its direction and its envelope.
     /// What was sent before goes there. Nothing has arrived, and the scope is empty.
     pub fn begin(&mut self, events: &mut Events) -> (Dir, Envelope)
         requires some { 0 < length events.old.items }
@@ -136,7 +136,7 @@ impl Tray {
         }
     }
 
-    /// Puts a header in front of those of the message that arrived, if there is one.
+    /// Puts a header before those of the message that arrived, if there is one.
     pub fn push_header(&mut self, header: Header)
         requires { IfSome self.old.arrived (λ m. length m.headers < most_headers) }
         ensures { self.new ≡ record self.old { arrived = option_map (with_header header) self.old.arrived } }
@@ -211,7 +211,7 @@ impl Tray {
         }
     }
 
-    /// Puts a message without headers and bytes behind those of the scope.
+    /// Puts a message without headers and bytes after those of the scope.
     pub fn push_message(&mut self)
         requires { length self.old.messages.items < self.old.messages.capacity }
         ensures { self.new ≡ record self.old
@@ -334,7 +334,7 @@ impl Tray {
         }
     }
 
-    /// Sends an event with this envelope and with the message number `k` of the scope once more, which goes down behind
+    /// Sends an event with this envelope and with the message number `k` of the scope once more, which goes down after
     /// this header. The two share the message's bytes, to which there is one more reference.
     pub fn send_message(
         &mut self,
@@ -464,7 +464,7 @@ fn send_first(events: &mut Events, direction: Dir, envelope: Envelope)
     events.go_round();
 }
 
-/// The same where its message, if it has one, goes down behind a header.
+/// The same where its message, if it has one, goes down after a header.
 fn send_first_behind(events: &mut Events, direction: Dir, envelope: Envelope, header: Header)
     requires some { 0 < length events.old.items }
     requires room { CanPass direction (first_message events.old.items) }
@@ -477,7 +477,7 @@ fn send_first_behind(events: &mut Events, direction: Dir, envelope: Envelope, he
     events.go_round();
 }
 
-/// An event gets this direction and this envelope, and its message, if it has one, goes down behind a header.
+/// An event gets this direction and this envelope, and its message, if it has one, goes down after a header.
 fn begin_behind(sent: &mut (Dir, PoolEvent), direction: Dir, envelope: Envelope, header: Header)
     requires { CanPass direction sent.old.1.message }
     ensures { sent.new ≡ (
@@ -492,7 +492,7 @@ fn begin_behind(sent: &mut (Dir, PoolEvent), direction: Dir, envelope: Envelope,
     }
 }
 
-/// The message of the first event, which there is, goes once more, and down behind a header. Meanwhile it lies in a
+/// The message of the first event, which there is, goes once more, and down after a header. Meanwhile it lies in a
 /// spare place.
 #[tactic(auto, using(crate::proofs::Piles::last_more, crate::proofs::Piles::rest_more))]
 fn send_first_again(
@@ -523,7 +523,7 @@ fn send_first_again(
     events.push_last(direction, envelope, spare);
 }
 
-/// A message comes once more behind others, and going down behind a header.
+/// A message comes once more after others, and going down after a header.
 #[tactic(auto, using(crate::proofs::Piles::changed_more))]
 fn keep_behind(
     others: &mut Messages,
@@ -555,7 +555,7 @@ fn message_of(events: &Events) -> Option<&PoolMessage>
     events.front().1.message.get()
 }
 
-/// Message number `k` of some, which there is, goes once more, and down behind a header.
+/// Message number `k` of some, which there is, goes once more, and down after a header.
 fn send_listed(
     events: &mut Events,
     messages: &Messages,

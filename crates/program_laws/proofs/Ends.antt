@@ -24,7 +24,7 @@ use Rattle.output_mean.specs.Judged.{Means, IsGood, Refuses}
 use Rattle.group_mean.specs.Node.{is_failure, failures}
 use Rattle.group_mean.specs.Room.{HasRoom}
 use Rattle.output_mean.specs.Output.{IsNode}
-use Rattle.program_mean.specs.Second.{crowded, after_script, after_plan, second_fault}
+use Rattle.program_mean.specs.Second.{crowd_fault, after_script, after_plan, second_fault}
 use Rattle.program_mean.specs.Headline.{Printer, Counted, Run, Fails, IsSound, RoseBy, second_for, third_for}
 use Rattle.program_mean.specs.Headline.{TakesTraces, WritesOf, OfJob, whole_end, WritesWhole, gone_on, HeardAll, Began}
 use Rattle.program_mean.specs.Headline.{ReadsStack, RefusesFile, ReadsTraces, IsNoReport, RefusesReport, RefusesSecond}
@@ -134,7 +134,7 @@ reads_stack (load name seed events members raw mode) stack second fault refused 
 reads_stack (node name plan turns me patience mode) stack second fault refused = tt
 reads_stack (audit name law) stack second fault refused = absurd (cc refused)
 
-roomy : (stack : List LayerTree) (n : ℕ) → HasRoom stack n → crowded stack n ≡ None
+roomy : (stack : List LayerTree) (n : ℕ) → HasRoom stack n → crowd_fault stack n ≡ None
 roomy stack n room = rw (le-leb (rows_of stack n) 8192 room) refl
 
 below_all : (n : ℕ) (ids : List ℕ) → All (λ id. id < n) ids → list_all (λ id. nat_lt id n) ids ≡ true
@@ -355,7 +355,7 @@ rose_apart count m n counts (inl a) (inl b) apart = apart (omega (arith, a, b))
 rose_apart count m n counts (inr last) b apart = counts last
 rose_apart count m n counts (inl a) (inr last) apart = counts last
 
--- One more failure behind others.
+-- One more failure after others.
 one_more : (before : List Heard) (n : ℕ) →
     fold (λ k heard. k + (if is_failure heard then 1 else 0)) n (before ++ failure ∷ []) ≡
     fold (λ k heard. k + (if is_failure heard then 1 else 0)) n before + 1
@@ -440,7 +440,7 @@ report_or_second : (r : Run) (a : AuditFault) (b : SecondFault) → RefusesRepor
 report_or_second r a b h i = against r _ _ ⊥ (met r _ h.refused) (met r _ i.refused) (λ job file second x y.
     no_report_or_stack job file a x (reads_stack job i.stack second b y.1))
 
--- A file of traces that is looked at: those in front of it are good.
+-- A file of traces that is looked at: those before it are good.
 others_good : (r : Run) (a : PackFault) → RefusesTraces r a → Met r AreGood
 others_good r a h = let m = met r _ h.others in record {
   job = m.job;
@@ -488,7 +488,7 @@ Stops r (traces_refused fault) = RefusesTraces r fault
 Stops r read_failed = ReadsFailed r
 Stops r _ = ⊥
 
--- A run that went on behind them.
+-- A run that went on after them.
 abbrev GoesOn : Printer → Run → Ended → Type 0
 GoesOn print r done = WritesWhole print r done
 GoesOn print r breached = WritesWhole print r breached
@@ -780,7 +780,7 @@ third_there third (load name seed events members raw mode) file second good none
 third_there third (node name plan turns me patience mode) file second good none = cc none
 third_there third (audit name law) file second good none = cc none
 
--- A read that failed behind the first, where the first two files are there: it was that of the third.
+-- A read that failed after the first, where the first two files are there: it was that of the third.
 unread_third : (r : Run) (job : Job) (file second : List ℕ) → job_of_words r.words ≡ Some job → r.file ≡ Some file →
     second_for job r.second ≡ Some second → ReadsFailed r → (third_for job r.third ≡ None) × AreGood job file second
 unread_third r job file second is_job is_file is_second h = go (subst (λ o. IsSomeAnd o (Unread r)) is_job h.unread)
@@ -938,7 +938,7 @@ second_misses_are_due print r job file stack ran is_job is_file means none =
       go end (went_on h m) came = absurd (met_none (Good r.third) m)
       go end (wanted is) came = want_of r end 4 is came
 
--- A run over first files that are good, and not at its end over all: what may have stopped it in front of its third.
+-- A run over first files that are good, and not at its end over all: what may have stopped it before its third.
 module _ (r : Run) (job : Job) (file second : List ℕ) (stack : List LayerTree)
     (is_job : job_of_words r.words ≡ Some job) (is_file : r.file ≡ Some file)
     (is_second : second_for job r.second ≡ Some second) (means : Means file stack)

@@ -16,7 +16,7 @@ use Rattle.file_mean.specs.Library.{SpellsLayer, called_for, IsFile}
 use Rattle.end_mean.specs.Status.{FileFault, too_large, bad_token, unexpected, unknown, twice, over_limit, wrong_kind}
 use Rattle.end_mean.specs.Status.{arity, direction, header, initial, cycle, too_many, too_many_joins}
 use Rattle.layer_ast.specs.Spells.{longest_file}
-use Rattle.output_mean.specs.Judged.{judged, Means, Condemns, Refuses}
+use Rattle.output_mean.specs.Judged.{judged_stack, Means, Condemns, Refuses}
 use Rattle.program_laws.specs.OneEnd.{OneFile, OneMeaning, OneRefusal, GoodOrRefused}
 
 layers_are_one : (text : List ℕ) (a b : LayerTree) → SpellsLayer text a → SpellsLayer text b → a ≡ b
@@ -51,12 +51,12 @@ one_file text f g a b =
 pub one_meaning : OneMeaning
 one_meaning text s t a b =
     let file = one_file text a.file b.file a.is_file b.is_file in
-    let both : Ok s ≡ Ok t = sym a.accepted ∙ ap judged file ∙ b.accepted in cc
+    let both : Ok s ≡ Ok t = sym a.accepted ∙ ap judged_stack file ∙ b.accepted in cc
 
 -- What a judged file comes to, and that it isn't refused for what lies outside a file.
-said_once : (f g : FileTree) (s : List run.LayerTree) (fault : FileFault) → f ≡ g → judged f ≡ Ok s →
-    judged g ≡ Err fault → ⊥
-said_once f g s fault same a b = let both : Ok s ≡ Err fault = sym a ∙ ap judged same ∙ b in cc
+said_once : (f g : FileTree) (s : List run.LayerTree) (fault : FileFault) → f ≡ g → judged_stack f ≡ Ok s →
+    judged_stack g ≡ Err fault → ⊥
+said_once f g s fault same a b = let both : Ok s ≡ Err fault = sym a ∙ ap judged_stack same ∙ b in cc
 
 -- A text that is a file is no text that stops.
 spells : (text : List ℕ) (f : FileTree) → IsFile text f → Holds text a_file
@@ -148,7 +148,7 @@ causes_are_one text a b (by_stop v e small h other) (by_file c) = absurd (other 
 causes_are_one text a b (by_file c) (by_size f i) = let small = c.small in absurd (omega (arith, i, small))
 causes_are_one text a b (by_file c) (by_stop v f small i other) = absurd (other (no_stop text c.file v c.is_file i))
 causes_are_one text a b (by_file c) (by_file d) =
-    err_once a b (sym c.refused ∙ ap judged (one_file text c.file d.file c.is_file d.is_file) ∙ d.refused)
+    err_once a b (sym c.refused ∙ ap judged_stack (one_file text c.file d.file c.is_file d.is_file) ∙ d.refused)
 
 pub one_refusal : OneRefusal
 one_refusal text a b h i = causes_are_one text a b (cause_of text a h) (cause_of text b i)

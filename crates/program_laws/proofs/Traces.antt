@@ -12,7 +12,7 @@ use Rattle.pack_mean.specs.Accepted.{SameActs, DifferAt, DiffersIn, too_large, b
 use Rattle.pack_mean.specs.File.{Due, due_of, traces_in}
 use Rattle.program_laws.specs.OneEnd.{OneTracesFault, AcceptedOrRefused}
 
--- Lists that are equal in front of a place have the same at each place in front of it.
+-- Lists that are equal before a place have the same at each place before it.
 same_before : {X : Type 0} (n k : ℕ) (xs ys : List X) → k < n → take n xs ≡ take n ys → slice_get xs k ≡ slice_get ys k
 same_before zero k xs ys less same = absurd (omega (arith, less))
 same_before (suc n) k [] [] less same = refl

@@ -38,7 +38,7 @@ abbrev pub AcceptedOrRefused : Type 0
 AcceptedOrRefused = (stack : List LayerTree) (text : List ℕ) (fault : PackFault) → Accepts stack text →
     IsFault stack text fault → ⊥
 
--- A count that doesn't stand at its last value behind the run, and so tells each failure.
+-- A count that doesn't stand at its last value after the run, and so tells each failure.
 abbrev pub Counts : Counted → Type 0
 Counts count = count.after ≢ last_count
 

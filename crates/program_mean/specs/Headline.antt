@@ -218,7 +218,7 @@ Unread r job = (r.file ≡ None) ⊎ ((second_for job r.second ≡ None) × IsSo
     ⊎ ((third_for job r.third ≡ None) ×
     IsSomeAnd r.file (λ file. IsSomeAnd (second_for job r.second) (AreGood job file)))
 
--- The words are a job of which a read failed: that of its first file, or one behind files that are good.
+-- The words are a job of which a read failed: that of its first file, or one after files that are good.
 pub record ReadsFailed (r : Run) : Type 0 where
   pub rose : Fails r.reads
   pub unread : IsSomeAnd (job_of_words r.words) (Unread r)

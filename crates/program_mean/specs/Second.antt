@@ -11,19 +11,19 @@ use Rattle.job_mean.specs.Job.{Job, check, synth, pack, replay, replay_with, exp
 use Rattle.end_mean.specs.Status.{SecondFault, misspelled, too_many_rows}
 
 -- The members of a stack have too many rows, in a group of so many.
-abbrev pub crowded : List LayerTree → ℕ → Option SecondFault
-crowded stack members = if nat_le (rows_of stack members) most_rows then None else Some too_many_rows
+abbrev pub crowd_fault : List LayerTree → ℕ → Option SecondFault
+crowd_fault stack members = if nat_le (rows_of stack members) most_rows then None else Some too_many_rows
 
--- A script is judged before the rows, and so is a plan, behind which come a node's own members.
+-- A script is judged before the rows, and so is a plan, after which come a node's own members.
 abbrev pub after_script : List LayerTree → Result Script ScriptFault → Option SecondFault
 after_script stack (Err fault) = Some (misspelled fault)
-after_script stack (Ok script) = crowded stack script.members
+after_script stack (Ok script) = crowd_fault stack script.members
 
 -- A node's own members that the plan hasn't are refused as if its first line named them.
 abbrev pub after_plan : List LayerTree → List ℕ → Result NodePlan ScriptFault → Option SecondFault
 after_plan stack me (Err fault) = Some (misspelled fault)
 after_plan stack me (Ok plan) =
-    if list_all (λ id. nat_lt id (length plan.peers)) me then crowded stack (length plan.peers) else Some
+    if list_all (λ id. nat_lt id (length plan.peers)) me then crowd_fault stack (length plan.peers) else Some
     (misspelled (no_member 1))
 
 -- Why a job is refused for its second file or its members, whose stack is accepted and whose second file has these
@@ -35,6 +35,6 @@ second_fault (pack file) stack text = None
 second_fault (replay file script mode wire count) stack text = after_script stack (script_of text)
 second_fault (replay_with file script traces wire count) stack text = after_script stack (script_of text)
 second_fault (explain file script) stack text = after_script stack (script_of text)
-second_fault (load file seed events members raw mode) stack text = crowded stack members
+second_fault (load file seed events members raw mode) stack text = crowd_fault stack members
 second_fault (node file plan turns me patience mode) stack text = after_plan stack me (node_plan text)
 second_fault (audit file law) stack text = None

@@ -68,9 +68,9 @@ ExplainsLate = Explains late.text casts (codes "miss 1 0 cast absent loop 0 or v
 
 -- A report in which two members deliver two casts in another order: that is a breach of the one order of all casts, and
 -- none of each peer's.
-abbrev pub crossed : List ℕ
-crossed = codes "deliver 0 cast 0 61\n" ++ codes "deliver 1 cast 1 62\n" ++ codes "deliver 1 cast 0 61\n" ++
+abbrev pub crossed_report : List ℕ
+crossed_report = codes "deliver 0 cast 0 61\n" ++ codes "deliver 1 cast 1 62\n" ++ codes "deliver 1 cast 0 61\n" ++
     codes "end 3\n"
 
 abbrev pub AuditsCrossed : Type 0
-AuditsCrossed = Audits crossed Total (codes "breach 1 2\n") × Audits crossed Sender (codes "holds\n")
+AuditsCrossed = Audits crossed_report Total (codes "breach 1 2\n") × Audits crossed_report Sender (codes "holds\n")

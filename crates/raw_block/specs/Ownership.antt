@@ -16,7 +16,7 @@ module _ (R : RattleType) where
   abbrev pub within : List R.Denot → ℕ → Fml
   within xs n = flt ((length xs + n) * type_size R) (2 ^ 63)
 
-  -- the values lie one behind the other from p on, and behind them is room for n more
+  -- the values lie one after the other from p on, and after them is room for n more
   abbrev pub filled_owns : Ptr → List R.Denot → ℕ → Fml
   filled_owns p xs n = fsep (within xs n)
       (fsep (lies_at (Array R (length xs)) full_share p xs) (room_for (array_of R n) (p +ₚ length xs * type_size R)))

@@ -6,7 +6,7 @@ use std::alloc::{AllocError, Allocator};
 use std::marker::Model;
 use std_alloc::room::may_hold;
 
-/// At most `capacity` values, one behind the other. The memory is taken once, and a place is first touched when a
+/// At most `capacity` values, one after the other. The memory is taken once, and a place is first touched when a
 /// value is pushed into it. The values are plain data: they go with the block.
 pub struct Block<T, A: Allocator> {
     start: Start<T>,

@@ -23,8 +23,9 @@ use Rattle.layer_mean.specs.Tree.{StatementTrees, none, more, Expected, always, 
 use Rattle.layer_mean.specs.State.{State, has_room, row_at, with_row, without_front}
 use Rattle.layer_mean.specs.Value.{Scope, is_true, val}
 use Rattle.layer_mean.specs.Effect.{Decision, usual, unusual, forked, went_as, first_missed, Outcome, after, done}
-use Rattle.layer_mean.specs.Effect.{decides, in_order, does, acts, chosen, taking, with_taken, row_of}
-use Rattle.layer_mean.specs.Visit.{Met, met, handler_for, entered, sent_on, unhandled, expecting, handled, step}
+use Rattle.layer_mean.specs.Effect.{decides, in_order, does, acts, chosen_outcome, taking, with_taken, row_of}
+use Rattle.layer_mean.specs.Visit.{Met, met, handler_for, entered_scope, sent_on, unhandled_visit, expecting}
+use Rattle.layer_mean.specs.Visit.{handled_visit, step}
 use Rattle.layer_mean.specs.Way as steps
 use Rattle.layer_mean.specs.Way.{way, ways, expected_way, handler_way}
 use Rattle.stack_mean.specs.NoShape.{NoShape}
@@ -132,22 +133,22 @@ module _ (case : Case) (place : ℕ) where
   taking_counts n None first second h = counts_one case unusual second.decided n (λ e. false_true e)
 
   first_counts : (n : ℕ) (b : Bool) (first second : Outcome) → Counts case first.decided n →
-      Counts case (chosen b likely.First first second).decided (suc n)
+      Counts case (chosen_outcome b likely.First first second).decided (suc n)
   first_counts n true first second h = counts_one case usual first.decided n (λ _. h)
   first_counts n false first second h = counts_one case unusual second.decided n (λ e. false_true e)
 
   else_counts : (n : ℕ) (b : Bool) (first second : Outcome) → Counts case second.decided n →
-      Counts case (chosen b likely.Else first second).decided (suc n)
+      Counts case (chosen_outcome b likely.Else first second).decided (suc n)
   else_counts n true first second h = counts_one case unusual first.decided n (λ e. false_true e)
   else_counts n false first second h = counts_one case usual second.decided n (λ _. h)
 
 fork_first : (n : ℕ) (b : Bool) (first second : Outcome) → Counts First first.decided n →
-    Counts First (chosen b likely.Two first second).decided (suc n)
+    Counts First (chosen_outcome b likely.Two first second).decided (suc n)
 fork_first n true first second h = counts_one First (forked First) first.decided n (λ _. h)
 fork_first n false first second h = counts_one First (forked Second) second.decided n (λ e. false_true e)
 
 fork_second : (n : ℕ) (b : Bool) (first second : Outcome) → Counts Second second.decided n →
-    Counts Second (chosen b likely.Two first second).decided (suc n)
+    Counts Second (chosen_outcome b likely.Two first second).decided (suc n)
 fork_second n true first second h = counts_one Second (forked First) first.decided n (λ e. false_true e)
 fork_second n false first second h = counts_one Second (forked Second) second.decided n (λ _. h)
 
@@ -248,7 +249,7 @@ way_counts case place h s l d (Some taken) is drawn =
 
 unhandled_counts : (case : Case) (place : ℕ) (s : State) (dir : Dir) (e : Event) (d : DrawnEvent) (tag : ℕ) (m : Met)
     (headers : Option (List DrawnHeader)) (content : Option Content) → tag ≡ m.tag → MessageIs headers content →
-    IsDrawn (drawn_unhandled place dir d tag headers) → Counts case (unhandled place s dir e m content).decided 0
+    IsDrawn (drawn_unhandled place dir d tag headers) → Counts case (unhandled_visit place s dir e m content).decided 0
 unhandled_counts case place s dir e d tag m None None same is drawn = refl
 unhandled_counts case place s Down e d tag m (Some headers) (Some c) same is drawn = refl
 unhandled_counts case place s Up e d tag m (Some headers) (Some c) same is drawn = go (m.tag == 0) (subst
@@ -265,11 +266,11 @@ unhandled_counts case place s dir e d tag m (Some headers) None same is drawn = 
 handled_counts : (case : Case) (place : ℕ) (h : Option HandlerTree) (s : State) (dir : Dir) (e : Event) (d : DrawnEvent)
     (dm : DrawnMet) (m : Met) →
     dm.tag ≡ m.tag → MessageIs dm.headers m.message → IsDrawn (drawn_handled case place h dir d dm) →
-    Counts case (handled place h s dir e m).decided (met_decisions case h)
+    Counts case (handled_visit place h s dir e m).decided (met_decisions case h)
 handled_counts case place None s dir e d dm m same is drawn = unhandled_counts case place s dir e d dm.tag m dm.headers
     m.message same is drawn
 handled_counts case place (Some h) s dir e d dm m same is drawn =
-    way_counts case place h s (entered h e m) (drawn_entered h dm.headers) (handler_way case h) refl drawn
+    way_counts case place h s (entered_scope h e m) (drawn_entered h dm.headers) (handler_way case h) refl drawn
 
 -- what is met on arrival, drawn and in a run
 record MetSame (d : DrawnMet) (m : Met) : Type 0 where
@@ -318,7 +319,7 @@ visit_counts case place layer s dir e d same drawn =
     let popped : handler_for layer dir d.kind (drawn_met dir d.headers).tag
     ≡ handler_for layer dir d.kind (popped_tag dir (first_tag (option_map_or (λ hs. hs) d.headers []))) =
     ap (handler_for layer dir d.kind) (popped_same dir d.headers) in
-    subst (Counts case (handled place (handler_for layer dir e.kind (met dir e.message).tag) s dir e
+    subst (Counts case (handled_visit place (handler_for layer dir e.kind (met dir e.message).tag) s dir e
     (met dir e.message)).decided)
     (ap (met_decisions case) (sym chosen_same ∙ popped))
     (handled_counts case place (handler_for layer dir e.kind (met dir e.message).tag) s dir e d

@@ -20,10 +20,11 @@ use Rattle.run_mean.specs.Mode.{Mode}
 use Rattle.run_mean.specs.Common.{plan_for, plan_behind, with_plans, short_from, as_sent, wire}
 use Rattle.run_mean.specs.Lines.{packet_line, wire_line}
 use Rattle.run_mean.specs.Member.{Member, inside, out, Input, cast, send, leave, tick, datagram, Refusal, Entered}
-use Rattle.run_mean.specs.Member.{entered, Output, deliver_cast, deliver_send, block, announce, packet, nowhere, timer}
+use Rattle.run_mean.specs.Member.{entered_input, Output, deliver_cast, deliver_send, block, announce, packet, nowhere}
+use Rattle.run_mean.specs.Member.{timer}
 use Rattle.run_mean.specs.Member.{quiet, packet_in, step_from}
 use Rattle.run_mean.specs.World.{World, Did, taken, refused, absent, shown, Happening, member_at, packet_number}
-use Rattle.run_mean.specs.World.{here_of, stepped_inside, stepped_of, stepped, given, happens}
+use Rattle.run_mean.specs.World.{here_of, stepped_inside, stepped_of, step_happening, given_packet, happens}
 use Rattle.run_mean.specs.Report.{Moment, moments, first_number, no_annex, wire_annex, lines_of_outputs, step_lines}
 use Rattle.run_mean.specs.Report.{lines_of, moment_lines, installed_line, end_line, visits_line, visits_of}
 use Rattle.member_laws.proofs.Lists.{behind}
@@ -84,12 +85,12 @@ module _ (mode : Mode) (stack : List LayerTree) (plans : List Plan) (w : World) 
       Sends mode stack plans w id (stepped_of stack plans w id input m)
   member_sends id input out = record { packets = sym (append-nil w.packets); numbers = refl }
   member_sends id input (inside view states) =
-      inside_sends id view states (entered stack plans (here_of w view id) input)
+      inside_sends id view states (entered_input stack plans (here_of w view id) input)
 
-  stepped_sends : (id : ℕ) (input : Input) → Sends mode stack plans w id (stepped stack plans w id input)
+  stepped_sends : (id : ℕ) (input : Input) → Sends mode stack plans w id (step_happening stack plans w id input)
   stepped_sends id input = member_sends id input (member_at w id)
 
-  given_sends : (id : ℕ) (p : Option Packet) → Sends mode stack plans w id (given stack plans w id p)
+  given_sends : (id : ℕ) (p : Option Packet) → Sends mode stack plans w id (given_packet stack plans w id p)
   given_sends id None = nothing id
   given_sends id (Some p) = stepped_sends id (datagram (full_bytes p))
 

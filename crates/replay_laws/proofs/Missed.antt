@@ -19,14 +19,14 @@ use Rattle.layer_ast.specs.declared.tokens.Dir.{Dir}
 use Rattle.layer_mean.specs.declared.run.Case.{Case}
 use Rattle.layer_mean.specs.declared.run.Case.TheVariants.{First, Second}
 use Rattle.layer_mean.specs.declared.run.Event.{Event}
-use Rattle.layer_mean.specs.Headers.{declared}
+use Rattle.layer_mean.specs.Headers.{header_of_tag}
 use Rattle.layer_mean.specs.Tree.{LayerTree}
 use Rattle.layer_mean.specs.State.{State}
 use Rattle.layer_mean.specs.Effect.{Decision}
 use Rattle.layer_mean.specs.Visit.{step}
 use Rattle.layer_mean.specs.Queue.{Task, Line, Player, Work, taken_turn, layers, layer_at, state_at, is_place, next_of}
 use Rattle.layer_mean.specs.Queue.{run_for, run}
-use Rattle.layer_mean.specs.Marked.{Logged, Marked, Log, marked, marked_start}
+use Rattle.layer_mean.specs.Marked.{Logged, Marked, Log, marking_player, marked_start}
 use Rattle.packet_mean.specs.Chained.{IsChain}
 use Rattle.packet_mean.specs.Plan.{agree, fields_of, fits, kind_of, least_fit, tags_of}
 use Rattle.packet_mean.specs.declared.here.Here.{Here}
@@ -86,10 +86,10 @@ counts_if case (Ok p) ds d h = h tt
 
 abbrev drawn_next : Case → List LayerTree → List (Task (Marked DrawnEvent)) → Log (Result Progress NoShape) DrawnEvent →
     DrawnLine
-drawn_next case stack tasks log = next_of (length stack) (marked (shaper case stack)) tasks log
+drawn_next case stack tasks log = next_of (length stack) (marking_player (shaper case stack)) tasks log
 
 abbrev run_next : List LayerTree → List (Task (Marked Event)) → Log Work Event → RunLine
-run_next stack tasks log = next_of (length stack) (marked (layers stack)) tasks log
+run_next stack tasks log = next_of (length stack) (marking_player (layers stack)) tasks log
 
 -- what a turn adds to the decisions of a run, and to those of a drawing
 abbrev visit_decided : List LayerTree → Work → ℕ → Dir → Event → Bool → List Decision
@@ -118,7 +118,7 @@ decided_grows : (stack : List LayerTree) (us : List (Task (Marked Event))) (log 
     (run_next stack us log).world.world.decided ≡ log.world.decided ++ turn_decided stack us log.world
 decided_grows stack [] log = sym (append-nil log.world.decided)
 decided_grows stack (u ∷ us) log = go (is_place (length stack) u.at) where
-  go : (b : Bool) → (turned (marked (layers stack)) u us log b).world.world.decided
+  go : (b : Bool) → (turned (marking_player (layers stack)) u us log b).world.world.decided
       ≡ log.world.decided ++ visit_decided stack log.world u.at u.dir u.event.event b
   go true = refl
   go false = sym (append-nil log.world.decided)
@@ -130,7 +130,7 @@ visits_grow : (case : Case) (stack : List LayerTree) (zs : List (Task (Marked Dr
 visits_grow case stack [] log = let none : total case stack log.visits ≡ total case stack log.visits + 0 =
     omega arith in none
 visits_grow case stack (t ∷ rest) log = go (is_place (length stack) t.at) where
-  go : (b : Bool) → total case stack (turned (marked (shaper case stack)) t rest log b).world.visits
+  go : (b : Bool) → total case stack (turned (marking_player (shaper case stack)) t rest log b).world.visits
       ≡ total case stack log.visits + visit_counted case stack t b
   go true = total_more case stack log.visits (logged t)
   go false = let none : total case stack log.visits ≡ total case stack log.visits + 0 = omega arith in none
@@ -143,7 +143,7 @@ drawing p visits outs = record { world = Ok p; visits = visits; outs = outs }
 visit_adds : (case : Case) (stack : List LayerTree) (t : Task (Marked DrawnEvent))
     (rest : List (Task (Marked DrawnEvent))) (p : Progress)
     (visits outs : List (Logged DrawnEvent)) (w : Work) (e : Event) → EventIs t.event.event e → (b : Bool) →
-    GoesOn (turned (marked (shaper case stack)) t rest (drawing p visits outs) b).world.world →
+    GoesOn (turned (marking_player (shaper case stack)) t rest (drawing p visits outs) b).world.world →
     Counts case (visit_decided stack w t.at t.dir e b) (visit_counted case stack t b)
 visit_adds case stack t rest p visits outs w e same false on = refl
 visit_adds case stack t rest p visits outs w e same true on = looked (nat_lt p.visits visits_limit) on where
@@ -184,7 +184,7 @@ stays_failed : (case : Case) (stack : List LayerTree) (zs : List (Task (Marked D
 stays_failed case stack [] reason visits outs on = on
 stays_failed case stack (t ∷ rest) reason visits outs on = go (is_place (length stack) t.at) on where
   go : (b : Bool) → GoesOn
-      (turned (marked (shaper case stack)) t rest (record { world = Err reason; visits = visits; outs = outs })
+      (turned (marking_player (shaper case stack)) t rest (record { world = Err reason; visits = visits; outs = outs })
       b).world.world → ⊥
   go true on = on
   go false on = on
@@ -233,13 +233,13 @@ runs_count : (case : Case) (stack : List LayerTree) (k : ℕ) (z : DrawnLine) (r
     InStep case z.world.world z r → BareRun case stack r →
     CountsLine case stack (z, r) →
     CountsLine case stack (
-      run_for (length stack) (marked (shaper case stack)) k z,
-      run_for (length stack) (marked (layers stack)) k r,
+      run_for (length stack) (marking_player (shaper case stack)) k z,
+      run_for (length stack) (marking_player (layers stack)) k r,
     )
 runs_count case stack zero z r step bare h = h
 runs_count case stack (suc k) z r step bare h =
-    let shapes = λ (j : ℕ). first_turn (length stack) (marked (shaper case stack)) j z.tasks z.world in
-    let runs = λ (j : ℕ). first_turn (length stack) (marked (layers stack)) j r.tasks r.world in
+    let shapes = λ (j : ℕ). first_turn (length stack) (marking_player (shaper case stack)) j z.tasks z.world in
+    let runs = λ (j : ℕ). first_turn (length stack) (marking_player (layers stack)) j r.tasks r.world in
     let next : InStep case (drawn_next case stack z.tasks z.world).world.world (drawn_next case stack z.tasks z.world)
     (run_next stack r.tasks r.world) =
     subst {A = DrawnLine × RunLine} (λ x. InStep case x.0.world.world x.0 x.1) (λ i. (shapes zero i, runs zero i))
@@ -275,7 +275,7 @@ shape_counts case stack log s ds made h = go log.world made h where
 
 counts_after : (case : Case) (most : ℕ) (stack : List LayerTree) (k : Known) (s : Shape) (states : List State)
     (task : Task Event) →
-    shape_of (run_for (length stack) (marked (shaper case stack)) most
+    shape_of (run_for (length stack) (marking_player (shaper case stack)) most
     (marked_start undrawn (entry_task stack k))).world ≡ Ok s →
     BeginsAs (entry_task stack k) task → BareRun case stack (run_start states task) →
     Counts case (run most stack states task).world.decided (shape_decisions case stack s)
@@ -284,7 +284,7 @@ counts_after case most stack k s states task made begins bare =
     let r : RunLine = run_start states task in
     subst (λ (w : Work). Counts case w.decided (shape_decisions case stack s))
     (logs_tell_runs stack states task most).world
-    (shape_counts case stack (run_for (length stack) (marked (shaper case stack)) most z).world s _ made
+    (shape_counts case stack (run_for (length stack) (marking_player (shaper case stack)) most z).world s _ made
     (runs_count case stack most z r (λ usual. record {
       tasks = (
         record { at = begins.at; dir = begins.dir; marked = record { event = begins.event; made_by = refl } },
@@ -314,7 +314,7 @@ headers_begin : (layers : List LayerTree) (place : ℕ) (headers : List Header) 
 headers_begin [] place [] h = tt
 headers_begin [] place (header ∷ headers) h = absurd (cc h)
 headers_begin (layer ∷ above) place [] h = absurd h
-headers_begin (layer ∷ above) place (header ∷ headers) h = there (declared layer header.tag) _ h (λ d is chain. (
+headers_begin (layer ∷ above) place (header ∷ headers) h = there (header_of_tag layer header.tag) _ h (λ d is chain. (
   record {
     tag = refl;
     fields = subst (λ n. Pairwise IsKnownAs (replicate n None) header.fields)

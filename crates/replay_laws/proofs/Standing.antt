@@ -20,20 +20,24 @@ use Rattle.layer_mean.specs.Tree.{StatementTrees, none, more, Expected, always, 
 use Rattle.layer_mean.specs.State.{State, has_room, row_at, with_row, without_front}
 use Rattle.layer_mean.specs.Value.{Scope, is_true, val}
 use Rattle.layer_mean.specs.Effect.{Outcome, Act, done, after, in_order, decides, usual, unusual, turns, with_slot}
-use Rattle.layer_mean.specs.Effect.{with_taken, row_of, chosen, taking, does, acts}
-use Rattle.layer_mean.specs.Visit.{Met, Visited, met, handler_for, entered, sent_on, unhandled, expecting, handled}
+use Rattle.layer_mean.specs.Effect.{with_taken, row_of, chosen_outcome, taking, does, acts}
+use Rattle.layer_mean.specs.Visit.{Met, Visited, met, handler_for, entered_scope, sent_on, unhandled_visit, expecting}
+use Rattle.layer_mean.specs.Visit.{handled_visit}
 use Rattle.layer_mean.specs.Visit.{step, no_state, fresh}
-use Rattle.layer_mean.specs.Queue.{Task, Work, is_place, layer_at, state_at, visited, taken_turn, next_of, run_for, run}
-use Rattle.layer_mean.specs.Queue.{layers, unstarted}
+use Rattle.layer_mean.specs.Queue.{Task, Work, is_place, layer_at, state_at, visit_turn, taken_turn, next_of, run_for}
+use Rattle.layer_mean.specs.Queue.{run}
+use Rattle.layer_mean.specs.Queue.{layers, unstarted_work}
 use Rattle.packet_mean.specs.Spelling.{full_bytes}
 use Rattle.stack_mean.specs.Plan.{Plan}
 use Rattle.script_mean.specs.declared.event.ScriptEvent.TheVariants as script
 use Rattle.run_mean.specs.View.{first_view, next_view}
 use Rattle.run_mean.specs.Member as member
-use Rattle.run_mean.specs.Member.{Member, inside, out, opened, Input, cast, send, leave, tick, datagram, Refusal}
-use Rattle.run_mean.specs.Member.{Entered, announced, first_task, installed, most_turns, output_of, step_from}
+use Rattle.run_mean.specs.Member.{Member, inside, out, opened_member, Input, cast, send, leave, tick, datagram, Refusal}
+use Rattle.run_mean.specs.Member.{Entered, announced_ranks, first_task, installed_member, most_turns, output_of}
+use Rattle.run_mean.specs.Member.{step_from}
 use Rattle.run_mean.specs.Member.{member_behind}
-use Rattle.run_mean.specs.World.{World, member_at, packet_number, here_of, stepped_inside, stepped_of, stepped, given}
+use Rattle.run_mean.specs.World.{World, member_at, packet_number, here_of, stepped_inside, stepped_of, step_happening}
+use Rattle.run_mean.specs.World.{given_packet}
 use Rattle.run_mean.specs.World.{happens}
 use Rattle.chain_laws.proofs.Lists.{each_change, some_and, there}
 use Rattle.replay_laws.specs.Standing.{StandsAs, StandIn, IsStanding, RunsKeepStanding, OpenedIsStanding}
@@ -52,7 +56,7 @@ if_same n true o p h i = h
 if_same n false o p h i = i
 
 chosen_same : (n : Own) (b : Bool) (likely : Likely) (o p : Outcome) → own o.state ≡ n → own p.state ≡ n →
-    own (chosen b likely o p).state ≡ n
+    own (chosen_outcome b likely o p).state ≡ n
 chosen_same n true likely.First o p h i = h
 chosen_same n true likely.Else o p h i = h
 chosen_same n true likely.Two o p h i = h
@@ -110,7 +114,7 @@ module _ (place : ℕ) where
   passed_same false v w n h i = i
 
   unhandled_same : (s : State) (dir : Dir) (e : Event) (m : Met) (content : Option Content) →
-      own (unhandled place s dir e m content).state ≡ own s
+      own (unhandled_visit place s dir e m content).state ≡ own s
   unhandled_same s dir e m None = refl
   unhandled_same s Down e m (Some content) = refl
   unhandled_same s Up e m (Some content) =
@@ -118,9 +122,9 @@ module _ (place : ℕ) where
       (own s) refl refl
 
   handled_same : (h : Option HandlerTree) (s : State) (dir : Dir) (e : Event) (m : Met) →
-      own (handled place h s dir e m).state ≡ own s
+      own (handled_visit place h s dir e m).state ≡ own s
   handled_same None s dir e m = unhandled_same s dir e m m.message
-  handled_same (Some h) s dir e m = let l = entered h e m in
+  handled_same (Some h) s dir e m = let l = entered_scope h e m in
       expecting_same (own s) h.expected s l (in_order (acts place h.block) s l) (acts_same h.block (done s l))
 
 step_same : (place : ℕ) (layer : LayerTree) (s : State) (dir : Dir) (e : Event) → own (step place layer s dir e).state ≡
@@ -146,7 +150,7 @@ module _ (stack : List LayerTree) (me count ltime : ℕ) where
     v = step (t.at - 1) (layer_at stack t.at) (state_at w t.at) t.dir t.event
 
     go : (b : Bool) → AllByRecursion (StandsAs me count ltime)
-        (if b then taken_turn t.at rest (visited t.at w v)
+        (if b then taken_turn t.at rest (visit_turn t.at w v)
         else record { world = record w { outs = w.outs ++ (t.dir, t.event) ∷ [] }; tasks = rest }).world.states
     go true = each_change (StandsAs me count ltime) w.states (t.at - 1) v.state no_state h
         (moved (state_at w t.at) v.state (step_same (t.at - 1) (layer_at stack t.at) (state_at w t.at) t.dir t.event))
@@ -163,7 +167,7 @@ module _ (stack : List LayerTree) (me count ltime : ℕ) where
 pub runs_keep_standing : RunsKeepStanding
 unfolding run
 runs_keep_standing turns stack states first me count ltime h =
-    turns_keep stack me count ltime turns (first ∷ []) (unstarted states) h
+    turns_keep stack me count ltime turns (first ∷ []) (unstarted_work states) h
 
 -- members
 
@@ -183,15 +187,16 @@ opened_is_standing stack view id = go (rank view id) refl where
       (map (λ layer. fresh layer me (member_count view) view.ltime) stack))
       me at (fresh_stand me (member_count view) view.ltime stack)
 
-installed_stands : (stack : List LayerTree) (view : View) (id ranks : ℕ) → IsStanding id (installed stack view id ranks)
+installed_stands : (stack : List LayerTree) (view : View) (id ranks : ℕ) →
+    IsStanding id (installed_member stack view id ranks)
 installed_stands stack view id ranks = go (next_view view ranks) where
-  go : (o : Option View) → IsStanding id (option_map_or (λ next. opened stack next id) o out)
+  go : (o : Option View) → IsStanding id (option_map_or (λ next. opened_member stack next id) o out)
   go None = tt
   go (Some next) = opened_is_standing stack next id
 
 behind_stands : (stack : List LayerTree) (view : View) (id : ℕ) (states : List State) (first : Option ℕ) →
     StandIn view id states →
-    IsStanding id (option_map_or (λ m. m) (option_map (installed stack view id) first) (inside view states))
+    IsStanding id (option_map_or (λ m. m) (option_map (installed_member stack view id) first) (inside view states))
 behind_stands stack view id states None h = h
 behind_stands stack view id states (Some ranks) h = installed_stands stack view id ranks
 
@@ -208,7 +213,8 @@ run_stands view id turns stack states first h =
 pub steps_keep_standing : StepsKeepStanding
 steps_keep_standing stack here id states what h =
     let work = (run most_turns stack states (first_task stack here.rank what)).world in
-    behind_stands stack here.view id work.states (slice_get (filter_map announced (map (output_of here) work.outs)) 0)
+    behind_stands stack here.view id work.states
+    (slice_get (filter_map announced_ranks (map (output_of here) work.outs)) 0)
     (run_stands here.view id most_turns stack states (first_task stack here.rank what) h)
 
 -- worlds
@@ -236,8 +242,10 @@ ranged P f d made missing (suc n) k (suc i) =
 pub first_world_is_standing : FirstWorldIsStanding
 first_world_is_standing stack group stamp n id =
     let same : 0 + id ≡ id = omega arith in
-    subst (λ m. IsStanding m (slice_index_or (map (opened stack (first_view n)) (range_with_len 0 n)) id out)) same
-    (ranged IsStanding (opened stack (first_view n)) out (λ k. opened_is_standing stack (first_view n) k) (λ k. tt) n 0
+    subst (λ m. IsStanding m (slice_index_or (map (opened_member stack (first_view n)) (range_with_len 0 n)) id out))
+    same
+    (ranged IsStanding (opened_member stack (first_view n)) out (λ k. opened_is_standing stack (first_view n) k)
+    (λ k. tt) n 0
     id)
 
 module _ (stack : List LayerTree) (plans : List Plan) (w : World) (h : IsStandingWorld w) where
@@ -253,12 +261,12 @@ module _ (stack : List LayerTree) (plans : List Plan) (w : World) (h : IsStandin
       IsStandingWorld (stepped_of stack plans w id input m).world
   member_keeps id input out is = h
   member_keeps id input (inside view states) is =
-      inside_keeps id view states (member.entered stack plans (here_of w view id) input) is
+      inside_keeps id view states (member.entered_input stack plans (here_of w view id) input) is
 
-  stepped_keeps : (id : ℕ) (input : Input) → IsStandingWorld (stepped stack plans w id input).world
+  stepped_keeps : (id : ℕ) (input : Input) → IsStandingWorld (step_happening stack plans w id input).world
   stepped_keeps id input = member_keeps id input (member_at w id) (h id)
 
-  given_keeps : (id : ℕ) (p : Option Packet) → IsStandingWorld (given stack plans w id p).world
+  given_keeps : (id : ℕ) (p : Option Packet) → IsStandingWorld (given_packet stack plans w id p).world
   given_keeps id None = h
   given_keeps id (Some p) = stepped_keeps id (datagram (full_bytes p))
 

@@ -8,7 +8,7 @@ use Rattle.layer_mean.specs.State.{State}
 use Rattle.fault_mean.specs.FileFault.{file_fault}
 use Rattle.packet_mean.specs.Spelling.{full_bytes, IsSpellable}
 use Rattle.packet_mean.specs.declared.here.Here.{Here}
-use Rattle.stack_mean.specs.Acceptance.{accepted}
+use Rattle.stack_mean.specs.Acceptance.{acceptance}
 use Rattle.stack_mean.specs.Plans.{plans_of}
 use Rattle.chain_laws.specs.Runs.{TypedStack}
 use Rattle.chain_laws.proofs.Lists.{Where, each_or}
@@ -17,9 +17,9 @@ use Rattle.script_mean.specs.Event.{member_of}
 use Rattle.script_mean.specs.declared.event.ScriptEvent.{ScriptEvent}
 use Rattle.script_mean.specs.declared.event.ScriptEvent.TheVariants as script
 use Rattle.run_mean.specs.Member.{Member, inside, out, Input, cast, send, leave, tick, datagram, Refusal, Entered}
-use Rattle.run_mean.specs.Member.{entered}
+use Rattle.run_mean.specs.Member.{entered_input}
 use Rattle.run_mean.specs.World.{World, Happening, first_world, member_at, packet_number, here_of, stepped_inside}
-use Rattle.run_mean.specs.World.{stepped_of, stepped, given, happens}
+use Rattle.run_mean.specs.World.{stepped_of, step_happening, given_packet, happens}
 use Rattle.run_mean.specs.Report.{Moment}
 use Rattle.output_mean.specs.Judged.{Means}
 use Rattle.output_mean.proofs.Judged.{own_stack}
@@ -63,24 +63,26 @@ module _ (stack : List LayerTree) (w : World) (typed : TypedStack stack) (world 
       }
 
   member_is : (input : Input) (m : Member) → member_at w (member_of e) ≡ m →
-      ((here : Here) (what : Entered) → entered stack (plans_of stack) here input ≡ Ok what → IsEntered stack what) →
+      ((here : Here) (what : Entered) → entered_input stack (plans_of stack) here input ≡ Ok what →
+      IsEntered stack what) →
       IsMoment stack (moment (stepped_of stack (plans_of stack) w (member_of e) input m))
   member_is input out at enters = refl
   member_is input (inside view states) at enters = inside_is view states at
-      (entered stack (plans_of stack) (here_of w view (member_of e)) input)
+      (entered_input stack (plans_of stack) (here_of w view (member_of e)) input)
       (λ what. enters (here_of w view (member_of e)) what)
 
   stepped_is : (input : Input) →
-      ((here : Here) (what : Entered) → entered stack (plans_of stack) here input ≡ Ok what → IsEntered stack what) →
-      IsMoment stack (moment (stepped stack (plans_of stack) w (member_of e) input))
+      ((here : Here) (what : Entered) → entered_input stack (plans_of stack) here input ≡ Ok what →
+      IsEntered stack what) →
+      IsMoment stack (moment (step_happening stack (plans_of stack) w (member_of e) input))
   stepped_is input enters = member_is input (member_at w (member_of e)) refl enters
 
   input_is : (input : Input) → IsInput input →
-      IsMoment stack (moment (stepped stack (plans_of stack) w (member_of e) input))
+      IsMoment stack (moment (step_happening stack (plans_of stack) w (member_of e) input))
   input_is input h = stepped_is input (λ here what. inputs_are_in_range stack here input what typed h)
 
   given_is : (p : Option Packet) → Where (IsSpellable stack) p →
-      IsMoment stack (moment (given stack (plans_of stack) w (member_of e) p))
+      IsMoment stack (moment (given_packet stack (plans_of stack) w (member_of e) p))
   given_is None h = refl
   given_is (Some p) h = stepped_is (datagram (full_bytes p)) (given_enters stack (plans_of stack) p h)
 
@@ -113,11 +115,11 @@ moments_are_steps stack w (e ∷ events) typed h world standing = (
 
 -- what a file means
 
-accepts_and_typed : (text : List ℕ) (stack : List LayerTree) → Means text stack → (accepted stack ≡ Ok stack) ×
+accepts_and_typed : (text : List ℕ) (stack : List LayerTree) → Means text stack → (acceptance stack ≡ Ok stack) ×
     TypedStack stack
 accepts_and_typed text stack m =
     let f = own_stack m.file stack (file_fault m.file) refl m.accepted in (
-      subst (λ (s : List LayerTree). accepted s ≡ Ok s) f.is f.accepts,
+      subst (λ (s : List LayerTree). acceptance s ≡ Ok s) f.is f.accepts,
       subst TypedStack f.is (texts_are_typed text m.file m.is_file f.faultless),
     )
 

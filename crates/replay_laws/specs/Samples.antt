@@ -19,12 +19,13 @@ use Rattle.replay_laws.specs.Missed.{shape_decisions}
 abbrev pub given_twice : List ScriptEvent
 given_twice = script.Cast 0 (codes "hi") ∷ script.Give 1 1 ∷ script.Give 1 1 ∷ []
 
-abbrev pub counted : List Moment
-counted = moments counter.stack (plans_of counter.stack) (first_world counter.stack 1 7 3) given_twice
+abbrev pub counter_moments : List Moment
+counter_moments = moments counter.stack (plans_of counter.stack) (first_world counter.stack 1 7 3) given_twice
 
 -- The numbers of its datagrams in a mode, with the first byte of each.
 abbrev pub forms : Mode → List (ℕ × Option ℕ)
-forms mode = map (λ d. (d.number, slice_get d.bytes 0)) (datagrams mode counter.stack (plans_of counter.stack) counted)
+forms mode = map (λ d. (d.number, slice_get d.bytes 0))
+    (datagrams mode counter.stack (plans_of counter.stack) counter_moments)
 
 -- The first decision of a step that isn't as predicted, and how many decisions a shape has.
 abbrev pub missed_by : Did → Option ℕ
@@ -40,6 +41,6 @@ decisions_of (Err reason) = 0
 abbrev pub GivenTwice : Type 0
 GivenTwice =
     (forms bypass ≡ (1, Some short_form) ∷ []) × (forms layered ≡ (1, Some full_form) ∷ []) ×
-    (map (λ m. missed_by m.happening.did) counted ≡ None ∷ None ∷ Some 0 ∷ []) ×
+    (map (λ m. missed_by m.happening.did) counter_moments ≡ None ∷ None ∷ Some 0 ∷ []) ×
     (decisions_of (shape counter.stack app_cast First) ≡ 0) ×
     (decisions_of (shape counter.stack (packet_entry Cast (1 ∷ [])) First) ≡ 1)

@@ -10,7 +10,7 @@ use Rattle.layer_mean.specs.Queue.{Task, run}
 use Rattle.packet_mean.specs.declared.here.Here.{Here}
 use Rattle.stack_mean.specs.Plan.{Plan}
 use Rattle.script_mean.specs.declared.event.ScriptEvent.{ScriptEvent}
-use Rattle.run_mean.specs.Member.{Member, inside, out, opened, Entered, step_from, member_behind}
+use Rattle.run_mean.specs.Member.{Member, inside, out, opened_member, Entered, step_from, member_behind}
 use Rattle.run_mean.specs.World.{World, first_world, member_at, happens}
 use Rattle.run_mean.specs.Report.{Moment, moments}
 
@@ -38,7 +38,7 @@ RunsKeepStanding = (turns : ℕ) (stack : List LayerTree) (states : List State) 
     AllByRecursion (StandsAs me count ltime) (run turns stack states first).world.states
 
 abbrev pub OpenedIsStanding : Type 0
-OpenedIsStanding = (stack : List LayerTree) (view : View) (id : ℕ) → IsStanding id (opened stack view id)
+OpenedIsStanding = (stack : List LayerTree) (view : View) (id : ℕ) → IsStanding id (opened_member stack view id)
 
 abbrev pub StepsKeepStanding : Type 0
 StepsKeepStanding = (stack : List LayerTree) (here : Here) (id : ℕ) (states : List State) (what : Entered) →

@@ -4,7 +4,7 @@ use Rattle.std.specs.List.{AllByRecursion}
 use Rattle.layer_mean.specs.Tree.{LayerTree}
 use Rattle.layer_mean.specs.State.{State}
 use Rattle.msg_core.specs.declared.packet.View.{View}
-use Rattle.stack_mean.specs.Acceptance.{accepted}
+use Rattle.stack_mean.specs.Acceptance.{acceptance}
 use Rattle.stack_mean.specs.Plans.{plans_of}
 use Rattle.script_mean.specs.Event.{member_of}
 use Rattle.script_mean.specs.Script.{script_of}
@@ -56,7 +56,7 @@ pub record IsReplay (file script_text : List ℕ) (stack : List LayerTree) (scri
 -- Then the stack is accepted and typed, the script is made of bytes and numbers, and along its run each world is
 -- chained, each member stands in its view, and each moment is such a step.
 pub record IsPlayed (stack : List LayerTree) (script : Script) : Type 0 where
-  pub accepts : accepted stack ≡ Ok stack
+  pub accepts : acceptance stack ≡ Ok stack
   pub typed : TypedStack stack
   pub given : IsGivenScript script
   pub chained : AllByRecursion (IsChainedMoment stack) (run_of stack (plans_of stack) script)

@@ -3,7 +3,7 @@ use Rattle.std.proofs.Common.{◌≡◌, ◌+◌, ◌/◌, ◌%◌, ◌<◌, ◌
 use Rattle.std.proofs.lemmas.Fmt.{decimal_digit, decimal_step}
 use Rattle.std.specs.Fmt.{decimal}
 
--- the last digit stands behind the others
+-- the last digit stands after the others
 step : (n : ℕ) (front : List ℕ) → 10 ≤ n → n < 10000 → decimal (n / 10) ≡ front → decimal n ≡ front ++ (48 + n % 10) ∷
     []
 step n front least most is = decimal_step n least (omega (arith, most)) ∙ ap (λ ds. ds ++ (48 + n % 10) ∷ []) is
@@ -26,7 +26,7 @@ four n least most =
     most
     (three (n / 10) (omega (arith, least)) (omega (arith, most)))
 
--- the digits of a number, pushed one by one behind what stands there
+-- the digits of a number, pushed one by one after what stands there
 pub push_one : (n a : ℕ) (old new : List ℕ) → n < 10 → a ≡ 48 + n % 10 → new ≡ old ++ a ∷ [] → new ≡ old ++ decimal n
 push_one n a old new most digit put = put ∙ ap (λ d. old ++ d ∷ []) digit ∙ ap (λ ds. old ++ ds) (sym (one n most))
 

@@ -27,7 +27,7 @@ pub lead_later : (sep : List ℕ) (k : ℕ) → 0 < k → lead sep k ≡ sep
 lead_later sep zero lt = absurd (omega (arith, lt))
 lead_later sep (suc k) lt = refl
 
--- one more piece behind a line that holds the pieces before it
+-- one more piece after a line that holds the pieces before it
 pub line_more : {X : Type 0} (f : X → List ℕ) (sep : List ℕ) (xs : List X) (k : ℕ) (x d : X) (base a b c : List ℕ) →
     a ≡ base ++ join_by f sep (take k xs) → b ≡ a ++ lead sep k → c ≡ b ++ f x →
     k < length xs → x ≡ get_or xs k d → c ≡ base ++ join_by f sep (take (k + 1) xs)

@@ -1,4 +1,4 @@
--- The texts in front of the numbers of declared headers, one behind the other.
+-- The texts before the numbers of declared headers, one after the other.
 use Rattle.std.proofs.Common.{◌≡◌, ◌≢◌, ◌++◌, ◌∷◌, ◌+◌, ◌-◌, ◌<◌, ◌≤◌, ℕ, zero, suc, Bool, true, false, List, [], arith}
 use Rattle.std.proofs.Common.{length, get_or, take, drop, refl, sym, ap, subst, ◌∙◌, append_assoc, append-nil, add-zero}
 use Rattle.std.proofs.Common.{zero-add}
@@ -14,8 +14,8 @@ use Rattle.run_mean.specs.Text.{layer_number}
 use Rattle.typed_layer.specs.View.{header_tree, layer_tree}
 use Rattle.typed_layer.specs.declared.tree.TypedLayer.{TypedLayer}
 use Rattle.report_lines.specs.Nones.{header_front}
-use Rattle.report_lines.specs.Fronts.{AddFronts, AreAllFronts, AreFronts, below, declared, ends_from, header_of}
-use Rattle.report_lines.specs.Fronts.{headers_at, tagged, tags_at}
+use Rattle.report_lines.specs.Fronts.{AddFronts, AreAllFronts, AreFronts, below, declared_headers, ends_from, header_of}
+use Rattle.report_lines.specs.Fronts.{headers_at, headers_to_tag, tags_at}
 use Rattle.report_lines.proofs.Nones.{cut_parts, suc_is}
 
 ends_count : {X Y : Type 0} (f : X → List Y) (from : ℕ) (xs : List X) → length (ends_from f from xs) ≡ length xs + 1
@@ -93,31 +93,31 @@ fronts_more stack h texts begins new_texts new_begins count put counted push = �
 -- the headers of one more place
 pub place_more : (stack : List LayerTree) (place tags : ℕ)
     (texts begins firsts new_texts new_begins new_firsts : List ℕ) (count : ℕ) →
-    tags ≡ tags_at stack place → AddFronts stack (tagged place tags) texts begins new_texts new_begins →
+    tags ≡ tags_at stack place → AddFronts stack (headers_to_tag place tags) texts begins new_texts new_begins →
     count ≡ length new_begins - 1 →
     new_firsts ≡ firsts ++ count ∷ [] → AreAllFronts stack place texts begins firsts →
     AreAllFronts stack (place + 1) new_texts new_begins new_firsts
 place_more stack place tags texts begins firsts new_texts new_begins new_firsts count is add counted push are =
-    let more : declared stack place ++ tagged place tags ≡ declared stack (suc place) =
-    ap (λ n. declared stack place ++ tagged place n) is
+    let more : declared_headers stack place ++ headers_to_tag place tags ≡ declared_headers stack (suc place) =
+    ap (λ n. declared_headers stack place ++ headers_to_tag place n) is
     ∙ sym (flat_map-append (headers_at stack) (below place) (place ∷ []) ∙
-    ap (λ ys. declared stack place ++ ys) (append-nil (headers_at stack place))) in
-    let fronts : AreFronts stack (declared stack (suc place)) new_texts new_begins =
-    subst (λ hs. AreFronts stack hs new_texts new_begins) more (add (declared stack place) are.0) in
-    let all = ap length fronts.1 ∙ ends_count (header_front stack) 0 (declared stack (suc place)) in
-    let number : count ≡ length (declared stack (suc place)) = omega (arith, counted, all) in
+    ap (λ ys. declared_headers stack place ++ ys) (append-nil (headers_at stack place))) in
+    let fronts : AreFronts stack (declared_headers stack (suc place)) new_texts new_begins =
+    subst (λ hs. AreFronts stack hs new_texts new_begins) more (add (declared_headers stack place) are.0) in
+    let all = ap length fronts.1 ∙ ends_count (header_front stack) 0 (declared_headers stack (suc place)) in
+    let number : count ≡ length (declared_headers stack (suc place)) = omega (arith, counted, all) in
     let firsts : new_firsts ≡ ends_from (headers_at stack) 0 (below (suc place)) =
     push ∙ (λ i. are.1 i ++ number i ∷ [])
     ∙ ap (λ end. ends_from (headers_at stack) 0 (below place) ++ end ∷ [])
-    (sym (zero-add (length (declared stack (suc place)))))
+    (sym (zero-add (length (declared_headers stack (suc place)))))
     ∙ sym (ends_last (headers_at stack) 0 (below place) place) in
     subst (λ n. AreAllFronts stack n new_texts new_begins new_firsts) (suc_is place) (fronts, firsts)
 
 -- the headers of a place
-tagged_count : (place n : ℕ) → length (tagged place n) ≡ n
+tagged_count : (place n : ℕ) → length (headers_to_tag place n) ≡ n
 tagged_count place zero = refl
 tagged_count place (suc n) =
-    let all = length-append (tagged place n) (header_of place (suc n) ∷ []) in
+    let all = length-append (headers_to_tag place n) (header_of place (suc n) ∷ []) in
     let before = tagged_count place n in
     omega (arith, all, before)
 
@@ -141,7 +141,7 @@ parted k (suc r) =
     add-suc : (k r : ℕ) → k + suc r ≡ suc (k + r)
     add-suc k r = omega arith
 
--- where what is behind some pieces begins
+-- where what is after some pieces begins
 ends_seam : {X Y : Type 0} (f : X → List Y) (from : ℕ) (xs ys : List X) (d : ℕ) →
     get_or (ends_from f from (xs ++ ys)) (length xs) d ≡ from + length (flat_map f xs)
 ends_seam f from [] [] d = sym (add-zero from)
@@ -150,24 +150,25 @@ ends_seam f from (x ∷ xs) ys d =
     let all = length-append (f x) (flat_map f xs) in
     ends_seam f (from + length (f x)) xs ys d ∙ omega (arith, all)
 
-tagged_at : (place n i : ℕ) (d : Header) → i < n → get_or (tagged place n) i d ≡ header_of place (suc i)
+tagged_at : (place n i : ℕ) (d : Header) → i < n → get_or (headers_to_tag place n) i d ≡ header_of place (suc i)
 tagged_at place zero i d lt = absurd (omega (arith, lt))
 tagged_at place (suc n) i d lt = by_test (nat_lt i n) refl (tagged_at place n i d)
   where
-    by_test : (inside : Bool) → nat_lt i n ≡ inside → (i < n → get_or (tagged place n) i d ≡ header_of place (suc i)) →
-        get_or (tagged place n ++ header_of place (suc n) ∷ []) i d ≡ header_of place (suc i)
+    by_test : (inside : Bool) → nat_lt i n ≡ inside →
+        (i < n → get_or (headers_to_tag place n) i d ≡ header_of place (suc i)) →
+        get_or (headers_to_tag place n ++ header_of place (suc n) ∷ []) i d ≡ header_of place (suc i)
     by_test true is before =
         let less = ltb-true i n is in
         let count = tagged_count place n in
-        get_or_append_left (tagged place n) (header_of place (suc n) ∷ []) d i (omega (arith, less, count)) ∙
+        get_or_append_left (headers_to_tag place n) (header_of place (suc n) ∷ []) d i (omega (arith, less, count)) ∙
         before less
     by_test false is before =
         let most = ltb-false i n is in
         let count = tagged_count place n in
         let same : i ≡ n = omega (arith, most, lt) in
-        let seam : i ≡ length (tagged place n) = omega (arith, same, count) in
-        ap (λ k. get_or (tagged place n ++ header_of place (suc n) ∷ []) k d) seam
-        ∙ get_or-append_seam (tagged place n) (header_of place (suc n)) [] d
+        let seam : i ≡ length (headers_to_tag place n) = omega (arith, same, count) in
+        ap (λ k. get_or (headers_to_tag place n ++ header_of place (suc n) ∷ []) k d) seam
+        ∙ get_or-append_seam (headers_to_tag place n) (header_of place (suc n)) [] d
         ∙ ap (λ k. header_of place (suc k)) (sym same)
 
 module _ (stack : List LayerTree) (n : ℕ) (texts begins firsts : List ℕ)
@@ -175,10 +176,10 @@ module _ (stack : List LayerTree) (n : ℕ) (texts begins firsts : List ℕ)
   pub firsts_count : length firsts ≡ n + 1
   firsts_count = ap length are.1 ∙ ends_count (headers_at stack) 0 (below n) ∙ ap (λ k. k + 1) (below_count n)
 
-  pub begins_count : length begins ≡ length (declared stack n) + 1
-  begins_count = ap length are.0.1 ∙ ends_count (header_front stack) 0 (declared stack n)
+  pub begins_count : length begins ≡ length (declared_headers stack n) + 1
+  begins_count = ap length are.0.1 ∙ ends_count (header_front stack) 0 (declared_headers stack n)
 
-  pub first_at : (k d : ℕ) → k ≤ n → get_or firsts k d ≡ length (declared stack k)
+  pub first_at : (k d : ℕ) → k ≤ n → get_or firsts k d ≡ length (declared_headers stack k)
   first_at k d le =
       let rest = n - k in
       let whole : n ≡ k + rest = omega (arith, le) in
@@ -186,46 +187,48 @@ module _ (stack : List LayerTree) (n : ℕ) (texts begins firsts : List ℕ)
       ap (λ xs. get_or xs k d) are.1
       ∙ ap (λ places. get_or (ends_from (headers_at stack) 0 places) k d) (ap below whole ∙ parted k rest)
       ∙ ap (λ i. get_or (ends_from (headers_at stack) 0 (below k ++ others k rest)) i d) (sym count)
-      ∙ ends_seam (headers_at stack) 0 (below k) (others k rest) d ∙ zero-add (length (declared stack k))
+      ∙ ends_seam (headers_at stack) 0 (below k) (others k rest) d ∙ zero-add (length (declared_headers stack k))
 
-  pub front_at : (k e e' from to : ℕ) → k < length (declared stack n) → from ≡ get_or begins k e →
+  pub front_at : (k e e' from to : ℕ) → k < length (declared_headers stack n) → from ≡ get_or begins k e →
       to ≡ get_or begins (k + 1) e' →
-      Piece texts from to (header_front stack (get_or (declared stack n) k (header_of 0 0)))
+      Piece texts from to (header_front stack (get_or (declared_headers stack n) k (header_of 0 0)))
   front_at k e e' from to lt begin end =
-      piece_at (header_front stack) (declared stack n) k (header_of 0 0) texts begins from to e e' are.0.0 are.0.1 lt
+      piece_at (header_front stack) (declared_headers stack n) k (header_of 0 0) texts begins from to e e' are.0.0
+      are.0.1 lt
       begin end
 
 -- the headers of a place among those of all
-next_first : (stack : List LayerTree) (place : ℕ) → declared stack (place + 1) ≡ declared stack place ++
+next_first : (stack : List LayerTree) (place : ℕ) → declared_headers stack (place + 1) ≡ declared_headers stack place ++
     headers_at stack place
 next_first stack place =
-    ap (declared stack) (sym (suc_is place))
+    ap (declared_headers stack) (sym (suc_is place))
     ∙ flat_map-append (headers_at stack) (below place) (place ∷ []) ∙
-    ap (λ ys. declared stack place ++ ys) (append-nil (headers_at stack place))
+    ap (λ ys. declared_headers stack place ++ ys) (append-nil (headers_at stack place))
 
-all_parted : (stack : List LayerTree) (n k : ℕ) → k ≤ n → declared stack n ≡ declared stack k ++
+all_parted : (stack : List LayerTree) (n k : ℕ) → k ≤ n → declared_headers stack n ≡ declared_headers stack k ++
     flat_map (headers_at stack) (others k (n - k))
 all_parted stack n k le =
     let whole : n ≡ k + (n - k) = omega (arith, le) in
-    ap (declared stack) whole ∙ ap (flat_map (headers_at stack)) (parted k (n - k)) ∙
+    ap (declared_headers stack) whole ∙ ap (flat_map (headers_at stack)) (parted k (n - k)) ∙
     flat_map-append (headers_at stack) (below k) (others k (n - k))
 
-pub firsts_ordered : (stack : List LayerTree) (place first next : ℕ) → first ≡ length (declared stack place) →
-    next ≡ length (declared stack (place + 1)) → first ≤ next
+pub firsts_ordered : (stack : List LayerTree) (place first next : ℕ) → first ≡ length (declared_headers stack place) →
+    next ≡ length (declared_headers stack (place + 1)) → first ≤ next
 firsts_ordered stack place first next is is_next =
-    let all = ap length (next_first stack place) ∙ length-append (declared stack place) (headers_at stack place) in
+    let all = ap length (next_first stack place) ∙ length-append (declared_headers stack place) (headers_at stack place)
+    in
     omega (arith, is, is_next, all)
 
 pub number_is : (stack : List LayerTree) (n place tag first next behind : ℕ) → place < n → tag ≢ 0 →
-    first ≡ length (declared stack place) →
-    next ≡ length (declared stack (place + 1)) → behind ≡ tag - 1 → behind < next - first →
-    (first + behind < length (declared stack n)) ×
-    (get_or (declared stack n) (first + behind) (header_of 0 0) ≡ header_of place tag)
+    first ≡ length (declared_headers stack place) →
+    next ≡ length (declared_headers stack (place + 1)) → behind ≡ tag - 1 → behind < next - first →
+    (first + behind < length (declared_headers stack n)) ×
+    (get_or (declared_headers stack n) (first + behind) (header_of 0 0) ≡ header_of place tag)
 number_is stack n place tag first next behind lt some is is_next back less =
-    let a = declared stack place in
+    let a = declared_headers stack place in
     let b = headers_at stack place in
     let c = flat_map (headers_at stack) (others (place + 1) (n - (place + 1))) in
-    let whole : declared stack n ≡ (a ++ b) ++ c =
+    let whole : declared_headers stack n ≡ (a ++ b) ++ c =
     all_parted stack n (place + 1) (omega (arith, lt)) ∙ ap (λ ys. ys ++ c) (next_first stack place) in
     let joined = length-append a b in
     let all = ap length whole ∙ length-append (a ++ b) c in

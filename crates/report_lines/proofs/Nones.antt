@@ -1,4 +1,4 @@
--- Headers with the separator behind them, and the headers `none` of adjacent places.
+-- Headers with the separator after them, and the headers `none` of adjacent places.
 use Rattle.std.proofs.Common.{◌≡◌, ◌≢◌, ◌++◌, ◌∷◌, ◌+◌, ◌-◌, ◌<◌, ◌≤◌, ℕ, zero, suc, Bool, true, false, List, [], arith}
 use Rattle.std.proofs.Common.{length, get_or, take, drop, refl, sym, ap, subst, ◌∙◌, append_assoc, append-nil}
 use Rattle.std.specs.Prelude.{OnOk, Result, Ok, Err, nat_lt}
@@ -12,26 +12,27 @@ use Rattle.std.specs.List.{flat_map, join_by}
 use Rattle.msg_core.specs.declared.message.Header.{Header}
 use Rattle.layer_mean.specs.Tree.{LayerTree}
 use Rattle.run_mean.specs.Text.{chain_text, header_text}
-use Rattle.report_lines.specs.Nones.{AreLaidOut, chained, ends_of, first_nones, none_of, nones, slashed}
+use Rattle.report_lines.specs.Nones.{AreLaidOut, slashed_headers, ends_of, first_nones, none_of, nones, slashed_header}
 
 no_fields : (fields : List ℕ) → length fields ≡ 0 → [] ≡ fields
 no_fields [] none = refl
 no_fields (f ∷ fields) none = absurd (omega arith)
 
--- one more header behind others
-chained_more : (stack : List LayerTree) (hs : List Header) (h : Header) → chained stack (hs ++ h ∷ []) ≡
-    chained stack hs ++ slashed stack h
+-- one more header after others
+chained_more : (stack : List LayerTree) (hs : List Header) (h : Header) → slashed_headers stack (hs ++ h ∷ []) ≡
+    slashed_headers stack hs ++ slashed_header stack h
 chained_more stack hs h =
-    flat_map-append (slashed stack) hs (h ∷ []) ∙ ap (λ last. chained stack hs ++ last) (append-nil (slashed stack h))
+    flat_map-append (slashed_header stack) hs (h ∷ []) ∙
+    ap (λ last. slashed_headers stack hs ++ last) (append-nil (slashed_header stack h))
 
 pub suc_is : (n : ℕ) → suc n ≡ n + 1
 suc_is n = omega arith
 
 pub first_more : (stack : List LayerTree) (n : ℕ) (text new : List ℕ) → text ≡ first_nones stack n →
-    new ≡ text ++ slashed stack (none_of n) → new ≡ first_nones stack (n + 1)
+    new ≡ text ++ slashed_header stack (none_of n) → new ≡ first_nones stack (n + 1)
 first_more stack n text new is put =
-    put ∙ ap (λ t. t ++ slashed stack (none_of n)) is
-    ∙ ap (λ place. first_nones stack n ++ slashed stack (none_of place)) (omega arith)
+    put ∙ ap (λ t. t ++ slashed_header stack (none_of n)) is
+    ∙ ap (λ place. first_nones stack n ++ slashed_header stack (none_of place)) (omega arith)
     ∙ sym (chained_more stack (nones 0 n) (none_of (0 + n)))
     ∙ ap (first_nones stack) (suc_is n)
 
@@ -43,14 +44,15 @@ plus_suc n m = omega arith
 
 -- the headers of the first places are those of fewer, and the others
 parted : (stack : List LayerTree) (first n : ℕ) → first_nones stack (first + n) ≡ first_nones stack first ++
-    chained stack (nones first n)
+    slashed_headers stack (nones first n)
 parted stack first zero = ap (first_nones stack) (plus_zero first) ∙ sym (append-nil (first_nones stack first))
 parted stack first (suc n) =
     ap (first_nones stack) (plus_suc first n)
     ∙ chained_more stack (nones 0 (first + n)) (none_of (0 + (first + n)))
-    ∙ ap (λ place. first_nones stack (first + n) ++ slashed stack (none_of place)) (omega arith)
-    ∙ ap (λ text. text ++ slashed stack (none_of (first + n))) (parted stack first n)
-    ∙ append_assoc (first_nones stack first) (chained stack (nones first n)) (slashed stack (none_of (first + n)))
+    ∙ ap (λ place. first_nones stack (first + n) ++ slashed_header stack (none_of place)) (omega arith)
+    ∙ ap (λ text. text ++ slashed_header stack (none_of (first + n))) (parted stack first n)
+    ∙ append_assoc (first_nones stack first) (slashed_headers stack (nones first n))
+    (slashed_header stack (none_of (first + n)))
     ∙ ap (λ text. first_nones stack first ++ text) (sym (chained_more stack (nones first n) (none_of (first + n))))
 
 ends_count : (stack : List LayerTree) (n : ℕ) → length (ends_of stack n) ≡ n + 1
@@ -109,7 +111,7 @@ begins s stack texts places k d same laid le =
 pub record Cut (stack : List LayerTree) (texts : List ℕ) (first n from to : ℕ) : Type 0 where
   pub ordered : from ≤ to
   pub inside : to ≤ length texts
-  pub is : take (to - from) (drop from texts) ≡ chained stack (nones first n)
+  pub is : take (to - from) (drop from texts) ≡ slashed_headers stack (nones first n)
 
 pub cut_parts : (a b c : List ℕ) → take (length (a ++ b) - length a) (drop (length a) ((a ++ b) ++ c)) ≡ b
 cut_parts a b c =
@@ -125,9 +127,9 @@ pub cut : (s stack : List LayerTree) (texts places : List ℕ) (first n from to 
     Cut stack texts first n from to
 cut s stack texts places first n from to same laid le begin is_to =
     let a = first_nones stack first in
-    let b = chained stack (nones first n) in
+    let b = slashed_headers stack (nones first n) in
     let rest = length stack - (first + n) in
-    let c = chained stack (nones (first + n) rest) in
+    let c = slashed_headers stack (nones (first + n) rest) in
     let count : length stack ≡ (first + n) + rest = omega (arith, le) in
     let whole : texts ≡ (a ++ b) ++ c =
     laid.0 ∙ ap (λ t. first_nones t (length t)) same ∙ ap (first_nones stack) count ∙ parted stack (first + n) rest
@@ -168,15 +170,17 @@ nones_next hs k first n before next =
     sym (append_assoc (nones first n) (none_of (first + n) ∷ []) (drop (k + n + 1) hs))
     ∙ (λ i. nones first (one i) ++ drop (behind i) hs)
 
--- behind headers that were put the others follow
+-- after headers that were put the others follow
 pub put_front : (stack : List LayerTree) (hs front rest : List Header) (line new : List ℕ) →
-    new ≡ line ++ chained stack front → hs ≡ front ++ rest →
-    new ++ chained stack rest ≡ line ++ chained stack hs
+    new ≡ line ++ slashed_headers stack front → hs ≡ front ++ rest →
+    new ++ slashed_headers stack rest ≡ line ++ slashed_headers stack hs
 put_front stack hs front rest line new put is =
-    ap (λ text. text ++ chained stack rest) put ∙ append_assoc line (chained stack front) (chained stack rest)
-    ∙ ap (λ text. line ++ text) (sym (flat_map-append (slashed stack) front rest) ∙ ap (chained stack) (sym is))
+    ap (λ text. text ++ slashed_headers stack rest) put ∙
+    append_assoc line (slashed_headers stack front) (slashed_headers stack rest)
+    ∙ ap (λ text. line ++ text)
+    (sym (flat_map-append (slashed_header stack) front rest) ∙ ap (slashed_headers stack) (sym is))
 
--- separators behind pieces are those between them, and a last one
+-- separators after pieces are those between them, and a last one
 behind : (f : Header → List ℕ) (sep : List ℕ) (hs : List Header) →
     sep ++ flat_map (λ h. f h ++ sep) hs ≡ flat_map (λ h. sep ++ f h) hs ++ sep
 behind f sep [] = append-nil sep
@@ -187,10 +191,11 @@ behind f sep (h ∷ hs) =
     ∙ ap (λ xs. (sep ++ f h) ++ xs) (behind f sep hs)
     ∙ sym (append_assoc (sep ++ f h) (flat_map (λ h. sep ++ f h) hs) sep)
 
-joined : (stack : List LayerTree) (hs : List Header) → hs ≢ [] → chained stack hs ≡ chain_text stack hs ++ 47 ∷ []
+joined : (stack : List LayerTree) (hs : List Header) → hs ≢ [] → slashed_headers stack hs ≡ chain_text stack hs ++ 47 ∷
+    []
 joined stack [] some = absurd (some refl)
 joined stack (h ∷ hs) some =
-    append_assoc (header_text stack h) (47 ∷ []) (chained stack hs)
+    append_assoc (header_text stack h) (47 ∷ []) (slashed_headers stack hs)
     ∙ ap (λ xs. header_text stack h ++ xs) (behind (header_text stack) (47 ∷ []) hs)
     ∙ sym (append_assoc (header_text stack h) (flat_map (λ h. 47 ∷ header_text stack h) hs) (47 ∷ []))
 
@@ -202,15 +207,17 @@ without_last xs x =
 some_headers : (hs : List Header) → length hs ≢ 0 → hs ≢ []
 some_headers hs some is = some (ap length is)
 
--- behind the last header none is left
+-- after the last header none is left
 pub none_left : (stack : List LayerTree) (hs : List Header) (k : ℕ) (line now : List ℕ) →
-    now ++ chained stack (drop k hs) ≡ line ++ chained stack hs → length hs ≤ k → now ≡ line ++ chained stack hs
+    now ++ slashed_headers stack (drop k hs) ≡ line ++ slashed_headers stack hs → length hs ≤ k →
+    now ≡ line ++ slashed_headers stack hs
 none_left stack hs k line now put past =
     let none = drop_of_length-le hs past in
-    sym (append-nil now) ∙ ap (λ rest. now ++ chained stack rest) (sym none) ∙ put
+    sym (append-nil now) ∙ ap (λ rest. now ++ slashed_headers stack rest) (sym none) ∙ put
 
 -- once all headers are put, the last separator goes
-pub all_put : (stack : List LayerTree) (hs : List Header) (line now new : List ℕ) → now ≡ line ++ chained stack hs →
+pub all_put : (stack : List LayerTree) (hs : List Header) (line now new : List ℕ) →
+    now ≡ line ++ slashed_headers stack hs →
     length hs ≢ 0 → new ≡ take (length now - 1) now → new ≡ line ++ chain_text stack hs
 all_put stack hs line now new put some last =
     let whole : now ≡ (line ++ chain_text stack hs) ++ 47 ∷ [] =
@@ -220,11 +227,12 @@ all_put stack hs line now new put some last =
 
 -- a header that was put with its separator
 pub one_put : (stack : List LayerTree) (hs : List Header) (k : ℕ) (h : Header) (line new : List ℕ) →
-    k < length hs → h ≡ get_or hs k h → new ≡ line ++ slashed stack h → new ++ chained stack (drop (k + 1) hs) ≡ line ++
-    chained stack (drop k hs)
+    k < length hs → h ≡ get_or hs k h → new ≡ line ++ slashed_header stack h →
+    new ++ slashed_headers stack (drop (k + 1) hs) ≡ line ++
+    slashed_headers stack (drop k hs)
 one_put stack hs k h line new within is put =
     put_front stack (drop k hs) (h ∷ []) (drop (k + 1) hs) line new
-    (put ∙ ap (λ text. line ++ text) (sym (append-nil (slashed stack h))))
+    (put ∙ ap (λ text. line ++ text) (sym (append-nil (slashed_header stack h))))
     (first_dropped hs k h within is)
 
 -- a text whose last byte is put together with the separator
@@ -243,7 +251,7 @@ one_field [] number one is = absurd (omega (arith, one))
 one_field (field ∷ []) number one is = ap decimal is ∙ sym (append-nil (decimal field))
 one_field (field ∷ next ∷ fields) number one is = absurd (omega (arith, one))
 
--- one number with what stands behind it
+-- one number with what stands after it
 pub one_closed : {E : Type 0} (r : Result (Unit {0}) E) (line fields new : List ℕ) (number : ℕ) → length fields ≡ 1 →
     number ≡ get_or fields 0 0 → OnOk r (new ≡ line ++ decimal number ++ 41 ∷ 47 ∷ []) →
     OnOk r (new ≡ line ++ join_by decimal (44 ∷ []) fields ++ 41 ∷ 47 ∷ [])

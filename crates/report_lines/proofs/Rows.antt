@@ -21,7 +21,7 @@ join_map : {X : Type 0} (f : X → List ℕ) (sep : List ℕ) (xs : List X) → 
 join_map f sep [] = refl
 join_map f sep (x ∷ xs) = ap (λ rest. f x ++ rest) (behind_map f sep xs)
 
--- a text that was put behind a line is the same in other words
+-- a text that was put after a line is the same in other words
 pub in_other_words : {E : Type 0} (r : Result (Unit {0}) E) (line new a b : List ℕ) → a ≡ b → OnOk r (new ≡ line ++ a) →
     OnOk r (new ≡ line ++ b)
 in_other_words (Ok done) line new a b same put = put ∙ ap (λ text. line ++ text) same

@@ -14,12 +14,12 @@ abbrev pub delivery_text : Delivery → List ℕ
 delivery_text Cast = codes "cast"
 delivery_text Send = codes "send"
 
--- What stands in front of the body in the line of a delivery.
+-- What stands before the body in the line of a delivery.
 abbrev pub delivery_front : ℕ → (word : List ℕ) → ℕ → List ℕ
 delivery_front id word peer = codes "deliver " ++ decimal id ++ codes " " ++ word ++ codes " " ++ decimal peer ++
     codes " "
 
--- What stands behind a packet's number: the member whose it is, and whom it is for.
+-- What stands after a packet's number: the member whose it is, and whom it is for.
 abbrev pub address_text : ℕ → (dest : List ℕ) → List ℕ
 address_text id dest = codes " " ++ decimal id ++ codes " " ++ dest ++ codes " "
 

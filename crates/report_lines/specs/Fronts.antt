@@ -1,4 +1,4 @@
--- The texts in front of the numbers of declared headers, one behind the other.
+-- The texts before the numbers of declared headers, one after the other.
 use Rattle.std.specs.Prelude.{◌≡◌, ℕ, zero, suc, ◌+◌, ◌<◌, List, [], ◌∷◌, ◌++◌, length, nat_lt, if◌then◌else◌}
 use Rattle.std.specs.Prelude.{slice_index_or, Option, Some, None}
 use Rattle.std.specs.List.{flat_map}
@@ -13,9 +13,9 @@ abbrev pub header_of : (place tag : ℕ) → Header
 header_of place tag = record { layer = place; tag = tag; fields = [] }
 
 -- Those with the tags from 1 to n.
-abbrev pub tagged : (place n : ℕ) → List Header
-tagged place zero = []
-tagged place (suc n) = tagged place n ++ header_of place (suc n) ∷ []
+abbrev pub headers_to_tag : (place n : ℕ) → List Header
+headers_to_tag place zero = []
+headers_to_tag place (suc n) = headers_to_tag place n ++ header_of place (suc n) ∷ []
 
 -- How many headers of a place are laid out: all that have a tag of eight bits.
 abbrev pub tags_at : List LayerTree → ℕ → ℕ
@@ -23,17 +23,17 @@ tags_at stack place =
     if nat_lt (length (layer_number stack place).headers) 255 then length (layer_number stack place).headers else 255
 
 abbrev pub headers_at : List LayerTree → ℕ → List Header
-headers_at stack place = tagged place (tags_at stack place)
+headers_at stack place = headers_to_tag place (tags_at stack place)
 
 -- The places below n, and the headers of these.
 abbrev pub below : ℕ → List ℕ
 below zero = []
 below (suc n) = below n ++ n ∷ []
 
-abbrev pub declared : List LayerTree → ℕ → List Header
-declared stack n = flat_map (headers_at stack) (below n)
+abbrev pub declared_headers : List LayerTree → ℕ → List Header
+declared_headers stack n = flat_map (headers_at stack) (below n)
 
--- Where each of these pieces begins that lie one behind the other from here on, and where the last one ends.
+-- Where each of these pieces begins that lie one after the other from here on, and where the last one ends.
 abbrev pub ends_from : {X Y : Type 0} → (X → List Y) → ℕ → List X → List ℕ
 ends_from f from [] = from ∷ []
 ends_from f from (x ∷ xs) = from ∷ ends_from f (from + length (f x)) xs
@@ -43,7 +43,7 @@ abbrev pub AreFronts : List LayerTree → List Header → (texts begins : List �
 AreFronts stack hs texts begins = (texts ≡ flat_map (header_front stack) hs) ×
     (begins ≡ ends_from (header_front stack) 0 hs)
 
--- More headers are laid out behind any others.
+-- More headers are laid out after any others.
 abbrev pub AddFronts : List LayerTree → List Header → (texts begins new_texts new_begins : List ℕ) → Type 0
 AddFronts stack more texts begins new_texts new_begins =
     (hs : List Header) → AreFronts stack hs texts begins → AreFronts stack (hs ++ more) new_texts new_begins
@@ -52,9 +52,9 @@ AddFronts stack more texts begins new_texts new_begins =
 -- that of all.
 abbrev pub AreAllFronts : List LayerTree → ℕ → (texts begins firsts : List ℕ) → Type 0
 AreAllFronts stack n texts begins firsts =
-    AreFronts stack (declared stack n) texts begins × (firsts ≡ ends_from (headers_at stack) 0 (below n))
+    AreFronts stack (declared_headers stack n) texts begins × (firsts ≡ ends_from (headers_at stack) 0 (below n))
 
--- The text in front of the numbers of a header with a tag, where it was laid out.
+-- The text before the numbers of a header with a tag, where it was laid out.
 abbrev pub IsFront : List LayerTree → (place tag : ℕ) → Option (Bor (List ℕ)) → Type 0
 IsFront stack place tag None = Unit {0}
 IsFront stack place tag (Some text) = text.now ≡ header_front stack (header_of place tag)
@@ -63,5 +63,5 @@ IsFront stack place tag (Some text) = text.now ≡ header_front stack (header_of
 abbrev pub IsNumber : List LayerTree → (place tag : ℕ) → Option ℕ → Type 0
 IsNumber stack place tag None = Unit {0}
 IsNumber stack place tag (Some number) =
-    (number < length (declared stack (length stack)))
-    × (slice_index_or (declared stack (length stack)) number (header_of 0 0) ≡ header_of place tag)
+    (number < length (declared_headers stack (length stack)))
+    × (slice_index_or (declared_headers stack (length stack)) number (header_of 0 0) ≡ header_of place tag)

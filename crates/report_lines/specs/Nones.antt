@@ -1,4 +1,4 @@
--- Headers with the separator behind them, and the headers `none` of adjacent places.
+-- Headers with the separator after them, and the headers `none` of adjacent places.
 use Rattle.std.specs.Prelude.{◌≡◌, ℕ, zero, suc, ◌+◌, List, [], ◌∷◌, ◌++◌, length, codes}
 use Rattle.std.specs.List.{flat_map}
 use Rattle.msg_core.specs.declared.message.Header.{Header}
@@ -14,22 +14,22 @@ abbrev pub nones : (first n : ℕ) → List Header
 nones first zero = []
 nones first (suc n) = nones first n ++ none_of (first + n) ∷ []
 
--- What stands in front of a header's numbers: LAYER.HEADER(
+-- What stands before a header's numbers: LAYER.HEADER(
 abbrev pub header_front : List LayerTree → Header → List ℕ
 header_front stack h =
     (layer_number stack h.layer).name ++ codes "." ++ header_name (layer_number stack h.layer) h.tag ++ codes "("
 
--- A header, and `/` behind it.
-abbrev pub slashed : List LayerTree → Header → List ℕ
-slashed stack header = header_text stack header ++ 47 ∷ []
+-- A header, and `/` after it.
+abbrev pub slashed_header : List LayerTree → Header → List ℕ
+slashed_header stack header = header_text stack header ++ 47 ∷ []
 
--- Headers, each with `/` behind it.
-abbrev pub chained : List LayerTree → List Header → List ℕ
-chained stack = flat_map (slashed stack)
+-- Headers, each with `/` after it.
+abbrev pub slashed_headers : List LayerTree → List Header → List ℕ
+slashed_headers stack = flat_map (slashed_header stack)
 
 -- The headers `none` of the first n places.
 abbrev pub first_nones : List LayerTree → ℕ → List ℕ
-first_nones stack n = chained stack (nones 0 n)
+first_nones stack n = slashed_headers stack (nones 0 n)
 
 -- Where each of them begins, and where the last one ends.
 abbrev pub ends_of : List LayerTree → ℕ → List ℕ

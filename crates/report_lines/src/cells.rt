@@ -13,7 +13,7 @@ use crate::line::Line;
 use crate::named::NamedStack;
 use msg_core::{Fields, Headers, Memory};
 
-/// Appends `cell M P LAYER.CELL`: a cell of the layer at place P of member M. What it holds stands behind a space.
+/// Appends `cell M P LAYER.CELL`: a cell of the layer at place P of member M. What it holds stands after a space.
 pub fn push_cell(
     line: &mut Line,
     id: u8,
@@ -49,7 +49,8 @@ fn push_message(
     body: &[u8],
 ) -> Result<(), Memory>
     ensures { OnOk result
-        (line.new ≡ line.old ++ message_text (stack_tree stack.now) (record { headers = headers.now; body = body.now })) }
+        (line.new ≡ line.old ++
+        message_text (stack_tree stack.now) (record { headers = headers.now; body = body.now })) }
 {
     push_chain(line, stack, headers)?;
     line.text(b":")?;
@@ -77,7 +78,7 @@ pub fn push_numbers_row(
     push_in_brackets(line, numbers)
 }
 
-/// Appends numbers in brackets, and a message behind them.
+/// Appends numbers in brackets, and a message after them.
 fn push_with_message(
     line: &mut Line,
     stack: &NamedStack,

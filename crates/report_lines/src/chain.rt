@@ -8,14 +8,14 @@ ghost use Rattle.std.specs.Fmt.{decimal};
 ghost use Rattle.event_graph.specs.Answer.{stack_tree};
 ghost use Rattle.run_mean.specs.Text.{chain_text};
 ghost use Rattle.report_lines.specs.Lead.{lead};
-ghost use Rattle.report_lines.specs.Nones.{chained, header_front, none_of, nones, slashed};
+ghost use Rattle.report_lines.specs.Nones.{slashed_headers, header_front, none_of, nones, slashed_header};
 
 use crate::line::Line;
 use crate::named::NamedStack;
 use crate::names;
 use msg_core::{Fields, Header, Headers, Memory};
 
-/// The separator that stands in front of piece `k`.
+/// The separator that stands before piece `k`.
 #[tactic(auto, using(crate::proofs::Joined::lead_later))]
 pub fn push_lead(line: &mut Line, separator: &[u8], k: u32) -> Result<(), Memory>
     ensures { OnOk result (line.new ≡ line.old ++ lead separator.now k) }
@@ -58,7 +58,7 @@ fn is_none_of(headers: &[Header], k: usize, place: u8) -> bool
     is_none(header)
 }
 
-/// How many headers from number `k` on are `none`, of one place behind the other from `first` on: that one, and at most
+/// How many headers from number `k` on are `none`, of one place after the other from `first` on: that one, and at most
 /// so many.
 fn count_nones(headers: &[Header], k: usize, first: u8, most: u8) -> u8
     requires few { (k ≤ most_headers) × (0 < most) × (first + most < 2 ^ 8) }
@@ -97,13 +97,13 @@ fn push_closed(line: &mut Line, fields: &Fields) -> Result<(), Memory>
 
 /// `LAYER.HEADER(F,F)/`
 fn push_header(line: &mut Line, stack: &NamedStack, header: &Header) -> Result<(), Memory>
-    ensures { OnOk result (line.new ≡ line.old ++ slashed (stack_tree stack.now) header.now) }
+    ensures { OnOk result (line.new ≡ line.old ++ slashed_header (stack_tree stack.now) header.now) }
 {
     push_front(line, stack, header)?;
     push_closed(line, &header.fields)
 }
 
-/// Appends the headers `none` of adjacent places from number `k` on, each with `/` behind it, and answers how many
+/// Appends the headers `none` of adjacent places from number `k` on, each with `/` after it, and answers how many
 /// these are.
 fn push_nones(
     line: &mut Line,
@@ -115,15 +115,15 @@ fn push_nones(
     requires few { (k ≤ most_headers) × (first < length (stack_tree stack.now)) }
     requires first { drop k headers.now ≡ none_of first ∷ drop (k + 1) headers.now }
     ensures { IfOk result
-        (λ count. (0 < count) × (line.new ++ chained (stack_tree stack.now) (drop (k + count) headers.now)
-        ≡ line.old ++ chained (stack_tree stack.now) (drop k headers.now))) }
+        (λ count. (0 < count) × (line.new ++ slashed_headers (stack_tree stack.now) (drop (k + count) headers.now)
+        ≡ line.old ++ slashed_headers (stack_tree stack.now) (drop k headers.now))) }
 {
     let count = count_nones(headers, k, first, stack.places() - first);
     line.text(stack.nones(first, count))?;
     Ok(count)
 }
 
-/// Appends the header number `k`, and those behind it that go in one piece with it, each with `/` behind it, and
+/// Appends the header number `k`, and those after it that go in one piece with it, each with `/` after it, and
 /// answers how many these are: those that are `none` of adjacent places, or else one.
 fn push_from(
     line: &mut Line,
@@ -135,8 +135,8 @@ fn push_from(
     requires few { k ≤ most_headers }
     requires header { (k < length headers.now) × (header.now ≡ slice_index_or headers.now k header.now) }
     ensures { IfOk result
-        (λ count. (0 < count) × (line.new ++ chained (stack_tree stack.now) (drop (k + count) headers.now)
-        ≡ line.old ++ chained (stack_tree stack.now) (drop k headers.now))) }
+        (λ count. (0 < count) × (line.new ++ slashed_headers (stack_tree stack.now) (drop (k + count) headers.now)
+        ≡ line.old ++ slashed_headers (stack_tree stack.now) (drop k headers.now))) }
 {
     if header.layer < stack.places() {
         if is_none(header) {
@@ -147,10 +147,10 @@ fn push_from(
     Ok(1)
 }
 
-/// Appends all of some headers, each with `/` behind it.
+/// Appends all of some headers, each with `/` after it.
 fn push_all(line: &mut Line, stack: &NamedStack, headers: &[Header]) -> Result<(), Memory>
     requires { length headers.now ≤ most_headers }
-    ensures { OnOk result (line.new ≡ line.old ++ chained (stack_tree stack.now) headers.now) }
+    ensures { OnOk result (line.new ≡ line.old ++ slashed_headers (stack_tree stack.now) headers.now) }
 {
     let mut k = 0;
     while k < headers.len() {

@@ -1,4 +1,4 @@
-//! The texts in front of the numbers of declared headers.
+//! The texts before the numbers of declared headers.
 
 ghost use Rattle.std.specs.Prelude.{◌≡◌, ◌+◌, ◌<◌, ◌∷◌, [], IfOk, OnOk, length};
 ghost use Rattle.event_graph.specs.Answer.{stack_tree};
@@ -10,8 +10,8 @@ use event_graph::Stack;
 use msg_core::{Fields, Header, Memory};
 use std::alloc::Global;
 
-/// The texts `LAYER.HEADER(` of the declared headers of a stack, one behind the other: where each begins, and where the
-/// last one ends. Of each place the number of its first header, and behind the last one that of all.
+/// The texts `LAYER.HEADER(` of the declared headers of a stack, one after the other: where each begins, and where the
+/// last one ends. Of each place the number of its first header, and after the last one that of all.
 #[derive(Drop)]
 pub(crate) struct Fronts {
     pub(crate) texts: Line,
@@ -62,7 +62,8 @@ impl Fronts {
         requires { place < length (stack_tree stack.now) }
         ensures { OnOk result (
             AreAllFronts (stack_tree stack.now) place self.old.texts self.old.begins.items self.old.firsts.items →
-            AreAllFronts (stack_tree stack.now) (place + 1) self.new.texts self.new.begins.items self.new.firsts.items) }
+            AreAllFronts (stack_tree stack.now) (place + 1) self.new.texts self.new.begins.items
+            self.new.firsts.items) }
     {
         for number in 0..tags_of(stack, place) {
             let header = Header {

@@ -67,7 +67,7 @@ fn push_event(line: &mut Line, event: &ScriptEvent) -> Result<(), Memory>
     }
 }
 
-/// `> EVENT`: the line of an event of a script, behind a sign and a space.
+/// `> EVENT`: the line of an event of a script, after a sign and a space.
 pub fn journal_line(line: &mut Line, event: &ScriptEvent) -> Result<(), Memory>
     ensures { OnOk result (line.new ≡ line.old ++ report.line (codes ">" ∷ event_text event.now ∷ [])) }
 {

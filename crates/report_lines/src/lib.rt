@@ -1,4 +1,4 @@
-//! The lines of a report, each put behind what a line holds: what is delivered, announced and sent, views, refusals,
+//! The lines of a report, each put after what a line holds: what is delivered, announced and sent, views, refusals,
 //! headers by name, and what cells hold; and those that a node's journal has besides.
 #![tactic(auto)]
 

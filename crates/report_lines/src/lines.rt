@@ -22,7 +22,7 @@ pub enum Delivery {
     Send,
 }
 
-/// Appends a word, and a number of 32 bits behind a space.
+/// Appends a word, and a number of 32 bits after a space.
 pub(crate) fn push_word(line: &mut Line, word: &[u8], id: u8) -> Result<(), Memory>
     ensures { OnOk result (line.new ≡ line.old ++ word.now ++ codes " " ++ decimal id) }
 {

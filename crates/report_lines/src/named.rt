@@ -5,8 +5,8 @@ ghost use Rattle.std.specs.Rc.{rc_value};
 ghost use Rattle.layer_mean.specs.Tree.{no_layer};
 ghost use Rattle.typed_layer.specs.View.{layer_tree};
 ghost use Rattle.event_graph.specs.Answer.{stack_tree};
-ghost use Rattle.report_lines.specs.Fronts.{IsFront, IsNumber, declared, header_of};
-ghost use Rattle.report_lines.specs.Nones.{chained, first_nones, header_front, none_of, nones, slashed};
+ghost use Rattle.report_lines.specs.Fronts.{IsFront, IsNumber, declared_headers, header_of};
+ghost use Rattle.report_lines.specs.Nones.{slashed_headers, first_nones, header_front, none_of, nones, slashed_header};
 
 use crate::fronts::Fronts;
 use event_graph::Stack;
@@ -16,8 +16,8 @@ use std::marker::Model;
 use std::rc::Rc;
 use typed_layer::TypedLayer;
 
-/// A stack, which contracts see, and the texts `LAYER.none()/` of its layers one behind the other: where each begins,
-/// and where the last one ends. Those in front of the numbers of its declared headers are laid out in the same way.
+/// A stack, which contracts see, and the texts `LAYER.none()/` of its layers one after the other: where each begins,
+/// and where the last one ends. Those before the numbers of its declared headers are laid out in the same way.
 #[derive(Drop)]
 pub struct NamedStack {
     stack: Rc<Stack>,
@@ -51,7 +51,7 @@ impl Model for NamedStack {
 /// Appends `LAYER.none()/`.
 fn push_none(texts: &mut Vec<u8>, stack: &Stack, place: u8) -> Result<(), Memory>
     requires { place < length (stack_tree stack.now) }
-    ensures { OnOk result (texts.new.items ≡ texts.old.items ++ slashed (stack_tree stack.now) (none_of place)) }
+    ensures { OnOk result (texts.new.items ≡ texts.old.items ++ slashed_header (stack_tree stack.now) (none_of place)) }
 {
     texts.extend_from_slice(stack.layer(place).name.bytes())?;
     texts.extend_from_slice(b".none()/")?;
@@ -110,7 +110,7 @@ impl NamedStack {
         self.stack.layer(place)
     }
 
-    /// Where the text of a place begins, and behind the last one where it ends.
+    /// Where the text of a place begins, and after the last one where it ends.
     fn begin(&self, place: u8) -> usize
         requires { place ≤ length (stack_tree self.now) }
         ensures { result ≡ length (first_nones (stack_tree self.now) place) }
@@ -138,11 +138,12 @@ impl NamedStack {
         }
     }
 
-    /// The text in front of the numbers of the header with this number among those that are laid out.
+    /// The text before the numbers of the header with this number among those that are laid out.
     fn front_numbered(&self, number: usize) -> &[u8]
-        requires { number < length (declared (stack_tree self.now) (length (stack_tree self.now))) }
+        requires { number < length (declared_headers (stack_tree self.now) (length (stack_tree self.now))) }
         ensures { result.now ≡ header_front (stack_tree self.now)
-            (slice_index_or (declared (stack_tree self.now) (length (stack_tree self.now))) number (header_of 0 0)) }
+            (slice_index_or (declared_headers (stack_tree self.now) (length (stack_tree self.now))) number
+            (header_of 0 0)) }
     {
         let (from, to) = (self.fronts.begins[number], self.fronts.begins[number + 1]);
         part(self.fronts.texts.slice(), from, to)
@@ -158,10 +159,10 @@ impl NamedStack {
         }
     }
 
-    /// The headers `none` of so many places from `first` on, each with `/` behind it.
+    /// The headers `none` of so many places from `first` on, each with `/` after it.
     pub(crate) fn nones(&self, first: u8, count: u8) -> &[u8]
         requires { first + count ≤ length (stack_tree self.now) }
-        ensures { result.now ≡ chained (stack_tree self.now) (nones first count) }
+        ensures { result.now ≡ slashed_headers (stack_tree self.now) (nones first count) }
     {
         let (from, to) = (self.begin(first), self.begin(first + count));
         part(self.texts.as_slice(), from, to)

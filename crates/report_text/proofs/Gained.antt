@@ -31,7 +31,8 @@ use Rattle.view_core.specs.declared.step.Change.TheVariants as change
 use Rattle.view_core.specs.declared.step.Did as code
 use Rattle.view_core.specs.declared.step.Did.TheVariants as did
 use Rattle.view_core.specs.declared.step.Stepped.TheVariants.{Taken, Refused}
-use Rattle.report_text.specs.Counts.{change_counted, counted, counts_of, lines_counted, output_counted, tally_lines}
+use Rattle.report_text.specs.Counts.{change_counted, with_event_counted, counts_of, lines_counted, output_counted}
+use Rattle.report_text.specs.Counts.{tally_lines}
 use Rattle.report_text.specs.Told.{change_lines, told_lines}
 use Rattle.report_text.specs.declared.counts.Counts.{Counts}
 use Rattle.report_text.proofs.Moments.{told_is_moment}
@@ -259,7 +260,8 @@ event_gained c lines short = same_counts _ _ refl refl refl refl refl refl refl 
 
 told_gained : (c : Counts) (stack : List LayerTree) (plans : List Plan) (event : ScriptEvent) (d : code.Did)
     (outs : List (Output × Option ℕ))
-    (shown : Member) (first : ℕ) → counted c d outs ≡ gained c (told_lines stack plans false event d outs shown first)
+    (shown : Member) (first : ℕ) → with_event_counted c d outs ≡
+    gained c (told_lines stack plans false event d outs shown first)
     (short_told d outs) 1
 told_gained c stack plans event d outs shown first =
     lines_gained (record c { events = c.events + 1 }) stack plans event d outs shown first
@@ -311,7 +313,7 @@ counts_gained mode stack plans run m =
 pub counted_moment : (mode : Mode) (stack : List LayerTree) (plans : List Plan) (run : List Moment) (m : Moment)
     (outs : List (Output × Option ℕ))
     (before after : ℕ) (d : code.Did) → DidIs mode stack plans m.happening.did outs before after d →
-    counted (counts_of mode stack plans run) d outs ≡ counts_of mode stack plans (run ++ m ∷ [])
+    with_event_counted (counts_of mode stack plans run) d outs ≡ counts_of mode stack plans (run ++ m ∷ [])
 counted_moment mode stack plans run m outs before after d is =
     let shown = member_at m.before (member_of m.event) in
     told_gained (counts_of mode stack plans run) stack plans m.event d outs shown (first_number m)

@@ -14,7 +14,7 @@ use Rattle.run_mean.specs.World.{member_at}
 use Rattle.script_mean.specs.Event.{member_of}
 use Rattle.stack_mean.specs.Plan.{Plan}
 use Rattle.view_core.specs.Happenings.{DidIs}
-use Rattle.view_core.specs.Steps.{changed}
+use Rattle.view_core.specs.Steps.{installed_change}
 use Rattle.view_core.specs.declared.step.Change.{Change}
 use Rattle.view_core.specs.declared.step.Did as code
 use Rattle.view_core.specs.declared.step.Did.TheVariants as did
@@ -22,13 +22,13 @@ use Rattle.view_core.specs.declared.step.Stepped.TheVariants.{Taken, Refused}
 use Rattle.report_text.specs.Told.{annex_of, change_lines, taken_lines, told_lines}
 
 -- the line of where a member is then
-pub changes_told : (id : ℕ) (installs : Option Member) → change_lines id (changed installs) ≡
+pub changes_told : (id : ℕ) (installs : Option Member) → change_lines id (installed_change installs) ≡
     map (installed_line id) (option_to_list installs)
 changes_told id None = refl
 changes_told id (Some (inside view states)) = refl
 changes_told id (Some out) = refl
 
--- where nothing stands behind outputs, their plans make no difference
+-- where nothing stands after outputs, their plans make no difference
 plain_lines : (stack : List LayerTree) (plans : List Plan) (a b : Option ℕ) (id first : ℕ) (outputs : List Output) →
     lines_of_outputs stack no_annex id first (with_plans plans a outputs) ≡
     lines_of_outputs stack no_annex id first (with_plans plans b outputs)
@@ -45,7 +45,7 @@ outputs_told mode stack plans true id first s = refl
 
 taken_told : (mode : Mode) (stack : List LayerTree) (plans : List Plan) (wire : Bool) (id first : ℕ) (s : Step)
     (outs : List (Output × Option ℕ))
-    (change : Option Change) → outs ≡ as_sent mode stack plans s → change ≡ changed s.installs →
+    (change : Option Change) → outs ≡ as_sent mode stack plans s → change ≡ installed_change s.installs →
     taken_lines stack (annex_of wire plans) id first outs change
     ≡ step_lines stack plans (mode_if wire mode) id first s ++ map (installed_line id) (option_to_list s.installs)
 taken_told mode stack plans wire id first s outs change outs_are change_is =

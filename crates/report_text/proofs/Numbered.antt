@@ -1,4 +1,4 @@
--- The lines of outputs, one output behind the other.
+-- The lines of outputs, one output after the other.
 use Rattle.std.proofs.Common.{◌≡◌, ℕ, ◌+◌, ◌<◌, List, [], ◌∷◌, ◌++◌, length, take, drop, refl, sym, ap, ◌∙◌}
 use Rattle.std.proofs.Common.{append_assoc, append-nil, Option, Some}
 use Rattle.std.proofs.lemmas.List.{take_more, take-append-drop}

@@ -12,7 +12,7 @@ use Rattle.run_mean.specs.Report.{end_line}
 use Rattle.report_text.specs.Counts.{count_text, kinds_line, output_counted}
 use Rattle.report_text.specs.declared.counts.Counts.{Counts}
 
--- a count in front of a text
+-- a count before a text
 count_then : (word : List ℕ) (n : ℕ) (rest : List ℕ) → count_text word n ++ rest ≡ word ++
     (codes " " ++ (decimal n ++ (codes " " ++ rest)))
 unfolding count_text
@@ -22,7 +22,7 @@ ten_parts : (a b c d e f g h i j : List ℕ) →
     a ++ b ++ c ++ d ++ e ++ f ++ g ++ h ++ i ++ j ≡ a ++ (b ++ (c ++ (d ++ (e ++ (f ++ (g ++ (h ++ (i ++ j))))))))
 ten_parts a b c d e f g h i j = simp append_assoc
 
--- a count in front of the text of a line
+-- a count before the text of a line
 four_parts : (a b c d e f : List ℕ) → a ++ (b ++ (c ++ (d ++ (e ++ f)))) ≡ (a ++ (b ++ (c ++ (d ++ e)))) ++ f
 four_parts a b c d e f = sym (simp append_assoc)
 

@@ -16,7 +16,7 @@ abbrev pub queue_named : (is_array : Bool) → List ℕ → ℕ → List ℕ
 queue_named false name i = name
 queue_named true name i = queue_name name i
 
--- What stands behind the name of a queue's cell.
+-- What stands after the name of a queue's cell.
 abbrev pub index_if : (is_array : Bool) → ℕ → List ℕ
 index_if false i = []
 index_if true i = index_text i

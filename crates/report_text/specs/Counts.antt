@@ -45,7 +45,7 @@ output_counted c (nowhere, plan) = c
 output_counted c (timer a, plan) = record c { timer = c.timer + 1 }
 output_counted c (quiet dir event, plan) = c
 
--- One more line of where a member is behind a step.
+-- One more line of where a member is after a step.
 abbrev pub change_counted : Counts → Option Change → Counts
 change_counted c None = c
 change_counted c (Some (change.Into view)) = record c { view = c.view + 1 }
@@ -63,8 +63,8 @@ lines_counted c did.Absent outs = record c { absent = c.absent + 1 }
 lines_counted c did.Shown outs = c
 
 -- An event with its lines.
-abbrev pub counted : Counts → Did → List (Output × Option ℕ) → Counts
-counted c did outs = lines_counted (record c { events = c.events + 1 }) did outs
+abbrev pub with_event_counted : Counts → Did → List (Output × Option ℕ) → Counts
+with_event_counted c did outs = lines_counted (record c { events = c.events + 1 }) did outs
 
 -- All that is counted but the events.
 abbrev pub total : Counts → ℕ
@@ -86,7 +86,7 @@ counts_of mode stack plans run = let lines = flat_map (moment_lines stack plans 
   events = length run;
 }
 
--- `WORD N ` with a space behind it.
+-- `WORD N ` with a space after it.
 unfoldable pub count_text : List ℕ → ℕ → List ℕ
 count_text word n = word ++ codes " " ++ decimal n ++ codes " "
 

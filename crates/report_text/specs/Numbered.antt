@@ -3,7 +3,7 @@ use Rattle.std.specs.Prelude.{ℕ, Bool, true, false, List, [], ◌∷◌, Optio
 use Rattle.run_mean.specs.Member.{Output}
 use Rattle.run_mean.specs.Report.{number_behind}
 
--- The number of the next packet behind outputs.
+-- The number of the next packet after outputs.
 abbrev pub number_after : ℕ → List (Output × Option ℕ) → ℕ
 number_after k [] = k
 number_after k (o ∷ outs) = number_after (number_behind k o.0) outs

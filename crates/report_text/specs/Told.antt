@@ -15,12 +15,12 @@ use Rattle.view_core.specs.declared.step.Did.TheVariants as did
 use Rattle.view_core.specs.declared.step.Stepped.{Stepped}
 use Rattle.view_core.specs.declared.step.Stepped.TheVariants.{Taken, Refused}
 
--- What stands behind the line of an output: a packet's bytes as they are sent, where they are wanted.
+-- What stands after the line of an output: a packet's bytes as they are sent, where they are wanted.
 abbrev pub annex_of : Bool → List Plan → Annex
 annex_of false plans = no_annex
 annex_of true plans = wire_annex plans
 
--- The line of where a member is behind a step that installed something.
+-- The line of where a member is after a step that installed something.
 abbrev pub change_line : ℕ → Change → List ℕ
 change_line id (change.Into view) = view_line (codes "view") id view
 change_line id change.Out = out_line id

@@ -115,7 +115,8 @@ fn push_rows<S: Shows>(
     queue: u32,
 ) -> Result<(), Memory>
     ensures { OnOk result (line.new ≡ line.old
-        ++ rows_text (stack_tree stack.now) (rows_at (state_at (S.group group.now) spot.id spot.place) spot.cell queue)) }
+        ++ rows_text (stack_tree stack.now)
+        (rows_at (state_at (S.group group.now) spot.id spot.place) spot.cell queue)) }
 {
     let count = group.rows(spot, queue);
     if count == 0 {

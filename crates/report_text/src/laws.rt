@@ -13,7 +13,7 @@ ghost use Rattle.stack_mean.specs.Plan.{Plan};
 ghost use Rattle.view_core.specs.Happenings.{DidIs};
 ghost use Rattle.view_core.specs.declared.step.Did as code;
 ghost use Rattle.view_core.specs.declared.step.Did.TheVariants as did;
-ghost use Rattle.report_text.specs.Counts.{counted, counts_of, tally_lines};
+ghost use Rattle.report_text.specs.Counts.{with_event_counted, counts_of, tally_lines};
 ghost use Rattle.report_text.specs.Told.{told_lines};
 
 /// What is told of a moment in a mode, from what the code has of it, are its lines.
@@ -31,7 +31,7 @@ pub fn counted_with_the_moment()
     ensures { (mode : Mode) → (stack : List LayerTree) → (plans : List Plan) → (run : List Moment) → (m : Moment) →
         (outs : List (Output × Option ℕ)) → (before : ℕ) → (after : ℕ) → (d : code.Did) →
         DidIs mode stack plans m.happening.did outs before after d →
-        counted (counts_of mode stack plans run) d outs ≡ counts_of mode stack plans (run ++ m ∷ []) }
+        with_event_counted (counts_of mode stack plans run) d outs ≡ counts_of mode stack plans (run ++ m ∷ []) }
 {}
 
 /// The counts of a run are told in the two lines that stand in place of its report.

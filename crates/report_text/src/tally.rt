@@ -6,7 +6,7 @@ ghost use Rattle.run_mean.specs.Report.{end_line};
 ghost use Rattle.outside.specs.Lines.{Wrote};
 ghost use Rattle.outside.specs.Tells.{tells_of};
 ghost use Rattle.step_outputs.specs.Views.{output_meant};
-ghost use Rattle.report_text.specs.Counts.{change_counted, counted, kinds_line, lines_counted, no_counts};
+ghost use Rattle.report_text.specs.Counts.{change_counted, with_event_counted, kinds_line, lines_counted, no_counts};
 ghost use Rattle.report_text.specs.Counts.{output_counted, short_line, step_counted, tally_lines, total, count_text};
 
 use crate::counts::Counts;
@@ -71,7 +71,7 @@ impl Tally {
     pub fn count_event(&mut self, did: Did, outputs: &Outputs)
         requires events { self.old.events < 2 ^ 32 }
         requires few { length outputs.now.outputs ≤ 65536 }
-        ensures { self.new ≡ counted self.old did outputs.now.outputs }
+        ensures { self.new ≡ with_event_counted self.old did outputs.now.outputs }
     {
         self.counts.events += 1;
         count_did(&mut self.counts, did, outputs);

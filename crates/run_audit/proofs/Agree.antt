@@ -10,7 +10,7 @@ use Rattle.audit_mean.specs.Clash.{Lists, of_each_peer, whole, Placed, same_sour
 use Rattle.audit_mean.specs.Clash.{lines_at}
 use Rattle.run_audit.specs.Entries.{entry_shown}
 use Rattle.run_audit.specs.Places.{placed_shown, source_of}
-use Rattle.run_audit.specs.Clashes.{view_of, place_key, same_view, same_place_key, disagrees, joined, IsInOrder}
+use Rattle.run_audit.specs.Clashes.{view_of, place_key, same_view, same_place_key, disagrees, seen_with, IsInOrder}
 use Rattle.run_audit.specs.declared.segments.Entry as code
 use Rattle.run_audit.specs.declared.places.Placed as coded
 use Rattle.run_audit.specs.declared.clashes.PlaceKey.{PlaceKey}
@@ -144,7 +144,7 @@ one_key a b e =
 -- at the place of one more delivery that doesn't disagree
 seen_more : (seen : Option Seen) (x : code.Entry) (e : Entry) → disagrees seen (entry_shown x) ≡ false →
     (disagrees seen e || (not (x.member == e.member) && not (same_content (entry_shown x) e))) ≡
-    disagrees (Some (joined seen x)) e
+    disagrees (Some (seen_with seen x)) e
 seen_more None x e agrees = refl
 seen_more (Some s) x e agrees =
     either s.more_members s.more_contents (s.first.member == x.member) (s.first.member == e.member)
@@ -157,7 +157,8 @@ seen_more (Some s) x e agrees =
 pub agrees_on : (lists : Lists) (f g : PlaceKey → Option Seen) (all : List Placed) (x : coded.Placed) →
     Agreed lists f all → disagrees (f (place_key lists (placed_shown x))) (entry_shown x.entry) ≡ false →
     ((q : PlaceKey) → g q ≡ cond (same_place_key (place_key lists (placed_shown x)) q)
-    (Some (joined (f (place_key lists (placed_shown x))) x.entry)) (f q)) → Agreed lists g (all ++ placed_shown x ∷ [])
+    (Some (seen_with (f (place_key lists (placed_shown x))) x.entry)) (f q)) →
+    Agreed lists g (all ++ placed_shown x ∷ [])
 agrees_on lists f g all x agreed agrees updates = record {
   none = still_none lists all (placed_shown x) agreed.none (agreed.known (placed_shown x) ∙ agrees);
   known = λ e.
@@ -174,7 +175,7 @@ agrees_on lists f g all x agreed agrees updates = record {
         (disagrees (f (place_key lists e)) e.entry ||
         (t && (not (x.entry.member == e.entry.member) && not (same_content (entry_shown x.entry) e.entry)))) ≡
         disagrees (cond (same_place_key (place_key lists (placed_shown x)) (place_key lists e))
-        (Some (joined (f (place_key lists (placed_shown x))) x.entry)) (f (place_key lists e))) e.entry
+        (Some (seen_with (f (place_key lists (placed_shown x))) x.entry)) (f (place_key lists e))) e.entry
     by_test e true same =
         let one = one_key (place_key lists (placed_shown x)) (place_key lists e) same in
         rw (same, ← one) (seen_more (f (place_key lists (placed_shown x))) x.entry e.entry agrees)
@@ -189,12 +190,13 @@ pub agrees_further : (lists : Lists) (f g : PlaceKey → Option Seen) (placed : 
     (d : coded.Placed) (key : PlaceKey) (seen : Option Seen) (s : Seen) → i < length placed →
     Agreed lists f (map placed_shown (take i placed)) → key ≡ place_key lists (placed_shown (get_or placed i d)) →
     seen ≡ f key → false ≡ disagrees seen (entry_shown (get_or placed i d).entry) →
-    s ≡ joined seen (get_or placed i d).entry → ((q : PlaceKey) → g q ≡ cond (same_place_key key q) (Some s) (f q)) →
+    s ≡ seen_with seen (get_or placed i d).entry → ((q : PlaceKey) → g q ≡ cond (same_place_key key q) (Some s) (f q)) →
     Agreed lists g (map placed_shown (take (i + 1) placed))
 agrees_further lists f g placed i d key seen s inside agreed key_is seen_is agrees s_is updates =
     let x : coded.Placed = get_or placed i d in
     let known : seen ≡ f (place_key lists (placed_shown x)) = seen_is ∙ ap f key_is in
-    let now : s ≡ joined (f (place_key lists (placed_shown x))) x.entry = s_is ∙ ap (λ o. joined o x.entry) known in
+    let now : s ≡ seen_with (f (place_key lists (placed_shown x))) x.entry = s_is ∙
+    ap (λ o. seen_with o x.entry) known in
     rw (map_more placed_shown placed i d inside)
     (agrees_on lists f g (map placed_shown (take i placed)) x agreed
     (ap (λ o. disagrees o (entry_shown x.entry)) (sym known) ∙ sym agrees)

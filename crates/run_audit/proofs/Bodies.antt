@@ -11,7 +11,7 @@ use Rattle.run_audit.specs.Reading.{is_hex_digit}
 digit : (byte : ℕ) → is_some (hex_digit byte) ≡ is_hex_digit byte
 digit byte = grind (arith, nat_tests)
 
--- two digits and what stands behind them
+-- two digits and what stands after them
 pair : (h l : Option ℕ) (rest : Option (List ℕ)) →
     is_some (h >>= λ x. l >>= λ y. rest >>= λ bytes. Some ((x * 16 + y) ∷ bytes)) ≡
     (is_some h && (is_some l && is_some rest))

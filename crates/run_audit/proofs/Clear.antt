@@ -1,4 +1,4 @@
--- Segments in front of the line that the marks show lack nothing.
+-- Segments before the line that the marks show lack nothing.
 use Rattle.std.proofs.Common.{◌≡◌, ℕ, ◌+◌, ◌<◌, ◌≤◌, Bool, true, false, cond, List, [], ◌∷◌, ◌++◌, Option, Some, None}
 use Rattle.std.proofs.Common.{length, take, get_or, refl, sym, ap, ◌∙◌, subst, arith, append_assoc}
 use Rattle.std.proofs.lemmas.List.{take_all, take_more}
@@ -23,7 +23,7 @@ use Rattle.run_audit.proofs.Agree.{same_bytes}
 use Rattle.run_audit.proofs.Counts.{both}
 use Rattle.run_audit.proofs.Lacking.{Reaches, OnlyBy, each, for_any, of_kept, kept_of, covered, only_by, others}
 
--- a line doesn't stand behind another
+-- a line doesn't stand after another
 abbrev pub NotBehind : Option ℕ → Option ℕ → Type 0
 NotBehind line None = Unit {0}
 NotBehind None (Some other) = ⊥
@@ -96,7 +96,7 @@ pub all_folded : {A X : Type 0} (f : A → X → A) (a found : A) (xs : List X) 
     found ≡ fold f a (take i xs) → found ≡ fold f a xs
 all_folded f a found xs i past so_far = so_far ∙ ap (fold f a) (take_all i xs past)
 
--- no line of a lack in a segment's group stands in front of this
+-- no line of a lack in a segment's group stands before this
 abbrev Shown : Option ℕ → List Known → Known → Type 0
 Shown line group other = AllByRecursion (λ p. NotBehind line (lack_line (item_found p group) (group_found group)))
     other.deliveries
@@ -281,7 +281,7 @@ rises_kept q n (x ∷ xs) rises = elim (q x) as (λ t. Rises n (cond t (x ∷ fi
   | false ↦ raised n x.line (filter q xs) (omega (arith, rises.0)) (rises_kept q x.line xs rises.1)
 ]
 
--- all segments in front of the line lack nothing
+-- all segments before the line lack nothing
 clear_of : (line : Option ℕ) (all : List Known) → IsInLine all →
     AllByRecursion (λ one. Shown line (filter (goes_with one) all) one) all → IsClear line all
 clear_of line all in_line shown =

@@ -66,7 +66,7 @@ placed_more lists before [] x = rw (append-nil before) refl
 placed_more lists before (e ∷ entries) x =
     rw (placed_more lists (before ++ e ∷ []) entries x, append_assoc before (e ∷ []) entries) refl
 
--- the deliveries placed so far, and the lengths of the lists behind them
+-- the deliveries placed so far, and the lengths of the lists after them
 pub record IsPlaced (lists : Lists) (lengths : ListKey → Option ℕ) (done : List coded.Placed) (entries : List Entry) :
     Type 0 where
   pub placed : map placed_shown done ≡ placed_behind lists [] entries

@@ -8,8 +8,8 @@ use Rattle.std.proofs.lemmas.List.{take_all}
 use Rattle.std.proofs.lemmas.List.FromFn.{get_or-enumerate_from, length-enumerate_from}
 use Rattle.std.proofs.lemmas.List.Sums.{fold-append}
 use Rattle.audit_mean.specs.Segment.{Numbered, first_segment, segment_next, entry_behind, entries_behind, entries_of}
-use Rattle.run_audit.specs.Reading.{shown}
-use Rattle.run_audit.specs.Entries.{Stands, numbered, segment_shown, standing, entry_shown}
+use Rattle.run_audit.specs.Reading.{shown_line}
+use Rattle.run_audit.specs.Entries.{Stands, numbered_lines, segment_shown, standing, entry_shown}
 use Rattle.run_audit.specs.declared.line.LineMeaning.{LineMeaning}
 use Rattle.run_audit.specs.declared.segments.Segment.{Segment}
 use Rattle.run_audit.specs.declared.segments.Segments.{Segments}
@@ -39,17 +39,18 @@ one_more before (first ∷ lines) line =
 -- one more of the lines with their numbers
 pub numbered_more : (lines : List LineMeaning) (i : ℕ) (line d : LineMeaning) → i < length lines →
     line ≡ get_or lines i d →
-    take (i + 1) (numbered lines) ≡ take i (numbered lines) ++ (i + 1, shown line) ∷ []
+    take (i + 1) (numbered_lines lines) ≡ take i (numbered_lines lines) ++ (i + 1, shown_line line) ∷ []
 numbered_more lines i line d inside is =
-    let all = length-enumerate_from 1 (map shown lines) in
-    let mapped = length-map lines shown in
-    let here = get_or-enumerate_from 1 (map shown lines) i (0, shown line) (omega arith) in
-    let said : get_or (map shown lines) i (shown line) ≡ shown line = get_or-map shown lines i d (shown line) inside ∙
-    ap shown (sym is) in
+    let all = length-enumerate_from 1 (map shown_line lines) in
+    let mapped = length-map lines shown_line in
+    let here = get_or-enumerate_from 1 (map shown_line lines) i (0, shown_line line) (omega arith) in
+    let said : get_or (map shown_line lines) i (shown_line line) ≡ shown_line line =
+    get_or-map shown_line lines i d (shown_line line) inside ∙
+    ap shown_line (sym is) in
     let number : 1 + i ≡ i + 1 = omega arith in
-    take_more (numbered lines) i (0, shown line) (omega arith) ∙ rw (here, said, number) refl
+    take_more (numbered_lines lines) i (0, shown_line line) (omega arith) ∙ rw (here, said, number) refl
 
--- the deliveries read so far, and the segments behind them
+-- the deliveries read so far, and the segments after them
 pub record Follows (segments : Segments) (entries : List Entry) (lines : List Numbered) : Type 0 where
   pub stands : Stands segments lines
   pub read : map entry_shown entries ≡ entries_of lines
@@ -61,24 +62,25 @@ option_listed (Some entry) = refl
 
 -- one more line is read
 pub reads_on : (old new : Segments) (read : List Entry) (entry : Option Entry) (lines : List LineMeaning) (i : ℕ)
-    (line d : LineMeaning) → i < length lines → line ≡ get_or lines i d → Follows old read (take i (numbered lines)) →
+    (line d : LineMeaning) → i < length lines → line ≡ get_or lines i d →
+    Follows old read (take i (numbered_lines lines)) →
     ((before : List Numbered) → Stands old before → option_map entry_shown entry ≡
-    entry_behind before (i + 1, shown line)) →
-    ((m : ℕ) → standing new m ≡ segment_next m (standing old m) (i + 1, shown line)) →
-    Follows new (read ++ option_to_list entry) (take (i + 1) (numbered lines))
+    entry_behind before (i + 1, shown_line line)) →
+    ((m : ℕ) → standing new m ≡ segment_next m (standing old m) (i + 1, shown_line line)) →
+    Follows new (read ++ option_to_list entry) (take (i + 1) (numbered_lines lines))
 reads_on old new read entry lines i line d inside is follows entered advanced =
-    let before = take i (numbered lines) in
+    let before = take i (numbered_lines lines) in
     let here = entered before follows.stands in
     rw (numbered_more lines i line d inside is) record {
-      stands = led_on old new before (i + 1, shown line) follows.stands advanced;
+      stands = led_on old new before (i + 1, shown_line line) follows.stands advanced;
       read = map-append entry_shown read (option_to_list entry) ∙
-          rw (follows.read, option_listed entry, here) (sym (one_more [] before (i + 1, shown line)));
+          rw (follows.read, option_listed entry, here) (sym (one_more [] before (i + 1, shown_line line)));
     }
 
 -- all lines are read
 pub all_read : (segments : Segments) (read : List Entry) (lines : List LineMeaning) (i : ℕ) → length lines ≤ i →
-    Follows segments read (take i (numbered lines)) → map entry_shown read ≡ entries_of (numbered lines)
+    Follows segments read (take i (numbered_lines lines)) → map entry_shown read ≡ entries_of (numbered_lines lines)
 all_read segments read lines i past follows =
-    let all = length-enumerate_from 1 (map shown lines) in
-    let mapped = length-map lines shown in
-    follows.read ∙ ap entries_of (take_all i (numbered lines) (omega arith))
+    let all = length-enumerate_from 1 (map shown_line lines) in
+    let mapped = length-map lines shown_line in
+    follows.read ∙ ap entries_of (take_all i (numbered_lines lines) (omega arith))

@@ -16,9 +16,9 @@ use Rattle.audit_mean.specs.Segment.{Numbered, Segment, first_segment, segment_n
 use Rattle.audit_mean.specs.Segment.{entries_of}
 use Rattle.audit_mean.specs.Segment as spec
 use Rattle.audit_mean.specs.Lack.{ended_by, ended_behind, is_in}
-use Rattle.run_audit.specs.Reading.{shown}
-use Rattle.run_audit.specs.Entries.{Stands, numbered, standing, entry_shown}
-use Rattle.run_audit.specs.Lacks.{Holds, ended_shown, held_behind, is_left, known, listed}
+use Rattle.run_audit.specs.Reading.{shown_line}
+use Rattle.run_audit.specs.Entries.{Stands, numbered_lines, standing, entry_shown}
+use Rattle.run_audit.specs.Lacks.{Holds, ended_shown, held_behind, is_left, known_segment, list_at}
 use Rattle.run_audit.specs.declared.line.LineMeaning.{LineMeaning}
 use Rattle.run_audit.specs.declared.segments.Segments.{Segments}
 use Rattle.run_audit.specs.declared.segments.Entry.{Entry}
@@ -26,18 +26,18 @@ use Rattle.run_audit.specs.declared.ended.Ended.{Ended}
 use Rattle.run_audit.proofs.Deliveries.{led_on, numbered_more, one_more}
 use Rattle.run_audit.proofs.Lacking.{each}
 
--- each segment behind these lines, and each delivery in them, is of a segment that began in front of a line
+-- each segment after these lines, and each delivery in them, is of a segment that began before a line
 pub record Began (number : ℕ) (lines : List Numbered) : Type 0 where
   pub segments : (member : ℕ) (segment : Segment) → segment_behind member lines ≡ Some segment → segment.began < number
   pub entries : AllByRecursion (λ (e : spec.Entry). e.segment.began < number) (entries_of lines)
 
--- the segments that ended so far, the segments behind them, and the deliveries in these
+-- the segments that ended so far, the segments after them, and the deliveries in these
 pub record Leads (number : ℕ) (segments : Segments) (held : ℕ → Option (Vec Entry Global)) (all : List Ended)
     (lines : List Numbered) : Type 0 where
   pub stands : Stands segments lines
   pub holds : Holds held lines
   pub began : Began number lines
-  pub ended : map ended_shown all ≡ map known (ended_behind [] lines)
+  pub ended : map ended_shown all ≡ map known_segment (ended_behind [] lines)
 
 mapped : {X Y : Type 0} (f : X → Y) (o : Option X) → map f (option_to_list o) ≡ option_to_list (option_map f o)
 mapped f None = refl
@@ -119,7 +119,7 @@ began_on number before line began = record {
     of_entry visits = tt
     of_entry silent = tt
 
--- none of the deliveries is in a segment that begins behind them
+-- none of the deliveries is in a segment that begins after them
 none_in : (member : ℕ) (segment : Segment) (entries : List spec.Entry) →
     AllByRecursion (λ (e : spec.Entry). e.segment.began < segment.began) entries →
     filter (is_in member segment) entries ≡ []
@@ -140,7 +140,7 @@ none_in member segment (e ∷ entries) all = by_test (none_in member segment ent
 holds_on : (f g : ℕ → Option (Vec Entry Global)) (before : List Numbered) (number : ℕ) (line : ReportLine)
     (entry : Option Entry) → Holds f before → Began number before → option_map entry_shown entry ≡
     entry_behind before (number, line) →
-    ((member : ℕ) → listed (g member) ≡ held_behind entry line member (listed (f member))) →
+    ((member : ℕ) → list_at (g member) ≡ held_behind entry line member (list_at (f member))) →
     Holds g (before ++ (number, line) ∷ [])
 holds_on f g before number line entry holds began is held member segment e =
     ap (map entry_shown) (held member)
@@ -152,18 +152,18 @@ holds_on f g before number line entry holds began is held member segment e =
     front : List spec.Entry
     front = filter (is_in member segment) (entries_of before)
 
-    as_before : segment_behind member before ≡ Some segment → map entry_shown (listed (f member)) ≡ front ++ []
+    as_before : segment_behind member before ≡ Some segment → map entry_shown (list_at (f member)) ≡ front ++ []
     as_before e = holds member segment e ∙ sym (append-nil front)
 
     no_entry : (entry : Option Entry) (l : ReportLine) → option_map entry_shown entry ≡ None →
-        (map entry_shown (cond (is_left l member) [] (listed (f member))) ≡ front ++ []) →
-        map entry_shown (held_behind entry l member (listed (f member))) ≡ front ++ []
+        (map entry_shown (cond (is_left l member) [] (list_at (f member))) ≡ front ++ []) →
+        map entry_shown (held_behind entry l member (list_at (f member))) ≡ front ++ []
     no_entry None l none h = h
     no_entry (Some x) l none h = absurd cc
 
     by_view : (t : Bool) (ltime mask : ℕ) →
         cond t (Some (record { name = spec.in_view ltime mask; began = number })) (segment_behind member before) ≡
-        Some segment → map entry_shown (cond t [] (listed (f member))) ≡ front ++ []
+        Some segment → map entry_shown (cond t [] (list_at (f member))) ≡ front ++ []
     by_view true ltime mask e =
         let at : number ≡ segment.began = ap (λ s. s.began) (some_of e) in
         sym (append-nil front ∙ none_in
@@ -173,7 +173,7 @@ holds_on f g before number line entry holds began is held member segment e =
     by_view false ltime mask e = as_before e
 
     by_out : (t : Bool) → cond t None (segment_behind member before) ≡ Some segment →
-        map entry_shown (cond t [] (listed (f member))) ≡ front ++ []
+        map entry_shown (cond t [] (list_at (f member))) ≡ front ++ []
     by_out true e = absurd cc
     by_out false e = as_before e
 
@@ -198,7 +198,7 @@ holds_on f g before number line entry holds began is held member segment e =
 
     delivered : (m peer : ℕ) (body : List ℕ) (entry : Option Entry) → option_map entry_shown entry ≡
         entry_behind before (number, deliver m peer body) → segment_behind member before ≡ Some segment →
-        map entry_shown (held_behind entry (deliver m peer body) member (listed (f member))) ≡ front ++
+        map entry_shown (held_behind entry (deliver m peer body) member (list_at (f member))) ≡ front ++
         filter (is_in member segment) (option_to_list (entry_behind before (number, deliver m peer body)))
     delivered m peer body None is e = as_before e ∙ ap (λ o. front ++ filter (is_in member segment) (option_to_list o))
         is
@@ -209,16 +209,16 @@ holds_on f g before number line entry holds began is held member segment e =
         here = of_segment m peer body (entry_shown x) (segment_behind m before) refl (sym is)
 
         by_test : (t : Bool) → (x.member == member) ≡ t →
-            map entry_shown (cond t (listed (f member) ++ x ∷ []) (listed (f member))) ≡ front ++
+            map entry_shown (cond t (list_at (f member) ++ x ∷ []) (list_at (f member))) ≡ front ++
             cond (is_in member segment (entry_shown x)) (entry_shown x ∷ []) []
-        by_test true same = map-append entry_shown (listed (f member)) (x ∷ []) ∙
+        by_test true same = map-append entry_shown (list_at (f member)) (x ∷ []) ∙
             rw (of_entry (entry_shown x) e here true same)
             (ap (λ xs. xs ++ entry_shown x ∷ []) (holds member segment e))
         by_test false same = rw (of_entry (entry_shown x) e here false same) (as_before e)
 
     of_line : (l : ReportLine) (entry : Option Entry) → option_map entry_shown entry ≡ entry_behind before (number, l) →
         segment_next member (segment_behind member before) (number, l) ≡ Some segment →
-        map entry_shown (held_behind entry l member (listed (f member))) ≡ front ++
+        map entry_shown (held_behind entry l member (list_at (f member))) ≡ front ++
         filter (is_in member segment) (option_to_list (entry_behind before (number, l)))
     of_line (deliver m peer body) entry is e = delivered m peer body entry is e
     of_line (view m ltime mask) entry is e = no_entry entry (view m ltime mask) is (by_view (m == member) ltime mask e)
@@ -232,7 +232,7 @@ pub none_led : (segments : Segments) (held : ℕ → Option (Vec Entry Global)) 
     ((member : ℕ) → held member ≡ None) → all ≡ [] → Leads 1 segments held all []
 none_led segments held all stands none empty = record {
   stands = stands;
-  holds = λ member segment e. ap (λ o. map entry_shown (listed o)) (none member);
+  holds = λ member segment e. ap (λ o. map entry_shown (list_at o)) (none member);
   began = record {
     segments = λ member segment e.
         (let first : 0 ≡ segment.began = ap (λ s. s.began) (some_of e) in omega (arith, first));
@@ -245,35 +245,37 @@ none_led segments held all stands none empty = record {
 pub leads_on : (old new : Segments) (f g : ℕ → Option (Vec Entry Global)) (all : List Ended) (ended : Option Ended)
     (entry : Option Entry) (lines : List LineMeaning) (i : ℕ) (line d : LineMeaning) → i < length lines →
     line ≡ get_or lines i d →
-    Leads (i + 1) old f all (take i (numbered lines)) →
+    Leads (i + 1) old f all (take i (numbered_lines lines)) →
     ((before : List Numbered) → Stands old before → Holds f before → option_map ended_shown ended ≡
-    option_map known (ended_by before (i + 1, shown line))) →
+    option_map known_segment (ended_by before (i + 1, shown_line line))) →
     ((before : List Numbered) → Stands old before → option_map entry_shown entry ≡
-    entry_behind before (i + 1, shown line)) →
-    ((member : ℕ) → listed (g member) ≡ held_behind entry (shown line) member (listed (f member))) →
-    ((m : ℕ) → standing new m ≡ segment_next m (standing old m) (i + 1, shown line)) →
-    Leads (i + 1 + 1) new g (all ++ option_to_list ended) (take (i + 1) (numbered lines))
+    entry_behind before (i + 1, shown_line line)) →
+    ((member : ℕ) → list_at (g member) ≡ held_behind entry (shown_line line) member (list_at (f member))) →
+    ((m : ℕ) → standing new m ≡ segment_next m (standing old m) (i + 1, shown_line line)) →
+    Leads (i + 1 + 1) new g (all ++ option_to_list ended) (take (i + 1) (numbered_lines lines))
 leads_on old new f g all ended entry lines i line d inside is leads ends entered held advanced =
-    let before = take i (numbered lines) in
-    let read : Numbered = (i + 1, shown line) in
+    let before = take i (numbered_lines lines) in
+    let read : Numbered = (i + 1, shown_line line) in
     rw (numbered_more lines i line d inside is) record {
       stands = led_on old new before read leads.stands advanced;
-      holds = holds_on f g before (i + 1) (shown line) entry leads.holds leads.began (entered before leads.stands) held;
-      began = began_on (i + 1) before (shown line) leads.began;
+      holds = holds_on f g before (i + 1) (shown_line line) entry leads.holds leads.began (entered before leads.stands)
+          held;
+      began = began_on (i + 1) before (shown_line line) leads.began;
       ended =
           map-append ended_shown all (option_to_list ended)
           ∙ (λ j. leads.ended j ++
           (mapped ended_shown ended ∙ ap option_to_list (ends before leads.stands leads.holds) ∙
-          sym (mapped known (ended_by before read))) j)
-          ∙ sym (map-append known (ended_behind [] before) (option_to_list (ended_by before read)))
-          ∙ ap (map known) (sym (ended_more [] before read));
+          sym (mapped known_segment (ended_by before read))) j)
+          ∙ sym (map-append known_segment (ended_behind [] before) (option_to_list (ended_by before read)))
+          ∙ ap (map known_segment) (sym (ended_more [] before read));
     }
 
 -- all lines are read
 pub all_led : (number : ℕ) (segments : Segments) (held : ℕ → Option (Vec Entry Global)) (all : List Ended)
-    (lines : List LineMeaning) (i : ℕ) → length lines ≤ i → Leads number segments held all (take i (numbered lines)) →
-    map ended_shown all ≡ map known (ended_behind [] (numbered lines))
+    (lines : List LineMeaning) (i : ℕ) → length lines ≤ i →
+    Leads number segments held all (take i (numbered_lines lines)) →
+    map ended_shown all ≡ map known_segment (ended_behind [] (numbered_lines lines))
 all_led number segments held all lines i past leads =
-    let numbers = length-enumerate_from 1 (map shown lines) in
-    let mapped = length-map lines shown in
-    leads.ended ∙ ap (λ ls. map known (ended_behind [] ls)) (take_all i (numbered lines) (omega arith))
+    let numbers = length-enumerate_from 1 (map shown_line lines) in
+    let mapped = length-map lines shown_line in
+    leads.ended ∙ ap (λ ls. map known_segment (ended_behind [] ls)) (take_all i (numbered_lines lines) (omega arith))

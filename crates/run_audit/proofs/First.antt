@@ -82,7 +82,7 @@ at_place P [] i d inside all = absurd (omega (arith, inside))
 at_place P (e ∷ ended) zero d inside all = all.0
 at_place P (e ∷ ended) (suc i) d inside all = at_place P ended i d (omega (arith, inside)) all.1
 
--- a segment in front of the line
+-- a segment before the line
 pub clear_further : (line : Option ℕ) (ended : List Ended) (i : ℕ) (d one : Ended) → i < length ended →
     one ≡ get_or ended i d → flat_map (lacks_in (map ended_shown ended)) (map ended_shown (take i ended)) ≡ [] →
     IsClear line (map ended_shown ended) → is_in_front one.line line ≡ true →
@@ -100,7 +100,7 @@ no_lack ended i past none =
     sym (ap (λ es. least (flat_map (lacks_in (map ended_shown ended)) (map ended_shown es)))
     (sym (take_all i ended past)) ∙ ap least none)
 
--- pairs whose second line is this, and pairs whose second line is behind it
+-- pairs whose second line is this, and pairs whose second line is after it
 abbrev At : ℕ → List (ℕ × ℕ) → Type 0
 At line xs = AllByRecursion (λ x. x.1 ≡ line) xs
 
@@ -155,7 +155,7 @@ least_keeps P (y ∷ ys) all x e = through (λ z l. least_keeps P ys all.1 z l) 
     through rest None l e = chosen false y all.0 e
     through rest (Some z) l e = chosen (comes_before z y) z (rest z l) e
 
--- the first of two lists' least pairs, where the second's are behind
+-- the first of two lists' least pairs, where the second's are after
 stays : (line : ℕ) (xs ys : List (ℕ × ℕ)) → At line xs → Behind line ys → is_some (least xs) ≡ true →
     least (xs ++ ys) ≡ least xs
 stays line xs ys at behind some = least-append xs ys ∙ by_cases (least xs) (least ys) refl refl some

@@ -8,7 +8,7 @@ use Rattle.std.proofs.lemmas.List.{append-nil}
 use Rattle.audit_mean.specs.Line.{ReportLine, deliver, view, out, end, visits, silent}
 use Rattle.audit_mean.specs.Segment.{Numbered, Name, in_view, Entry, Segment, same_content, segment_behind, entries_of}
 use Rattle.audit_mean.specs.Lack.{Ended, is_in, ended_by, ended_behind}
-use Rattle.run_audit.specs.Lacks.{known, ranked_behind}
+use Rattle.run_audit.specs.Lacks.{known_segment, ranked_behind}
 use Rattle.run_audit.specs.Marks.{IsInLine, IsRanked, Rises}
 use Rattle.run_audit.proofs.Clear.{content_self}
 use Rattle.run_audit.proofs.Counts.{count_more}
@@ -38,13 +38,13 @@ ended_of_line before number visits = tt
 ended_of_line before number silent = tt
 
 rises_with : (line number : ℕ) (ended : Option Ended) (rest : List Ended) → line < number → IsEndedBy number ended →
-    Rises number (map known rest) → Rises line (map known (option_to_list ended ++ rest))
+    Rises number (map known_segment rest) → Rises line (map known_segment (option_to_list ended ++ rest))
 rises_with line number None [] above is rises = tt
 rises_with line number None (e ∷ rest) above is rises = (omega (arith, rises.0), rises.1)
 rises_with line number (Some e) rest above is rises = (omega (arith, is), rw is rises)
 
 ends_rising : (before : List Numbered) (line number : ℕ) (lines : List ReportLine) → line < number →
-    Rises line (map known (ended_behind before (enumerate_from number lines)))
+    Rises line (map known_segment (ended_behind before (enumerate_from number lines)))
 ends_rising before line number [] above = tt
 ends_rising before line number (l ∷ lines) above =
     rises_with line number (ended_by before (number, l))
@@ -77,7 +77,7 @@ ranked_few before (e ∷ entries) =
           (ranked_behind (before ++ e ∷ []) entries) (ranked_few (before ++ e ∷ []) entries),
     )
 
-all_ranked : (ends : List Ended) → AllByRecursion IsRanked (map known ends)
+all_ranked : (ends : List Ended) → AllByRecursion IsRanked (map known_segment ends)
 all_ranked [] = tt
 all_ranked (one ∷ ends) = (
   subst (λ es. AllByRecursion (λ placed. placed.place < count_by (same_content placed.entry) es)
@@ -86,6 +86,6 @@ all_ranked (one ∷ ends) = (
 )
 
 -- the segments that the lines of a report end
-pub in_line : (lines : List ReportLine) → IsInLine (map known (ended_behind [] (enumerate_from 1 lines)))
+pub in_line : (lines : List ReportLine) → IsInLine (map known_segment (ended_behind [] (enumerate_from 1 lines)))
 in_line lines = record
     { rises = ends_rising [] 0 1 lines (omega arith); ranked = all_ranked (ended_behind [] (enumerate_from 1 lines)) }

@@ -7,7 +7,7 @@ use Rattle.std.proofs.lemmas.Bool.{eqb-true}
 use Rattle.std.proofs.lemmas.Bool.Decides.{nat_tests}
 use Rattle.audit_mean.specs.Clash.{Placed}
 use Rattle.run_audit.specs.Lacks.{Known}
-use Rattle.run_audit.specs.Marks.{Rises, group_found, has, item_found, lacking, led, marked, other_than}
+use Rattle.run_audit.specs.Marks.{Rises, group_found, has, item_found, lacking, group_with, mark_with, other_than}
 use Rattle.run_audit.specs.declared.marks.Mark.{Mark}
 use Rattle.run_audit.specs.declared.marks.Group.{Group}
 
@@ -40,7 +40,7 @@ kept_of P q (x ∷ xs) all =
       | false ↦ λ e. kept_of P q xs all.1
     ] refl
 
--- a line is this one or in front of it
+-- a line is this one or before it
 abbrev pub Reaches : Option ℕ → ℕ → Type 0
 Reaches None line = ⊥
 Reaches (Some first) line = first ≤ line
@@ -51,13 +51,13 @@ reaches_all first n [] le rises = tt
 reaches_all first n (one ∷ group) le rises =
     (omega (arith, rises.0), reaches_all first one.line group (omega (arith, rises.0)) rises.1)
 
--- a mark of segments behind a line
+-- a mark of segments after a line
 abbrev Above : ℕ → Option Mark → Type 0
 Above line None = Unit {0}
 Above line (Some mark) = line < mark.front
 
 pub front_marked : (mark : Option Mark) (group : Option Group) (member line : ℕ) →
-    (marked mark group member line).front ≡ line
+    (mark_with mark group member line).front ≡ line
 front_marked None group member line = refl
 front_marked (Some mark) group member line =
     elim (mark.front == line) as
@@ -77,7 +77,8 @@ found_above : (p : Placed) (n : ℕ) (group : List Known) → Rises n group → 
 found_above p n [] rises = tt
 found_above p n (one ∷ group) rises =
     elim (has p one) as (λ t.
-    Above n (cond t (Some (marked (item_found p group) (group_found group) one.member one.line)) (item_found p group))) [
+    Above n (cond t (Some (mark_with (item_found p group) (group_found group) one.member one.line))
+    (item_found p group))) [
       | true ↦ rw (front_marked (item_found p group) (group_found group) one.member one.line) rises.0
       | false ↦ later (item_found p group) (found_above p one.line group rises.1)
     ]
@@ -90,7 +91,7 @@ apart : (m n : ℕ) → n < m → (m == n) ≡ false
 apart m n h = grind (arith, nat_tests)
 
 unguarded : (mark : Mark) (group : Option Group) (member line : ℕ) → line < mark.front →
-    marked (Some mark) group member line ≡
+    mark_with (Some mark) group member line ≡
     record {
       member = mark.member;
       more_members = mark.more_members || not (mark.member == member);
@@ -105,17 +106,17 @@ same_line line = grind (arith, nat_tests)
 
 -- with one more segment in front that has the item, the first that lacks it stays
 still_lacking : (mark : Option Mark) (group : Option Group) (member line : ℕ) → Above line mark →
-    lacking (Some (marked mark group member line)) (Some (led group member line)) ≡ lacking mark group
+    lacking (Some (mark_with mark group member line)) (Some (group_with group member line)) ≡ lacking mark group
 still_lacking None group member line above = rw (same_line line) refl
 still_lacking (Some mark) group member line above = rw (unguarded mark group member line above, same_line line) refl
 
 -- and one that has it not is the first
 now_lacking : (mark : Option Mark) (group : Option Group) (member line : ℕ) → Above line mark →
-    lacking mark (Some (led group member line)) ≡ Some line
+    lacking mark (Some (group_with group member line)) ≡ Some line
 now_lacking None group member line above = refl
 now_lacking (Some mark) group member line above = rw (apart mark.front line above) refl
 
--- a segment that has an item not stands at the first of these, or behind it
+-- a segment that has an item not stands at the first of these, or after it
 pub covered : (p : Placed) (n : ℕ) (group : List Known) → Rises n group →
     AllByRecursion (λ one. has p one ≡ false → Reaches (lacking (item_found p group) (group_found group)) one.line)
     group
@@ -126,8 +127,8 @@ covered p n (one ∷ group) rises =
     let above : Above one.line mark = found_above p one.line group rises.1 in
     elim (has p one) as (λ t. has p one ≡ t →
     AllByRecursion (λ o. has p o ≡ false →
-    Reaches (lacking (cond t (Some (marked mark behind one.member one.line)) mark)
-    (Some (led behind one.member one.line))) o.line) (one ∷ group)) [
+    Reaches (lacking (cond t (Some (mark_with mark behind one.member one.line)) mark)
+    (Some (group_with behind one.member one.line))) o.line) (one ∷ group)) [
       | true ↦ λ e. (
         λ h. absurd cc,
         each (λ o r h. subst (λ line. Reaches line o.line) (sym (still_lacking mark behind one.member one.line above))
@@ -147,7 +148,7 @@ OnlyBy None there member = there ≡ false
 OnlyBy (Some mark) there member = mark.more_members ≡ false → there ≡ true → member ≡ mark.member
 
 first_only : (mark : Option Mark) (group : Option Group) (member line : ℕ) (there : Bool) → Above line mark →
-    OnlyBy (Some (marked mark group member line)) there member
+    OnlyBy (Some (mark_with mark group member line)) there member
 first_only None group member line there above = λ alone h. refl
 first_only (Some mark) group member line there above =
     rw (unguarded mark group member line above) (λ alone h. of_two mark.more_members alone)
@@ -161,7 +162,7 @@ first_only (Some mark) group member line there above =
         by_test false is e = absurd cc
 
 still_only : (mark : Option Mark) (group : Option Group) (member line : ℕ) (there : Bool) (other : ℕ) →
-    Above line mark → OnlyBy mark there other → OnlyBy (Some (marked mark group member line)) there other
+    Above line mark → OnlyBy mark there other → OnlyBy (Some (mark_with mark group member line)) there other
 still_only None group member line there other above only = λ alone h. absurd cc
 still_only (Some mark) group member line there other above only =
     rw (unguarded mark group member line above) (λ alone h. only (of_two mark.more_members alone) h)
@@ -184,7 +185,7 @@ only_by p n (one ∷ group) rises =
     let above : Above one.line mark = found_above p one.line group rises.1 in
     let rest = only_by p one.line group rises.1 in
     elim (has p one) as (λ t. has p one ≡ t →
-    AllByRecursion (λ o. OnlyBy (cond t (Some (marked mark behind one.member one.line)) mark) (has p o) o.member)
+    AllByRecursion (λ o. OnlyBy (cond t (Some (mark_with mark behind one.member one.line)) mark) (has p o) o.member)
     (one ∷ group)) [
       | true ↦ λ e. (
         first_only mark behind one.member one.line (has p one) above,
@@ -193,7 +194,7 @@ only_by p n (one ∷ group) rises =
       | false ↦ λ e. (not_there mark (has p one) one.member e, rest)
     ] refl
 
--- a segment of another member stands at the first of these, or behind it
+-- a segment of another member stands at the first of these, or after it
 pub others : (member n : ℕ) (group : List Known) → Rises n group →
     AllByRecursion (λ one. (one.member ≡ member → ⊥) → Reaches (other_than member (group_found group)) one.line) group
 others member n [] rises = tt

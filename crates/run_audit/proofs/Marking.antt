@@ -14,7 +14,8 @@ use Rattle.audit_mean.specs.Segment.{same_name}
 use Rattle.run_audit.specs.Clashes.{same_view}
 use Rattle.run_audit.specs.Entries.{name_shown}
 use Rattle.run_audit.specs.Lacks.{Known, ended_shown, goes, ranked_shown, same_content_key, same_way}
-use Rattle.run_audit.specs.Marks.{Marked, group_found, item_for, item_found, led, marked, same_item, same_item_key}
+use Rattle.run_audit.specs.Marks.{Marked, group_found, item_for, item_found, group_with, mark_with, same_item}
+use Rattle.run_audit.specs.Marks.{same_item_key}
 use Rattle.run_audit.specs.declared.contents.Ranked.{Ranked}
 use Rattle.run_audit.specs.declared.ended.Ended.{Ended}
 use Rattle.run_audit.specs.declared.ended.Way.{Way}
@@ -68,25 +69,27 @@ item_keyed w way d r = λ i. same_way w way && (sym (turned_content r.entry d.en
 abbrev pub IsMarkedBy : (old new : Item → Option Mark) → Option Group → Ended → List Ranked → Type 0
 IsMarkedBy old new behind one done = (way : Way) (r : Ranked) →
     new (item_for way r) ≡ cond (same_way one.way way && list_any (same_item (ranked_shown r)) (map ranked_shown done))
-    (Some (marked (old (item_for way r)) behind one.member one.line)) (old (item_for way r))
+    (Some (mark_with (old (item_for way r)) behind one.member one.line)) (old (item_for way r))
 
 twice : (mark : Option Mark) (behind : Option Group) (member line : ℕ) →
-    marked (Some (marked mark behind member line)) behind member line ≡ marked mark behind member line
+    mark_with (Some (mark_with mark behind member line)) behind member line ≡ mark_with mark behind member line
 twice mark behind member line =
     let same : (line == line) ≡ true = grind (arith, nat_tests) in
-    let guarded : ((marked mark behind member line).front == line) ≡ true =
+    let guarded : ((mark_with mark behind member line).front == line) ≡ true =
     ap (λ n. n == line) (front_marked mark behind member line) ∙ same in
     rw guarded refl
 
 pub marked_on : (old f g : Item → Option Mark) (behind : Option Group) (one : Ended) (ds : List Ranked) (j : ℕ)
     (d : Ranked) (x : Item) (mark : Mark) → j < length ds → ((a b : Item) → same_item_key a b ≡ true → f a ≡ f b) →
     IsMarkedBy old f behind one (take j ds) → x ≡ item_for one.way (get_or ds j d) →
-    mark ≡ marked (f x) behind one.member one.line → ((q : Item) → g q ≡ cond (same_item_key x q) (Some mark) (f q)) →
+    mark ≡ mark_with (f x) behind one.member one.line →
+    ((q : Item) → g q ≡ cond (same_item_key x q) (Some mark) (f q)) →
     IsMarkedBy old g behind one (take (j + 1) ds)
 marked_on old f g behind one ds j d x mark inside steady so_far x_is mark_is updates way r =
     updates (item_for way r)
     ∙ (λ i. cond (same_item_key x (item_for way r)) (Some (mark_is i)) (f (item_for way r)))
-    ∙ (λ i. cond (same_item_key x (item_for way r)) (Some (marked (f x) behind one.member one.line)) (so_far way r i))
+    ∙ (λ i. cond (same_item_key x (item_for way r)) (Some (mark_with (f x) behind one.member one.line))
+    (so_far way r i))
     ∙ by_tests (same_way one.way way) there here keys (so_far way r)
     ∙ (λ i. cond (same_way one.way way && sym any_more i) (Some new) (old (item_for way r)))
   where
@@ -100,7 +103,7 @@ marked_on old f g behind one ds j d x mark inside steady so_far x_is mark_is upd
     here = same_item (ranked_shown r) (ranked_shown now)
 
     new : Mark
-    new = marked (old (item_for way r)) behind one.member one.line
+    new = mark_with (old (item_for way r)) behind one.member one.line
 
     keys : same_item_key x (item_for way r) ≡ (same_way one.way way && here)
     keys = ap (λ k. same_item_key k (item_for way r)) x_is ∙ item_keyed one.way way now r
@@ -111,7 +114,7 @@ marked_on old f g behind one ds j d x mark inside steady so_far x_is mark_is upd
 
     by_tests : (a l s : Bool) → same_item_key x (item_for way r) ≡ (a && s) →
         f (item_for way r) ≡ cond (a && l) (Some new) (old (item_for way r)) →
-        cond (same_item_key x (item_for way r)) (Some (marked (f x) behind one.member one.line))
+        cond (same_item_key x (item_for way r)) (Some (mark_with (f x) behind one.member one.line))
         (cond (a && l) (Some new) (old (item_for way r))) ≡
         cond (a && (l || (s || false))) (Some new) (old (item_for way r))
     by_tests false l s k e = rw k refl
@@ -128,7 +131,7 @@ all_marked old f behind one ds j past so_far = subst (IsMarkedBy old f behind on
 -- the segments with one more in front
 pub one_more : (items_old items_new : Item → Option Mark) (groups_old groups_new : Way → Option Group) (one : Ended)
     (rest : List Known) (behind : Option Group) (group : Group) → Marked items_old groups_old rest →
-    behind ≡ groups_old one.way → group ≡ led behind one.member one.line →
+    behind ≡ groups_old one.way → group ≡ group_with behind one.member one.line →
     IsMarkedBy items_old items_new behind one one.deliveries.items →
     ((q : Way) → groups_new q ≡ cond (same_way one.way q) (Some group) (groups_old q)) →
     Marked items_new groups_new (ended_shown one ∷ rest)
@@ -148,15 +151,15 @@ one_more items_old items_new groups_old groups_new one rest behind group marked_
 
     group_by : (way : Way) (t : Bool) → same_way one.way way ≡ t → cond t (Some group) (groups_old way) ≡
         group_found (cond t (ended_shown one ∷ filter (goes way) rest) (filter (goes way) rest))
-    group_by way true same = ap Some (group_is ∙ ap (λ g. led g one.member one.line) (found way same))
+    group_by way true same = ap Some (group_is ∙ ap (λ g. group_with g one.member one.line) (found way same))
     group_by way false same = marked_so_far.of_groups way
 
     item_by : (way : Way) (r : Ranked) (t : Bool) → same_way one.way way ≡ t →
         cond (t && list_any (same_item (ranked_shown r)) (map ranked_shown one.deliveries.items))
-        (Some (marked (items_old (item_for way r)) behind one.member one.line)) (items_old (item_for way r)) ≡
+        (Some (mark_with (items_old (item_for way r)) behind one.member one.line)) (items_old (item_for way r)) ≡
         item_found (ranked_shown r) (cond t (ended_shown one ∷ filter (goes way) rest) (filter (goes way) rest))
     item_by way r true same = λ i. cond (list_any (same_item (ranked_shown r)) (map ranked_shown one.deliveries.items))
-        (Some (marked (marked_so_far.of_items way r i) (found way same i) one.member one.line))
+        (Some (mark_with (marked_so_far.of_items way r i) (found way same i) one.member one.line))
         (marked_so_far.of_items way r i)
     item_by way r false same = marked_so_far.of_items way r
 
@@ -164,7 +167,7 @@ one_more items_old items_new groups_old groups_new one rest behind group marked_
 pub marks_on : (items_old items_new : Item → Option Mark) (groups_old groups_new : Way → Option Group)
     (ended : List Ended) (n i : ℕ) (d one : Ended) (behind : Option Group) (group : Group) → n ≡ suc i →
     i < length ended → one ≡ get_or ended i d → Marked items_old groups_old (map ended_shown (drop n ended)) →
-    behind ≡ groups_old one.way → group ≡ led behind one.member one.line →
+    behind ≡ groups_old one.way → group ≡ group_with behind one.member one.line →
     IsMarkedBy items_old items_new behind one one.deliveries.items →
     ((q : Way) → groups_new q ≡ cond (same_way one.way q) (Some group) (groups_old q)) →
     Marked items_new groups_new (map ended_shown (drop i ended))

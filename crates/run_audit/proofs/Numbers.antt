@@ -34,7 +34,7 @@ within_none high value h = grind (arith, nat_tests)
 within_some : (high value found : ℕ) → Some found ≡ within 0 high value → (found ≡ value) × (value ≤ high)
 within_some high value found h = (grind (arith, nat_tests), grind (arith, nat_tests))
 
--- digits of a value above the highest have a greater value yet with those behind them
+-- digits of a value above the highest have a greater value yet with those after them
 pub above : (high value : ℕ) (digits : List ℕ) (i : ℕ) → list_all is_ascii_digit digits ≡ true → i < length digits →
     value ≡ digits_value 10 (take i digits) → None ≡ within 0 high (value * 10 + (get_or digits i 0 - 48)) →
     None ≡ within 0 high (digits_value 10 digits)

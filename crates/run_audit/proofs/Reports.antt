@@ -9,7 +9,7 @@ use Rattle.audit_mean.specs.Line.{ReportLine, line_said}
 use Rattle.audit_mean.specs.Report.{Stage, ◌>>=◌, stage_behind, running, report_from}
 use Rattle.audit_mean.specs.Text.{lines_of, unended}
 
--- the lines read so far, in front of what the others say
+-- the lines read so far, before what the others say
 abbrev pub with_front : List ReportLine → Result (List ReportLine) ℕ → Result (List ReportLine) ℕ
 with_front front (Ok lines) = Ok (front ++ lines)
 with_front front (Err number) = Err number

@@ -46,12 +46,12 @@ least_behind x (y ∷ ys) none = through (least ys) (behind ys none.1)
     through : (o : Option (ℕ × ℕ)) → Behind o → lesser x (Some (lesser y o)) ≡ x
     through o b = rw (one y o none.0 b) refl
 
--- what is in order behind one line is so behind an earlier
+-- what is in order after one line is so after an earlier
 earlier : (m n : ℕ) (xs : List Placed) → m ≤ n → IsInOrder n xs → IsInOrder m xs
 earlier m n [] le order = tt
 earlier m n (x ∷ xs) le order = (omega arith, order.1)
 
--- pairs whose second line is behind another's come behind it
+-- pairs whose second line is after another's come after it
 later : (lists : Lists) (a b : ℕ) (before rest : List Placed) → IsInOrder b rest →
     NoneBefore (a, b) (clashes_behind lists before rest)
 later lists a b before [] order = tt
@@ -68,7 +68,7 @@ later lists a b before (x ∷ rest) order =
     each [] = tt
     each (y ∷ ys) = (one y.entry.line, each ys)
 
--- what passes first of deliveries in order stands in front of all others that pass
+-- what passes first of deliveries in order stands before all others that pass
 pub record First (p : Placed → Bool) (b : Placed) (xs : List Placed) : Type 0 where
   pub first : Placed
   pub others : List Placed
@@ -155,7 +155,7 @@ first_is_least lists xs x ys order none some =
     rw (clashes-append lists [] xs (x ∷ ys), none, one.found, one.kept)
     (ap Some (sym (least_behind (lines_at x one.first) (map (lines_at x) one.others ++ rest) behind)))
 
--- deliveries in the order of their lines, all behind this line
+-- deliveries in the order of their lines, all after this line
 abbrev pub Rises : ℕ → List Entry → Type 0
 Rises line [] = Unit {0}
 Rises line (entry ∷ more) = (line < entry.line) × Rises entry.line more

@@ -12,7 +12,8 @@ use Rattle.audit_mean.specs.Lack.{Ended, ended_behind, goes_along, surplus_behin
 use Rattle.audit_mean.specs.Lack as spec
 use Rattle.run_audit.specs.declared.contents.Ranked.{Ranked}
 use Rattle.audit_mean.specs.Finding.{comes_before, lesser, least}
-use Rattle.run_audit.specs.Lacks.{Known, known, ranked_behind, ranked_shown, exceeds, lines_of_lack, surplus, lacks}
+use Rattle.run_audit.specs.Lacks.{Known, known_segment, ranked_behind, ranked_shown, exceeds, lines_of_lack, surplus}
+use Rattle.run_audit.specs.Lacks.{lacks}
 use Rattle.run_audit.specs.Lacks.{is_other, lacks_of_one, goes_with, lacks_in, all_lacks, first_of}
 
 passes_on : (x y z : ℕ × ℕ) → comes_before y x ≡ true → comes_before z y ≡ true → comes_before z x ≡ true
@@ -107,24 +108,26 @@ same_surplus line all before (e ∷ entries) =
       | false ↦ rest
     ]
 
-same_lacks : (one other : Ended) → lacks (known one) (known other) ≡ spec.lacks one other
+same_lacks : (one other : Ended) → lacks (known_segment one) (known_segment other) ≡ spec.lacks one other
 same_lacks one other = rw (entries_ranked [] one.entries) (same_surplus one.line one.entries [] other.entries)
 
-of_group : (one : Ended) (others : List Ended) → lacks_in (map known others) (known one) ≡
+of_group : (one : Ended) (others : List Ended) → lacks_in (map known_segment others) (known_segment one) ≡
     flat_map (spec.lacks one) (filter (goes_along one) others)
 of_group one [] = refl
 of_group one (other ∷ others) =
-    let rest = filter (goes_with (known one)) (map known others) in
+    let rest = filter (goes_with (known_segment one)) (map known_segment others) in
     let more = of_group one others in
-    elim (goes_with (known one) (known other)) as
-    (λ p. flat_map (lacks (known one)) (filter (is_other (known one)) (cond p (known other ∷ rest) rest)) ≡
+    elim (goes_with (known_segment one) (known_segment other)) as
+    (λ p. flat_map (lacks (known_segment one))
+    (filter (is_other (known_segment one)) (cond p (known_segment other ∷ rest) rest)) ≡
     flat_map (spec.lacks one)
-    (cond (p && is_other (known one) (known other)) (other ∷ filter (goes_along one) others)
+    (cond (p && is_other (known_segment one) (known_segment other)) (other ∷ filter (goes_along one) others)
     (filter (goes_along one) others))) [
       | true ↦
-          elim (is_other (known one) (known other)) as
-          (λ q. flat_map (lacks (known one))
-          (cond q (known other ∷ filter (is_other (known one)) rest) (filter (is_other (known one)) rest)) ≡
+          elim (is_other (known_segment one) (known_segment other)) as
+          (λ q. flat_map (lacks (known_segment one))
+          (cond q (known_segment other ∷ filter (is_other (known_segment one)) rest)
+          (filter (is_other (known_segment one)) rest)) ≡
           flat_map (spec.lacks one) (cond q (other ∷ filter (goes_along one) others) (filter (goes_along one) others))) [
             | true ↦ λ i. same_lacks one other i ++ more i
             | false ↦ more
@@ -132,11 +135,11 @@ of_group one (other ∷ others) =
       | false ↦ more
     ]
 
-of_each : (all ones : List Ended) → flat_map (lacks_in (map known all)) (map known ones) ≡
+of_each : (all ones : List Ended) → flat_map (lacks_in (map known_segment all)) (map known_segment ones) ≡
     flat_map (λ one. flat_map (spec.lacks one) (filter (goes_along one) all)) ones
 of_each all [] = refl
 of_each all (one ∷ ones) = λ i. of_group one all i ++ of_each all ones i
 
 -- what is found are the lacks that the definition means
-pub same_finding : (lines : List Numbered) → all_lacks (map known (ended_behind [] lines)) ≡ lacks_of lines
+pub same_finding : (lines : List Numbered) → all_lacks (map known_segment (ended_behind [] lines)) ≡ lacks_of lines
 same_finding lines = of_each (ended_behind [] lines) (ended_behind [] lines)

@@ -33,15 +33,15 @@ disagrees (Some seen) entry =
     (seen.more_contents || not (same_content (entry_shown seen.first) entry))
 
 -- what is seen with one more delivery
-abbrev pub joined : Option Seen → Entry → Seen
-joined None entry = record { first = entry; more_members = false; more_contents = false }
-joined (Some seen) entry = record {
+abbrev pub seen_with : Option Seen → Entry → Seen
+seen_with None entry = record { first = entry; more_members = false; more_contents = false }
+seen_with (Some seen) entry = record {
   first = seen.first;
   more_members = seen.more_members || not (seen.first.member == entry.member);
   more_contents = seen.more_contents || not (same_content (entry_shown seen.first) (entry_shown entry));
 }
 
--- deliveries in the order of their lines, all behind this line
+-- deliveries in the order of their lines, all after this line
 abbrev pub IsInOrder : ℕ → List Placed → Type 0
 IsInOrder line [] = Unit {0}
 IsInOrder line (placed ∷ more) = (line < placed.entry.line) × IsInOrder placed.entry.line more

@@ -3,15 +3,15 @@ use Rattle.std.specs.Prelude.{◌≡◌, ℕ, ◌<◌, List, Option, Some, None,
 use Rattle.std.specs.List.{enumerate_from}
 use Rattle.audit_mean.specs.Segment as spec
 use Rattle.audit_mean.specs.Segment.{Name, start, in_view, Numbered, segment_behind}
-use Rattle.run_audit.specs.Reading.{shown}
+use Rattle.run_audit.specs.Reading.{shown_line}
 use Rattle.run_audit.specs.declared.line.LineMeaning.{LineMeaning}
 use Rattle.run_audit.specs.declared.segments.Segment.{Segment}
 use Rattle.run_audit.specs.declared.segments.Segments.{Segments}
 use Rattle.run_audit.specs.declared.segments.Entry.{Entry}
 
 -- lines with their numbers
-abbrev pub numbered : List LineMeaning → List Numbered
-numbered lines = enumerate_from 1 (map shown lines)
+abbrev pub numbered_lines : List LineMeaning → List Numbered
+numbered_lines lines = enumerate_from 1 (map shown_line lines)
 
 abbrev pub name_shown : Option (ℕ × ℕ) → Name
 name_shown None = start
@@ -34,6 +34,6 @@ entry_shown entry = record {
 abbrev pub standing : Segments → ℕ → Option spec.Segment
 standing segments member = option_map segment_shown (slice_index_or segments.of_members member None)
 
--- each member is in its segment behind these lines; a member's number is of a byte
+-- each member is in its segment after these lines; a member's number is of a byte
 abbrev pub Stands : Segments → List Numbered → Type 0
 Stands segments before = (member : ℕ) → member < 256 → standing segments member ≡ segment_behind member before

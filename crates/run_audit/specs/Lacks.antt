@@ -20,7 +20,7 @@ use Rattle.run_audit.specs.declared.ended.Ended.{Ended}
 use Rattle.run_audit.specs.declared.ended.Way.{Way}
 use Rattle.std.specs.declared.alloc.Global.{Global}
 
--- deliveries that stand behind others, each with how many of these and of its own kind come before it
+-- deliveries that stand after others, each with how many of these and of its own kind come before it
 abbrev pub ranked_behind : List spec.Entry → List spec.Entry → List Placed
 ranked_behind before [] = []
 ranked_behind before (entry ∷ entries) = record { entry = entry; place = count_by (same_content entry) before } ∷
@@ -53,8 +53,8 @@ pub record Known : Type 0 where
   pub next : Name
   pub deliveries : List Placed
 
-abbrev pub known : lack.Ended → Known
-known ended = record {
+abbrev pub known_segment : lack.Ended → Known
+known_segment ended = record {
   line = ended.line;
   member = ended.member;
   name = ended.name;
@@ -76,14 +76,14 @@ ended_shown ended = record {
 }
 
 -- what stands at a key, which is nothing where the key has no list
-abbrev pub listed : {A : Type 0} → Option (Vec A Global) → List A
-listed None = []
-listed (Some list) = list.items
+abbrev pub list_at : {A : Type 0} → Option (Vec A Global) → List A
+list_at None = []
+list_at (Some list) = list.items
 
 -- the deliveries in the segment that each member is in
 abbrev pub Holds : (ℕ → Option (Vec Entry Global)) → List Numbered → Type 0
 Holds held before = (member : ℕ) (segment : spec.Segment) → segment_behind member before ≡ Some segment →
-    map entry_shown (listed (held member)) ≡ filter (is_in member segment) (entries_of before)
+    map entry_shown (list_at (held member)) ≡ filter (is_in member segment) (entries_of before)
 
 -- whether a line ends a member's segment
 abbrev pub is_left : ReportLine → ℕ → Bool
@@ -91,7 +91,7 @@ is_left (said.view m ltime mask) member = m == member
 is_left (said.out m) member = m == member
 is_left _ member = false
 
--- a member's deliveries behind a line, which is a delivery in a segment, or may end one
+-- a member's deliveries after a line, which is a delivery in a segment, or may end one
 abbrev pub held_behind : Option Entry → ReportLine → ℕ → List Entry → List Entry
 held_behind (Some entry) line member held = if entry.member == member then held ++ entry ∷ [] else held
 held_behind None line member held = if is_left line member then [] else held

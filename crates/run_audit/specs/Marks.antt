@@ -39,13 +39,14 @@ other_than member None = None
 other_than member (Some group) = if group.member == member then group.other else Some group.front
 
 -- a group with one more segment in front
-abbrev pub led : Option Group → (member line : ℕ) → Group
-led group member line = record { member = member; front = line; other = other_than member group }
+abbrev pub group_with : Option Group → (member line : ℕ) → Group
+group_with group member line = record { member = member; front = line; other = other_than member group }
 
 -- the mark of an item with one more segment in front that has it
-abbrev pub marked : Option Mark → Option Group → (member line : ℕ) → Mark
-marked None group member line = record { member = member; more_members = false; front = line; gap = lacking None group }
-marked (Some mark) group member line =
+abbrev pub mark_with : Option Mark → Option Group → (member line : ℕ) → Mark
+mark_with None group member line =
+    record { member = member; more_members = false; front = line; gap = lacking None group }
+mark_with (Some mark) group member line =
     if mark.front == line then mark
     else record {
       member = mark.member;
@@ -58,13 +59,13 @@ marked (Some mark) group member line =
 -- what is known of the segments of a group
 abbrev pub group_found : List Known → Option Group
 group_found [] = None
-group_found (one ∷ group) = Some (led (group_found group) one.member one.line)
+group_found (one ∷ group) = Some (group_with (group_found group) one.member one.line)
 
 -- what is known of an item in a group
 abbrev pub item_found : Placed → List Known → Option Mark
 item_found placed [] = None
 item_found placed (one ∷ group) =
-    if has placed one then Some (marked (item_found placed group) (group_found group) one.member one.line)
+    if has placed one then Some (mark_with (item_found placed group) (group_found group) one.member one.line)
     else item_found placed group
 
 -- each item and group is known
@@ -91,7 +92,7 @@ sooner_of items groups way found ranked = sooner found (lack_line (items (item_f
 abbrev pub sooner_in : (Item → Option Mark) → (Way → Option Group) → Option ℕ → Ended → Option ℕ
 sooner_in items groups found one = fold (sooner_of items groups one.way) found one.deliveries.items
 
--- segments behind a line, each ended by a later line than the one in front of it
+-- segments after a line, each ended by a later line than the one before it
 abbrev pub Rises : ℕ → List Known → Type 0
 Rises line [] = Unit {0}
 Rises line (one ∷ more) = (line < one.line) × Rises one.line more
@@ -106,11 +107,11 @@ pub record IsInLine (all : List Known) : Type 0 where
   pub rises : Rises 0 all
   pub ranked : AllByRecursion IsRanked all
 
--- a line stands in front of another, which may be none
+-- a line stands before another, which may be none
 abbrev pub is_in_front : ℕ → Option ℕ → Bool
 is_in_front line None = true
 is_in_front line (Some other) = nat_lt line other
 
--- segments that were ended in front of this line lack nothing
+-- segments that were ended before this line lack nothing
 abbrev pub IsClear : Option ℕ → List Known → Type 0
 IsClear line all = AllByRecursion (λ one. is_in_front one.line line ≡ true → lacks_in all one ≡ []) all

@@ -25,15 +25,15 @@ abbrev pub parts_left : Parts → List Word
 parts_left parts = parts_behind parts.at parts.rest
 
 -- a line as the definitions see it
-abbrev pub shown : LineMeaning → ReportLine
-shown (Deliver member peer body) = spec.deliver member peer body.now
-shown (View member ltime mask) = spec.view member ltime mask
-shown (Out member) = spec.out member
-shown End = spec.end
-shown Visits = spec.visits
-shown Silent = spec.silent
+abbrev pub shown_line : LineMeaning → ReportLine
+shown_line (Deliver member peer body) = spec.deliver member peer body.now
+shown_line (View member ltime mask) = spec.view member ltime mask
+shown_line (Out member) = spec.out member
+shown_line End = spec.end
+shown_line Visits = spec.visits
+shown_line Silent = spec.silent
 
--- what a form took from the words, and the words behind it
+-- what a form took from the words, and the words after it
 abbrev pub Takes : {A : Type 0} → Option (A × List Word) → Option A → List Word → Type 0
 Takes taken (Some value) behind = taken ≡ Some (value, behind)
 Takes taken None behind = taken ≡ None
@@ -45,7 +45,7 @@ TakesWord taken None behind = taken ≡ None
 
 -- what a form said of a whole line
 abbrev pub Says : Option (ReportLine × List Word) → Option LineMeaning → Type 0
-Says taken (Some line) = option_map (λ t. t.0) taken ≡ Some (shown line)
+Says taken (Some line) = option_map (λ t. t.0) taken ≡ Some (shown_line line)
 Says taken None = taken ≡ None
 
 -- a stage as the definitions see it
@@ -54,13 +54,13 @@ stage_shown Running = report.running
 stage_shown Ended = report.ended
 stage_shown Closed = report.closed
 
--- the stage behind a line
+-- the stage after a line
 abbrev pub NextStage : ReportPart → LineMeaning → Option ReportPart → Type 0
-NextStage stage line next = option_map stage_shown next ≡ report.stage_behind (stage_shown stage) (shown line)
+NextStage stage line next = option_map stage_shown next ≡ report.stage_behind (stage_shown stage) (shown_line line)
 
 -- the lines of a report, or the first out of form; want of memory says nothing
 abbrev pub Reads : Result (List ReportLine) ℕ → Result (Vec LineMeaning Global) AuditError → Type 0
-Reads read (Ok lines) = read ≡ Ok (map shown lines.items)
+Reads read (Ok lines) = read ≡ Ok (map shown_line lines.items)
 Reads read (Err (error.Line number)) = read ≡ Err number
 Reads read (Err error.TooLarge) = ⊥
 Reads read (Err error.Memory) = Unit {0}

@@ -5,7 +5,7 @@ ghost use Rattle.std.specs.List.{find};
 ghost use Rattle.audit_mean.specs.Segment as segment;
 ghost use Rattle.audit_mean.specs.Clash as spec;
 ghost use Rattle.audit_mean.specs.Finding.{least};
-ghost use Rattle.run_audit.specs.Clashes.{IsInOrder, disagrees, joined, place_key, same_place_key};
+ghost use Rattle.run_audit.specs.Clashes.{IsInOrder, disagrees, seen_with, place_key, same_place_key};
 ghost use Rattle.run_audit.specs.Entries.{entry_shown};
 ghost use Rattle.run_audit.specs.Places.{lists_shown, placed_shown};
 
@@ -49,7 +49,7 @@ pub(crate) fn least_clash<'a>(
         if disagrees(seen, &entry.entry) {
             return Ok(earliest(lists, entry, &placed[..index]));
         }
-        agreed.insert(key, joined(seen, entry.entry))?;
+        agreed.insert(key, seen_with(seen, entry.entry))?;
     }
     Ok(None)
 }
@@ -84,8 +84,8 @@ fn disagrees(seen: Option<Seen<'_>>, entry: &Entry<'_>) -> bool
 }
 
 /// What is seen at the place with one more delivery.
-fn joined<'a>(seen: Option<Seen<'a>>, entry: Entry<'a>) -> Seen<'a>
-    ensures { result ≡ joined seen.entry entry.entry }
+fn seen_with<'a>(seen: Option<Seen<'a>>, entry: Entry<'a>) -> Seen<'a>
+    ensures { result ≡ seen_with seen.entry entry.entry }
 {
     match seen {
         Some(seen) => Seen {

@@ -5,9 +5,10 @@ ghost use Rattle.std.specs.HashMap as hash;
 ghost use Rattle.std.specs.Option.{option_to_list};
 ghost use Rattle.audit_mean.specs.Segment.{Numbered};
 ghost use Rattle.audit_mean.specs.Lack as spec;
-ghost use Rattle.run_audit.specs.Entries.{Stands, entry_shown, numbered};
-ghost use Rattle.run_audit.specs.Reading.{shown};
-ghost use Rattle.run_audit.specs.Lacks.{Holds, ended_shown, held_behind, known, listed, ranked_behind, ranked_shown};
+ghost use Rattle.run_audit.specs.Entries.{Stands, entry_shown, numbered_lines};
+ghost use Rattle.run_audit.specs.Reading.{shown_line};
+ghost use Rattle.run_audit.specs.Lacks.{Holds, ended_shown, held_behind, known_segment, list_at, ranked_behind};
+ghost use Rattle.run_audit.specs.Lacks.{ranked_shown};
 
 use crate::contents::{Ranked, rank};
 use crate::line::LineMeaning;
@@ -39,7 +40,7 @@ pub(crate) fn ended_segments<'a>(
 ) -> Result<Vec<Ended<'a>>, AllocError>
     requires { length lines.now < 2 ^ 32 }
     ensures { IfOk result
-        (λ ended. map ended_shown ended.items ≡ map known (spec.ended_behind [] (numbered lines.now))) }
+        (λ ended. map ended_shown ended.items ≡ map known_segment (spec.ended_behind [] (numbered_lines lines.now))) }
 {
     let mut segments = Segments::first();
     let mut held = HashMap::new(alloc);
@@ -64,7 +65,7 @@ fn ended_by<'a>(
 ) -> Result<Option<Ended<'a>>, AllocError>
     ensures { IfOk result (λ ended. (before : List Numbered) → Stands segments.now before →
         Holds (hash.get nat_eq held.now) before → option_map ended_shown ended ≡
-        option_map known (spec.ended_by before (number, shown line.now))) }
+        option_map known_segment (spec.ended_by before (number, shown_line line.now))) }
 {
     let LineMeaning::View(member, ltime, mask) = line else {
         return Ok(None);
@@ -92,7 +93,7 @@ fn rank_at<'a>(
 ) -> Result<Vec<Ranked<'a>>, AllocError>
     ensures { IfOk result
         (λ ranked. map ranked_shown ranked.items ≡
-        ranked_behind [] (map entry_shown (listed (hash.get nat_eq held.now member)))) }
+        ranked_behind [] (map entry_shown (list_at (hash.get nat_eq held.now member)))) }
 {
     match held.get(&member) {
         Some(entries) => rank(alloc, entries.as_slice()),
@@ -109,15 +110,15 @@ fn push_some<'a>(all: &mut Vec<Ended<'a>>, ended: Option<Ended<'a>>) -> Result<(
     Ok(())
 }
 
-/// The deliveries in the segments behind a line, which may be a delivery in one.
+/// The deliveries in the segments after a line, which may be a delivery in one.
 fn follow<'a>(
     alloc: Global,
     held: &mut HashMap<u8, Vec<Entry<'a>>>,
     entry: Option<Entry<'a>>,
     line: &LineMeaning<'_>,
 ) -> Result<(), AllocError>
-    ensures { IfOk result (λ done. (member : ℕ) → listed (hash.get nat_eq held.new member) ≡
-        held_behind entry.entry (shown line.now) member (listed (hash.get nat_eq held.old member))) }
+    ensures { IfOk result (λ done. (member : ℕ) → list_at (hash.get nat_eq held.new member) ≡
+        held_behind entry.entry (shown_line line.now) member (list_at (hash.get nat_eq held.old member))) }
 {
     if let Some(entry) = entry {
         add(alloc, held, entry)?;
@@ -133,9 +134,9 @@ fn add<'a>(
     held: &mut HashMap<u8, Vec<Entry<'a>>>,
     entry: Entry<'a>,
 ) -> Result<(), AllocError>
-    ensures { IfOk result (λ done. (member : ℕ) → listed (hash.get nat_eq held.new member) ≡
-        (if entry.entry.member == member then listed (hash.get nat_eq held.old member) ++ entry.entry ∷
-        [] else listed (hash.get nat_eq held.old member))) }
+    ensures { IfOk result (λ done. (member : ℕ) → list_at (hash.get nat_eq held.new member) ≡
+        (if entry.entry.member == member then list_at (hash.get nat_eq held.old member) ++ entry.entry ∷
+        [] else list_at (hash.get nat_eq held.old member))) }
 {
     let mut entries = match held.remove(&entry.member) {
         Some(entries) => entries,
@@ -148,8 +149,8 @@ fn add<'a>(
 
 /// A segment that a line ends, its deliveries with it.
 fn drop_ended<'a>(held: &mut HashMap<u8, Vec<Entry<'a>>>, line: &LineMeaning<'_>)
-    ensures { (member : ℕ) → listed (hash.get nat_eq held.new member) ≡
-        held_behind None (shown line.now) member (listed (hash.get nat_eq held.old member)) }
+    ensures { (member : ℕ) → list_at (hash.get nat_eq held.new member) ≡
+        held_behind None (shown_line line.now) member (list_at (hash.get nat_eq held.old member)) }
 {
     match line {
         LineMeaning::View(member, _, _) | LineMeaning::Out(member) => {

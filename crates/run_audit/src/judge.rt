@@ -5,7 +5,7 @@ ghost use Rattle.audit_mean.specs.Clash.{clashes_of};
 ghost use Rattle.audit_mean.specs.Lack.{lacks_of};
 ghost use Rattle.audit_mean.specs.Finding.{audit_of, breaches, finding_of, least};
 ghost use Rattle.run_audit.specs.Audits.{Audits};
-ghost use Rattle.run_audit.specs.Entries.{numbered};
+ghost use Rattle.run_audit.specs.Entries.{numbered_lines};
 ghost use Rattle.run_audit.specs.Places.{lists_shown};
 
 use crate::clashes::least_clash;
@@ -41,7 +41,7 @@ fn least_breach(
     lines: &[LineMeaning<'_>],
 ) -> Result<Option<(u32, u32)>, AllocError>
     requires { length lines.now < 2 ^ 32 }
-    ensures { IfOk result (λ breach. breach ≡ least (breaches law (numbered lines.now))) }
+    ensures { IfOk result (λ breach. breach ≡ least (breaches law (numbered_lines lines.now))) }
 {
     match law {
         Law::Sender => disorder(alloc, Lists::OfEachPeer, lines),
@@ -58,7 +58,7 @@ fn disorder(
 ) -> Result<Option<(u32, u32)>, AllocError>
     requires { length lines.now < 2 ^ 32 }
     ensures { IfOk result
-        (λ breach. breach ≡ least (clashes_of (lists_shown lists) (entries_of (numbered lines.now)))) }
+        (λ breach. breach ≡ least (clashes_of (lists_shown lists) (entries_of (numbered_lines lines.now)))) }
 {
     let entries = entries(alloc, lines)?;
     let placed = place(alloc, lists, entries.as_slice())?;
@@ -68,7 +68,7 @@ fn disorder(
 /// The least lack of what others delivered.
 fn difference(alloc: Global, lines: &[LineMeaning<'_>]) -> Result<Option<(u32, u32)>, AllocError>
     requires { length lines.now < 2 ^ 32 }
-    ensures { IfOk result (λ breach. breach ≡ least (lacks_of (numbered lines.now))) }
+    ensures { IfOk result (λ breach. breach ≡ least (lacks_of (numbered_lines lines.now))) }
 {
     let ended = ended_segments(alloc, lines)?;
     least_lack(alloc, ended.as_slice())

@@ -123,7 +123,7 @@ fn first_of(a: Option<(u32, u32)>, b: Option<(u32, u32)>) -> Option<(u32, u32)>
     }
 }
 
-/// Whether a line stands in front of another, which may be none.
+/// Whether a line stands before another, which may be none.
 fn is_in_front(line: u32, other: Option<u32>) -> bool
     ensures { result ≡ is_in_front line other }
 {

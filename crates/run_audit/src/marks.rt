@@ -3,7 +3,7 @@ ghost use Rattle.std.specs.Prelude.{◌≡◌, if◌then◌else◌, ◌&&◌, ma
 ghost use Rattle.std.specs.HashMap as hash;
 ghost use Rattle.std.specs.List.{list_any};
 ghost use Rattle.run_audit.specs.Lacks.{ended_shown, ranked_shown, same_way};
-ghost use Rattle.run_audit.specs.Marks.{IsClear, IsInLine, Marked, item_for, lack_line, lacking, led, marked};
+ghost use Rattle.run_audit.specs.Marks.{IsClear, IsInLine, Marked, item_for, lack_line, lacking, group_with, mark_with};
 ghost use Rattle.run_audit.specs.Marks.{other_than, same_item, same_item_key, sooner, sooner_in};
 ghost use Rattle.run_audit.specs.declared.ended.Way.{Way};
 
@@ -23,7 +23,7 @@ struct Item<'a> {
 
 /// Who has an item, of the segments of a group from some segment on: the member of the last that has
 /// it, and whether another member has it; the line that ended the first that has it, and the line that
-/// ended the first behind that which has it not.
+/// ended the first after that which has it not.
 #[derive(Clone, Copy)]
 struct Mark {
     member: u8,
@@ -76,12 +76,12 @@ fn mark_all<'a>(alloc: Global, ended: &[Ended<'a>]) -> Result<Marks<'a>, AllocEr
         let one = &ended[index];
         let behind = group_at(&groups, one.way);
         mark_segment(&mut items, behind, one)?;
-        groups.insert(one.way, led(behind, one))?;
+        groups.insert(one.way, group_with(behind, one))?;
     }
     Ok(Marks { groups, items })
 }
 
-/// One more segment in front of those of its group.
+/// One more segment before those of its group.
 fn mark_segment<'a>(
     items: &mut HashMap<Item<'a>, Mark>,
     behind: Option<Group>,
@@ -90,12 +90,12 @@ fn mark_segment<'a>(
     ensures { IfOk result (λ done. (way : Way) (r : Ranked) → hash.get same_item_key items.new (item_for way r) ≡
         (if same_way one.now.way way &&
         list_any (same_item (ranked_shown r)) (map ranked_shown one.now.deliveries.items) then Some
-        (marked (hash.get same_item_key items.old (item_for way r)) behind one.now.member one.now.line) else hash.get
+        (mark_with (hash.get same_item_key items.old (item_for way r)) behind one.now.member one.now.line) else hash.get
         same_item_key items.old (item_for way r))) }
 {
     for delivery in &one.deliveries {
         let item = item_of(one.way, delivery);
-        let mark = marked(mark_at(items, item), behind, one);
+        let mark = mark_with(mark_at(items, item), behind, one);
         items.insert(item, mark)?;
     }
     Ok(())
@@ -123,9 +123,9 @@ fn group_at(groups: &HashMap<Way, Group>, way: Way) -> Option<Group>
     groups.get(&way).copied()
 }
 
-/// The mark of an item that this segment has too, in front of its group.
-fn marked(mark: Option<Mark>, behind: Option<Group>, one: &Ended<'_>) -> Mark
-    ensures { result ≡ marked mark behind one.now.member one.now.line }
+/// The mark of an item that this segment has too, before its group.
+fn mark_with(mark: Option<Mark>, behind: Option<Group>, one: &Ended<'_>) -> Mark
+    ensures { result ≡ mark_with mark behind one.now.member one.now.line }
 {
     match mark {
         Some(mark) if mark.front == one.line => mark,
@@ -156,8 +156,8 @@ fn lacking(mark: Option<Mark>, group: Option<Group>) -> Option<u32>
 }
 
 /// The group with one more segment in front.
-fn led(group: Option<Group>, one: &Ended<'_>) -> Group
-    ensures { result ≡ led group one.now.member one.now.line }
+fn group_with(group: Option<Group>, one: &Ended<'_>) -> Group
+    ensures { result ≡ group_with group one.now.member one.now.line }
 {
     Group {
         member: one.member,

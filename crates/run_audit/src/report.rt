@@ -9,7 +9,7 @@ use crate::line::{LineMeaning, line_said};
 use crate::parts::Parts;
 use std::alloc::Global;
 
-/// Where in a report a line stands: in front of `end`, behind it, or behind `visits`.
+/// Where in a report a line stands: before `end`, after it, or after `visits`.
 #[derive(Clone, Copy, PartialEq, Eq)]
 pub(crate) enum ReportPart {
     Running,
@@ -18,7 +18,7 @@ pub(crate) enum ReportPart {
 }
 
 impl ReportPart {
-    /// The stage behind a line, if the line may stand there.
+    /// The stage after a line, if the line may stand there.
     fn behind(self, line: &LineMeaning<'_>) -> Option<ReportPart>
         ensures { NextStage self line.now result }
     {

@@ -3,8 +3,8 @@ ghost use Rattle.std.specs.Prelude.{◌≡◌, ◌≢◌, ℕ, ◌+◌, ◌<◌,
 ghost use Rattle.std.specs.Prelude.{IfSome, IfOk};
 ghost use Rattle.std.specs.Option.{option_to_list};
 ghost use Rattle.audit_mean.specs.Segment as spec;
-ghost use Rattle.run_audit.specs.Reading.{shown};
-ghost use Rattle.run_audit.specs.Entries.{Stands, entry_shown, numbered, segment_shown, standing};
+ghost use Rattle.run_audit.specs.Reading.{shown_line};
+ghost use Rattle.run_audit.specs.Entries.{Stands, entry_shown, numbered_lines, segment_shown, standing};
 
 use crate::line::LineMeaning;
 use std::alloc::{AllocError, Global};
@@ -59,10 +59,10 @@ impl Segments {
         self.of_members[member as usize] = segment;
     }
 
-    /// The segments behind a line.
+    /// The segments after a line.
     pub(crate) fn advance(&mut self, number: u32, line: &LineMeaning<'_>)
         ensures this { (m : ℕ) →
-            standing self.new m ≡ spec.segment_next m (standing self.old m) (number, shown line.now) }
+            standing self.new m ≡ spec.segment_next m (standing self.old m) (number, shown_line line.now) }
     {
         match line {
             LineMeaning::View(member, ltime, mask) => {
@@ -80,7 +80,7 @@ impl Segments {
     /// The delivery of a line in a segment, if it is one.
     pub(crate) fn entry<'a>(&self, number: u32, line: &LineMeaning<'a>) -> Option<Entry<'a>>
         ensures { (before : List spec.Numbered) → Stands self.now before → option_map entry_shown result ≡
-            spec.entry_behind before (number, shown line.now) }
+            spec.entry_behind before (number, shown_line line.now) }
     {
         match line {
             LineMeaning::Deliver(member, peer, body) => {
@@ -104,7 +104,7 @@ pub(crate) fn entries<'a>(
     lines: &[LineMeaning<'a>],
 ) -> Result<Vec<Entry<'a>>, AllocError>
     requires { length lines.now < 2 ^ 32 }
-    ensures { IfOk result (λ entries. map entry_shown entries.items ≡ spec.entries_of (numbered lines.now)) }
+    ensures { IfOk result (λ entries. map entry_shown entries.items ≡ spec.entries_of (numbered_lines lines.now)) }
 {
     let mut segments = Segments::first();
     let mut entries = Vec::new(alloc);

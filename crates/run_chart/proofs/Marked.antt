@@ -14,7 +14,7 @@ use Rattle.run_chart.specs.Reading.{line_shown}
 use Rattle.run_chart.specs.declared.lines.Line.{Line}
 use Rattle.run_chart.specs.declared.marks.Body.{Body}
 
--- the mark of a line behind others
+-- the mark of a line after others
 abbrev pub mark_behind : List spec.Line → spec.Line → List ℕ
 mark_behind before line = mark (bringer (bearer before) line.says) line
 
@@ -54,7 +54,7 @@ agrees_more old new lines i d lt agrees next = λ body.
     ∙ sym (ap (λ ls. bearer ls body.word.now) (shown_more lines i d lt)
     ∙ fold-append (bearer_next body.word.now) None (map line_shown (take i lines)) (line_shown (get_or lines i d) ∷ []))
 
--- both behind one more line
+-- both after one more line
 pub drawn_more : (lines : List Line) (i : ℕ) (d : Line) (start text more : List ℕ) (sent : Option Sent)
     (old new : Body → Option Sent) → i < length lines →
     text ≡ start ++ concat (marks [] (map line_shown (take i lines))) → Agrees old (map line_shown (take i lines)) →

@@ -11,7 +11,7 @@ use Rattle.audit_mean.specs.Text.{lines_of}
 use Rattle.outside.specs.Lines.{Begins}
 use Rattle.outside.specs.Shelf.{Shelved, found_in}
 use Rattle.outside.specs.Tells.{Tells}
-use Rattle.chart_mean.specs.Picture.{chart_of, drawn}
+use Rattle.chart_mean.specs.Picture.{chart_of, report_picture}
 use Rattle.chart_mean.specs.Words.{Request}
 use Rattle.chart_mean.specs.Runs.{surrounding, Draws, Comes}
 use Rattle.chart_mean.specs.declared.types.Ending.{Ending}
@@ -52,7 +52,8 @@ module _ (r : Request) (told : Option Shelved) (reads reads_after : ℕ) where
   large h sound = let l = longer told r.file LONGEST_REPORT h in record {
     file = l.0;
     found = l.1;
-    refused = ap (λ b. if b then Err too_large else drawn r.range (lines_of l.0) (report_from running 1 (lines_of l.0)))
+    refused = ap (λ b. if b then Err too_large else report_picture r.range (lines_of l.0)
+        (report_from running 1 (lines_of l.0)))
         (lt-ltb LONGEST_REPORT (length l.0) l.2);
     sound = sound;
   }

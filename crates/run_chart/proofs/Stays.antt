@@ -4,7 +4,7 @@ use Rattle.std.proofs.Common.{None}
 use Rattle.std.specs.Prelude.{map}
 use Rattle.std.proofs.lemmas.List.{drop_more, drop_all}
 use Rattle.chart_mean.specs.Place as spec
-use Rattle.chart_mean.specs.Row.{stay_of, turned, turn_at, turns_at, stayed, stays}
+use Rattle.chart_mean.specs.Row.{stay_of, stay_turn, turn_at, turns_at, stay_band, stays}
 use Rattle.chart_mean.specs.declared.types.Stay.{Stay}
 use Rattle.chart_mean.specs.declared.types.Turn.{Turn}
 use Rattle.run_chart.specs.Reading.{line_shown}
@@ -36,20 +36,20 @@ stays_step member end lines i d start text more turn next lt to is =
 -- a line that ends no stay, and one that does
 pub stands : (member : ℕ) (turn : Turn) (line : spec.Line) (text : List ℕ) → None ≡ stay_of member line.says →
     TurnsTo member turn line text text turn
-stands member turn line text is = λ end turns. ap (λ s. text ++ stays member end turn (turned line.x s ++ turns)) is
+stands member turn line text is = λ end turns. ap (λ s. text ++ stays member end turn (stay_turn line.x s ++ turns)) is
 
 pub turns : (member : ℕ) (turn : Turn) (stay : Stay) (line : spec.Line) (text more : List ℕ) →
     Some stay ≡ stay_of member line.says →
-    more ≡ text ++ stayed member turn.x line.x turn.stay →
+    more ≡ text ++ stay_band member turn.x line.x turn.stay →
     TurnsTo member turn line text more (record { x = line.x; stay = stay })
 turns member turn stay line text more is drew = λ end rest.
     ap (λ m. m ++ stays member end (record { x = line.x; stay = stay }) rest) drew
-    ∙ append_assoc text (stayed member turn.x line.x turn.stay)
+    ∙ append_assoc text (stay_band member turn.x line.x turn.stay)
     (stays member end (record { x = line.x; stay = stay }) rest)
-    ∙ ap (λ s. text ++ stays member end turn (turned line.x s ++ rest)) is
+    ∙ ap (λ s. text ++ stays member end turn (stay_turn line.x s ++ rest)) is
 
--- behind the last line
+-- after the last line
 pub stays_last : (member end : ℕ) (turn : Turn) (lines : List Line) (i : ℕ) → length lines ≤ i →
-    stays_from member end turn lines i ≡ stayed member turn.x end turn.stay
+    stays_from member end turn lines i ≡ stay_band member turn.x end turn.stay
 stays_last member end turn lines i le = ap (λ ls. stays member end turn (turns_at member (map line_shown ls)))
     (drop_all i lines le)

@@ -10,7 +10,7 @@ use Rattle.outside.specs.Said.{Errors, SaysLine, whole, failed, no_memory, error
 use Rattle.chart_mean.specs.Words.{Request, request_of}
 use Rattle.chart_mean.specs.Ends.{Said}
 use Rattle.chart_mean.specs.Runs.{Comes, surrounding}
-use Rattle.chart_mean.specs.Through.{RunsThrough, closed, Delivers}
+use Rattle.chart_mean.specs.Through.{RunsThrough, end_after_delivery, Delivers}
 use Rattle.program_streams.specs.Streams.{Stream, HandsOn}
 use Rattle.chart_mean.specs.declared.types.Ending.{Ending}
 use Rattle.chart_mean.specs.declared.types.Ending.TheVariants.{Done, TooLarge, Line, Words, Read, Write, Memory}
@@ -30,8 +30,8 @@ well Read e said is = absurd (not_said _ 4 e said (λ z. omega (arith, z)) is)
 well Write e said is = absurd (not_said _ 5 e said (λ z. omega (arith, z)) is)
 well Memory e said is = absurd (not_said _ 7 e said (λ z. omega (arith, z)) is)
 
--- an end that is well behind the stream was well before, and the stream got all
-got_all : (whole : Bool) (end : Ending) → closed whole end ≡ Done → (whole ≡ true) × (end ≡ Done)
+-- an end that is well after the stream was well before, and the stream got all
+got_all : (whole : Bool) (end : Ending) → end_after_delivery whole end ≡ Done → (whole ≡ true) × (end ≡ Done)
 got_all true end is = (refl, is)
 got_all false Done is = absurd (cc is)
 got_all false TooLarge is = absurd (cc is)
@@ -45,7 +45,8 @@ pub delivers : (words : List Text) (told : Option Shelved) (reads reads_after : 
     RunsThrough words told reads reads_after out err status → status ≡ 0 →
     Delivers (request_of words) told reads reads_after out
 delivers words told reads reads_after out err status r zero =
-    let got = got_all r.whole r.end (well (closed r.whole r.end) (errors err.before r.closing status) r.said zero) in
+    let got = got_all r.whole r.end
+    (well (end_after_delivery r.whole r.end) (errors err.before r.closing status) r.said zero) in
     by (request_of words)
     (subst (Comes (request_of words) (surrounding told reads reads_after out.before r.put)) got.1 r.came)
     (subst (HandsOn r.put out.after out.holds) got.0 r.handed_on)

@@ -9,7 +9,7 @@ use Rattle.outside.specs.Count.{Rose}
 use Rattle.outside.specs.Lines.{Gains, Fails, Begins}
 use Rattle.outside.specs.Shelf.{Shelved, found_in}
 use Rattle.outside.specs.Tells.{Tells}
-use Rattle.chart_mean.specs.Picture.{pictured, chart_of}
+use Rattle.chart_mean.specs.Picture.{range_picture, chart_of}
 use Rattle.chart_mean.specs.Words.{Request}
 use Rattle.chart_mean.specs.declared.types.Range.{Range}
 use Rattle.chart_mean.specs.declared.types.Ending.{Ending}
@@ -29,7 +29,8 @@ Charts charted (Err ending) = IsNone charted ending
 
 -- a text is a report, so that it has a picture and isn't too large; or why not
 abbrev pub IsReport : Range → List ℕ → Result (Unit {0}) Ending → Type 0
-IsReport range text (Ok done) = (length text ≤ 67108864) × (chart_of range text ≡ Ok (pictured range (lines_of text)))
+IsReport range text (Ok done) = (length text ≤ 67108864) ×
+    (chart_of range text ≡ Ok (range_picture range (lines_of text)))
 IsReport range text (Err ending) = IsNone (chart_of range text) ending
 
 -- the next read of this name found these bytes

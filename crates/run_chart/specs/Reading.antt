@@ -39,7 +39,7 @@ request_shown request = record { file = request.file.now; range = request.range 
 abbrev pub word_shown : Option (Bor (List ℕ)) → Option (List ℕ)
 word_shown word = option_map text_shown word
 
--- what a form took from the words, and the words behind it
+-- what a form took from the words, and the words after it
 abbrev pub Takes : {A : Type 0} → Option (A × List Word) → Option A → List Word → Type 0
 Takes taken (Some value) behind = taken ≡ Some (value, behind)
 Takes taken None behind = taken ≡ None

@@ -52,7 +52,7 @@ fn drawn(alloc: Global, text: &[u8], range: Range) -> Result<Vec<u8>, Ending>
 
 fn draw(alloc: Global, text: &[u8], range: Range) -> Result<Vec<u8>, AllocError>
     requires { length text.now ≤ 67108864 }
-    ensures { IfOk result (λ picture. picture.items ≡ spec.pictured range (lines_of text.now)) }
+    ensures { IfOk result (λ picture. picture.items ≡ spec.range_picture range (lines_of text.now)) }
 {
     let texts = all_lines(alloc, text)?;
     let lines = placed(alloc, range.first, in_range(range, &texts))?;

@@ -100,7 +100,7 @@ fn stay_at(member: u32, told: u8, stay: Stay) -> Option<Stay>
 
 /// Appends a stay up to where it ends.
 fn draw_stay(member: u32, turn: Turn, end: u64, text: &mut Text) -> Result<(), AllocError>
-    ensures { OnOk result (text.new ≡ text.old ++ spec.stayed member turn.x end turn.stay) }
+    ensures { OnOk result (text.new ≡ text.old ++ spec.stay_band member turn.x end turn.stay) }
 {
     match turn.stay {
         Stay::Untold => draw_untold(member, turn.x, end, text),
@@ -114,7 +114,7 @@ fn draw_stay(member: u32, turn: Turn, end: u64, text: &mut Text) -> Result<(), A
 }
 
 fn draw_untold(member: u32, x: u64, end: u64, text: &mut Text) -> Result<(), AllocError>
-    ensures { OnOk result (text.new ≡ text.old ++ spec.untold member x end) }
+    ensures { OnOk result (text.new ≡ text.old ++ spec.untold_band member x end) }
 {
     text.put(b"<g class='untold'>")?;
     draw_band(member, x, end, text)?;
@@ -123,7 +123,7 @@ fn draw_untold(member: u32, x: u64, end: u64, text: &mut Text) -> Result<(), All
 
 /// Appends the beginning of a stay in a view, whose tint the logical time gives.
 fn draw_view(member: u32, x: u64, end: u64, ltime: u32, text: &mut Text) -> Result<(), AllocError>
-    ensures { OnOk result (text.new ≡ text.old ++ spec.tinted member x end ltime) }
+    ensures { OnOk result (text.new ≡ text.old ++ spec.tinted_band member x end ltime) }
 {
     text.put_number(b"<g class='view", u64::from(ltime % TINTS))?;
     text.put(b"'>")?;

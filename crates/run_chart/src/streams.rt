@@ -1,7 +1,7 @@
 //! A run over streams, which are handed what was put.
 ghost use Rattle.std.specs.Prelude.{◌≡◌, map};
 ghost use Rattle.std.specs.String.{string_bytes};
-ghost use Rattle.chart_mean.specs.Through.{Delivers, RunsThrough, closed};
+ghost use Rattle.chart_mean.specs.Through.{Delivers, RunsThrough, end_after_delivery};
 ghost use Rattle.program_streams.specs.Streams.{over};
 ghost use Rattle.chart_mean.specs.Words.{request_of};
 
@@ -35,14 +35,14 @@ pub fn run_through<S: Shelf, O: Write + Drop, E: Write + Drop>(
 {
     let ending = perform(alloc, words, shelf, out);
     let whole = hand_on(out);
-    let status = say(alloc, closed(whole, ending), err);
+    let status = say(alloc, end_after_delivery(whole, ending), err);
     let _ = hand_on(err);
     status
 }
 
 /// How a run ended whose stream got all that was put or didn't: then a picture that was put is a fault of writing.
-fn closed(whole: bool, ending: Ending) -> Ending
-    ensures { result ≡ closed whole ending }
+fn end_after_delivery(whole: bool, ending: Ending) -> Ending
+    ensures { result ≡ end_after_delivery whole ending }
 {
     if whole {
         return ending;

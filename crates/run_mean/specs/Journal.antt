@@ -34,7 +34,7 @@ pub data Note : Type 0 where
   deaf : (id : ℕ) → Note
 
 -- What the members heard in a turn, and how many failures may still be borne; none where one more came than may be,
--- behind which nothing is heard.
+-- after which nothing is heard.
 pub record Hearing : Type 0 where
   pub notes : List Note
   pub patience : Option ℕ
@@ -112,15 +112,16 @@ handed_in mode stack plans id (taken s) = flat_map (handed_output plans id) (as_
 handed_in mode stack plans id _ = []
 
 -- What a run hands to the network in a mode, in order.
-abbrev pub handed : Mode → List LayerTree → List Plan → List Moment → List Handed
-handed mode stack plans run = flat_map (λ m. handed_in mode stack plans (member_of m.event) m.happening.did) run
+abbrev pub handed_datagrams : Mode → List LayerTree → List Plan → List Moment → List Handed
+handed_datagrams mode stack plans run = flat_map (λ m. handed_in mode stack plans (member_of m.event) m.happening.did)
+    run
 
--- Behind a packet's line, one line for each sending of it that failed.
+-- After a packet's line, one line for each sending of it that failed.
 abbrev pub lost_annex : (failed : ℕ → ℕ) → Annex
 lost_annex failed k (packet p, plan) = replicate (failed k) (line (codes "lost" ∷ decimal k ∷ []))
 lost_annex failed k (_, plan) = []
 
--- What a node writes of an event: behind `> ` its line, then its report, with the packets that were lost.
+-- What a node writes of an event: after `> ` its line, then its report, with the packets that were lost.
 abbrev pub node_moment_lines : List LayerTree → List Plan → (failed : ℕ → ℕ) → Moment → List (List ℕ)
 node_moment_lines stack plans failed m =
     line (codes ">" ∷ event_text m.event ∷ [])

@@ -14,7 +14,7 @@ use Rattle.run_mean.specs.Member.{Refusal, is_out, too_big, is_stray}
 use Rattle.script_mean.specs.EventText.{hex_text}
 use Rattle.run_mean.specs.Text.{chain_text, rows_text}
 
--- Words with a space between, and a line feed behind the last.
+-- Words with a space between, and a line feed after the last.
 abbrev pub line : List (List ℕ) → List ℕ
 line words = join_by (λ word. word) (codes " ") words ++ codes "\n"
 

@@ -33,8 +33,8 @@ pub data Member : Type 0 where
   out : Member
 
 -- A member of this id that has just come into a view: its layers are fresh. One whose id the view hasn't is out.
-abbrev pub opened : List LayerTree → View → ℕ → Member
-opened stack view id = option_map_or
+abbrev pub opened_member : List LayerTree → View → ℕ → Member
+opened_member stack view id = option_map_or
     (λ me. inside view (map (λ layer. fresh layer me (member_count view) view.ltime) stack)) (rank view id) out
 
 -- What a member may be given: a cast or a send of its application, its wish to leave, a moment of its clock, or a
@@ -70,12 +70,12 @@ from_datagram (Ok packet) = Ok (from_peer packet)
 from_datagram (Err cause) = Err (is_stray cause)
 
 -- An input of a member that is in a view, as far as it isn't refused.
-abbrev pub entered : List LayerTree → List Plan → Here → Input → Result Entered Refusal
-entered stack plans here (cast body) = fitting body (app_cast body)
-entered stack plans here (send to body) = fitting body (app_send to body)
-entered stack plans here leave = Ok app_leave
-entered stack plans here (tick moment) = Ok (clock_tick moment)
-entered stack plans here (datagram bytes) = from_datagram (received stack plans here bytes)
+abbrev pub entered_input : List LayerTree → List Plan → Here → Input → Result Entered Refusal
+entered_input stack plans here (cast body) = fitting body (app_cast body)
+entered_input stack plans here (send to body) = fitting body (app_send to body)
+entered_input stack plans here leave = Ok app_leave
+entered_input stack plans here (tick moment) = Ok (clock_tick moment)
+entered_input stack plans here (datagram bytes) = from_datagram (received stack plans here bytes)
 
 -- A task at the top of the stack, going down, and one at the lowest place, going up.
 abbrev pub from_above : List LayerTree → Kind → List ℕ → Option Content → Task Event
@@ -143,9 +143,9 @@ output_of here (Up, e) = above e.kind e
 output_of here (Down, e) = below here e.kind e
 
 -- The view that an output announces, and the packet that it sends.
-abbrev pub announced : Output → Option ℕ
-announced (announce ranks) = Some ranks
-announced _ = None
+abbrev pub announced_ranks : Output → Option ℕ
+announced_ranks (announce ranks) = Some ranks
+announced_ranks _ = None
 
 abbrev pub packet_in : Output → Option Packet
 packet_in (packet p) = Some p
@@ -159,10 +159,10 @@ pub record Step : Type 0 where
   pub outputs : List Output
   pub installs : Option Member
 
--- The member behind a step: the first view that the run announced is installed once the run has ended, and later ones
+-- The member after a step: the first view that the run announced is installed once the run has ended, and later ones
 -- aren't. A member that isn't in the new view, or whose count of views was at its end, is out.
-abbrev pub installed : List LayerTree → View → ℕ → ℕ → Member
-installed stack view id ranks = option_map_or (λ next. opened stack next id) (next_view view ranks) out
+abbrev pub installed_member : List LayerTree → View → ℕ → ℕ → Member
+installed_member stack view id ranks = option_map_or (λ next. opened_member stack next id) (next_view view ranks) out
 
 -- The most turns of a run: what an accepted stack's entries weigh at most.
 abbrev pub most_turns : ℕ
@@ -176,9 +176,9 @@ step_from stack here id states what =
       entered = what;
       work = work;
       outputs = outputs;
-      installs = option_map (installed stack here.view id) (slice_get (filter_map announced outputs) 0);
+      installs = option_map (installed_member stack here.view id) (slice_get (filter_map announced_ranks outputs) 0);
     }
 
--- The member behind a step that was taken.
+-- The member after a step that was taken.
 abbrev pub member_behind : View → Step → Member
 member_behind view s = option_map_or (λ m. m) s.installs (inside view s.work.states)

@@ -31,17 +31,17 @@ output_lines stack id k nowhere = []
 output_lines stack id k (timer a) = number_line (codes "timer") id a ∷ []
 output_lines stack id k (quiet dir event) = []
 
--- The number of the next packet behind an output.
+-- The number of the next packet after an output.
 abbrev pub number_behind : ℕ → Output → ℕ
 number_behind k (packet p) = k + 1
 number_behind k _ = k
 
--- What stands behind the lines of an output, of which the packet's number is told and the plan under which it is sent
+-- What stands after the lines of an output, of which the packet's number is told and the plan under which it is sent
 -- short.
 abbrev pub Annex : Type 0
 Annex = ℕ → Output × Option ℕ → List (List ℕ)
 
--- The lines of outputs, their packets numbered from k on, with what stands behind each.
+-- The lines of outputs, their packets numbered from k on, with what stands after each.
 abbrev pub lines_of_outputs : List LayerTree → Annex → ℕ → ℕ → List (Output × Option ℕ) → List (List ℕ)
 lines_of_outputs stack annex id k [] = []
 lines_of_outputs stack annex id k (o ∷ outputs) =
@@ -116,12 +116,12 @@ moment_lines stack plans wires m =
     lines_of stack (step_lines stack plans wires (member_of m.event) (first_number m)) m m.happening.did
 
 -- How many visits a step counts for: in bypass mode a common one counts for none.
-abbrev pub counted : Mode → List LayerTree → List Plan → Step → ℕ
-counted layered stack plans s = s.work.visits
-counted bypass stack plans s = if is_common stack plans s then 0 else s.work.visits
+abbrev pub visit_count : Mode → List LayerTree → List Plan → Step → ℕ
+visit_count layered stack plans s = s.work.visits
+visit_count bypass stack plans s = if is_common stack plans s then 0 else s.work.visits
 
 abbrev pub visits_in : Mode → List LayerTree → List Plan → Did → ℕ
-visits_in mode stack plans (taken s) = counted mode stack plans s
+visits_in mode stack plans (taken s) = visit_count mode stack plans s
 visits_in mode stack plans _ = 0
 
 abbrev pub visits_of : Mode → List LayerTree → List Plan → Moment → ℕ

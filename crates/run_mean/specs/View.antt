@@ -17,7 +17,7 @@ mask_of view ranks = sum_by (λ x. if bit_at ranks x.0 == 1 then 2 ^ x.1 else 0)
 abbrev pub last_ltime : ℕ
 last_ltime = 4294967295
 
--- The view behind a view, with the members at these ranks; none where the count of views is at its end.
+-- The view after a view, with the members at these ranks; none where the count of views is at its end.
 abbrev pub next_view : View → ℕ → Option View
 next_view view ranks = if view.ltime == last_ltime then None
     else Some record { ltime = view.ltime + 1; mask = mask_of view ranks }

@@ -15,8 +15,8 @@ use Rattle.packet_mean.specs.Spelling.{full_bytes}
 use Rattle.packet_mean.specs.declared.here.Here.{Here}
 use Rattle.msg_core.specs.View.{rank}
 use Rattle.run_mean.specs.View.{first_view}
-use Rattle.run_mean.specs.Member.{Member, inside, out, opened, Input, cast, send, leave, tick, datagram, Refusal}
-use Rattle.run_mean.specs.Member.{is_out, Entered, entered, Step, step_from, member_behind, packet_in}
+use Rattle.run_mean.specs.Member.{Member, inside, out, opened_member, Input, cast, send, leave, tick, datagram, Refusal}
+use Rattle.run_mean.specs.Member.{is_out, Entered, entered_input, Step, step_from, member_behind, packet_in}
 
 -- A group at a moment: its name and its stamp, its members by id, and every packet ever sent, in the order of output.
 -- The first packet has the number 1.
@@ -31,7 +31,7 @@ abbrev pub first_world : List LayerTree → (group stamp n : ℕ) → World
 first_world stack group stamp n = record {
   group = group;
   stamp = stamp;
-  members = map (opened stack (first_view n)) (range_with_len 0 n);
+  members = map (opened_member stack (first_view n)) (range_with_len 0 n);
   packets = [];
 }
 
@@ -62,7 +62,7 @@ abbrev pub here_of : World → View → ℕ → Here
 here_of w view id =
     record { group = w.group; stamp = w.stamp; view = view; rank = option_map_or (λ r. r) (rank view id) 0 }
 
--- The world behind a step that a member took: its packets are behind all others.
+-- The world after a step that a member took: its packets are after all others.
 abbrev pub world_behind : World → View → ℕ → Step → World
 world_behind w view id s = record w {
   members = slice_set w.members id (member_behind view s);
@@ -80,22 +80,22 @@ stepped_inside stack w id view states (Ok what) =
 abbrev pub stepped_of : List LayerTree → List Plan → World → ℕ → Input → Member → Happening
 stepped_of stack plans w id input out = only w (refused is_out)
 stepped_of stack plans w id input (inside view states) =
-    stepped_inside stack w id view states (entered stack plans (here_of w view id) input)
+    stepped_inside stack w id view states (entered_input stack plans (here_of w view id) input)
 
-abbrev pub stepped : List LayerTree → List Plan → World → ℕ → Input → Happening
-stepped stack plans w id input = stepped_of stack plans w id input (member_at w id)
+abbrev pub step_happening : List LayerTree → List Plan → World → ℕ → Input → Happening
+step_happening stack plans w id input = stepped_of stack plans w id input (member_at w id)
 
 -- A packet that is given to a member comes as its full spelling.
-abbrev pub given : List LayerTree → List Plan → World → ℕ → Option Packet → Happening
-given stack plans w id None = only w absent
-given stack plans w id (Some p) = stepped stack plans w id (datagram (full_bytes p))
+abbrev pub given_packet : List LayerTree → List Plan → World → ℕ → Option Packet → Happening
+given_packet stack plans w id None = only w absent
+given_packet stack plans w id (Some p) = step_happening stack plans w id (datagram (full_bytes p))
 
 -- What an event of a script comes to in a world.
 unfoldable pub happens : List LayerTree → List Plan → World → ScriptEvent → Happening
-happens stack plans w (script.Cast id body) = stepped stack plans w id (cast body)
-happens stack plans w (script.Send id to body) = stepped stack plans w id (send to body)
-happens stack plans w (script.Leave id) = stepped stack plans w id leave
-happens stack plans w (script.Tick id moment) = stepped stack plans w id (tick moment)
-happens stack plans w (script.Give k id) = given stack plans w id (packet_number w k)
-happens stack plans w (script.Raw id bytes) = stepped stack plans w id (datagram bytes)
+happens stack plans w (script.Cast id body) = step_happening stack plans w id (cast body)
+happens stack plans w (script.Send id to body) = step_happening stack plans w id (send to body)
+happens stack plans w (script.Leave id) = step_happening stack plans w id leave
+happens stack plans w (script.Tick id moment) = step_happening stack plans w id (tick moment)
+happens stack plans w (script.Give k id) = given_packet stack plans w id (packet_number w k)
+happens stack plans w (script.Raw id bytes) = step_happening stack plans w id (datagram bytes)
 happens stack plans w (script.Show id) = only w shown

@@ -4,7 +4,7 @@ use Rattle.script_mean.specs.declared.event.ScriptEvent.{ScriptEvent}
 use Rattle.script_mean.specs.declared.event.ScriptEvent.TheVariants as script
 use Rattle.run_mean.specs.Mode.{layered, bypass}
 use Rattle.layer_rows.specs.Alias.{alias}
-use Rattle.run_rows.specs.Written.{written}
+use Rattle.run_rows.specs.Written.{script_output}
 
 abbrev pub three_casts : List ScriptEvent
 three_casts = script.Cast 0 [] ∷ script.Cast 0 [] ∷ script.Cast 0 [] ∷ []
@@ -16,5 +16,5 @@ three_packets =
 
 abbrev pub ThreeCasts : Type 0
 ThreeCasts =
-    (written (alias ∷ []) 1 2 three_casts layered false true ≡ three_packets ++ codes "visits 3\n")
-    × (written (alias ∷ []) 1 2 three_casts bypass false true ≡ three_packets ++ codes "visits 1\n")
+    (script_output (alias ∷ []) 1 2 three_casts layered false true ≡ three_packets ++ codes "visits 3\n")
+    × (script_output (alias ∷ []) 1 2 three_casts bypass false true ≡ three_packets ++ codes "visits 1\n")

@@ -4,7 +4,7 @@ use Rattle.script_mean.specs.declared.event.ScriptEvent.{ScriptEvent}
 use Rattle.script_mean.specs.declared.event.ScriptEvent.TheVariants as script
 use Rattle.run_mean.specs.Mode.{layered, bypass}
 use Rattle.layer_rows.specs.Counter.{counter}
-use Rattle.run_rows.specs.Written.{written}
+use Rattle.run_rows.specs.Written.{script_output}
 
 abbrev pub hi : ScriptEvent
 hi = script.Cast 0 (codes "hi")
@@ -20,24 +20,24 @@ given_twice_report =
 
 abbrev pub GivenTwice : Type 0
 GivenTwice =
-    (written (counter ∷ []) 7 3 given_twice layered false true ≡ given_twice_report ++ codes "visits 3\n")
-    × (written (counter ∷ []) 7 3 given_twice bypass false true ≡ given_twice_report ++ codes "visits 1\n")
+    (script_output (counter ∷ []) 7 3 given_twice layered false true ≡ given_twice_report ++ codes "visits 3\n")
+    × (script_output (counter ∷ []) 7 3 given_twice bypass false true ≡ given_twice_report ++ codes "visits 1\n")
 
 -- One packet with its bytes: in full, and short.
 abbrev pub Wires : Type 0
 Wires =
-    (written (counter ∷ []) 7 3 (hi ∷ script.Give 1 1 ∷ []) layered true false ≡
+    (script_output (counter ∷ []) 7 3 (hi ∷ script.Give 1 1 ∷ []) layered true false ≡
     codes "packet 1 0 all cnt.num(0) 6869\n"
     ++ codes "wire 1 e50000000100000007000000000000000700ff01000000006869\n"
     ++ codes "deliver 1 cast 0 6869\n" ++ codes "end 2\n")
-    × (written (counter ∷ []) 7 3 (hi ∷ script.Give 1 1 ∷ []) bypass true false ≡
+    × (script_output (counter ∷ []) 7 3 (hi ∷ script.Give 1 1 ∷ []) bypass true false ≡
     codes "packet 1 0 all cnt.num(0) 6869\n"
     ++ codes "wire 1 e60000000100000007000000000000000700ff00000000006869\n"
     ++ codes "deliver 1 cast 0 6869\n" ++ codes "end 2\n")
 
 -- Two packets given in the wrong order: both gives miss, and each member's application gets what was given.
-abbrev pub swapped : List ScriptEvent
-swapped = hi ∷ script.Cast 0 [] ∷ script.Give 2 1 ∷ script.Give 1 1 ∷ script.Show 1 ∷ []
+abbrev pub swapped_script : List ScriptEvent
+swapped_script = hi ∷ script.Cast 0 [] ∷ script.Give 2 1 ∷ script.Give 1 1 ∷ script.Show 1 ∷ []
 
 abbrev pub swapped_report : List ℕ
 swapped_report =
@@ -48,5 +48,5 @@ swapped_report =
 
 abbrev pub GivenSwapped : Type 0
 GivenSwapped =
-    (written (counter ∷ []) 7 3 swapped layered false true ≡ swapped_report ++ codes "visits 4\n")
-    × (written (counter ∷ []) 7 3 swapped bypass false true ≡ swapped_report ++ codes "visits 2\n")
+    (script_output (counter ∷ []) 7 3 swapped_script layered false true ≡ swapped_report ++ codes "visits 4\n")
+    × (script_output (counter ∷ []) 7 3 swapped_script bypass false true ≡ swapped_report ++ codes "visits 2\n")

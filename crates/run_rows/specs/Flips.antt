@@ -13,7 +13,7 @@ use Rattle.run_mean.specs.Common.{case_of}
 use Rattle.run_mean.specs.Report.{run_of}
 use Rattle.run_mean.specs.World.{Did, taken}
 use Rattle.layer_rows.specs.Fork.{flip}
-use Rattle.run_rows.specs.Written.{written}
+use Rattle.run_rows.specs.Written.{script_output}
 
 abbrev pub three_casts : List ScriptEvent
 three_casts = script.Cast 0 [] ∷ script.Cast 0 [] ∷ script.Cast 0 [] ∷ []
@@ -25,8 +25,8 @@ three_packets =
 
 abbrev pub ThreeFlips : Type 0
 ThreeFlips =
-    (written (flip ∷ []) 1 2 three_casts layered false true ≡ three_packets ++ codes "visits 3\n")
-    × (written (flip ∷ []) 1 2 three_casts bypass false true ≡ three_packets ++ codes "visits 0\n")
+    (script_output (flip ∷ []) 1 2 three_casts layered false true ≡ three_packets ++ codes "visits 3\n")
+    × (script_output (flip ∷ []) 1 2 three_casts bypass false true ≡ three_packets ++ codes "visits 0\n")
 
 -- The stack's plans: those of the first case, then those of the second.
 abbrev pub FlipPlans : Type 0
@@ -36,7 +36,8 @@ FlipPlans = plans_of (flip ∷ []) ≡
 
 -- The bytes of the packets of two casts and a send, each short under the plan of its step's case.
 abbrev pub FlipWires : Type 0
-FlipWires = written (flip ∷ []) 1 2 (script.Cast 0 [] ∷ script.Cast 0 [] ∷ script.Send 0 1 [] ∷ []) bypass true false ≡
+FlipWires = script_output (flip ∷ []) 1 2 (script.Cast 0 [] ∷ script.Cast 0 [] ∷ script.Send 0 1 [] ∷ []) bypass true
+    false ≡
     codes "packet 1 0 all flip.a(1) -\n" ++ codes "wire 1 e60000000100000001000000000000000300ff0000000001\n"
     ++ codes "packet 2 0 all flip.b(2) -\n" ++ codes "wire 2 e60000000100000001000000000000000300ff0200000002\n"
     ++ codes "packet 3 0 1 flip.none() -\n" ++ codes "wire 3 e6000000010000000100000000000000030001" ++ codes "01\n"

@@ -8,7 +8,7 @@ use Rattle.file_mean.specs.Stack.{stack_of}
 use Rattle.library_rows.specs.Bottom as bottom
 use Rattle.library_rows.specs.Mnak as mnak
 use Rattle.library_rows.specs.Frag as frag
-use Rattle.run_rows.specs.Written.{reported}
+use Rattle.run_rows.specs.Written.{script_report}
 
 -- The file `stack { bottom; mnak; frag(piece = 2); }`.
 abbrev pub file : FileTree
@@ -21,7 +21,7 @@ abbrev pub backwards : List ScriptEvent
 backwards = script.Cast 0 (codes "abcde") ∷ script.Give 3 1 ∷ script.Give 2 1 ∷ script.Give 1 1 ∷ []
 
 abbrev pub JoinsPieces : Type 0
-JoinsPieces = reported (stack_of file) 1 2 backwards ≡
+JoinsPieces = script_report (stack_of file) 1 2 backwards ≡
     codes "packet 1 0 all bottom.net(1)/mnak.num(0)/frag.some() 6162\n"
     ++ codes "packet 2 0 all bottom.net(1)/mnak.num(1)/frag.some() 6364\n"
     ++ codes "packet 3 0 all bottom.net(1)/mnak.num(2)/frag.last() 65\n"

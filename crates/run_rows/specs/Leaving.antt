@@ -6,7 +6,7 @@ use Rattle.layer_mean.specs.Tree.{number, emit, always, LayerTree}
 use Rattle.script_mean.specs.declared.event.ScriptEvent.TheVariants as script
 use Rattle.layer_rows.specs.Keeper.{keeper}
 use Rattle.layer_rows.specs.Words.{handler}
-use Rattle.run_rows.specs.Written.{reported}
+use Rattle.run_rows.specs.Written.{script_report}
 
 abbrev pub quit : LayerTree
 quit = record {
@@ -21,13 +21,13 @@ quit = record {
 -- Once it is out, a member refuses what it is given, and is shown to be out.
 abbrev pub Leaves : Type 0
 Leaves =
-    reported (quit ∷ []) 1 1 (script.Leave 0 ∷ script.Cast 0 (codes "a") ∷ script.Show 0 ∷ [])
+    script_report (quit ∷ []) 1 1 (script.Leave 0 ∷ script.Cast 0 (codes "a") ∷ script.Show 0 ∷ [])
     ≡ codes "announce 0 0\n" ++ codes "out 0\n" ++ codes "refused 0 out\n" ++ codes "state 0 out\n" ++ codes "end 3\n"
 
 -- A queue is shown by its rows.
 abbrev pub Keeps : Type 0
 Keeps =
-    reported (keeper ∷ []) 1 1 (script.Cast 0 (codes "a") ∷ script.Cast 0 (codes "b") ∷ script.Show 0 ∷ [])
+    script_report (keeper ∷ []) 1 1 (script.Cast 0 (codes "a") ∷ script.Cast 0 (codes "b") ∷ script.Show 0 ∷ [])
     ≡ codes "packet 1 0 all one.num(0) 61\n" ++ codes "packet 2 0 all one.full() -\n" ++
     codes "packet 3 0 all one.num(1) 62\n"
     ++ codes "state 0 0 1\n" ++ codes "cell 0 0 one.s 1\n" ++ codes "cell 0 0 one.q [4294967295]\n" ++ codes "end 3\n"

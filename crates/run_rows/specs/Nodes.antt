@@ -7,7 +7,8 @@ use Rattle.script_mean.specs.declared.event.ScriptEvent.TheVariants as script
 use Rattle.script_mean.specs.declared.plan.NodePlan.{NodePlan}
 use Rattle.stack_mean.specs.Plans.{plans_of}
 use Rattle.run_mean.specs.Mode.{bypass}
-use Rattle.run_mean.specs.Journal.{Heard, datagram, silence, failure, Note, fed, deaf, notes_of, journal, handed}
+use Rattle.run_mean.specs.Journal.{Heard, datagram, silence, failure, Note, fed, deaf, notes_of, journal}
+use Rattle.run_mean.specs.Journal.{handed_datagrams}
 use Rattle.run_mean.specs.Journal.{node_run, note_lines, node_lines}
 use Rattle.layer_rows.specs.Counter.{counter}
 
@@ -57,7 +58,7 @@ fails_once k = if k == 1 then 1 else 0
 abbrev pub stack : List LayerTree
 stack = counter ∷ []
 
--- What the node writes: each event behind `> `, its report, and the packet that was lost.
+-- What the node writes: each event after `> `, its report, and the packet that was lost.
 abbrev pub Writes : Type 0
 Writes = concat (node_lines stack (plans_of stack) fails_once (map fed events)
     (node_run stack (plans_of stack) plan (map fed events))) ≡
@@ -68,7 +69,7 @@ Writes = concat (node_lines stack (plans_of stack) fails_once (map fed events)
 
 -- What it hands to the network: the cast goes short to both other members.
 abbrev pub Hands : Type 0
-Hands = handed bypass stack (plans_of stack) (node_run stack (plans_of stack) plan (map fed events)) ≡
+Hands = handed_datagrams bypass stack (plans_of stack) (node_run stack (plans_of stack) plan (map fed events)) ≡
     record { from = 0; to = 1; bytes = short } ∷ record { from = 0; to = 2; bytes = short } ∷ []
 
 -- Two turns of all three members, the fourth receive of which fails.

@@ -2,7 +2,7 @@
 use Rattle.std.specs.Prelude.{◌≡◌, ℕ, List, [], ◌∷◌, ◌++◌, codes, map, replicate}
 use Rattle.script_mean.specs.declared.event.ScriptEvent.TheVariants as script
 use Rattle.layer_rows.specs.Counter.{counter}
-use Rattle.run_rows.specs.Written.{reported}
+use Rattle.run_rows.specs.Written.{script_report}
 
 -- The bytes of a number.
 abbrev pub small : ℕ → List ℕ
@@ -15,7 +15,7 @@ front form group stamp mask sender dest = form ∷ small group ++ small stamp ++
 
 -- What member 1 of three makes of a list of datagrams.
 abbrev pub taken_raw : List (List ℕ) → List ℕ
-taken_raw datagrams = reported (counter ∷ []) 7 3 (map (script.Raw 1) datagrams)
+taken_raw datagrams = script_report (counter ∷ []) 7 3 (map (script.Raw 1) datagrams)
 
 -- Each cause in its order: a short datagram, another form, group, stamp and view, the own rank and one that there
 -- isn't, another destination, a plan that there isn't, a cut chain in both forms, a body that is too long; and one that
@@ -46,7 +46,7 @@ Refuses =
 -- The own packet, a packet that there isn't, and a body that is too long.
 abbrev pub RefusesGiven : Type 0
 RefusesGiven =
-    reported (counter ∷ []) 7 3 (
+    script_report (counter ∷ []) 7 3 (
     script.Cast 0 (codes "hi") ∷ script.Give 1 0 ∷ script.Give 0 1 ∷ script.Give 2 1 ∷
     script.Cast 0 (replicate 8193 0) ∷ []
     )

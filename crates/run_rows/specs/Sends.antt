@@ -8,7 +8,7 @@ use Rattle.script_mean.specs.declared.event.ScriptEvent.TheVariants as script
 use Rattle.run_mean.specs.Mode.{layered, bypass}
 use Rattle.layer_rows.specs.Counter.{counter}
 use Rattle.layer_rows.specs.Words.{cast_down, block, handler}
-use Rattle.run_rows.specs.Written.{written}
+use Rattle.run_rows.specs.Written.{script_output}
 
 -- A send to rank 1, given to rank 2 and to rank 1; and two sends that have nobody to go to.
 abbrev pub sends : List ScriptEvent
@@ -20,11 +20,11 @@ sends =
 -- Only the first leaves as a packet, in full or short under the plan of a send.
 abbrev pub Sends : Type 0
 Sends =
-    (written (counter ∷ []) 7 3 sends layered true true ≡
+    (script_output (counter ∷ []) 7 3 sends layered true true ≡
     codes "packet 1 0 1 cnt.none() 6869\n"
     ++ codes "wire 1 e500000001000000070000000000000007" ++ codes "0001006869\n"
     ++ codes "refused 2 dest\n" ++ codes "deliver 1 send 0 6869\n" ++ codes "end 5\n" ++ codes "visits 4\n")
-    × (written (counter ∷ []) 7 3 sends bypass true true ≡
+    × (script_output (counter ∷ []) 7 3 sends bypass true true ≡
     codes "packet 1 0 1 cnt.none() 6869\n"
     ++ codes "wire 1 e600000001000000070000000000000007" ++ codes "0001016869\n"
     ++ codes "refused 2 dest\n" ++ codes "deliver 1 send 0 6869\n" ++ codes "end 5\n" ++ codes "visits 0\n")
@@ -43,7 +43,7 @@ repeater = record {
 -- The cast is no common step, and its packets are sent in full in either mode.
 abbrev pub Repeats : Type 0
 Repeats =
-    written (repeater ∷ []) 1 1 (script.Cast 0 [] ∷ []) bypass true true ≡
+    script_output (repeater ∷ []) 1 1 (script.Cast 0 [] ∷ []) bypass true true ≡
     codes "packet 1 0 all rep.none() -\n" ++ codes "wire 1 e50000000100000001000000000000000100ff00\n"
     ++ codes "packet 2 0 all rep.none() -\n" ++ codes "wire 2 e50000000100000001000000000000000100ff00\n"
     ++ codes "end 1\n" ++ codes "visits 1\n"

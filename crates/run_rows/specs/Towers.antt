@@ -5,14 +5,14 @@ use Rattle.script_mean.specs.declared.event.ScriptEvent.TheVariants as script
 use Rattle.layer_mean.specs.Tree.{LayerTree}
 use Rattle.run_mean.specs.Mode.{Mode, layered, bypass}
 use Rattle.layer_rows.specs.Tower.{bottom, counting, loopback, total}
-use Rattle.run_rows.specs.Written.{written}
+use Rattle.run_rows.specs.Written.{script_output}
 
 abbrev pub one_cast : List ScriptEvent
 one_cast = script.Cast 0 (codes "a") ∷ []
 
 -- What is written of one cast in a group of two, with its bytes and the number of visits.
 abbrev pub cast_in : List LayerTree → Mode → List ℕ
-cast_in stack mode = written stack 1 2 one_cast mode true true
+cast_in stack mode = script_output stack 1 2 one_cast mode true true
 
 -- The stack of three places: the packet comes first.
 abbrev pub ThreePlaces : Type 0

@@ -11,7 +11,7 @@ use Rattle.library_rows.specs.Elect as elect
 use Rattle.library_rows.specs.Sync as sync
 use Rattle.library_rows.specs.Intra as intra
 use Rattle.library_rows.specs.Top as top
-use Rattle.run_rows.specs.Written.{reported}
+use Rattle.run_rows.specs.Written.{script_report}
 
 -- The file `stack { suspect; elect; sync; intra; top; }`, and its stack.
 abbrev pub file : FileTree
@@ -47,4 +47,4 @@ ending_report =
     ++ codes "block 2 3\n" ++ codes "announce 2 4\n" ++ codes "view 2 1 4\n" ++ codes "end 13\n"
 
 abbrev pub InstallsViews : Type 0
-InstallsViews = reported (stack_of file) 1 3 (beginning ++ ending) ≡ beginning_report ++ ending_report
+InstallsViews = script_report (stack_of file) 1 3 (beginning ++ ending) ≡ beginning_report ++ ending_report

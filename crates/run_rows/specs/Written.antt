@@ -8,13 +8,13 @@ use Rattle.run_mean.specs.Mode.{Mode}
 use Rattle.run_mean.specs.Report.{report_lines, output_in}
 
 -- What the program writes in a mode of a script of group 1.
-abbrev pub written : List LayerTree → (stamp members : ℕ) → List ScriptEvent → Mode → (wire count : Bool) → List ℕ
-written stack stamp members events mode wire count =
+abbrev pub script_output : List LayerTree → (stamp members : ℕ) → List ScriptEvent → Mode → (wire count : Bool) → List ℕ
+script_output stack stamp members events mode wire count =
     concat (output_in stack (plans_of stack) (record { group = 1; stamp = stamp; members = members; events = events })
     mode wire count)
 
 -- The report of such a script.
-abbrev pub reported : List LayerTree → (stamp members : ℕ) → List ScriptEvent → List ℕ
-reported stack stamp members events =
+abbrev pub script_report : List LayerTree → (stamp members : ℕ) → List ScriptEvent → List ℕ
+script_report stack stamp members events =
     concat (report_lines stack (plans_of stack)
     (record { group = 1; stamp = stamp; members = members; events = events }))

@@ -18,7 +18,7 @@ octets_of (one ∷ two ∷ three ∷ four ∷ []) = do
   Some (a ∷ b ∷ c ∷ d ∷ [])
 octets_of _ = None
 
--- octets and a port up to 65535, of the words before and behind a colon
+-- octets and a port up to 65535, of the words before and after a colon
 abbrev pub reached_at : List Word → Option Peer
 reached_at (host ∷ port ∷ []) = do
   octets ← octets_of (slice_split (λ byte. byte == 46) host)

@@ -66,7 +66,7 @@ state_line = do
   member ← a_number
   ends (Show member)
 
--- what stands behind the first word of an event's line
+-- what stands after the first word of an event's line
 abbrev pub event_behind : Word → Form ScriptEvent
 event_behind verb =
     if bytes_eq verb (codes "cast") then cast_line

@@ -3,12 +3,12 @@ use Rattle.std.specs.Prelude.{ℕ, List, [], ◌∷◌, Option, Some, None, opti
 use Rattle.std.specs.Prelude.{if◌then◌else◌}
 use Rattle.script_mean.specs.Words.{Word, number_of, number_within, body_of}
 
--- a form takes words from the front: what they spell and the words behind them, or nothing where they don't fit
+-- a form takes words from the front: what they spell and the words after them, or nothing where they don't fit
 abbrev pub Form : Type 0 → Type 0
 Form A = List Word → Option (A × List Word)
 
 infixl 10 ◌>>=◌
--- one form, and then the next on the words behind
+-- one form, and then the next on the words after
 abbrev pub ◌>>=◌ : {A B : Type 0} → Form A → (A → Form B) → Form B
 (form >>= next) words = option_and_then (λ taken. next taken.0 taken.1) (form words)
 

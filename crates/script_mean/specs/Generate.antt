@@ -7,12 +7,12 @@ use Rattle.script_mean.specs.declared.event.ScriptEvent.{ScriptEvent}
 use Rattle.script_mean.specs.declared.event.ScriptEvent.TheVariants.{Cast, Send, Tick, Give, Raw}
 use Rattle.script_mean.specs.declared.script.Script.{Script}
 
--- something made by draws from a seed, and the seed behind them
+-- something made by draws from a seed, and the seed after them
 abbrev pub Drawn : Type 0 → Type 0
 Drawn A = ℕ → A × ℕ
 
 infixl 10 ◌>>=◌
--- one after the other, the second from the seed behind the first
+-- one after the other, the second from the seed after the first
 abbrev pub ◌>>=◌ : {A B : Type 0} → Drawn A → (A → Drawn B) → Drawn B
 (drawn >>= next) seed = next (drawn seed).0 (drawn seed).1
 
@@ -20,11 +20,11 @@ abbrev pub ◌>>=◌ : {A B : Type 0} → Drawn A → (A → Drawn B) → Drawn 
 abbrev pub made : {A : Type 0} → A → Drawn A
 made value seed = (value, seed)
 
--- the seed behind a draw, of 32 bits: a linear congruence
+-- the seed after a draw, of 32 bits: a linear congruence
 abbrev pub next_seed : ℕ → ℕ
 next_seed seed = (1664525 * seed + 1013904223) % 4294967296
 
--- a number below `bound`, from the upper half of the seed behind the draw
+-- a number below `bound`, from the upper half of the seed after the draw
 abbrev pub a_draw : ℕ → Drawn ℕ
 a_draw bound seed = (next_seed seed / 65536 % bound, next_seed seed)
 
@@ -34,10 +34,10 @@ a_body number = do
   size ← a_draw 64
   made (map (λ byte. byte % 256) (range_with_len number size))
 
--- the packet that is given, and the member's cursor behind it: mostly the next one; now and then one is
+-- the packet that is given, and the member's cursor after it: mostly the next one; now and then one is
 -- left out, the last one comes again, or one comes early
-abbrev pub given : ℕ → ℕ → ℕ × ℕ
-given way cursor =
+abbrev pub next_cursors : ℕ → ℕ → ℕ × ℕ
+next_cursors way cursor =
     if way == 0 then (cursor + 2, cursor + 2)
     else if way == 1 then (max 1 cursor, max 1 cursor)
     else if way == 2 then (cursor + 2, cursor)
@@ -67,8 +67,8 @@ abbrev pub a_give : ℕ → List ℕ → Drawn (ScriptEvent × List ℕ)
 a_give member cursors = do
   way ← a_draw 8
   made (
-    Give (given way (slice_index cursors member)).0 member,
-    slice_set cursors member (given way (slice_index cursors member)).1,
+    Give (next_cursors way (slice_index cursors member)).0 member,
+    slice_set cursors member (next_cursors way (slice_index cursors member)).1,
   )
 
 -- so many numbers below a bound
@@ -107,20 +107,20 @@ a_datagram members member = do
 
 -- the event of a choice of 16: two of them are a cast, one is a send, one a tick, which shows a time that
 -- rises with each 16 events, one a datagram where these are wanted, and the others give a packet
-abbrev pub chosen : Bool → ℕ → ℕ → ℕ → ℕ → List ℕ → Drawn (ScriptEvent × List ℕ)
-chosen raw choice members number member cursors =
+abbrev pub chosen_event : Bool → ℕ → ℕ → ℕ → ℕ → List ℕ → Drawn (ScriptEvent × List ℕ)
+chosen_event raw choice members number member cursors =
     if nat_lt choice 2 then leaving cursors (a_cast number member)
     else if choice == 2 then leaving cursors (a_send members number member)
     else if choice == 3 then made (Tick member (number / 16), cursors)
     else if raw && (choice == 15) then leaving cursors (a_datagram members member)
     else a_give member cursors
 
--- the event of this number, counted from 0, and the cursors behind it
+-- the event of this number, counted from 0, and the cursors after it
 abbrev pub an_event : Bool → ℕ → ℕ → List ℕ → Drawn (ScriptEvent × List ℕ)
 an_event raw members number cursors = do
   choice ← a_draw 16
   member ← a_draw members
-  chosen raw choice members number member cursors
+  chosen_event raw choice members number member cursors
 
 -- how far a script is made: the seed, a cursor for each member, and the events so far
 pub record Generator : Type 0 where
@@ -137,12 +137,12 @@ abbrev pub after_event : Bool → ℕ → ℕ → Generator → Generator
 after_event raw members number g = with_event g.events (an_event raw members number g.cursors g.seed)
 
 -- so many events of so many members
-abbrev pub generated : ℕ → ℕ → Bool → ℕ → Generator
-generated seed members raw zero = record { seed = seed; cursors = replicate members 0; events = [] }
-generated seed members raw (suc number) = after_event raw members number (generated seed members raw number)
+abbrev pub generator_after : ℕ → ℕ → Bool → ℕ → Generator
+generator_after seed members raw zero = record { seed = seed; cursors = replicate members 0; events = [] }
+generator_after seed members raw (suc number) = after_event raw members number (generator_after seed members raw number)
 
 -- the script of so many events of so many members that is made from a seed, with datagrams or without; group and stamp
 -- are 1
 abbrev pub generate : ℕ → ℕ → ℕ → Bool → Script
 generate seed events members raw =
-    record { group = 1; stamp = 1; members = members; events = (generated seed members raw events).events }
+    record { group = 1; stamp = 1; members = members; events = (generator_after seed members raw events).events }

@@ -7,7 +7,7 @@ use Rattle.std.specs.List.{after_last, enumerate_from, slice_split}
 abbrev pub is_line_feed : ℕ → Bool
 is_line_feed byte = byte == 10
 
--- what stands before, between and behind the line feeds
+-- what stands before, between and after the line feeds
 abbrev pub lines_of : List ℕ → List (List ℕ)
 lines_of text = slice_split is_line_feed text
 
@@ -32,9 +32,9 @@ says_nothing [] = true
 says_nothing (byte ∷ rest) = byte == 35
 
 -- the lines that say something, of lines with their numbers
-abbrev pub said : List (ℕ × List ℕ) → List (ℕ × List ℕ)
-said lines = filter (λ line. not (says_nothing line.1)) lines
+abbrev pub speaking_lines : List (ℕ × List ℕ) → List (ℕ × List ℕ)
+speaking_lines lines = filter (λ line. not (says_nothing line.1)) lines
 
 -- the lines of a text that say something, each with its number; all lines are counted, from 1
 abbrev pub said_lines : List ℕ → List (ℕ × List ℕ)
-said_lines text = said (enumerate_from 1 (lines_of text))
+said_lines text = speaking_lines (enumerate_from 1 (lines_of text))

@@ -16,7 +16,7 @@ peers_of member (line ∷ lines) = do
   peers ← peers_of (member + 1) lines
   Ok (peer ∷ peers)
 
--- the peers, if there is one for each of so many members; else the line behind the last is at fault
+-- the peers, if there is one for each of so many members; else the line after the last is at fault
 abbrev pub for_each : ℕ → ℕ → List Peer → Result (List Peer) ScriptFault
 for_each members behind peers = if nat_lt (length peers) members then Err (bad_line behind) else Ok peers
 
@@ -36,7 +36,7 @@ turns_of members earliest (line ∷ lines) = do
   Ok (turn ∷ turns)
 
 -- the plan of the lines that say something: the group's line, a line for each member's peer, and turns;
--- `behind` is the number of the line behind the last
+-- `behind` is the number of the line after the last
 abbrev pub plan_of_lines : ℕ → List (ℕ × List ℕ) → Result NodePlan ScriptFault
 plan_of_lines behind [] = Err (bad_line 1)
 plan_of_lines behind (first ∷ lines) = do

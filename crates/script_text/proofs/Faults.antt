@@ -1,4 +1,4 @@
--- The faults of lines, and the events in front of them.
+-- The faults of lines, and the events before them.
 use Rattle.std.proofs.Common.{◌≡◌, ℕ, List, [], ◌∷◌, ◌++◌, Option, Some, None, Result, Ok, Err, refl, ap, ◌∙◌}
 use Rattle.std.proofs.Common.{append_assoc}
 use Rattle.std.specs.Prelude.{option_map}
@@ -22,7 +22,7 @@ fault_at members line (Some t) NoMember h = rw (le-ltb (member_of t.0) members h
 fault_at members line None NoMember h = absurd h
 fault_at members line taken Memory h = tt
 
--- what is read so far, in front of what the other lines spell
+-- what is read so far, before what the other lines spell
 abbrev pub with_front : {A : Type 0} → List A → Result (List A) ScriptFault → Result (List A) ScriptFault
 with_front front (Ok read) = Ok (front ++ read)
 with_front front (Err fault) = Err fault

@@ -11,7 +11,7 @@ use Rattle.script_mean.specs.Words.{◌>>=◌, hex_digit, hex_bytes}
 abbrev pub value : ℕ → ℕ
 value byte = unwrap_or (hex_digit byte) 16
 
--- the bytes so far and those behind them, if all digits so far are some
+-- the bytes so far and those after them, if all digits so far are some
 abbrev pub joined : Bool → List ℕ → Option (List ℕ) → Option (List ℕ)
 joined true front behind = option_map (λ bytes. front ++ bytes) behind
 joined false front behind = None

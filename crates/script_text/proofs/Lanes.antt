@@ -76,7 +76,7 @@ one_pair (Some h) (Some l) true bytes (Some rest) whole first second is =
     let byte : h * 16 + l ≡ byte_of h l = omega (arith, first, second) in
     rw (is, ltb_is h first, ltb_is l second) (ap (λ b. Some (b ∷ bytes ++ rest)) byte)
 
--- what digits spell behind an even number of others
+-- what digits spell after an even number of others
 hex_behind : (n : ℕ) (xs ys : List ℕ) → length xs ≡ 2 * n → hex_bytes (xs ++ ys)
     ≡ (if all_small (map digit_value xs) then option_map (λ more. combined (map digit_value xs) ++ more) (hex_bytes ys)
     else None)

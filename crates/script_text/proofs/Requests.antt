@@ -12,7 +12,7 @@ use Rattle.script_text.specs.Reading.{IsEvent, IsTurn}
 use Rattle.script_text.specs.declared.error.LineError.{LineError}
 use Rattle.script_text.specs.declared.error.LineError.TheVariants as error
 
--- an event, if it is a request and nothing stands behind it
+-- an event, if it is a request and nothing stands after it
 abbrev asked : ScriptEvent → Form ScriptEvent
 asked event = if is_request event then ends event else (λ words. None)
 
@@ -178,7 +178,7 @@ no_request words behind verb split one two three =
 abbrev in_turn : ℕ → ScriptEvent → Form (ℕ × ScriptEvent)
 in_turn turn event = ends (turn, event)
 
--- nothing stands behind a request, so it may end a turn's line
+-- nothing stands after a request, so it may end a turn's line
 whole_request : (turn : ℕ) (words : List Word) → (request_line >>= in_turn turn) words ≡
     option_map (λ t. ((turn, t.0), [])) (request_line words)
 whole_request turn words = of_event (event_line words)
@@ -196,7 +196,7 @@ whole_request turn words = of_event (event_line words)
     of_event None = refl
     of_event (Some t) = of_rest (is_request t.0) t.0 t.1
 
--- a turn's line, behind its first two words
+-- a turn's line, after its first two words
 pub turn_behind : (earliest turn : ℕ) (words one two : List Word) → the_word (codes "turn") words ≡ Some (tt, one) →
     a_number_within earliest 4294967295 one ≡ Some (turn, two) →
     turn_line earliest words ≡ option_map (λ t. ((turn, t.0), [])) (request_line two)

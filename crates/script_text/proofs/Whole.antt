@@ -11,7 +11,7 @@ use Rattle.script_mean.specs.Form.{a_body, ends, one}
 use Rattle.script_text.specs.Parts.{parts_behind}
 use denote.Ref.{Bor}
 
--- both digits of a byte are some, and so are those behind them
+-- both digits of a byte are some, and so are those after them
 record AreSome (high low : Option ℕ) (more : Option (List ℕ)) : Type 0 where
   pub high_some : high ≢ None
   pub low_some : low ≢ None

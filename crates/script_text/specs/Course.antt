@@ -2,7 +2,7 @@
 use Rattle.std.specs.Prelude.{◌≡◌, ℕ, ◌+◌, ◌<◌, ◌≤◌, Some, length, slice_get}
 use Rattle.msg_core.specs.View.{most_members}
 use Rattle.script_mean.specs.Event.{member_of}
-use Rattle.script_mean.specs.Generate.{generate, generated}
+use Rattle.script_mean.specs.Generate.{generate, generator_after}
 use Rattle.script_mean.specs.declared.event.ScriptEvent.{ScriptEvent}
 use Rattle.script_mean.specs.declared.script.Script.{Script}
 use Rattle.script_text.specs.Making.{IsWithin}
@@ -26,8 +26,8 @@ pub record IsNext (old new : Course) (event : ScriptEvent) : Type 0 where
 
 -- A maker stands where the first events of a script are made from a seed, for 1 to 32 members.
 pub record IsAt (seed made : ℕ) (m : Maker) : Type 0 where
-  pub seed_is : (generated seed m.members m.raw made).seed ≡ m.seed.value
-  pub cursors_are : (generated seed m.members m.raw made).cursors ≡ m.cursors.items
+  pub seed_is : (generator_after seed m.members m.raw made).seed ≡ m.seed.value
+  pub cursors_are : (generator_after seed m.members m.raw made).cursors ≡ m.cursors.items
   pub count : length m.cursors.items ≡ m.members
   pub within : IsWithin made m.cursors.items
   pub some_member : 1 ≤ m.members

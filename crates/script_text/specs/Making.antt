@@ -4,12 +4,12 @@ use Rattle.std.specs.declared.alloc.AllocError.{AllocError}
 use Rattle.script_mean.specs.declared.event.ScriptEvent.{ScriptEvent}
 use Rattle.script_text.specs.declared.maker.Maker.{Maker}
 
--- what was made, and the seed behind it; want of memory says nothing
+-- what was made, and the seed after it; want of memory says nothing
 abbrev pub Makes : {A : Type 0} → A × ℕ → Result A AllocError → ℕ → Type 0
 Makes made (Ok value) seed = made ≡ (value, seed)
 Makes made (Err error) seed = Unit {0}
 
--- the same of an event, with the cursors behind it
+-- the same of an event, with the cursors after it
 abbrev pub MakesEvent : (ScriptEvent × List ℕ) × ℕ → Result ScriptEvent AllocError → Maker → Type 0
 MakesEvent made (Ok event) behind = made ≡ ((event, behind.cursors.items), behind.seed.value)
 MakesEvent made (Err error) behind = Unit {0}

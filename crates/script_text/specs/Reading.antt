@@ -4,7 +4,7 @@ use Rattle.std.specs.Prelude.{IsSomeAnd}
 use Rattle.std.specs.Char.{is_ascii_digit}
 use Rattle.std.specs.List.{enumerate_from, list_all}
 use Rattle.std.specs.Str.Parse.{digits_value}
-use Rattle.script_mean.specs.Lines.{said}
+use Rattle.script_mean.specs.Lines.{speaking_lines}
 use Rattle.script_mean.specs.Words.{Word, words_of}
 use Rattle.script_mean.specs.Form.{a_body}
 use Rattle.script_mean.specs.Event.{member_of}
@@ -19,8 +19,8 @@ use Rattle.script_text.specs.declared.lines.Lines.{Lines}
 use Rattle.script_text.specs.declared.words.Words.{Words}
 
 -- a line as the definitions see it
-abbrev pub numbered : NumberedLine → ℕ × List ℕ
-numbered line = (line.number, line.text.now)
+abbrev pub numbered_line : NumberedLine → ℕ × List ℕ
+numbered_line line = (line.number, line.text.now)
 
 -- the lines that are left
 abbrev pub all_left : Lines → List (ℕ × List ℕ)
@@ -28,7 +28,7 @@ all_left lines = enumerate_from lines.number (parts_behind 10 lines.rest)
 
 -- those of them that say something
 abbrev pub lines_left : Lines → List (ℕ × List ℕ)
-lines_left lines = said (all_left lines)
+lines_left lines = speaking_lines (all_left lines)
 
 -- the words that are left of a line
 abbrev pub words_left : Words → List Word
@@ -56,7 +56,7 @@ abbrev pub IsWholeBody : List ℕ → Option (List ℕ) → Type 0
 IsWholeBody text None = Unit {0}
 IsWholeBody text (Some bytes) = a_body (words_of text) ≡ Some (bytes, [])
 
--- what a form took from the words and the words behind it, or memory was wanted
+-- what a form took from the words and the words after it, or memory was wanted
 abbrev pub Takes : {A : Type 0} → Option (A × List Word) → Result A LineError → List Word → Type 0
 Takes taken (Ok value) behind = taken ≡ Some (value, behind)
 Takes taken (Err Form) behind = taken ≡ None

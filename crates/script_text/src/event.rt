@@ -4,7 +4,7 @@ ghost use Rattle.script_mean.specs.Event as spec;
 ghost use Rattle.script_mean.specs.Script.{event_of, in_form};
 ghost use Rattle.script_mean.specs.Words.{words_of};
 ghost use Rattle.script_text.specs.Answer.{Answers};
-ghost use Rattle.script_text.specs.Reading.{IsBelow, IsEvent, Says, numbered, words_left};
+ghost use Rattle.script_text.specs.Reading.{IsBelow, IsEvent, Says, numbered_line, words_left};
 ghost use Rattle.msg_core.specs.View.{most_members};
 
 use crate::error::{LineError, ScriptError};
@@ -49,7 +49,7 @@ pub(crate) fn event_on(
     members: u8,
     line: NumberedLine<'_>,
 ) -> Result<ScriptEvent, ScriptError>
-    ensures said { Answers (event_of members (numbered line.entry)) result }
+    ensures said { Answers (event_of members (numbered_line line.entry)) result }
     ensures of_member { IfOk result (λ event. spec.member_of event < members) }
 {
     match event(alloc, members, line.text) {

@@ -18,7 +18,7 @@ pub(crate) struct NumberedLine<'a> {
 }
 
 /// The lines that are left of a text, the first of them with this number. No rest is no line; an
-/// empty rest, as behind a last line feed, is taken for a line, which says nothing.
+/// empty rest, as after a last line feed, is taken for a line, which says nothing.
 #[derive(Drop)]
 pub(crate) struct Lines<'a> {
     rest: Option<&'a [u8]>,
@@ -28,7 +28,7 @@ pub(crate) struct Lines<'a> {
 
 impl<'a> Lines<'a> {
     ghost use Rattle.std.specs.Iterator.{YieldsFirstBy};
-    ghost use Rattle.script_text.specs.Reading.{all_left, lines_left, numbered};
+    ghost use Rattle.script_text.specs.Reading.{all_left, lines_left, numbered_line};
 
     pub(crate) fn of(text: &'a [u8]) -> Lines<'a>
         requires { spec.line_count text.now ≤ MOST_LINES }
@@ -41,7 +41,7 @@ impl<'a> Lines<'a> {
     }
 
     fn next_line(&mut self) -> Option<NumberedLine<'a>>
-        ensures { YieldsFirstBy numbered all_left self.old result self.new }
+        ensures { YieldsFirstBy numbered_line all_left self.old result self.new }
     {
         let (text, behind) = cut_in_front(b'\n', self.rest?);
         let number = self.number;
@@ -55,11 +55,11 @@ impl<'a> Lines<'a> {
 
 impl<'a> Iterator for Lines<'a> {
     ghost use Rattle.std.specs.Iterator.{YieldsFirstBy, item_count};
-    ghost use Rattle.script_text.specs.Reading.{lines_left, numbered};
+    ghost use Rattle.script_text.specs.Reading.{lines_left, numbered_line};
 
     type Item = NumberedLine<'a>;
 
-    ghost next_gives = { YieldsFirstBy numbered lines_left };
+    ghost next_gives = { YieldsFirstBy numbered_line lines_left };
 
     ghost remaining = { item_count lines_left };
 

@@ -71,16 +71,16 @@ impl Maker {
         ensures within { IsWithin (_number + 1) self.new.cursors.items }
     {
         let way = self.seed.below(8);
-        let (packet, cursor) = given(way, self.cursors[member as usize]);
+        let (packet, cursor) = next_cursors(way, self.cursors[member as usize]);
         self.cursors[member as usize] = cursor;
         ScriptEvent::Give(packet, member)
     }
 }
 
-/// The packet that is given, and the member's cursor behind it.
-fn given(way: u32, cursor: u32) -> (u32, u32)
+/// The packet that is given, and the member's cursor after it.
+fn next_cursors(way: u32, cursor: u32) -> (u32, u32)
     requires { cursor < 4294967294 }
-    ensures given { result ≡ spec.given way cursor }
+    ensures given { result ≡ spec.next_cursors way cursor }
     ensures near { result.1 ≤ cursor + 2 }
 {
     match way {

@@ -39,7 +39,7 @@ pub fn read_plan(alloc: Global, text: &[u8]) -> Result<NodePlan, ScriptError>
 }
 
 /// Where each member is reached, as the first lines that are left say; the line of that number is
-/// behind the last.
+/// after the last.
 fn peers(
     alloc: Global,
     members: u8,

@@ -5,7 +5,7 @@ ghost use Rattle.script_mean.specs.NodePlan.{turn_of};
 ghost use Rattle.script_mean.specs.PlanLine as spec;
 ghost use Rattle.script_mean.specs.Script.{in_form};
 ghost use Rattle.script_text.specs.Answer.{Answers};
-ghost use Rattle.script_text.specs.Reading.{IsEvent, IsTurn, Says, numbered, words_left};
+ghost use Rattle.script_text.specs.Reading.{IsEvent, IsTurn, Says, numbered_line, words_left};
 
 use crate::error::{LineError, ScriptError};
 use crate::event::{cast, leave, send};
@@ -42,7 +42,7 @@ pub(crate) fn turn_on(
     earliest: u32,
     line: NumberedLine<'_>,
 ) -> Result<(u32, ScriptEvent), ScriptError>
-    ensures said { Answers (turn_of members earliest (numbered line.entry)) result }
+    ensures said { Answers (turn_of members earliest (numbered_line line.entry)) result }
     ensures of_member { IfOk result (λ turn. event.member_of turn.1 < members) }
 {
     match turn(alloc, members, earliest, Words::on(line.text)) {

@@ -9,7 +9,7 @@ pub(crate) struct Seed {
 }
 
 impl Seed {
-    /// A number below the bound, from the upper half of the seed behind the draw.
+    /// A number below the bound, from the upper half of the seed after the draw.
     pub(crate) fn below(&mut self, bound: u32) -> u32
         requires { 0 < bound }
         ensures drawn { spec.a_draw bound self.old.value ≡ (result, self.new.value) }

@@ -13,7 +13,7 @@ const NEAR: usize = 6;
 /// How many bytes are compared at once where a byte may stand near.
 const LANES: usize = 16;
 
-/// The text in front of the first such byte, and what stands behind it where there is one.
+/// The text before the first such byte, and what stands after it where there is one.
 pub fn cut(at: u8, text: &[u8]) -> (&[u8], Option<&[u8]>)
     ensures { slice_split (λ byte. byte == at) text.now ≡ result.0.now ∷ parts_behind at result.1 }
 {
@@ -35,7 +35,7 @@ pub(crate) fn cut_in_front(at: u8, text: &[u8]) -> (&[u8], Option<&[u8]>)
     parted(at, text, first_in_front(at, text))
 }
 
-/// The text in front of the first such byte, which stands at that place, and what stands behind it.
+/// The text before the first such byte, which stands at that place, and what stands after it.
 fn parted(_at: u8, text: &[u8], place: Option<usize>) -> (&[u8], Option<&[u8]>)
     requires { IsFirstByte (is_byte _at) text.now place }
     ensures { slice_split (λ byte. byte == _at) text.now ≡ result.0.now ∷ parts_behind _at result.1 }
@@ -46,7 +46,7 @@ fn parted(_at: u8, text: &[u8], place: Option<usize>) -> (&[u8], Option<&[u8]>)
     }
 }
 
-/// The text in front of a place, and what stands behind it, where the text ends at that place or such a byte stands
+/// The text before a place, and what stands after it, where the text ends at that place or such a byte stands
 /// there. None stands in front.
 #[inline(always)]
 pub(crate) fn cut_at(at: u8, text: &[u8], place: usize) -> Option<(&[u8], Option<&[u8]>)>

@@ -67,7 +67,7 @@ fn value_within(low: u32, high: u32, word: &[u8]) -> Option<u32>
     Some(value as u32)
 }
 
-/// How many digits stand in front of a text, of at most nine, and their value.
+/// How many digits stand before a text, of at most nine, and their value.
 #[inline(always)]
 pub(crate) fn digits_in_front(text: &[u8]) -> (usize, u32)
     ensures { IsAllDigits (take result.0 text.now) result.1 × (result.0 ≤ length text.now) }
@@ -155,7 +155,7 @@ fn write_bytes(digits: &[u8], bytes: &mut [u8]) -> bool
     write_last(digits, bytes, done)
 }
 
-/// Writes the bytes behind those that are done, and answers whether all of their digits are some.
+/// Writes the bytes after those that are done, and answers whether all of their digits are some.
 fn write_last(digits: &[u8], bytes: &mut [u8], done: usize) -> bool
     requires { (length digits.now ≡ 2 * length bytes.old) × (done ≤ length bytes.old) }
     ensures { option_map (λ more. take done bytes.old ++ more) (spec.hex_bytes (drop (2 * done) digits.now))

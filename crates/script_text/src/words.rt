@@ -20,7 +20,7 @@ pub(crate) struct Words<'a> {
     rest: Option<&'a [u8]>,
 }
 
-/// The number of the first word of a text, if it is one within bounds, and what stands behind the word.
+/// The number of the first word of a text, if it is one within bounds, and what stands after the word.
 #[inline(never)]
 fn any_number_within(low: u32, high: u32, text: &[u8]) -> (Result<u32, LineError>, Option<&[u8]>)
     ensures { Takes (form.a_number_within low high (words_of text.now)) result.0 (parts_behind 32 result.1) }

@@ -41,7 +41,7 @@ abbrev pub HeadersAre : Result (Option (List drawn.DrawnHeader)) no_shape.NoShap
 HeadersAre drawn (Ok headers) = drawn ≡ Ok (option_map headers_tree headers)
 HeadersAre drawn (Err e) = FailsFor drawn e
 
--- A walk comes to what the code's walk holds behind it.
+-- A walk comes to what the code's walk holds after it.
 abbrev pub Walks : Result Walking Stop → Walk → Result Unit NoShape → Type 0
 Walks r w (Ok done) = r ≡ Ok (walking w)
 Walks r w (Err e) = StopsFor r w.forks e
@@ -56,8 +56,8 @@ abbrev pub held_shape : mean.Shape → mean.Shape
 held_shape s = record s { length = held_at_most s.length }
 
 -- What is drawn, its length held within 32 bits.
-abbrev pub held : Result mean.Shape no_shape.NoShape → Result mean.Shape no_shape.NoShape
-held drawn = drawn_from (λ s. Ok (held_shape s)) drawn
+abbrev pub held_answer : Result mean.Shape no_shape.NoShape → Result mean.Shape no_shape.NoShape
+held_answer drawn = drawn_from (λ s. Ok (held_shape s)) drawn
 
 -- The shape that a run comes to, or the reason for which it stops.
 abbrev pub drawn_of : Result Sketching Stop → Result mean.Shape no_shape.NoShape

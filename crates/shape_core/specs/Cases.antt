@@ -8,7 +8,7 @@ use Rattle.shape_core.specs.declared.absent.Absent.{Absent}
 use Rattle.shape_core.specs.declared.absent.Absent.TheVariants.{Loop, Rare, Stored, Long, Same}
 use Rattle.shape_core.specs.declared.types.Shape as code
 use Rattle.shape_core.specs.declared.types.CaseShapes as code_cases
-use Rattle.shape_core.specs.Answer.{held}
+use Rattle.shape_core.specs.Answer.{held_answer}
 use Rattle.shape_core.specs.Sketch.{shape_tree}
 
 abbrev pub reason_tree : Absent → no_shape.NoShape
@@ -32,4 +32,5 @@ case_trees shapes = record { first = drawn_tree shapes.first; second = drawn_tre
 
 -- Those of an entry, their lengths held within 32 bits.
 abbrev pub shapes_of : List LayerTree → Known → CaseShapes
-shapes_of stack known = record { first = held (shape stack known First); second = held (shape stack known Second) }
+shapes_of stack known =
+    record { first = held_answer (shape stack known First); second = held_answer (shape stack known Second) }

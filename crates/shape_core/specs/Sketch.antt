@@ -19,7 +19,7 @@ use Rattle.shape_core.specs.declared.sketch.Sketch.{Sketch}
 use Rattle.shape_core.specs.declared.walk.Visit.{Visit}
 use Rattle.shape_core.specs.Trees.{headers_tree, source_tree, task_tree}
 use Rattle.shape_core.specs.Walk.{Walking, Stop, onward}
-use Rattle.shape_core.specs.Visits.{visited}
+use Rattle.shape_core.specs.Visits.{visit_walked}
 
 abbrev pub known_tree : code_known.Known → Known
 known_tree k = record { dir = k.dir; kind = k.kind; tags = k.tags.items }
@@ -86,7 +86,7 @@ with_visit t s w = record {
 abbrev pub sketched_visit : Case → LayerTree → Task (Marked DrawnEvent) → Sketching → Result Sketching Stop
 sketched_visit case layer t s = if nat_lt (length s.visits) visits_limit
     then onward (λ w. Ok (with_visit t s w))
-    (visited (visit_at case (t.at - 1) s) layer t.dir t.event.event (fresh_walk s))
+    (visit_walked (visit_at case (t.at - 1) s) layer t.dir t.event.event (fresh_walk s))
     else Err (record { reason = no_shape.long; forks = s.forks })
 
 abbrev pub with_output : Task (Marked DrawnEvent) → Sketching → Sketching

@@ -20,23 +20,23 @@ abbrev pub way_walked : Visit → Option (List Step) → Walking → Result Walk
 way_walked v None w = Err (record { reason = no_shape.rare v.place; forks = w.forks })
 way_walked v (Some steps) w = walked v steps w
 
--- The header `none`, behind which a message passes down.
+-- The header `none`, after which a message passes down.
 abbrev pub none_header : DrawnHeader
 none_header = record { tag = 0; fields = [] }
 
--- A missing handler passes an event on, except upwards behind another header than `none`.
-abbrev pub unhandled : Visit → Dir → Kind → DrawnMet → Option (List DrawnHeader) → Walking → Result Walking Stop
-unhandled v dir kind m None w = Ok (sends v dir kind None w)
-unhandled v Down kind m (Some headers) w = Ok (sends v Down kind (Some (none_header ∷ headers)) w)
-unhandled v Up kind m (Some headers) w =
+-- A missing handler passes an event on, except upwards after another header than `none`.
+abbrev pub unhandled_walked : Visit → Dir → Kind → DrawnMet → Option (List DrawnHeader) → Walking → Result Walking Stop
+unhandled_walked v dir kind m None w = Ok (sends v dir kind None w)
+unhandled_walked v Down kind m (Some headers) w = Ok (sends v Down kind (Some (none_header ∷ headers)) w)
+unhandled_walked v Up kind m (Some headers) w =
     if m.tag == 0 then Ok (sends v Up kind (Some headers) w) else Err
     (record { reason = no_shape.rare v.place; forks = w.forks })
 
-abbrev pub handled : Visit → Option HandlerTree → Dir → Kind → DrawnMet → Walking → Result Walking Stop
-handled v None dir kind m w = unhandled v dir kind m m.headers w
-handled v (Some h) dir kind m w =
+abbrev pub handler_walked : Visit → Option HandlerTree → Dir → Kind → DrawnMet → Walking → Result Walking Stop
+handler_walked v None dir kind m w = unhandled_walked v dir kind m m.headers w
+handler_walked v (Some h) dir kind m w =
     way_walked v (handler_way v.case h) (record w { scope = (drawn_entered h m.headers).scope })
 
-abbrev pub visited : Visit → LayerTree → Dir → DrawnEvent → Walking → Result Walking Stop
-visited v layer dir event w =
-    let m = drawn_met dir event.headers in handled v (handler_for layer dir event.kind m.tag) dir event.kind m w
+abbrev pub visit_walked : Visit → LayerTree → Dir → DrawnEvent → Walking → Result Walking Stop
+visit_walked v layer dir event w =
+    let m = drawn_met dir event.headers in handler_walked v (handler_for layer dir event.kind m.tag) dir event.kind m w

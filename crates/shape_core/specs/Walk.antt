@@ -29,13 +29,13 @@ pub record Stop : Type 0 where
   pub reason : NoShape
   pub forks : Bool
 
--- What goes on behind what didn't stop.
+-- What goes on after what didn't stop.
 abbrev pub onward : {A B : Type 0} → (A → Result B Stop) → Result A Stop → Result B Stop
 onward f (Ok x) = f x
 onward f (Err stop) = Err stop
 
-abbrev pub counted : Walking → ℕ → Walking
-counted w n = record w { length = held_at_most (w.length + n) }
+abbrev pub lengthened : Walking → ℕ → Walking
+lengthened w n = record w { length = held_at_most (w.length + n) }
 
 -- The task of an emission, which is the next of those that a visit sent.
 abbrev pub task_of : Visit → Dir → Kind → Option (List DrawnHeader) → List (Task (Marked DrawnEvent)) →
@@ -52,17 +52,18 @@ task_of v dir kind headers sent = record {
 abbrev pub sends : Visit → Dir → Kind → Option (List DrawnHeader) → Walking → Walking
 sends v dir kind headers w = record w { sent = w.sent ++ task_of v dir kind headers w.sent ∷ [] }
 
-abbrev pub emitted : Visit → EmissionTree → Walking → Result (Option (List DrawnHeader)) NoShape → Result Walking Stop
-emitted v e w (Ok headers) = Ok (counted (sends v e.direction e.kind headers w) (weight_of (send e)))
-emitted v e w (Err reason) = Err (record { reason = reason; forks = w.forks })
+abbrev pub emission_walked : Visit → EmissionTree → Walking → Result (Option (List DrawnHeader)) NoShape →
+    Result Walking Stop
+emission_walked v e w (Ok headers) = Ok (lengthened (sends v e.direction e.kind headers w) (weight_of (send e)))
+emission_walked v e w (Err reason) = Err (record { reason = reason; forks = w.forks })
 
 abbrev pub walk_step : Visit → Step → Walking → Result Walking Stop
-walk_step v (fork case e) w = Ok (record (counted w 1) { forks = true })
-walk_step v (put c i capacity row) w = Ok (counted w 2)
-walk_step v (get c i taken) w = Ok (counted (record w { scope = with_taken taken w.scope }) 2)
-walk_step v (send e) w = emitted v e w (emission_headers v.place e.direction w.scope e.content)
+walk_step v (fork case e) w = Ok (record (lengthened w 1) { forks = true })
+walk_step v (put c i capacity row) w = Ok (lengthened w 2)
+walk_step v (get c i taken) w = Ok (lengthened (record w { scope = with_taken taken w.scope }) 2)
+walk_step v (send e) w = emission_walked v e w (emission_headers v.place e.direction w.scope e.content)
 walk_step v loop w = Err (record { reason = no_shape.loop v.place; forks = w.forks })
-walk_step v _ w = Ok (counted w 1)
+walk_step v _ w = Ok (lengthened w 1)
 
 abbrev pub walked : Visit → List Step → Walking → Result Walking Stop
 walked v [] w = Ok w

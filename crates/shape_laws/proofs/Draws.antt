@@ -18,7 +18,7 @@ use Rattle.layer_mean.specs.Tree.{join, ContentTree, EmissionTree, TakenTree}
 use Rattle.layer_mean.specs.State.{State, row_at, has_room}
 use Rattle.layer_mean.specs.Value.{Scope, is_true, val, mval, message_in}
 use Rattle.layer_mean.specs.Effect as effect
-use Rattle.layer_mean.specs.Effect.{sent_as, header_of, emitted, with_slots}
+use Rattle.layer_mean.specs.Effect.{sent_as, header_of, emitted_event, with_slots}
 use Rattle.layer_mean.specs.Way.{Step, test, fork, set_slot, set_number, set_square, put, get, send, loop}
 use Rattle.stack_mean.specs.NoShape.{NoShape, drawn_from}
 use Rattle.stack_mean.specs.Drawn.{DrawnHeader, DrawnEvent, constant_of, DrawnMessage, chained, unknown, drawn_row}
@@ -162,7 +162,7 @@ pushed_matches place Down c s l headers m is = (record { tag = refl; fields = fi
 emission_matches : (place : ℕ) (e : EmissionTree) (d : Drawing) (h : Here) → Stands d h →
     BareContent e.content h.state h.scope →
     Drawn (drawn_from (λ headers. Ok (with_sent d e headers)) (emission_headers place e.direction d.scope e.content))
-    (record h { sent = h.sent ++ (e.direction, emitted place e h.state h.scope) ∷ [] })
+    (record h { sent = h.sent ++ (e.direction, emitted_event place e h.state h.scope) ∷ [] })
 emission_matches place e d h stands bare = go e.content bare where
   numbers : List ℕ
   numbers = map (λ n. val n h.state h.scope) e.numbers
@@ -226,7 +226,7 @@ step_draws place (get c i taken) d h stands bare = go (row_at h.state c (val i h
 step_draws place (send e) d h stands bare = emission_matches place e d h stands bare
 step_draws place loop d h stands bare = tt
 
--- a way behind its first step
+-- a way after its first step
 goes_on : (place : ℕ) (xs : List Step) →
     ((d : Drawing) (h : Here) → Stands d h → BareSteps place xs h → Draws (draw_steps place xs d) (walk place xs h)) →
     (r : Result Drawing NoShape) (w : Option Here) → Draws r w → BareBeyond (BareSteps place xs) w →

@@ -6,7 +6,7 @@ use Rattle.layer_mean.specs.declared.run.Case.{Case}
 use Rattle.layer_mean.specs.declared.run.Case.TheVariants.{First, Second}
 use Rattle.layer_mean.specs.declared.run.Event.{Event}
 use Rattle.layer_mean.specs.Queue.{Task, run_for, run, layers, is_predicted}
-use Rattle.layer_mean.specs.Marked.{Logged, marked, marked_start}
+use Rattle.layer_mean.specs.Marked.{Logged, marking_player, marked_start}
 use Rattle.stack_mean.specs.Acceptance.{weight_limit}
 use Rattle.stack_mean.specs.NoShape.{NoShape, drawn_from}
 use Rattle.stack_mean.specs.NoShape as no_shape
@@ -96,16 +96,16 @@ has_shape case z r s made step usual = go z.world.world made step where
 -- the law after any number of turns
 shape_after : (case : Case) (most : ℕ) (stack : List LayerTree) (k : Known) (s : Shape) (states : List State)
     (task : Task Event) →
-    shape_of (run_for (length stack) (marked (shaper case stack)) most
+    shape_of (run_for (length stack) (marking_player (shaper case stack)) most
     (marked_start undrawn (entry_task stack k))).world ≡ Ok s →
     BeginsAs (entry_task stack k) task →
     BareRun case stack (run_start states task) → is_predicted case (run most stack states task).world ≡ true →
-    HasShape s (run_for (length stack) (marked (layers stack)) most (run_start states task)).world
+    HasShape s (run_for (length stack) (marking_player (layers stack)) most (run_start states task)).world
 shape_after case most stack k s states task made begins bare predicted =
     let z : DrawnLine = marked_start undrawn (entry_task stack k) in
     let r : RunLine = run_start states task in
-    has_shape case (run_for (length stack) (marked (shaper case stack)) most z)
-    (run_for (length stack) (marked (layers stack)) most r) s made
+    has_shape case (run_for (length stack) (marking_player (shaper case stack)) most z)
+    (run_for (length stack) (marking_player (layers stack)) most r) s made
     (runs_in_step case stack most z r (λ usual. record {
       tasks = (
         record { at = begins.at; dir = begins.dir; marked = record { event = begins.event; made_by = refl } },

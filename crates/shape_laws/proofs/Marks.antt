@@ -9,8 +9,8 @@ use Rattle.layer_mean.specs.declared.run.Event.{Event}
 use Rattle.layer_mean.specs.Tree.{LayerTree}
 use Rattle.layer_mean.specs.Visit.{Visited, step}
 use Rattle.layer_mean.specs.Queue.{Task, Turn, Line, beyond, tasks_of, is_place, next_of, run_for, Work, layer_at}
-use Rattle.layer_mean.specs.Queue.{state_at, visited, layers, run}
-use Rattle.layer_mean.specs.Marked.{Marked, Log, marked_sent, marked}
+use Rattle.layer_mean.specs.Queue.{state_at, visit_turn, layers, run}
+use Rattle.layer_mean.specs.Marked.{Marked, Log, marked_sent, marking_player}
 use Rattle.shape_laws.specs.Law.{run_start}
 use Rattle.shape_laws.specs.Marks.{Tells, LogsTellRuns}
 use Rattle.shape_laws.proofs.Runs.{RunLine, first_turn}
@@ -33,7 +33,7 @@ record Told (log : Log Work Event) : Type 0 where
   visits : length log.visits ≡ log.world.visits
 
 turn_unmarked : (stack : List LayerTree) (tasks : List (Task (Marked Event))) (log : Log Work Event) → Told log →
-    let r = next_of (length stack) (marked (layers stack)) tasks log in
+    let r = next_of (length stack) (marking_player (layers stack)) tasks log in
     let q = next_of (length stack) (layers stack) (map unmarked tasks) log.world in
     (r.world.world ≡ q.world) × (map unmarked r.tasks ≡ q.tasks) × Told r.world
 turn_unmarked stack [] log h = (refl, refl, h)
@@ -42,7 +42,7 @@ turn_unmarked stack (t ∷ rest) log h = go (is_place (length stack) t.at) where
   v = step (t.at - 1) (layer_at stack t.at) (state_at log.world t.at) t.dir t.event.event
 
   turn : Turn Work Event
-  turn = visited t.at log.world v
+  turn = visit_turn t.at log.world v
 
   r : Bool → RunLine
   r b = if b
@@ -55,7 +55,7 @@ turn_unmarked stack (t ∷ rest) log h = go (is_place (length stack) t.at) where
         };
         tasks = rest ++ tasks_of t.at (marked_sent (length log.visits) turn.sent);
       }
-      else record { world = (marked (layers stack)).output t.dir t.event log; tasks = rest }
+      else record { world = (marking_player (layers stack)).output t.dir t.event log; tasks = rest }
 
   q : Bool → Line Work Event
   q b = if b then record { world = turn.world; tasks = map unmarked rest ++ tasks_of t.at turn.sent }
@@ -79,19 +79,19 @@ turn_unmarked stack (t ∷ rest) log h = go (is_place (length stack) t.at) where
 
 runs_unmarked : (stack : List LayerTree) (k : ℕ) (log : Log Work Event) (tasks : List (Task (Marked Event))) →
     Told log →
-    Tells (run_for (length stack) (marked (layers stack)) k (record { world = log; tasks = tasks }))
+    Tells (run_for (length stack) (marking_player (layers stack)) k (record { world = log; tasks = tasks }))
     (run_for (length stack) (layers stack) k (record { world = log.world; tasks = map unmarked tasks }))
 runs_unmarked stack zero log tasks h = record { world = refl; tasks = refl; outs = h.outs; visits = h.visits }
 runs_unmarked stack (suc k) log tasks h =
     let turn = turn_unmarked stack tasks log h in
-    let r : RunLine = next_of (length stack) (marked (layers stack)) tasks log in
+    let r : RunLine = next_of (length stack) (marking_player (layers stack)) tasks log in
     let q : Line Work Event = next_of (length stack) (layers stack) (map unmarked tasks) log.world in
     let same : ◌≡◌ {A = Line Work Event} (record { world = r.world.world; tasks = map unmarked r.tasks }) q =
     λ i. record { world = turn.0 i; tasks = turn.1 i } in
     let rest = runs_unmarked stack k r.world r.tasks turn.2 in
     subst {A = RunLine × Line Work Event} (λ x. Tells x.0 x.1)
     (λ i. (
-      sym (first_turn (length stack) (marked (layers stack)) k tasks log) i,
+      sym (first_turn (length stack) (marking_player (layers stack)) k tasks log) i,
       (ap (run_for (length stack) (layers stack) k) same ∙
           sym (first_turn (length stack) (layers stack) k (map unmarked tasks) log.world)) i,
     ))

@@ -11,9 +11,9 @@ use Rattle.layer_mean.specs.Tree.{Carried, part, whole, MessageTree, message, no
 use Rattle.layer_mean.specs.Tree.{ContentTree, HandlerTree, LayerTree, no_layer}
 use Rattle.layer_mean.specs.State.{State}
 use Rattle.layer_mean.specs.Value.{Scope}
-use Rattle.layer_mean.specs.Visit.{Met, met, is_for, entered}
+use Rattle.layer_mean.specs.Visit.{Met, met, is_for, entered_scope}
 use Rattle.layer_mean.specs.Queue.{Task, Line, Work, layer_at, state_at, run_for, layers}
-use Rattle.layer_mean.specs.Marked.{Log, Marked, marked}
+use Rattle.layer_mean.specs.Marked.{Log, Marked, marking_player}
 use Rattle.layer_mean.specs.Way.{Step, get, send, handler_way}
 use Rattle.shape_laws.specs.Walk.{Here, walk_step}
 use Rattle.shape_laws.specs.Bare.{BareRow, BareMessage, BareTaken, BareContent, BareStep, BareBeyond, BareSteps}
@@ -67,13 +67,14 @@ way_bare place None s l h = tt
 way_bare place (Some steps) s l h = steps_bare place steps _ h
 
 found : (case : Case) (p q : HandlerTree → Bool) (hs : List HandlerTree) (place : ℕ) (s : State) (e : Event) (m : Met) →
-    ((h : HandlerTree) → q h ≡ true → BareWay place (handler_way case h) s (entered h e m)) → list_all q hs ≡ true →
+    ((h : HandlerTree) → q h ≡ true → BareWay place (handler_way case h) s (entered_scope h e m)) →
+    list_all q hs ≡ true →
     BareHandled case place (find p hs) s e m
 found case p q [] place s e m bare all = tt
 found case p q (h ∷ hs) place s e m bare all =
     let parts = and_parts (q h) (list_all q hs) all in
     first (p h) (bare h parts.0) (found case p q hs place s e m bare parts.1) where
-      first : (b : Bool) → BareWay place (handler_way case h) s (entered h e m) →
+      first : (b : Bool) → BareWay place (handler_way case h) s (entered_scope h e m) →
           BareHandled case place (find p hs) s e m →
           BareHandled case place (if b then Some h else find p hs) s e m
       first true here rest = here
@@ -85,7 +86,7 @@ visit_bare : (case : Case) (place : ℕ) (layer : LayerTree) (s : State) (dir : 
 visit_bare case place layer s dir e h =
     let m : Met = met dir e.message in
     found case (is_for dir e.kind m.tag) (way_reads_no_part case) layer.handlers place s e m
-    (λ x. way_bare place (handler_way case x) s (entered x e m)) h
+    (λ x. way_bare place (handler_way case x) s (entered_scope x e m)) h
 
 layer_found : (case : Case) (stack : List LayerTree) (k : ℕ) → list_all (layer_reads_no_part case) stack ≡ true →
     layer_reads_no_part case (slice_index_or stack k no_layer) ≡ true
@@ -104,5 +105,5 @@ next_bare case stack w (t ∷ rest) h = λ placed.
 
 pub runs_without_parts : RunsWithoutParts
 runs_without_parts case stack h r = λ k.
-    let q : Line (Log Work Event) (Marked Event) = run_for (length stack) (marked (layers stack)) k r in
+    let q : Line (Log Work Event) (Marked Event) = run_for (length stack) (marking_player (layers stack)) k r in
     next_bare case stack q.world.world q.tasks h

@@ -14,7 +14,7 @@ use Rattle.layer_mean.specs.Tree.{TakenTree}
 use Rattle.layer_mean.specs.State.{State, has_room, row_at, without_front}
 use Rattle.layer_mean.specs.Value.{Scope, is_true, val}
 use Rattle.layer_mean.specs.Effect.{Decision, usual, unusual, forked, all_as, Outcome, Act, after, done, decides}
-use Rattle.layer_mean.specs.Effect.{in_order, does, acts, chosen, taking, with_taken}
+use Rattle.layer_mean.specs.Effect.{in_order, does, acts, chosen_outcome, taking, with_taken}
 use Rattle.layer_mean.specs.Visit.{expecting}
 use Rattle.layer_mean.specs.Way.{Step, fork, way, ways, expected_way, handler_way}
 use Rattle.shape_laws.specs.Walk.{Here, onward, walk_step, walk, took}
@@ -37,7 +37,7 @@ folded : (case : Case) (fs : List Act) (o : Outcome) → AllAs case (fold after 
 folded case [] o h = h
 folded case (a ∷ fs) o h = (usual_parts case o.decided (a o.state o.scope).decided (folded case fs (after o a) h)).0
 
--- what an outcome is behind what was sent before
+-- what an outcome is after what was sent before
 abbrev pub here : List (Dir × Event) → Outcome → Here
 here pre o = record { state = o.state; scope = o.scope; sent = pre ++ o.sent }
 
@@ -95,16 +95,18 @@ push_goes case place false t l pre other h = absurd (cc h)
 first_goes : (case : Case) (place : ℕ) (steps : List Step) (st : Here) (pre : List (Dir × Event)) (b : Bool)
     (first second : Outcome) →
     (AllAs case first.decided → walk place steps st ≡ Some (here pre first)) →
-    AllAs case (chosen b likely.First first second).decided →
-    onward (walk place steps) (if b then Some st else None) ≡ Some (here pre (chosen b likely.First first second))
+    AllAs case (chosen_outcome b likely.First first second).decided →
+    onward (walk place steps) (if b then Some st else None) ≡
+    Some (here pre (chosen_outcome b likely.First first second))
 first_goes case place steps st pre true first second leads h = leads h
 first_goes case place steps st pre false first second leads h = absurd (cc h)
 
 else_goes : (case : Case) (place : ℕ) (steps : List Step) (st : Here) (pre : List (Dir × Event)) (b : Bool)
     (first second : Outcome) →
     (AllAs case second.decided → walk place steps st ≡ Some (here pre second)) →
-    AllAs case (chosen b likely.Else first second).decided →
-    onward (walk place steps) (if b then None else Some st) ≡ Some (here pre (chosen b likely.Else first second))
+    AllAs case (chosen_outcome b likely.Else first second).decided →
+    onward (walk place steps) (if b then None else Some st) ≡
+    Some (here pre (chosen_outcome b likely.Else first second))
 else_goes case place steps st pre false first second leads h = leads h
 else_goes case place steps st pre true first second leads h = absurd (cc h)
 
@@ -118,19 +120,19 @@ fork_goes : (case : Case) (place : ℕ) (e : ExpressionTree) (steps : List Step)
     (first second : Outcome) →
     (AllAs case (in_case case first second).decided → walk place steps (start pre s l) ≡
     Some (here pre (in_case case first second))) →
-    AllAs case (chosen (is_true (val e s l)) likely.Two first second).decided →
+    AllAs case (chosen_outcome (is_true (val e s l)) likely.Two first second).decided →
     onward (walk place steps) (walk_step place (fork case e) (start pre s l)) ≡
-    Some (here pre (chosen (is_true (val e s l)) likely.Two first second))
+    Some (here pre (chosen_outcome (is_true (val e s l)) likely.Two first second))
 fork_goes First place e steps s l pre first second leads h = go (is_true (val e s l)) h where
-  go : (b : Bool) → AllAs First (chosen b likely.Two first second).decided →
+  go : (b : Bool) → AllAs First (chosen_outcome b likely.Two first second).decided →
       onward (walk place steps) (if b then Some (start pre s l) else None) ≡
-      Some (here pre (chosen b likely.Two first second))
+      Some (here pre (chosen_outcome b likely.Two first second))
   go true h = leads h
   go false h = absurd (cc h)
 fork_goes Second place e steps s l pre first second leads h = go (is_true (val e s l)) h where
-  go : (b : Bool) → AllAs Second (chosen b likely.Two first second).decided →
+  go : (b : Bool) → AllAs Second (chosen_outcome b likely.Two first second).decided →
       onward (walk place steps) (if b then None else Some (start pre s l)) ≡
-      Some (here pre (chosen b likely.Two first second))
+      Some (here pre (chosen_outcome b likely.Two first second))
   go true h = absurd (cc h)
   go false h = leads h
 

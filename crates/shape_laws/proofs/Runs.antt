@@ -10,8 +10,8 @@ use Rattle.layer_mean.specs.declared.run.Event.{Event}
 use Rattle.layer_mean.specs.Tree.{LayerTree}
 use Rattle.layer_mean.specs.Visit.{Visited, step}
 use Rattle.layer_mean.specs.Queue.{Task, Turn, Player, Line, beyond, tasks_of, is_place, next_of, run_for, Work}
-use Rattle.layer_mean.specs.Queue.{layer_at, state_at, visited, layers}
-use Rattle.layer_mean.specs.Marked.{Source, Marked, Logged, Log, marked_sent, marked}
+use Rattle.layer_mean.specs.Queue.{layer_at, state_at, visit_turn, layers}
+use Rattle.layer_mean.specs.Marked.{Source, Marked, Logged, Log, marked_sent, marking_player}
 use Rattle.stack_mean.specs.NoShape.{NoShape}
 use Rattle.stack_mean.specs.NoShape as no_shape
 use Rattle.stack_mean.specs.Drawn.{DrawnEvent, DrawnVisit, drawn_visit}
@@ -56,7 +56,7 @@ sent_from at visit (x ∷ xs) (y ∷ ys) n h = (
 sent_from at visit [] (y ∷ ys) n h = absurd h
 sent_from at visit (x ∷ xs) [] n h = absurd h
 
--- a line behind a visit, and behind an output
+-- a line after a visit, and after an output
 abbrev after_visit : {W E : Type 0} → ℕ → Dir → Marked E → List (Task (Marked E)) → List (Logged E) → List (Logged E) →
     Turn W E → Line (Log W E) (Marked E)
 after_visit at dir e rest visits outs turn = record {
@@ -82,7 +82,7 @@ module _ (case : Case) (at : ℕ) (dir : Dir) (maker : Option Source) (d : Drawn
 
   visit_alike : (dv : DrawnVisit) (v : Visited) → Alike z r → Pairwise SentIs dv.sent v.sent →
       Alike (after_visit at dir (marking d maker) z.tasks z.world.visits z.world.outs (drawn_turn p (Ok dv)))
-      (after_visit at dir (marking e maker) r.tasks r.world.visits r.world.outs (visited at w v))
+      (after_visit at dir (marking e maker) r.tasks r.world.visits r.world.outs (visit_turn at w v))
   visit_alike dv v alike sent = record {
     tasks = pairs_append TaskIs z.tasks _ r.tasks _ alike.tasks behind;
     visits = pairs_append LoggedIs z.world.visits _ r.world.visits _ alike.visits (log_same, tt);
@@ -100,7 +100,7 @@ module _ (case : Case) (at : ℕ) (dir : Dir) (maker : Option Source) (d : Drawn
       (AllAs case v.decided → VisitDrawn x v.sent) →
       InStep case (drawn_turn p x).world
       (after_visit at dir (marking d maker) z.tasks z.world.visits z.world.outs (drawn_turn p x))
-      (after_visit at dir (marking e maker) r.tasks r.world.visits r.world.outs (visited at w v))
+      (after_visit at dir (marking e maker) r.tasks r.world.visits r.world.outs (visit_turn at w v))
   visit_in_step (Err reason) v alike sent = tt
   visit_in_step (Ok dv) v alike sent = λ usual.
       let parts = usual_parts case w.decided v.decided usual in visit_alike dv v (alike parts.0) (sent parts.1)
@@ -115,10 +115,10 @@ abbrev drawing : Progress → List (Logged DrawnEvent) → List (Logged DrawnEve
 drawing p visits outs = record { world = Ok p; visits = visits; outs = outs }
 
 abbrev drawn_next : Case → List LayerTree → List (Task (Marked DrawnEvent)) → DrawnLog → DrawnLine
-drawn_next case stack tasks log = next_of (length stack) (marked (shaper case stack)) tasks log
+drawn_next case stack tasks log = next_of (length stack) (marking_player (shaper case stack)) tasks log
 
 abbrev run_next : List LayerTree → List (Task (Marked Event)) → RunLog → RunLine
-run_next stack tasks log = next_of (length stack) (marked (layers stack)) tasks log
+run_next stack tasks log = next_of (length stack) (marking_player (layers stack)) tasks log
 
 abbrev task_for : {E : Type 0} → E → (ℕ × Dir × Option Source) → Task (Marked E)
 task_for e x = record { at = x.0; dir = x.1; event = marking e x.2 }
@@ -150,7 +150,7 @@ turn_in_step case stack at dir maker d e same p vs os rest log us alike bare =
 
       looked : (c : Bool) → is_place (length stack) at ≡ true →
           InStep case (turned c).world (after_visit at dir (marking d maker) rest vs os (turned c))
-          (after_visit at dir (marking e maker) us log.visits log.outs (visited at log.world v))
+          (after_visit at dir (marking e maker) us log.visits log.outs (visit_turn at log.world v))
       looked true placed = visit_in_step case at dir maker d e same p log.world z r
           (drawn_visit case (at - 1) (layer_at stack at) dir d) v alike
           (λ usual. visit_same case (at - 1) (layer_at stack at) (state_at log.world at) dir e d same (bare placed)
@@ -160,14 +160,14 @@ turn_in_step case stack at dir maker d e same p vs os rest log us alike bare =
       drawn_line : Bool → DrawnLine
       drawn_line b = if b then after_visit at dir (marking d maker) rest vs os (turned (nat_lt p.visits visits_limit))
           else record {
-            world = (marked (shaper case stack)).output dir (marking d maker) (drawing p vs os);
+            world = (marking_player (shaper case stack)).output dir (marking d maker) (drawing p vs os);
             tasks =
                 rest;
           }
 
       run_line : Bool → RunLine
-      run_line b = if b then after_visit at dir (marking e maker) us log.visits log.outs (visited at log.world v)
-          else record { world = (marked (layers stack)).output dir (marking e maker) log; tasks = us }
+      run_line b = if b then after_visit at dir (marking e maker) us log.visits log.outs (visit_turn at log.world v)
+          else record { world = (marking_player (layers stack)).output dir (marking e maker) log; tasks = us }
 
       go : (b : Bool) → is_place (length stack) at ≡ b →
           InStep case (drawn_line b).world.world (drawn_line b) (run_line b)
@@ -179,7 +179,7 @@ turn_in_step case stack at dir maker d e same p vs os rest log us alike bare =
             (record { at = refl; dir = refl; marked = record { event = same; made_by = refl } }, tt);
       }
 
--- what was decided before a turn is as predicted where all is behind it
+-- what was decided before a turn is as predicted where all is after it
 usual_before : (case : Case) (stack : List LayerTree) (us : List (Task (Marked Event))) (log : RunLog) →
     AllAs case (run_next stack us log).world.world.decided → AllAs case log.world.decided
 usual_before case stack [] log h = h
@@ -188,8 +188,9 @@ usual_before case stack (u ∷ us) log h = go (is_place (length stack) u.at) h w
   v = step (u.at - 1) (layer_at stack u.at) (state_at log.world u.at) u.dir u.event.event
 
   go : (b : Bool) →
-      AllAs case (if b then after_visit u.at u.dir u.event us log.visits log.outs (visited u.at log.world v)
-      else record { world = (marked (layers stack)).output u.dir u.event log; tasks = us }).world.world.decided →
+      AllAs case (if b then after_visit u.at u.dir u.event us log.visits log.outs (visit_turn u.at log.world v)
+      else record { world = (marking_player (layers stack)).output u.dir u.event log; tasks = us }).world.world.decided
+      →
       AllAs case log.world.decided
   go true h = (usual_parts case log.world.decided v.decided h).0
   go false h = h
@@ -210,7 +211,8 @@ failed_next case stack (t ∷ rest) reason vs os r = go (is_place (length stack)
   line b = if b then after_visit t.at t.dir t.event rest vs os (record { world = Err reason; sent = [] })
       else record {
         world =
-            (marked (shaper case stack)).output t.dir t.event (record { world = Err reason; visits = vs; outs = os });
+            (marking_player (shaper case stack)).output t.dir t.event
+            (record { world = Err reason; visits = vs; outs = os });
         tasks = rest;
       }
 
@@ -277,12 +279,12 @@ first_turn places play k (t ∷ rest) w = refl
 
 pub runs_in_step : (case : Case) (stack : List LayerTree) (k : ℕ) (z : DrawnLine) (r : RunLine) →
     InStep case z.world.world z r → BareRun case stack r →
-    let y = run_for (length stack) (marked (shaper case stack)) k z in
-    InStep case y.world.world y (run_for (length stack) (marked (layers stack)) k r)
+    let y = run_for (length stack) (marking_player (shaper case stack)) k z in
+    InStep case y.world.world y (run_for (length stack) (marking_player (layers stack)) k r)
 runs_in_step case stack zero z r h bare = h
 runs_in_step case stack (suc k) z r h bare =
-    let shapes = first_turn (length stack) (marked (shaper case stack)) k z.tasks z.world in
-    let runs = λ (j : ℕ). first_turn (length stack) (marked (layers stack)) j r.tasks r.world in
+    let shapes = first_turn (length stack) (marking_player (shaper case stack)) k z.tasks z.world in
+    let runs = λ (j : ℕ). first_turn (length stack) (marking_player (layers stack)) j r.tasks r.world in
     subst {A = DrawnLine × RunLine} (λ x. InStep case x.0.world.world x.0 x.1) (λ i. (sym shapes i, sym (runs k) i))
     (runs_in_step case stack k (drawn_next case stack z.tasks z.world) (run_next stack r.tasks r.world)
     (next_in_step case stack z r h (bare zero))

@@ -12,7 +12,8 @@ use Rattle.layer_mean.specs.Tree.{HandlerTree, LayerTree}
 use Rattle.layer_mean.specs.State.{State}
 use Rattle.layer_mean.specs.Value.{Scope}
 use Rattle.layer_mean.specs.Effect.{Outcome, unusual}
-use Rattle.layer_mean.specs.Visit.{Met, behind, met, handler_for, with_room, entered, sent_on, unhandled, handled, step}
+use Rattle.layer_mean.specs.Visit.{Met, behind, met, handler_for, with_room, entered_scope, sent_on, unhandled_visit}
+use Rattle.layer_mean.specs.Visit.{handled_visit, step}
 use Rattle.layer_mean.specs.Way.{Step, handler_way, way_length}
 use Rattle.stack_mean.specs.NoShape.{NoShape, drawn_from}
 use Rattle.stack_mean.specs.NoShape as no_shape
@@ -76,8 +77,8 @@ passes_on dir e d headers m kind same = ((refl, record { kind = kind; message = 
 unhandled_same : (case : Case) (place : ℕ) (s : State) (dir : Dir) (e : Event) (d : DrawnEvent) (tag : ℕ) (m : Met)
     (headers : Option (List DrawnHeader)) (content : Option Content) →
     d.kind ≡ e.kind → tag ≡ m.tag → MessageIs headers content →
-    AllAs case (unhandled place s dir e m content).decided →
-    VisitDrawn (drawn_unhandled place dir d tag headers) (unhandled place s dir e m content).sent
+    AllAs case (unhandled_visit place s dir e m content).decided →
+    VisitDrawn (drawn_unhandled place dir d tag headers) (unhandled_visit place s dir e m content).sent
 unhandled_same case place s dir e d tag m None None kind popped same h = passes_on dir e d None None kind tt
 unhandled_same case place s Down e d tag m (Some headers) (Some c) kind popped same h =
     passes_on Down e d (Some (record { tag = 0; fields = [] } ∷ headers))
@@ -85,7 +86,7 @@ unhandled_same case place s Down e d tag m (Some headers) (Some c) kind popped s
     (record { tag = refl; fields = tt }, same)
 unhandled_same case place s Up e d tag m (Some headers) (Some c) kind popped same h =
     subst (λ t. VisitDrawn (if t == 0 then Ok (drawn_on Up d (Some headers)) else Err (no_shape.rare place))
-    (unhandled place s Up e m (Some c)).sent)
+    (unhandled_visit place s Up e m (Some c)).sent)
     (sym popped) (go (m.tag == 0) h) where
       go : (b : Bool) → AllAs case
           (if b then sent_on s Up e (Some c) else record { state = s; sent = []; decided = unusual ∷ [] }).decided →
@@ -110,14 +111,15 @@ way_drawn place (Some steps) s l o d stands bare went =
 
 handled_same : (case : Case) (place : ℕ) (x : Option HandlerTree) (s : State) (dir : Dir) (e : Event) (d : DrawnEvent)
     (dm : DrawnMet) (m : Met) →
-    d.kind ≡ e.kind → MetSame dm m → BareHandled case place x s e m → AllAs case (handled place x s dir e m).decided →
-    VisitDrawn (drawn_handled case place x dir d dm) (handled place x s dir e m).sent
+    d.kind ≡ e.kind → MetSame dm m → BareHandled case place x s e m →
+    AllAs case (handled_visit place x s dir e m).decided →
+    VisitDrawn (drawn_handled case place x dir d dm) (handled_visit place x s dir e m).sent
 handled_same case place None s dir e d dm m kind same bare h =
     unhandled_same case place s dir e d dm.tag m dm.headers m.message kind same.0 same.1 h
 handled_same case place (Some x) s dir e d dm m kind same bare h =
-    way_drawn place (handler_way case x) s (entered x e m) _ (drawn_entered x dm.headers)
+    way_drawn place (handler_way case x) s (entered_scope x e m) _ (drawn_entered x dm.headers)
     (with_room_too x.messages _ _ (own_message dm.headers m.message same.1), tt) bare
-    (handler_goes case place x s (entered x e m) h)
+    (handler_goes case place x s (entered_scope x e m) h)
 
 pub visit_same : (case : Case) (place : ℕ) (layer : LayerTree) (s : State) (dir : Dir) (e : Event) (d : DrawnEvent) →
     EventIs d e → BareVisit case place layer s dir e → AllAs case (step place layer s dir e).decided →
@@ -130,5 +132,5 @@ visit_same case place layer s dir e d same bare h =
     handler_for layer dir d.kind (drawn_met dir d.headers).tag =
     λ i. handler_for layer dir (sym kind i) (sym m.0 i) in
     subst (λ x. VisitDrawn (drawn_handled case place x dir d (drawn_met dir d.headers))
-    (handled place (handler_for layer dir e.kind (met dir e.message).tag) s dir e (met dir e.message)).sent)
+    (handled_visit place (handler_for layer dir e.kind (met dir e.message).tag) s dir e (met dir e.message)).sent)
     chosen (handled_same case place _ s dir e d (drawn_met dir d.headers) (met dir e.message) kind m bare h)

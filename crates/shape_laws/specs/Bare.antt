@@ -9,9 +9,9 @@ use Rattle.layer_mean.specs.Tree.{Carried, part, whole, MessageTree, held, tail,
 use Rattle.layer_mean.specs.Tree.{LayerTree}
 use Rattle.layer_mean.specs.State.{State, row_at}
 use Rattle.layer_mean.specs.Value.{Scope, val, message_in}
-use Rattle.layer_mean.specs.Visit.{Met, met, handler_for, entered}
+use Rattle.layer_mean.specs.Visit.{Met, met, handler_for, entered_scope}
 use Rattle.layer_mean.specs.Queue.{Task, Line, Work, is_place, layer_at, state_at, run_for, layers}
-use Rattle.layer_mean.specs.Marked.{Log, Marked, marked}
+use Rattle.layer_mean.specs.Marked.{Log, Marked, marking_player}
 use Rattle.layer_mean.specs.Way.{Step, get, send, handler_way}
 use Rattle.shape_laws.specs.Walk.{Here, walk_step}
 
@@ -56,7 +56,7 @@ BareWay place (Some steps) s l = BareSteps place steps (record { state = s; scop
 
 abbrev pub BareHandled : Case → ℕ → Option HandlerTree → State → Event → Met → Type 0
 BareHandled case place None s event m = Unit {0}
-BareHandled case place (Some h) s event m = BareWay place (handler_way case h) s (entered h event m)
+BareHandled case place (Some h) s event m = BareWay place (handler_way case h) s (entered_scope h event m)
 
 -- So have those of a visit.
 abbrev pub BareVisit : Case → ℕ → LayerTree → State → Dir → Event → Type 0
@@ -72,4 +72,4 @@ BareNext case stack w (t ∷ rest) =
 -- So have those of each visit of a run.
 abbrev pub BareRun : Case → List LayerTree → Line (Log Work Event) (Marked Event) → Type 0
 BareRun case stack r = (k : ℕ) →
-    let q = run_for (length stack) (marked (layers stack)) k r in BareNext case stack q.world.world q.tasks
+    let q = run_for (length stack) (marking_player (layers stack)) k r in BareNext case stack q.world.world q.tasks

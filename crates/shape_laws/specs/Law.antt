@@ -6,8 +6,8 @@ use Rattle.msg_core.specs.declared.message.Header.{Header}
 use Rattle.layer_mean.specs.declared.run.Event.{Event}
 use Rattle.layer_mean.specs.Tree.{LayerTree}
 use Rattle.layer_mean.specs.State.{State}
-use Rattle.layer_mean.specs.Queue.{Task, Line, Work, layers, run_for, run, unstarted, is_predicted}
-use Rattle.layer_mean.specs.Marked.{Log, Logged, Marked, marked, marked_start}
+use Rattle.layer_mean.specs.Queue.{Task, Line, Work, layers, run_for, run, unstarted_work, is_predicted}
+use Rattle.layer_mean.specs.Marked.{Log, Logged, Marked, marking_player, marked_start}
 use Rattle.stack_mean.specs.Acceptance.{weight_limit}
 use Rattle.stack_mean.specs.Shape.{Known, ShapeVisit, ShapeOut, Shape, entry_task, shape}
 use Rattle.shape_laws.specs.Known.{Pairwise, HeadersAre, BeginsAs}
@@ -15,10 +15,11 @@ use Rattle.shape_laws.specs.Bare.{BareRun}
 
 -- A run of layers in these states from a task, with its makers, before its first turn and at its end.
 abbrev pub run_start : List State → Task Event → Line (Log Work Event) (Marked Event)
-run_start states task = marked_start (unstarted states) task
+run_start states task = marked_start (unstarted_work states) task
 
 abbrev pub marked_run : List LayerTree → List State → Task Event → Line (Log Work Event) (Marked Event)
-marked_run stack states task = run_for (length stack) (marked (layers stack)) weight_limit (run_start states task)
+marked_run stack states task = run_for (length stack) (marking_player (layers stack)) weight_limit
+    (run_start states task)
 
 -- The headers of an event, none where it has no message; and the tag of the first, 0 where there is none.
 abbrev pub headers_in : Event → List Header

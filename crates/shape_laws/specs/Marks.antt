@@ -4,7 +4,7 @@ use Rattle.layer_mean.specs.declared.run.Event.{Event}
 use Rattle.layer_mean.specs.Tree.{LayerTree}
 use Rattle.layer_mean.specs.State.{State}
 use Rattle.layer_mean.specs.Queue.{Task, Line, Work, layers, run_for, run}
-use Rattle.layer_mean.specs.Marked.{Log, Marked, marked}
+use Rattle.layer_mean.specs.Marked.{Log, Marked, marking_player}
 use Rattle.shape_laws.specs.Law.{run_start}
 
 -- A log is a run's where its world and its tasks are those of the run, and the logged outputs and visits are the run's
@@ -18,4 +18,5 @@ pub record Tells (r : Line (Log Work Event) (Marked Event)) (plain : Line Work E
 -- Marks change nothing: a marked run tells the run without them.
 abbrev pub LogsTellRuns : Type 0
 LogsTellRuns = (stack : List LayerTree) (states : List State) (task : Task Event) (most : ℕ) →
-    Tells (run_for (length stack) (marked (layers stack)) most (run_start states task)) (run most stack states task)
+    Tells (run_for (length stack) (marking_player (layers stack)) most (run_start states task))
+    (run most stack states task)

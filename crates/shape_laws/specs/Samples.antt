@@ -14,8 +14,8 @@ use Rattle.layer_mean.specs.State.{State}
 use Rattle.layer_mean.specs.State as state
 use Rattle.layer_mean.specs.Visit.{fresh}
 use Rattle.layer_mean.specs.Queue.{Task, is_predicted}
-use Rattle.stack_mean.specs.Samples.{kept, made_by, visit}
-use Rattle.stack_mean.specs.SampleLayers.{counter, echo, fan, repeater, late, silent}
+use Rattle.stack_mean.specs.Samples.{keeping_stack, made_by, visit}
+use Rattle.stack_mean.specs.SampleLayers.{counter, echo, fan, repeater, late, silent_layer}
 use Rattle.stack_mean.specs.Shape.{packet_entry, shape}
 use Rattle.stack_mean.specs.TwoCases.{flip}
 use Rattle.shape_laws.specs.Law.{headers_in, first_tag_in, marked_run}
@@ -23,7 +23,7 @@ use Rattle.shape_laws.specs.Parts.{layer_reads_no_part}
 
 -- The first of two members casts the letter x, over fresh layers.
 abbrev pub fresh_states : List State
-fresh_states = map (λ layer. fresh layer 0 2 0) kept
+fresh_states = map (λ layer. fresh layer 0 2 0) keeping_stack
 
 abbrev pub first_cast : Task Event
 first_cast = record {
@@ -59,7 +59,7 @@ as_out x = record {
 -- The run goes as predicted, and has the visits and the outputs of the shape.
 abbrev pub KeptRun : Type 0
 KeptRun =
-    let log = (marked_run kept fresh_states first_cast).world in
+    let log = (marked_run keeping_stack fresh_states first_cast).world in
     (is_predicted First log.world ≡ true) ×
     (map as_visit log.visits ≡
     visit 3 Down 0 None ∷ visit 2 Down 1 (made_by 0 0) ∷ visit 1 Down 0 (made_by 1 0) ∷ visit 3 Up 1 (made_by 1 1) ∷
@@ -71,9 +71,9 @@ KeptRun =
 -- The layers of the samples read no parts.
 abbrev pub SamplesReadNoParts : Type 0
 SamplesReadNoParts = (case : Case) →
-    list_all (layer_reads_no_part case) (counter ∷ echo ∷ fan ∷ repeater ∷ late ∷ kept) ≡ true
+    list_all (layer_reads_no_part case) (counter ∷ echo ∷ fan ∷ repeater ∷ late ∷ keeping_stack) ≡ true
 
--- The cast of a layer with two common cases behind one other, by the same member: the run goes as predicted in the
+-- The cast of a layer with two common cases after one other, by the same member: the run goes as predicted in the
 -- second case alone, and has the outputs of that case's shape.
 abbrev pub second_cast : Task Event
 second_cast = record first_cast { at = 1 }
@@ -88,7 +88,7 @@ FlipRun =
 
 -- A packet's cast that is sent back keeps the headers of the layers above, of which the tags alone are known.
 abbrev pub ReturnedPacket : Type 0
-ReturnedPacket = shape (echo ∷ silent ∷ []) (packet_entry Cast (0 ∷ 1 ∷ [])) First ≡ Ok (record {
+ReturnedPacket = shape (echo ∷ silent_layer ∷ []) (packet_entry Cast (0 ∷ 1 ∷ [])) First ≡ Ok (record {
   visits = visit 0 Up 0 None ∷ [];
   outs = record {
     dir = Down;

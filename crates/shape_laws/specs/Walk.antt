@@ -7,7 +7,7 @@ use Rattle.layer_mean.specs.declared.run.Row.{Row}
 use Rattle.layer_mean.specs.Tree.{TakenTree}
 use Rattle.layer_mean.specs.State.{State, flat_index, row_at, has_room, with_number, with_row, without_front}
 use Rattle.layer_mean.specs.Value.{Scope, is_true, val}
-use Rattle.layer_mean.specs.Effect.{with_slot, with_taken, row_of, emitted}
+use Rattle.layer_mean.specs.Effect.{with_slot, with_taken, row_of, emitted_event}
 use Rattle.layer_mean.specs.Way.{Step, test, fork, set_slot, set_number, set_square, put, get, send, loop}
 
 -- Where a walk stands: the state, the scope, and what was sent so far.
@@ -39,7 +39,8 @@ walk_step place (put c i capacity row) h = if has_room h.state c (val i h.state 
     then Some (record h { state = with_row h.state c (val i h.state h.scope) (row_of row h.state h.scope) })
     else None
 walk_step place (get c i taken) h = took c (val i h.state h.scope) taken h (row_at h.state c (val i h.state h.scope) 0)
-walk_step place (send e) h = Some (record h { sent = h.sent ++ (e.direction, emitted place e h.state h.scope) ∷ [] })
+walk_step place (send e) h =
+    Some (record h { sent = h.sent ++ (e.direction, emitted_event place e h.state h.scope) ∷ [] })
 walk_step place loop h = None
 
 -- What is done from where a walk came to.

@@ -5,8 +5,8 @@ use Rattle.std.proofs.Common.{sym, ap, ◌∙◌, subst, arith}
 use Rattle.std.proofs.lemmas.List.Elements.{All-get_or}
 use Rattle.std.specs.Prelude.{All}
 use Rattle.raw_block.specs.Run.{Run}
-use Rattle.slot_pool.specs.Held.{Held, held, held_if, unused, held_at, count_at, bytes_at, one_less, IsFull, Puts}
-use Rattle.slot_pool.specs.Places.{shown_place, shown, IsPool}
+use Rattle.slot_pool.specs.Held.{Held, held_bytes, held_if, unused, held_at, count_at, bytes_at, one_less, IsFull, Puts}
+use Rattle.slot_pool.specs.Places.{shown_place, shown_slots, IsPool}
 use Rattle.slot_pool.specs.Spots.{Spot, no_spot, spot_at, Sets, Adds}
 use Rattle.slot_pool.proofs.Held.{held_if_used}
 use Rattle.slot_pool.proofs.Places.{in_use, held_at-shown, held_at-shown_past, length-shown, shown-set, shown-push}
@@ -19,23 +19,24 @@ sized_at ps n first i is lt = All-get_or (λ (p : Spot). p.len ≤ LONGEST) ps i
 module _ (ps : List Spot) (n first i : ℕ) (w v : Spot) (p : List Held) (s : ℕ) where
   -- the place is in use
   abbrev Used : Type 0
-  Used = (i < length ps) × (w ≡ spot_at ps i) × (0 < w.count) × (held_at p s ≡ held w.count (take w.len w.bytes))
+  Used = (i < length ps) × (w ≡ spot_at ps i) × (0 < w.count) × (held_at p s ≡ held_bytes w.count (take w.len w.bytes))
 
-  used : shown ps n ≡ p → i ≡ s → 0 < count_at p s → w ≡ spot_at ps i → Used
+  used : shown_slots ps n ≡ p → i ≡ s → 0 < count_at p s → w ≡ spot_at ps i → Used
   used view at pos read =
-      let pos' : 0 < count_at (shown ps n) i =
-      subst (λ m. 0 < count_at (shown ps n) m) (sym at) (subst (λ q. 0 < count_at q s) (sym view) pos) in
+      let pos' : 0 < count_at (shown_slots ps n) i =
+      subst (λ m. 0 < count_at (shown_slots ps n) m) (sym at) (subst (λ q. 0 < count_at q s) (sym view) pos) in
       let is = in_use ps n i pos' in let w_is = read in
-      let counts : w.count ≡ count_at (shown ps n) i = ap (λ (x : Spot). x.count) w_is ∙ sym is.1 in
+      let counts : w.count ≡ count_at (shown_slots ps n) i = ap (λ (x : Spot). x.count) w_is ∙ sym is.1 in
       let some : 0 < w.count = omega arith in
       let seen : held_at p s ≡ shown_place w = (λ j. held_at (sym view j) (sym at j)) ∙ held_at-shown ps n i is.0 ∙
       ap shown_place (sym w_is) in
       (is.0, w_is, some, seen ∙ held_if_used w.count (take w.len w.bytes) some)
 
-  pub within : shown ps n ≡ p → i ≡ s → 0 < count_at p s → w ≡ spot_at ps i → i < length ps
+  pub within : shown_slots ps n ≡ p → i ≡ s → 0 < count_at p s → w ≡ spot_at ps i → i < length ps
   within view at pos read = (used view at pos read).0
 
-  pub keep_pool : shown ps n ≡ p → i ≡ s → 0 < count_at p s → w ≡ spot_at ps i → v ≡ record w { count = w.count + 1 } →
+  pub keep_pool : shown_slots ps n ≡ p → i ≡ s → 0 < count_at p s → w ≡ spot_at ps i →
+      v ≡ record w { count = w.count + 1 } →
       IsPool ps n first → IsPool (set ps i v) n first
   keep_pool view at pos read made is =
       let u = used view at pos read in let fits = sized_at ps n first i is u.0 in
@@ -44,15 +45,17 @@ module _ (ps : List Spot) (n first i : ℕ) (w v : Spot) (p : List Held) (s : �
       let count : v.count ≡ w.count + 1 = ap (λ (x : Spot). x.count) made in
       stays ps n first i v is u.0 old (omega arith) (omega arith)
 
-  pub keep_shown : shown ps n ≡ p → i ≡ s → 0 < count_at p s → w ≡ spot_at ps i → v ≡ record w { count = w.count + 1 }
-      → shown (set ps i v) n ≡ set p s (held (count_at p s + 1) (bytes_at p s))
+  pub keep_shown : shown_slots ps n ≡ p → i ≡ s → 0 < count_at p s → w ≡ spot_at ps i →
+      v ≡ record w { count = w.count + 1 }
+      → shown_slots (set ps i v) n ≡ set p s (held_bytes (count_at p s + 1) (bytes_at p s))
   keep_shown view at pos read made =
       let u = used view at pos read in let more : 0 < w.count + 1 = omega arith in
       shown-set ps n i v u.0 ∙ (λ j. set (view j) (at j) (shown_place (made j))) ∙
       ap (set p s) (held_if_used (w.count + 1) (take w.len w.bytes) more ∙
-      ap (λ (h : Held). held (h.count + 1) h.bytes) (sym u.3))
+      ap (λ (h : Held). held_bytes (h.count + 1) h.bytes) (sym u.3))
 
-  pub end_pool : shown ps n ≡ p → i ≡ s → 0 < count_at p s → w ≡ spot_at ps i → v ≡ record w { count = w.count - 1 } →
+  pub end_pool : shown_slots ps n ≡ p → i ≡ s → 0 < count_at p s → w ≡ spot_at ps i →
+      v ≡ record w { count = w.count - 1 } →
       (w.count ≡ 1 → ⊥) → IsPool ps n first → IsPool (set ps i v) n first
   end_pool view at pos read made more is =
       let u = used view at pos read in let fits = sized_at ps n first i is u.0 in
@@ -61,14 +64,16 @@ module _ (ps : List Spot) (n first i : ℕ) (w v : Spot) (p : List Held) (s : �
       let count : v.count ≡ w.count - 1 = ap (λ (x : Spot). x.count) made in let some = u.2 in
       stays ps n first i v is u.0 old (omega arith) (omega arith)
 
-  pub end_shown : shown ps n ≡ p → i ≡ s → 0 < count_at p s → w ≡ spot_at ps i → v ≡ record w { count = w.count - 1 } →
-      shown (set ps i v) n ≡ set p s (one_less (held_at p s))
+  pub end_shown : shown_slots ps n ≡ p → i ≡ s → 0 < count_at p s → w ≡ spot_at ps i →
+      v ≡ record w { count = w.count - 1 } →
+      shown_slots (set ps i v) n ≡ set p s (one_less (held_at p s))
   end_shown view at pos read made =
       let u = used view at pos read in
       shown-set ps n i v u.0 ∙ (λ j. set (view j) (at j) (shown_place (made j))) ∙ ap (set p s) (ap one_less (sym u.3))
 
   -- with the last reference its place is the first of the free ones
-  pub free_pool : shown ps n ≡ p → i ≡ s → 0 < count_at p s → w ≡ spot_at ps i → v ≡ record w { count = w.count - 1 } →
+  pub free_pool : shown_slots ps n ≡ p → i ≡ s → 0 < count_at p s → w ≡ spot_at ps i →
+      v ≡ record w { count = w.count - 1 } →
       w.count ≡ 1 → IsPool ps n first
       → IsPool (set ps i (record v { next = first })) n i
   free_pool view at pos read made last is =
@@ -78,8 +83,9 @@ module _ (ps : List Spot) (n first i : ℕ) (w v : Spot) (p : List Held) (s : �
       let count : v.count ≡ w.count - 1 = ap (λ (x : Spot). x.count) made in
       freed ps n first i (record v { next = first }) is u.0 old (omega arith) refl (omega arith)
 
-  pub free_shown : shown ps n ≡ p → i ≡ s → 0 < count_at p s → w ≡ spot_at ps i → v ≡ record w { count = w.count - 1 } →
-      shown (set ps i (record v { next = first })) n ≡ set p s (one_less (held_at p s))
+  pub free_shown : shown_slots ps n ≡ p → i ≡ s → 0 < count_at p s → w ≡ spot_at ps i →
+      v ≡ record w { count = w.count - 1 } →
+      shown_slots (set ps i (record v { next = first })) n ≡ set p s (one_less (held_at p s))
   free_shown view at pos read made =
       let u = used view at pos read in
       shown-set ps n i (record v { next = first }) u.0 ∙ (λ j. set (view j) (at j) (shown_place (made j))) ∙
@@ -98,12 +104,12 @@ module _ (ps : List Spot) (n first : ℕ) (v : Spot) where
   push_pool past lt one fits is = pushed ps n first v is past lt (omega arith) fits
 
   module _ (p : List Held) (bs : List ℕ) where
-    one_held : v.count ≡ 1 → v.len ≡ length bs → take (length bs) v.bytes ≡ bs → shown_place v ≡ held 1 bs
-    one_held one long same = (λ j. held_if (one j) (take (long j) v.bytes)) ∙ ap (held 1) same
+    one_held : v.count ≡ 1 → v.len ≡ length bs → take (length bs) v.bytes ≡ bs → shown_place v ≡ held_bytes 1 bs
+    one_held one long same = (λ j. held_if (one j) (take (long j) v.bytes)) ∙ ap (held_bytes 1) same
 
-    pub take_shown : shown ps n ≡ p → first < length ps → IsPool ps n first → v.count ≡ 1 → v.len ≡ length bs →
+    pub take_shown : shown_slots ps n ≡ p → first < length ps → IsPool ps n first → v.count ≡ 1 → v.len ≡ length bs →
         take (length bs) v.bytes ≡ bs → length bs ≤ LONGEST
-        → Puts p (shown (set ps first v) n) bs first
+        → Puts p (shown_slots (set ps first v) n) bs first
     take_shown view lt is one long same fits =
         let room = is.room in let all : length p ≡ n = ap length (sym view) ∙ length-shown ps n is.room in
         let free = (taken ps n first v is lt (omega arith) (omega arith)).1 in let place = spot_at ps first in
@@ -117,9 +123,9 @@ module _ (ps : List Spot) (n first : ℕ) (v : Spot) where
               (λ j. set (view j) first (one_held one long same j));
         }
 
-    pub push_shown : (s : ℕ) → s ≡ length ps → shown ps n ≡ p → length ps < n → IsPool ps n first → v.count ≡ 1 →
+    pub push_shown : (s : ℕ) → s ≡ length ps → shown_slots ps n ≡ p → length ps < n → IsPool ps n first → v.count ≡ 1 →
         v.len ≡ length bs → take (length bs) v.bytes ≡ bs
-        → Puts p (shown (ps ++ v ∷ []) n) bs s
+        → Puts p (shown_slots (ps ++ v ∷ []) n) bs s
     push_shown s at view lt is one long same =
         let room = is.room in let all : length p ≡ n = ap length (sym view) ∙ length-shown ps n is.room in
         let none : count_at p s ≡ 0 = ap (λ q. count_at q s) (sym view) ∙
@@ -140,7 +146,8 @@ put_not_full p q bs s puts = (
       All-get_or (λ (h : Held). 0 < h.count) p s unused puts.within full in absurd (omega arith),
 )
 
-pub none_full : (ps : List Spot) (n first : ℕ) (p : List Held) → shown ps n ≡ p → length ps ≤ first → n ≤ length ps →
+pub none_full : (ps : List Spot) (n first : ℕ) (p : List Held) → shown_slots ps n ≡ p → length ps ≤ first →
+    n ≤ length ps →
     IsPool ps n first → (false ≡ false → IsFull p) × (IsFull p → false ≡ false)
 none_full ps n first p view past full is =
     (λ e. subst (All (λ (h : Held). 0 < h.count)) view (all_used ps n full (all_in_use ps n first is past)), λ e. refl)
@@ -156,8 +163,9 @@ module _ (q new : Run Spot) (first : ℕ) (bs : List ℕ) (is : IsPool q.values 
         (take_pool q.values q.capacity first (spot_at new.values first) (spot_at q.values first) lt refl s.holds.one
         (omega (arith, s.holds.sized)) is))
 
-    pub sets_shown : (p : List Held) → shown q.values q.capacity ≡ p → Puts p (shown new.values new.capacity) bs first
-    sets_shown p view = subst (λ (r : Run Spot). Puts p (shown r.values r.capacity) bs first) (sym s.rest)
+    pub sets_shown : (p : List Held) → shown_slots q.values q.capacity ≡ p →
+        Puts p (shown_slots new.values new.capacity) bs first
+    sets_shown p view = subst (λ (r : Run Spot). Puts p (shown_slots r.values r.capacity) bs first) (sym s.rest)
         (take_shown q.values q.capacity first (spot_at new.values first) p bs view lt is s.holds.one s.holds.sized
         s.holds.body fits)
 
@@ -167,8 +175,8 @@ module _ (q new : Run Spot) (first : ℕ) (bs : List ℕ) (is : IsPool q.values 
         (push_pool q.values q.capacity first (spot_at new.values (length q.values)) past lt a.holds.one
         (omega (arith, a.holds.sized)) is)
 
-    pub adds_shown : (p : List Held) (s : ℕ) → s ≡ length q.values → shown q.values q.capacity ≡ p →
-        Puts p (shown new.values new.capacity) bs s
-    adds_shown p s at view = subst (λ (r : Run Spot). Puts p (shown r.values r.capacity) bs s) (sym a.rest)
+    pub adds_shown : (p : List Held) (s : ℕ) → s ≡ length q.values → shown_slots q.values q.capacity ≡ p →
+        Puts p (shown_slots new.values new.capacity) bs s
+    adds_shown p s at view = subst (λ (r : Run Spot). Puts p (shown_slots r.values r.capacity) bs s) (sym a.rest)
         (push_shown q.values q.capacity first (spot_at new.values (length q.values)) p bs s at view lt is a.holds.one
         a.holds.sized a.holds.body)

@@ -1,6 +1,6 @@
 -- Small laws of what a slot holds.
 use Rattle.std.proofs.Common.{◌≡◌, ℕ, zero, suc, ◌<◌, ◌≤◌, List, ◌⊎◌, refl, arith}
-use Rattle.slot_pool.specs.Held.{held, held_if, free_by}
+use Rattle.slot_pool.specs.Held.{held_bytes, held_if, free_by}
 
 pub below_or_not : (i n : ℕ) → (i < n) ⊎ (n ≤ i)
 below_or_not i n = grind arith
@@ -9,7 +9,7 @@ pub count-held_if : (n : ℕ) (bs : List ℕ) → (held_if n bs).count ≡ n
 count-held_if zero bs = refl
 count-held_if (suc n) bs = refl
 
-pub held_if_used : (n : ℕ) (bs : List ℕ) → 0 < n → held_if n bs ≡ held n bs
+pub held_if_used : (n : ℕ) (bs : List ℕ) → 0 < n → held_if n bs ≡ held_bytes n bs
 held_if_used zero bs pos = absurd (omega arith)
 held_if_used (suc n) bs pos = refl
 

@@ -9,7 +9,7 @@ use Rattle.std.specs.FinMap.{empty, find, get, insert, remove, get-from_entries,
 use Rattle.std.specs.FinMap.{same_map, nat_cmp-IsAntisymmetric}
 use Rattle.std.specs.Ordering.{nat_cmp, eq_by_cmp}
 use Rattle.std.proofs.lemmas.Cmp.{nat_cmp_total}
-use Rattle.slot_pool.specs.Held.{Held, held, held_if, unused, held_at, count_at, bytes_at, one_less, Puts}
+use Rattle.slot_pool.specs.Held.{Held, held_bytes, held_if, unused, held_at, count_at, bytes_at, one_less, Puts}
 use Rattle.slot_pool.specs.Map.{if_used, in_use, with_entry, entries_from, as_map, ShowsUsed}
 use Rattle.slot_pool.proofs.Held.{below_or_not, held_if_used}
 use Rattle.slot_pool.proofs.References.{used_within}
@@ -98,16 +98,17 @@ map-set_unused p s h within none = same_map nat_cmp_total nat_cmp-IsAntisymmetri
           sym (get-remove nat_cmp_total (as_map p) s q ∙ ap (λ b. cond b None (get (as_map p) q)) differ.1)
     ])
 
-pub map-puts : (p q : List Held) (bs : List ℕ) (s : ℕ) → Puts p q bs s → as_map q ≡ insert (as_map p) s (held 1 bs)
-map-puts p q bs s puts = ap as_map puts.holds ∙ map-set_used p s (held 1 bs) puts.within (omega arith)
+pub map-puts : (p q : List Held) (bs : List ℕ) (s : ℕ) → Puts p q bs s →
+    as_map q ≡ insert (as_map p) s (held_bytes 1 bs)
+map-puts p q bs s puts = ap as_map puts.holds ∙ map-set_used p s (held_bytes 1 bs) puts.within (omega arith)
 
 pub map-keep : (p : List Held) (s : ℕ) (bs : List ℕ) → 0 < count_at p s →
-    as_map (set p s (held (count_at p s + 1) bs)) ≡ insert (as_map p) s (held (count_at p s + 1) bs)
-map-keep p s bs used = map-set_used p s (held (count_at p s + 1) bs) (used_within p s used) (omega arith)
+    as_map (set p s (held_bytes (count_at p s + 1) bs)) ≡ insert (as_map p) s (held_bytes (count_at p s + 1) bs)
+map-keep p s bs used = map-set_used p s (held_bytes (count_at p s + 1) bs) (used_within p s used) (omega arith)
 
 pub map-end : (p : List Held) (s : ℕ) → 1 < count_at p s → as_map (set p s (one_less (held_at p s))) ≡
-    insert (as_map p) s (held (count_at p s - 1) (bytes_at p s))
-map-end p s used = let h = held (count_at p s - 1) (bytes_at p s) in
+    insert (as_map p) s (held_bytes (count_at p s - 1) (bytes_at p s))
+map-end p s used = let h = held_bytes (count_at p s - 1) (bytes_at p s) in
     ap (λ x. as_map (set p s x)) (held_if_used (count_at p s - 1) (bytes_at p s) (omega arith)) ∙
     map-set_used p s h (used_within p s (omega arith)) (omega arith)
 
@@ -120,8 +121,8 @@ map-free p s last = let none : count_at p s - 1 ≡ 0 = omega arith in
 -- ---- pools with one map are one
 
 in_use-same : (m n : ℕ) (bs cs : List ℕ) → (m ≡ 0 → bs ≡ []) → (n ≡ 0 → cs ≡ []) →
-    if_used m (held m bs) ≡ if_used n (held n cs) → held m bs ≡ held n cs
-in_use-same zero zero bs cs none none' e = ap (held 0) (none refl ∙ sym (none' refl))
+    if_used m (held_bytes m bs) ≡ if_used n (held_bytes n cs) → held_bytes m bs ≡ held_bytes n cs
+in_use-same zero zero bs cs none none' e = ap (held_bytes 0) (none refl ∙ sym (none' refl))
 in_use-same zero (suc n) bs cs none none' e = cc
 in_use-same (suc m) zero bs cs none none' e = cc
 in_use-same (suc m) (suc n) bs cs none none' e = cc
@@ -154,11 +155,12 @@ shows_used-set p s h within shows is = record {
 
 pub shows_used-puts : (p q : List Held) (bs : List ℕ) (s : ℕ) → Puts p q bs s → ShowsUsed p → ShowsUsed q
 shows_used-puts p q bs s puts is =
-    subst ShowsUsed (sym puts.holds) (shows_used-set p s (held 1 bs) puts.within (λ none. absurd (omega arith)) is)
+    subst ShowsUsed (sym puts.holds)
+    (shows_used-set p s (held_bytes 1 bs) puts.within (λ none. absurd (omega arith)) is)
 
 pub shows_used-keep : (p : List Held) (s : ℕ) (bs : List ℕ) → 0 < count_at p s → ShowsUsed p →
-    ShowsUsed (set p s (held (count_at p s + 1) bs))
-shows_used-keep p s bs used is = shows_used-set p s (held (count_at p s + 1) bs) (used_within p s used)
+    ShowsUsed (set p s (held_bytes (count_at p s + 1) bs))
+shows_used-keep p s bs used is = shows_used-set p s (held_bytes (count_at p s + 1) bs) (used_within p s used)
     (λ none. absurd (omega arith)) is
 
 shows_if : (n : ℕ) (bs : List ℕ) → (held_if n bs).count ≡ 0 → (held_if n bs).bytes ≡ []

@@ -10,13 +10,13 @@ use Rattle.std.specs.Prelude.{All}
 use Rattle.std.proofs.lemmas.Bool.Decides.{eqb_tells}
 use Rattle.slot_pool.specs.Held.{Held, unused, held_at, count_at, free_by}
 use Rattle.slot_pool.specs.Times.{hit, times}
-use Rattle.slot_pool.specs.Places.{shown_place, shown, Linked, IsPool}
+use Rattle.slot_pool.specs.Places.{shown_place, shown_slots, Linked, IsPool}
 use Rattle.slot_pool.specs.Spots.{Spot, no_spot, spot_at}
 use Rattle.slot_pool.proofs.Held.{below_or_not, count-held_if, free_by_used, used_of_free_by}
 use Rattle.slot_pool.proofs.Times.{hit_or_not, hit_same, hit_other}
 use Rattle.slot_pool.specs.declared.slot_record.TheConstants.{LONGEST}
 
-pub length-shown : (ps : List Spot) (n : ℕ) → length ps ≤ n → length (shown ps n) ≡ n
+pub length-shown : (ps : List Spot) (n : ℕ) → length ps ≤ n → length (shown_slots ps n) ≡ n
 length-shown ps n le =
     omega (
       arith,
@@ -25,7 +25,8 @@ length-shown ps n le =
       length-replicate (n - length ps) unused,
     )
 
-pub held_at-shown : (ps : List Spot) (n i : ℕ) → i < length ps → held_at (shown ps n) i ≡ shown_place (spot_at ps i)
+pub held_at-shown : (ps : List Spot) (n i : ℕ) → i < length ps → held_at (shown_slots ps n) i ≡
+    shown_place (spot_at ps i)
 held_at-shown ps n i lt = let long = length-map ps shown_place in
     get_or_append_left (map shown_place ps) (replicate (n - length ps) unused) unused i (omega arith) ∙
     get_or-map shown_place ps i no_spot unused lt
@@ -37,25 +38,25 @@ held_at-none k i = elim (below_or_not i k) [
       (omega (arith, length-replicate k unused))
 ]
 
-pub held_at-shown_past : (ps : List Spot) (n i : ℕ) → length ps ≤ i → held_at (shown ps n) i ≡ unused
+pub held_at-shown_past : (ps : List Spot) (n i : ℕ) → length ps ≤ i → held_at (shown_slots ps n) i ≡ unused
 held_at-shown_past ps n i le = get_or-append_right (map shown_place ps) (replicate (n - length ps) unused) (length ps) i
     unused (length-map ps shown_place) le ∙ held_at-none (n - length ps) (i - length ps)
 
 -- a slot with a reference has a place, which counts it
-pub in_use : (ps : List Spot) (n i : ℕ) → 0 < count_at (shown ps n) i →
-    (i < length ps) × (count_at (shown ps n) i ≡ (spot_at ps i).count)
+pub in_use : (ps : List Spot) (n i : ℕ) → 0 < count_at (shown_slots ps n) i →
+    (i < length ps) × (count_at (shown_slots ps n) i ≡ (spot_at ps i).count)
 in_use ps n i used = elim (below_or_not i (length ps)) [
   | inl lt ↦ (
     lt,
     ap (λ h. h.count) (held_at-shown ps n i lt) ∙
         count-held_if (spot_at ps i).count (take (spot_at ps i).len (spot_at ps i).bytes),
   )
-  | inr le ↦ let none : count_at (shown ps n) i ≡ 0 = ap (λ h. h.count) (held_at-shown_past ps n i le) in
+  | inr le ↦ let none : count_at (shown_slots ps n) i ≡ 0 = ap (λ h. h.count) (held_at-shown_past ps n i le) in
       absurd (omega arith)
 ]
 
 pub shown-set : (ps : List Spot) (n i : ℕ) (w : Spot) → i < length ps →
-    shown (set ps i w) n ≡ set (shown ps n) i (shown_place w)
+    shown_slots (set ps i w) n ≡ set (shown_slots ps n) i (shown_place w)
 shown-set ps n i w lt = let long = length-map ps shown_place in
     (λ j. map-set shown_place ps i w j ++ replicate (n - length-set ps i w j) unused)
     ∙ sym (set-append_left (map shown_place ps) (replicate (n - length ps) unused) i (shown_place w) (omega arith))
@@ -66,7 +67,7 @@ first_of_many zero h pos = absurd (omega arith)
 first_of_many (suc k) h pos = let less : k ≡ suc k - 1 = omega arith in ap (λ m. h ∷ replicate m unused) less
 
 pub shown-push : (ps : List Spot) (n : ℕ) (w : Spot) → length ps < n →
-    shown (ps ++ w ∷ []) n ≡ set (shown ps n) (length ps) (shown_place w)
+    shown_slots (ps ++ w ∷ []) n ≡ set (shown_slots ps n) (length ps) (shown_place w)
 shown-push ps n w lt =
     let hs = map shown_place ps in let long = length-map ps shown_place in let k = n - length ps in
     let one : n - length (ps ++ w ∷ []) ≡ k - 1 = omega (arith, length-append ps (w ∷ [])) in
@@ -81,7 +82,7 @@ shown-push ps n w lt =
 
 -- where no place is free and none is new, each slot has a reference
 pub all_used : (ps : List Spot) (n : ℕ) → n ≤ length ps → ((i : ℕ) → i < length ps → 0 < (spot_at ps i).count) →
-    All (λ (h : Held). 0 < h.count) (shown ps n)
+    All (λ (h : Held). 0 < h.count) (shown_slots ps n)
 all_used ps n le used =
     let none : n - length ps ≡ 0 = omega arith in let long = length-map ps shown_place in
     let all : All (λ (h : Held). 0 < h.count) (map shown_place ps) =
@@ -112,7 +113,7 @@ Linked-set ps n i w at (f ∷ fs) out l =
           later,
     )
 
--- nor does a place behind the others
+-- nor does a place after the others
 Linked-push : (ps : List Spot) (n : ℕ) (w : Spot) (at : ℕ) (fs : List ℕ) → Linked ps n at fs →
     Linked (ps ++ w ∷ []) n at fs
 Linked-push ps n w at [] l = l

@@ -4,7 +4,8 @@ use Rattle.std.proofs.Common.{replicate, refl, sym, ap, ◌∙◌, subst, arith,
 use Rattle.std.proofs.Common.{get_or-set_other}
 use Rattle.std.proofs.lemmas.List.{get_or-replicate, get_or_past, length-replicate}
 use Rattle.std.proofs.lemmas.List.Elements.{All-head, All-tail, All-cons, All-nil}
-use Rattle.slot_pool.specs.Held.{Held, held, unused, held_at, count_at, bytes_at, one_less, free_by, spare, IsFull}
+use Rattle.slot_pool.specs.Held.{Held, held_bytes, unused, held_at, count_at, bytes_at, one_less, free_by, spare}
+use Rattle.slot_pool.specs.Held.{IsFull}
 use Rattle.slot_pool.specs.Held.{Puts}
 use Rattle.slot_pool.specs.Times.{times}
 use Rattle.slot_pool.specs.References.{Moved, Exact, Covers}
@@ -58,13 +59,14 @@ pub puts-moves : (p q : List Held) (bs : List ℕ) (s : ℕ) → Puts p q bs s �
 puts-moves p q bs s puts =
     let free = puts.free in let one = one_there s in
     subst (λ r. Moved p r [] (s ∷ [])) (sym puts.holds)
-    (written p s (held 1 bs) puts.within [] (s ∷ []) (omega arith) (λ i other. sym (none_there s i other))
+    (written p s (held_bytes 1 bs) puts.within [] (s ∷ []) (omega arith) (λ i other. sym (none_there s i other))
     (λ lt. absurd (omega arith)))
 
 pub keep-moves : (p : List Held) (s : ℕ) → 0 < count_at p s →
-    Moved p (set p s (held (count_at p s + 1) (bytes_at p s))) [] (s ∷ [])
+    Moved p (set p s (held_bytes (count_at p s + 1) (bytes_at p s))) [] (s ∷ [])
 keep-moves p s used =
-    let one = one_there s in written p s (held (count_at p s + 1) (bytes_at p s)) (used_within p s used) [] (s ∷ [])
+    let one = one_there s in written p s (held_bytes (count_at p s + 1) (bytes_at p s)) (used_within p s used) []
+    (s ∷ [])
     (omega arith) (λ i other. sym (none_there s i other)) (λ lt. refl)
 
 pub end-moves : (p : List Held) (s : ℕ) → 0 < count_at p s → Moved p (set p s (one_less (held_at p s))) (s ∷ []) []
@@ -153,14 +155,14 @@ spare-fresh (suc n) = ap (λ m. 1 + m) (spare-fresh n) ∙ omega arith
 
 pub puts-spare : (p q : List Held) (bs : List ℕ) (s : ℕ) → Puts p q bs s → spare q + 1 ≡ spare p
 puts-spare p q bs s puts =
-    let one = ap free_by puts.free in let change = spare-set p s (held 1 bs) puts.within in let new =
+    let one = ap free_by puts.free in let change = spare-set p s (held_bytes 1 bs) puts.within in let new =
     ap spare puts.holds in omega arith
 
 pub keep-spare : (p : List Held) (s : ℕ) (bs : List ℕ) → 0 < count_at p s →
-    spare (set p s (held (count_at p s + 1) bs)) ≡ spare p
+    spare (set p s (held_bytes (count_at p s + 1) bs)) ≡ spare p
 keep-spare p s bs used =
     let old = free_by_used (count_at p s) used in let new = free_by_used (count_at p s + 1) (omega arith) in
-    let change = spare-set p s (held (count_at p s + 1) bs) (used_within p s used) in omega arith
+    let change = spare-set p s (held_bytes (count_at p s + 1) bs) (used_within p s used) in omega arith
 
 -- a slot is unused again with its last reference, and else as many are unused as before
 pub end-spare : (p : List Held) (s : ℕ) → 0 < count_at p s → spare (set p s (one_less (held_at p s))) ≡

@@ -8,19 +8,20 @@ use Rattle.std.proofs.Math.Seq.{set-append_seam}
 use Rattle.std.proofs.lemmas.Bool.{le-ltb, lt-ltb}
 use Rattle.std.proofs.lemmas.Bool.Decides.{eqb_tells}
 use Rattle.raw_block.specs.Run.{Run, run}
-use Rattle.slot_pool.specs.Spots.{Spot, no_spot, spot_at, spot, joined, no_place, place_at, ArePlaces, HoldsOne, Sets}
+use Rattle.slot_pool.specs.Spots.{Spot, no_spot, spot_at, spot, joined_spots, no_place, place_at, ArePlaces, HoldsOne}
+use Rattle.slot_pool.specs.Spots.{Sets}
 use Rattle.slot_pool.specs.Spots.{Adds, Reaches, Grows}
 use Rattle.slot_pool.specs.declared.slot_record.TheConstants.{SHORT}
 use Rattle.slot_pool.specs.declared.slot_record.SlotRecord.{SlotRecord}
 use Rattle.slot_pool.proofs.Held.{below_or_not}
 
-pub length_joined : (ps : List SlotRecord) (ls : List (List ℕ)) → length (joined ps ls) ≡ length ps
+pub length_joined : (ps : List SlotRecord) (ls : List (List ℕ)) → length (joined_spots ps ls) ≡ length ps
 length_joined [] ls = refl
 length_joined (p ∷ ps) [] = ap suc (length_joined ps [])
 length_joined (p ∷ ps) (l ∷ ls) = ap suc (length_joined ps ls)
 
 pub spot_at_joined : (ps : List SlotRecord) (ls : List (List ℕ)) (i : ℕ) → i < length ps →
-    spot_at (joined ps ls) i ≡ spot (place_at ps i) (get_or ls i [])
+    spot_at (joined_spots ps ls) i ≡ spot (place_at ps i) (get_or ls i [])
 spot_at_joined [] ls i lt = absurd (omega arith)
 spot_at_joined (p ∷ ps) [] zero lt = refl
 spot_at_joined (p ∷ ps) [] (suc i) lt = spot_at_joined ps [] i (omega arith)
@@ -28,7 +29,7 @@ spot_at_joined (p ∷ ps) (l ∷ ls) zero lt = refl
 spot_at_joined (p ∷ ps) (l ∷ ls) (suc i) lt = spot_at_joined ps ls i (omega arith)
 
 pub joined_set : (ps : List SlotRecord) (ls : List (List ℕ)) (i : ℕ) (v : SlotRecord) →
-    joined (set ps i v) ls ≡ set (joined ps ls) i (spot v (get_or ls i []))
+    joined_spots (set ps i v) ls ≡ set (joined_spots ps ls) i (spot v (get_or ls i []))
 joined_set [] ls i v = refl
 joined_set (p ∷ ps) [] zero v = refl
 joined_set (p ∷ ps) [] (suc i) v = ap (λ ss. spot p [] ∷ ss) (joined_set ps [] i v)
@@ -37,14 +38,14 @@ joined_set (p ∷ ps) (l ∷ ls) (suc i) v = ap (λ ss. spot p l ∷ ss) (joined
 
 -- a place and its long body are written
 pub joined_both : (ps : List SlotRecord) (ls : List (List ℕ)) (i : ℕ) (v : SlotRecord) (b : List ℕ) → i < length ls →
-    joined (set ps i v) (set ls i b) ≡ set (joined ps ls) i (spot v b)
+    joined_spots (set ps i v) (set ls i b) ≡ set (joined_spots ps ls) i (spot v b)
 joined_both [] ls i v b lt = refl
 joined_both (p ∷ ps) [] i v b lt = absurd (omega arith)
 joined_both (p ∷ ps) (l ∷ ls) zero v b lt = refl
 joined_both (p ∷ ps) (l ∷ ls) (suc i) v b lt = ap (λ ss. spot p l ∷ ss) (joined_both ps ls i v b (omega arith))
 
 pub joined_push : (ps : List SlotRecord) (ls : List (List ℕ)) (v : SlotRecord) → length ls ≤ length ps →
-    joined (ps ++ v ∷ []) ls ≡ joined ps ls ++ spot v [] ∷ []
+    joined_spots (ps ++ v ∷ []) ls ≡ joined_spots ps ls ++ spot v [] ∷ []
 joined_push [] [] v le = refl
 joined_push [] (l ∷ ls) v le = absurd (omega arith)
 joined_push (p ∷ ps) [] v le = ap (λ ss. spot p [] ∷ ss) (joined_push ps [] v (omega arith))
@@ -60,7 +61,8 @@ spot_long p long lt = ap (λ b. if b then long else p.bytes) (lt-ltb SHORT p.len
 
 -- more places for long bodies show none
 pub joined_more : (ps : List SlotRecord) (ls zs : List (List ℕ)) →
-    ((i : ℕ) → i < length ps → SHORT < (place_at ps i).len → i < length ls) → joined ps (ls ++ zs) ≡ joined ps ls
+    ((i : ℕ) → i < length ps → SHORT < (place_at ps i).len → i < length ls) → joined_spots ps (ls ++ zs) ≡
+    joined_spots ps ls
 joined_more [] ls zs long = refl
 joined_more (p ∷ ps) [] [] long = refl
 joined_more (p ∷ ps) [] (z ∷ zs) long =
@@ -139,42 +141,43 @@ sets old new i s bs lt is holds =
 
 -- ---- what calls of a row leave
 
-module _ (ps : List SlotRecord) (ls : List (List ℕ)) (n i : ℕ) (q : Run Spot) (view : run (joined ps ls) n ≡ q) where
-  pub count_is : length ps ≡ length q.values
-  count_is = sym (length_joined ps ls) ∙ ap (λ (r : Run Spot). length r.values) view
+module _ (ps : List SlotRecord) (ls : List (List ℕ)) (n i : ℕ) (q : Run Spot) (view : run (joined_spots ps ls) n ≡ q)
+  where
+    pub count_is : length ps ≡ length q.values
+    count_is = sym (length_joined ps ls) ∙ ap (λ (r : Run Spot). length r.values) view
 
-  pub there : i < length q.values → i < length ps
-  there lt = let count = count_is in omega arith
+    pub there : i < length q.values → i < length ps
+    there lt = let count = count_is in omega arith
 
-  pub seen : i < length ps → spot_at q.values i ≡ spot (place_at ps i) (get_or ls i [])
-  seen lt = ap (λ (r : Run Spot). spot_at r.values i) (sym view) ∙ spot_at_joined ps ls i lt
+    pub seen : i < length ps → spot_at q.values i ≡ spot (place_at ps i) (get_or ls i [])
+    seen lt = ap (λ (r : Run Spot). spot_at r.values i) (sym view) ∙ spot_at_joined ps ls i lt
 
-  module _ (w : SlotRecord) (lt : i < length q.values) (read : w ≡ get_or ps i w) where
-    pub seen_read : spot_at q.values i ≡ spot w (get_or ls i [])
-    seen_read = seen (there lt) ∙
-        ap (λ p. spot p (get_or ls i [])) (sym (read ∙ get_or_default ps i w no_place (there lt)))
+    module _ (w : SlotRecord) (lt : i < length q.values) (read : w ≡ get_or ps i w) where
+      pub seen_read : spot_at q.values i ≡ spot w (get_or ls i [])
+      seen_read = seen (there lt) ∙
+          ap (λ p. spot p (get_or ls i [])) (sym (read ∙ get_or_default ps i w no_place (there lt)))
 
-    -- a place is changed
-    pub changes : (f : Spot → Spot) (v : SlotRecord) → spot v (get_or ls i []) ≡ f (spot w (get_or ls i [])) →
-        run (joined (set ps i v) ls) n ≡ run (set q.values i (f (spot_at q.values i))) q.capacity
-    changes f v is = (λ j. run (joined_set ps ls i v j) n) ∙
-        (λ j. run (set (view j).values i ((is ∙ ap f (sym seen_read)) j)) (view j).capacity)
-    -- a place is written
+      -- a place is changed
+      pub changes : (f : Spot → Spot) (v : SlotRecord) → spot v (get_or ls i []) ≡ f (spot w (get_or ls i [])) →
+          run (joined_spots (set ps i v) ls) n ≡ run (set q.values i (f (spot_at q.values i))) q.capacity
+      changes f v is = (λ j. run (joined_set ps ls i v j) n) ∙
+          (λ j. run (set (view j).values i ((is ∙ ap f (sym seen_read)) j)) (view j).capacity)
+      -- a place is written
 
-  pub written : (v : SlotRecord) → run (joined (set ps i v) ls) n ≡
-      run (set q.values i (spot v (get_or ls i []))) q.capacity
-  written v = (λ j. run (joined_set ps ls i v j) n) ∙
-      (λ j. run (set (view j).values i (spot v (get_or ls i []))) (view j).capacity)
+    pub written : (v : SlotRecord) → run (joined_spots (set ps i v) ls) n ≡
+        run (set q.values i (spot v (get_or ls i []))) q.capacity
+    written v = (λ j. run (joined_set ps ls i v j) n) ∙
+        (λ j. run (set (view j).values i (spot v (get_or ls i []))) (view j).capacity)
 
-  -- its one reference is to a short body
-  pub sets_short : (v : SlotRecord) (bs : List ℕ) → i < length q.values → v.count ≡ 1 → v.len ≡ length bs →
-      take (length bs) v.bytes ≡ bs → length bs ≤ SHORT
-      → Sets q (run (joined (set ps i v) ls) n) i bs
-  sets_short v bs lt one long same few = sets q _ i (spot v (get_or ls i [])) bs lt (written v) (record {
-    one = one;
-    sized = long;
-    body = ap (take (length bs)) (spot_short v (get_or ls i []) (omega arith)) ∙ same;
-  })
+    -- its one reference is to a short body
+    pub sets_short : (v : SlotRecord) (bs : List ℕ) → i < length q.values → v.count ≡ 1 → v.len ≡ length bs →
+        take (length bs) v.bytes ≡ bs → length bs ≤ SHORT
+        → Sets q (run (joined_spots (set ps i v) ls) n) i bs
+    sets_short v bs lt one long same few = sets q _ i (spot v (get_or ls i [])) bs lt (written v) (record {
+      one = one;
+      sized = long;
+      body = ap (take (length bs)) (spot_short v (get_or ls i []) (omega arith)) ∙ same;
+    })
 
 -- places for long bodies are there up to one
 pub reaches : (old new : Run (List ℕ)) (i at : ℕ) → Grows old new i at → i < at → Reaches old new i
@@ -201,11 +204,12 @@ module _ (ps : List SlotRecord) (long longer : Run (List ℕ)) (n i : ℕ) (reac
       (set_places ps longer.values n longer.capacity still i v lt (λ _. reach.reached)) i b
 
   -- the one reference of a place is to a long body
-  pub sets_long : (q : Run Spot) → run (joined ps long.values) n ≡ q → (v : SlotRecord) (b bs : List ℕ) → v.count ≡ 1 →
+  pub sets_long : (q : Run Spot) → run (joined_spots ps long.values) n ≡ q → (v : SlotRecord) (b bs : List ℕ) →
+      v.count ≡ 1 →
       v.len ≡ length bs → take (length bs) b ≡ bs → SHORT < length bs
-      → Sets q (run (joined (set ps i v) (set longer.values i b)) n) i bs
+      → Sets q (run (joined_spots (set ps i v) (set longer.values i b)) n) i bs
   sets_long q view v b bs one sized same far =
-      let as_seen : joined ps longer.values ≡ joined ps long.values = ap (joined ps) reach.values ∙
+      let as_seen : joined_spots ps longer.values ≡ joined_spots ps long.values = ap (joined_spots ps) reach.values ∙
       joined_more ps long.values reach.more are.long in
       let count = count_is ps long.values n i q view in
       sets q _ i (spot v b) bs (omega arith)
@@ -213,15 +217,15 @@ module _ (ps : List SlotRecord) (long longer : Run (List ℕ)) (n i : ℕ) (reac
       (λ j. run (set (view j).values i (spot v b)) (view j).capacity))
       (record { one = one; sized = sized; body = ap (take (length bs)) (spot_long v b (omega arith)) ∙ same })
 
--- a place is put behind the others, and written
-pub adds : (ps : List SlotRecord) (ls : List (List ℕ)) (n : ℕ) (q : Run Spot) → run (joined ps ls) n ≡ q →
+-- a place is put after the others, and written
+pub adds : (ps : List SlotRecord) (ls : List (List ℕ)) (n : ℕ) (q : Run Spot) → run (joined_spots ps ls) n ≡ q →
     (f : SlotRecord) (block : Run SlotRecord) (new : Run Spot) (last : ℕ) (bs : List ℕ)
     → block ≡ run (ps ++ f ∷ []) n → last ≡ length ps → length ls ≤ length ps →
-    Sets (run (joined block.values ls) block.capacity) new last bs → Adds q new bs
+    Sets (run (joined_spots block.values ls) block.capacity) new last bs → Adds q new bs
 adds ps ls n q view f block new last bs is last_is fewer s =
     let at : last ≡ length q.values = last_is ∙ count_is ps ls n last q view in record {
       holds = subst (λ k. HoldsOne (spot_at new.values k) bs) at s.holds;
-      rest = s.rest ∙ (λ j. run (set (joined (is j).values ls) last (spot_at new.values last)) (is j).capacity)
+      rest = s.rest ∙ (λ j. run (set (joined_spots (is j).values ls) last (spot_at new.values last)) (is j).capacity)
           ∙ (λ j. run (set (joined_push ps ls f fewer j) last (spot_at new.values last)) n)
           ∙ (λ j. run (set ((view j).values ++ spot f [] ∷ []) (at j) (spot_at new.values (at j))) (view j).capacity)
           ∙ ap (λ xs. run xs q.capacity)

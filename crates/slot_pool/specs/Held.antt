@@ -9,17 +9,17 @@ pub record Held : Type 0 where
   pub bytes : List ℕ
 
 -- n references to the bytes bs
-abbrev pub held : ℕ → List ℕ → Held
-held n bs = record { count = n; bytes = bs }
+abbrev pub held_bytes : ℕ → List ℕ → Held
+held_bytes n bs = record { count = n; bytes = bs }
 
 -- an unused slot has no reference, and shows no bytes
 abbrev pub unused : Held
-unused = held 0 []
+unused = held_bytes 0 []
 
 -- n references to the bytes bs, or an unused slot if n is 0
 abbrev pub held_if : ℕ → List ℕ → Held
 held_if zero bs = unused
-held_if (suc n) bs = held (suc n) bs
+held_if (suc n) bs = held_bytes (suc n) bs
 
 -- what the slot s of the pool p holds, where a slot that p doesn't have counts as unused
 abbrev pub held_at : List Held → ℕ → Held
@@ -59,10 +59,10 @@ IsFull p = All (λ h. 0 < h.count) p
 pub record Puts (p q : List Held) (bs : List ℕ) (s : ℕ) : Type 0 where
   pub within : s < length p
   pub free : count_at p s ≡ 0
-  pub holds : q ≡ slice_set p s (held 1 bs)
+  pub holds : q ≡ slice_set p s (held_bytes 1 bs)
 
 -- how a proof stores a pool's value
 abbrev pub held_code : Coded (List Held)
 held_code = coded_list
-    (code_by (ℕ × List ℕ) (coded× coded_ℕ (coded_list coded_ℕ)) (λ h. (h.count, h.bytes)) (λ p. held p.0 p.1)
+    (code_by (ℕ × List ℕ) (coded× coded_ℕ (coded_list coded_ℕ)) (λ h. (h.count, h.bytes)) (λ p. held_bytes p.0 p.1)
     (λ _. refl))

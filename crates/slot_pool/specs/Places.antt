@@ -10,8 +10,8 @@ abbrev pub shown_place : Spot → Held
 shown_place p = held_if p.count (take p.len p.bytes)
 
 -- n slots: those of the places ps, and the others, which were never used
-abbrev pub shown : List Spot → ℕ → List Held
-shown ps n = map shown_place ps ++ replicate (n - length ps) unused
+abbrev pub shown_slots : List Spot → ℕ → List Held
+shown_slots ps n = map shown_place ps ++ replicate (n - length ps) unused
 
 -- the places fs are linked in their order, from at on, and the last one's link is n
 abbrev pub Linked : List Spot → ℕ → ℕ → List ℕ → Type 0

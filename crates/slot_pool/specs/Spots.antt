@@ -6,7 +6,7 @@ use Rattle.raw_block.specs.Run.{Run, run}
 use Rattle.slot_pool.specs.declared.slot_record.TheConstants.{SHORT}
 use Rattle.slot_pool.specs.declared.slot_record.SlotRecord.{SlotRecord}
 
--- a place with its bytes: a free one with the free one behind it, or a count and a body of len bytes
+-- a place with its bytes: a free one with the free one after it, or a count and a body of len bytes
 pub record Spot : Type 0 where
   pub count : ℕ
   pub next : ℕ
@@ -32,10 +32,10 @@ spot p long = record {
 }
 
 -- the places, with those for long bodies, which are as many or fewer
-abbrev pub joined : List SlotRecord → List (List ℕ) → List Spot
-joined [] ls = []
-joined (p ∷ ps) [] = spot p [] ∷ joined ps []
-joined (p ∷ ps) (l ∷ ls) = spot p l ∷ joined ps ls
+abbrev pub joined_spots : List SlotRecord → List (List ℕ) → List Spot
+joined_spots [] ls = []
+joined_spots (p ∷ ps) [] = spot p [] ∷ joined_spots ps []
+joined_spots (p ∷ ps) (l ∷ ls) = spot p l ∷ joined_spots ps ls
 
 abbrev pub no_place : SlotRecord
 no_place = record { count = 0; next = 0; len = 0; bytes = [] }
@@ -75,7 +75,7 @@ pub record Reaches (old new : Run (List ℕ)) (i : ℕ) : Type 0 where
   pub fewer : (k : ℕ) → length old.values ≤ k → i < k → length new.values ≤ k
   pub capacity : new.capacity ≡ old.capacity
 
--- values were put behind others, and there are `at` of them now, for one of the number i
+-- values were put after others, and there are `at` of them now, for one of the number i
 pub record Grows (old new : Run (List ℕ)) (i at : ℕ) : Type 0 where
   pub more : List (List ℕ)
   pub is : new ≡ run (old.values ++ more) old.capacity

@@ -2,7 +2,7 @@
 ghost use Rattle.std.specs.Prelude.{◌≡◌, ℕ, ◌+◌, ◌-◌, ◌<◌, ◌≤◌, List, [], ◌∷◌, ◌++◌, Some, None, length, slice_set};
 ghost use Rattle.std.specs.Prelude.{replicate};
 ghost use Rattle.std.specs.FinMap.{empty, get, insert, remove};
-ghost use Rattle.slot_pool.specs.Held.{Held, held, unused, held_at, count_at, bytes_at, one_less, free_by, spare};
+ghost use Rattle.slot_pool.specs.Held.{Held, held_bytes, unused, held_at, count_at, bytes_at, one_less, free_by, spare};
 ghost use Rattle.slot_pool.specs.Held.{IsFull, Puts};
 ghost use Rattle.slot_pool.specs.Map.{as_map, ShowsUsed};
 ghost use Rattle.slot_pool.specs.References.{Moved, Exact, Covers};
@@ -15,11 +15,13 @@ pub fn a_pool_is_a_finite_map()
     ensures fresh { (n : ℕ) → as_map (replicate n unused) ≡ empty }
     ensures used { (p : List Held) (s : ℕ) → 0 < count_at p s → get (as_map p) s ≡ Some (held_at p s) }
     ensures unused { (p : List Held) (s : ℕ) → count_at p s ≡ 0 → get (as_map p) s ≡ None }
-    ensures put { (p q : List Held) (bs : List ℕ) (s : ℕ) → Puts p q bs s → as_map q ≡ insert (as_map p) s (held 1 bs) }
+    ensures put { (p q : List Held) (bs : List ℕ) (s : ℕ) → Puts p q bs s →
+        as_map q ≡ insert (as_map p) s (held_bytes 1 bs) }
     ensures keep { (p : List Held) (s : ℕ) (bs : List ℕ) → 0 < count_at p s →
-        as_map (slice_set p s (held (count_at p s + 1) bs)) ≡ insert (as_map p) s (held (count_at p s + 1) bs) }
+        as_map (slice_set p s (held_bytes (count_at p s + 1) bs)) ≡
+        insert (as_map p) s (held_bytes (count_at p s + 1) bs) }
     ensures give_back { (p : List Held) (s : ℕ) → 1 < count_at p s → as_map (slice_set p s (one_less (held_at p s))) ≡
-        insert (as_map p) s (held (count_at p s - 1) (bytes_at p s)) }
+        insert (as_map p) s (held_bytes (count_at p s - 1) (bytes_at p s)) }
     ensures last { (p : List Held) (s : ℕ) → count_at p s ≡ 1 → as_map (slice_set p s (one_less (held_at p s))) ≡
         remove (as_map p) s }
 {}
@@ -30,7 +32,7 @@ pub fn a_map_is_of_one_pool()
     ensures fresh { (n : ℕ) → ShowsUsed (replicate n unused) }
     ensures put { (p q : List Held) (bs : List ℕ) (s : ℕ) → Puts p q bs s → ShowsUsed p → ShowsUsed q }
     ensures keep { (p : List Held) (s : ℕ) (bs : List ℕ) → 0 < count_at p s → ShowsUsed p →
-        ShowsUsed (slice_set p s (held (count_at p s + 1) bs)) }
+        ShowsUsed (slice_set p s (held_bytes (count_at p s + 1) bs)) }
     ensures give_back { (p : List Held) (s : ℕ) → 0 < count_at p s → ShowsUsed p →
         ShowsUsed (slice_set p s (one_less (held_at p s))) }
 {}
@@ -39,7 +41,7 @@ pub fn a_map_is_of_one_pool()
 pub fn calls_move_references()
     ensures put { (p q : List Held) (bs : List ℕ) (s : ℕ) → Puts p q bs s → Moved p q [] (s ∷ []) }
     ensures keep { (p : List Held) (s : ℕ) → 0 < count_at p s →
-        Moved p (slice_set p s (held (count_at p s + 1) (bytes_at p s))) [] (s ∷ []) }
+        Moved p (slice_set p s (held_bytes (count_at p s + 1) (bytes_at p s))) [] (s ∷ []) }
     ensures give_back { (p : List Held) (s : ℕ) → 0 < count_at p s →
         Moved p (slice_set p s (one_less (held_at p s))) (s ∷ []) [] }
 {}
@@ -71,7 +73,7 @@ pub fn slots_suffice()
     ensures fresh { (n : ℕ) → spare (replicate n unused) ≡ n }
     ensures put { (p q : List Held) (bs : List ℕ) (s : ℕ) → Puts p q bs s → spare q + 1 ≡ spare p }
     ensures keep { (p : List Held) (s : ℕ) (bs : List ℕ) → 0 < count_at p s →
-        spare (slice_set p s (held (count_at p s + 1) bs)) ≡ spare p }
+        spare (slice_set p s (held_bytes (count_at p s + 1) bs)) ≡ spare p }
     ensures give_back { (p : List Held) (s : ℕ) → 0 < count_at p s → spare (slice_set p s (one_less (held_at p s))) ≡
         spare p + free_by (count_at p s - 1) }
     ensures full { (p : List Held) → IsFull p → spare p ≡ 0 }

@@ -1,7 +1,7 @@
 //! The pool and its references.
 ghost use Rattle.std.specs.Prelude.{◌≡◌, ℕ, ◌+◌, ◌<◌, ◌≤◌, ◌↔◌, List, ◌++◌, length, take, slice_set, replicate, IfOk};
 ghost use Rattle.std.specs.Prelude.{IfSome, IfNone, IsNone, IsTrue};
-ghost use Rattle.slot_pool.specs.Held.{held, unused, held_at, count_at, bytes_at, one_less, range, IsFull, Puts};
+ghost use Rattle.slot_pool.specs.Held.{held_bytes, unused, held_at, count_at, bytes_at, one_less, range, IsFull, Puts};
 
 use crate::row::Row;
 use crate::slot_record::LONGEST;
@@ -36,9 +36,9 @@ impl Model for Pool {
 
     ghost coded = { held_code };
 
-    ghost use Rattle.slot_pool.specs.Places.{shown, IsPool};
+    ghost use Rattle.slot_pool.specs.Places.{shown_slots, IsPool};
 
-    ghost view = { λ p. shown p.places.values p.places.capacity };
+    ghost view = { λ p. shown_slots p.places.values p.places.capacity };
 
     ghost invariant = { λ p. IsPool p.places.values p.places.capacity p.first };
 }
@@ -83,7 +83,7 @@ impl Pool {
         requires room { count_at self.old s.now < 4294967295 }
         ensures slot { result ≡ s.now }
         ensures pool { self.new ≡
-            slice_set self.old s.now (held (count_at self.old s.now + 1) (bytes_at self.old s.now)) }
+            slice_set self.old s.now (held_bytes (count_at self.old s.now + 1) (bytes_at self.old s.now)) }
     {
         let index = s.index;
         self.places.add_reference(index as usize);
@@ -111,7 +111,7 @@ impl Pool {
         self.places.body(s.index as usize)
     }
 
-    /// A first reference to `a_len` bytes of `a` from `a_from` on and, behind them, `b_len` bytes of `b` from `b_from`
+    /// A first reference to `a_len` bytes of `a` from `a_from` on and, after them, `b_len` bytes of `b` from `b_from`
     /// on.
     pub fn join(
         &mut self,
@@ -150,7 +150,7 @@ fn part(bytes: &[u8], from: u32, len: u32) -> &[u8]
     &bytes[from..from + len as usize]
 }
 
-/// Writes `front` and, behind it, `back` to the start of `body`.
+/// Writes `front` and, after it, `back` to the start of `body`.
 fn write_both(body: &mut [u8], front: &[u8], back: &[u8])
     requires { length front.now + length back.now ≤ length body.old }
     ensures { take (length front.now + length back.now) body.new ≡ front.now ++ back.now }

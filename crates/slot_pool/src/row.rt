@@ -11,7 +11,7 @@ use std::alloc::{AllocError, Global};
 use std::marker::Model;
 
 /// At most so many places. Memory is taken for all at once, and that of a place is first touched when the place is
-/// first used, or, where it is for a long body, when that place or one behind it has one.
+/// first used, or, where it is for a long body, when that place or one after it has one.
 #[derive(Drop)]
 pub struct Row {
     block: Block<SlotRecord, Global>,
@@ -20,13 +20,13 @@ pub struct Row {
 
 impl Model for Row {
     ghost use Rattle.raw_block.specs.Run.{Run, run, run_code};
-    ghost use Rattle.slot_pool.specs.Spots.{Spot, spot_code, joined, ArePlaces};
+    ghost use Rattle.slot_pool.specs.Spots.{Spot, spot_code, joined_spots, ArePlaces};
 
     ghost Value = { Run Spot };
 
     ghost coded = { run_code spot_code };
 
-    ghost view = { λ p. run (joined p.block.values p.long.values) p.block.capacity };
+    ghost view = { λ p. run (joined_spots p.block.values p.long.values) p.block.capacity };
 
     ghost invariant = { λ p. ArePlaces p.block.values p.long.values p.block.capacity p.long.capacity };
 }
@@ -57,7 +57,7 @@ impl Row {
         self.block.len() < self.block.capacity()
     }
 
-    /// The free place behind one.
+    /// The free place after one.
     #[tactic(auto, using(crate::proofs::Spots::length_joined, crate::proofs::Spots::spot_at_joined))]
     pub(crate) fn next(&self, index: usize) -> u32
         requires { index < length self.now.values }
@@ -106,7 +106,7 @@ impl Row {
         self.block.at_mut(index).end_reference()
     }
 
-    /// Behind a free place is this one.
+    /// After a free place is this one.
     pub(crate) fn link(&mut self, index: usize, next: u32)
         requires { index < length self.old.values }
         ensures { self.new ≡ run

@@ -7,7 +7,7 @@ pub(crate) const SHORT: usize = 512;
 /// The most bytes of a body.
 pub const LONGEST: usize = 8192;
 
-/// With a count of 0 it is free, and `next` is the free place behind it; else its body has `len` bytes, which are the
+/// With a count of 0 it is free, and `next` is the free place after it; else its body has `len` bytes, which are the
 /// first here where they are at most `SHORT`, and lie in a place of their own else.
 #[derive(Clone, Copy)]
 pub struct SlotRecord {

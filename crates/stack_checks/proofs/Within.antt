@@ -10,7 +10,7 @@ use Rattle.guard_mean.specs.Code.{prepare, require, require_operand}
 use Rattle.check_mean.specs.Checks as mean
 use Rattle.trace_code.specs.Trees.{test_tree}
 use Rattle.trace_code.specs.declared.code.Test.{Test}
-use Rattle.trace_reads.specs.Registers.{a_prepare, prepared}
+use Rattle.trace_reads.specs.Registers.{a_prepare, prepared_numbers}
 use Rattle.miss_laws.specs.Asked.{Asked, checks, nothing}
 use Rattle.stack_checks.specs.Places.{IsWithin, IfWithin, EntryWithin, AreWithin}
 use Rattle.stack_checks.specs.Trees.{EntryAsked, entry_asked}
@@ -22,13 +22,14 @@ one_number (prepare r) = omega arith
 one_number (require r) = omega arith
 one_number (require_operand a) = omega arith
 
-few_numbers : (ts : List Test) → prepared (map test_tree ts) ≤ length ts
+few_numbers : (ts : List Test) → prepared_numbers (map test_tree ts) ≤ length ts
 few_numbers [] = omega arith
 few_numbers (t ∷ ts) = let one = one_number (test_tree t) in let more = few_numbers ts in
     let all = sum_by-cons a_prepare (test_tree t) (map test_tree ts) in omega arith
 
-pub tests_within : (c : mean.Checks) (ts : List Test) → map test_tree ts ≡ c.tests → prepared c.tests ≤ length ts
-tests_within c ts is = subst (λ l. prepared l ≤ length ts) is (few_numbers ts)
+pub tests_within : (c : mean.Checks) (ts : List Test) → map test_tree ts ≡ c.tests →
+    prepared_numbers c.tests ≤ length ts
+tests_within c ts is = subst (λ l. prepared_numbers l ≤ length ts) is (few_numbers ts)
 
 case_more : (a b : ℕ) (x : Asked) → a ≤ b → IsWithin a x → IsWithin b x
 case_more a b (checks c) le h = le_trans h le

@@ -1,14 +1,14 @@
 -- Places for the numbers that tests make.
 use Rattle.std.specs.Prelude.{ℕ, ◌≤◌, List, map, Option, Some, None}
 use Rattle.std.specs.List.{AllByRecursion}
-use Rattle.trace_reads.specs.Registers.{prepared}
+use Rattle.trace_reads.specs.Registers.{prepared_numbers}
 use Rattle.miss_laws.specs.Asked.{Asked, checks, nothing}
 use Rattle.stack_checks.specs.Trees.{EntryAsked, entry_asked}
 use Rattle.stack_checks.specs.declared.cases.CaseChecks.{CaseChecks}
 
 -- The tests make no more numbers than so many.
 abbrev pub IsWithin : ℕ → Asked → Type 0
-IsWithin most (checks c) = prepared c.tests ≤ most
+IsWithin most (checks c) = prepared_numbers c.tests ≤ most
 IsWithin most (nothing reason) = Unit {0}
 
 abbrev pub IfWithin : ℕ → Option Asked → Type 0

@@ -76,7 +76,8 @@ fn second_lack(
     requires empty { IsEmpty values.old }
     requires places { IfWithin (vec_capacity values.old.numbers) (option_map asked_tree asked.now) }
     ensures lacks { option_map lack_meant result ≡
-        option_map (lack_at (input_of given.now) (map (state_in pool.now) layers.now)) (option_map asked_tree asked.now) }
+        option_map (lack_at (input_of given.now) (map (state_in pool.now) layers.now))
+        (option_map asked_tree asked.now) }
     ensures empty { IsEmpty values.new }
     ensures places { vec_capacity values.new.numbers ≡ vec_capacity values.old.numbers }
 {

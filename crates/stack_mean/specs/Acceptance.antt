@@ -84,8 +84,8 @@ without_cycle stack None =
 
 -- A stack where it is accepted, or the first reason for which it isn't. Cycles are judged first, and of those the
 -- lowest place, and there the first kind.
-abbrev pub accepted : List LayerTree → Result (List LayerTree) Refusal
-accepted stack = without_cycle stack (first_on_cycle stack)
+abbrev pub acceptance : List LayerTree → Result (List LayerTree) Refusal
+acceptance stack = without_cycle stack (first_on_cycle stack)
 
 -- How many rows with messages a cell keeps at most, at a member of a view of n.
 abbrev pub capacity_for : ItemsTree → ℕ → ℕ

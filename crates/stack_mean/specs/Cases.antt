@@ -9,12 +9,13 @@ use Rattle.layer_mean.specs.declared.run.Case.TheVariants.{First}
 use Rattle.layer_mean.specs.Tree.{part, ExpressionTree, number, me, local, size, binary, apply, pick, MessageTree}
 use Rattle.layer_mean.specs.Tree.{message, held, cut, tail, join, StatementTree, push, take, each, emit, none, always}
 use Rattle.layer_mean.specs.Tree.{common, rare, queue, LayerTree}
-use Rattle.stack_mean.specs.Acceptance.{cycle, too_many, accepted, largest_weight, largest_joins}
+use Rattle.stack_mean.specs.Acceptance.{cycle, too_many, acceptance, largest_weight, largest_joins}
 use Rattle.stack_mean.specs.NoShape as no_shape
 use Rattle.stack_mean.specs.Shape.{app_cast, packet_entry, shape}
 use Rattle.stack_mean.specs.Plans.{outs_of}
-use Rattle.stack_mean.specs.SampleLayers.{block, sends, on, named, with_fields, kept_rows, bare_layer, counter, echo}
-use Rattle.stack_mean.specs.SampleLayers.{fan, silent}
+use Rattle.stack_mean.specs.SampleLayers.{block, sends, on, named_cell, with_fields, kept_rows, bare_layer, counter}
+use Rattle.stack_mean.specs.SampleLayers.{echo}
+use Rattle.stack_mean.specs.SampleLayers.{fan, silent_layer}
 use Rattle.stack_mean.specs.Samples.{header, length_of}
 
 -- An Ack is sent back where it came from.
@@ -30,13 +31,13 @@ two_echoes_at_once = bare_layer (codes "both") (ack_echo.handlers ++ echo.handle
 -- A cycle counts that no entry reaches; the lowest place on a cycle is told, and there the first kind.
 abbrev pub UnreachedCycles : Type 0
 UnreachedCycles =
-    (accepted (ack_echo ∷ ack_echo ∷ []) ≡ Err (cycle 0 Ack)) ×
-    (accepted (silent ∷ ack_echo ∷ ack_echo ∷ []) ≡ Err (cycle 1 Ack)) ×
-    (accepted (two_echoes_at_once ∷ two_echoes_at_once ∷ []) ≡ Err (cycle 0 Cast))
+    (acceptance (ack_echo ∷ ack_echo ∷ []) ≡ Err (cycle 0 Ack)) ×
+    (acceptance (silent_layer ∷ ack_echo ∷ ack_echo ∷ []) ≡ Err (cycle 1 Ack)) ×
+    (acceptance (two_echoes_at_once ∷ two_echoes_at_once ∷ []) ≡ Err (cycle 0 Cast))
 
 -- A weight that 32 bits don't hold is told as the largest number that they do.
 abbrev pub HugeWeight : Type 0
-HugeWeight = accepted (replicate 9 fan) ≡ Err (too_many 4294967295)
+HugeWeight = acceptance (replicate 9 fan) ≡ Err (too_many 4294967295)
 
 -- Rare handlers count, and so do joins in the condition of a common case.
 abbrev pub rarely : LayerTree
@@ -56,8 +57,8 @@ constant_fields =
     pick (number 1) (number 2) me ∷
     pick (number 0) (number 5) (number 6) ∷ []
 
-abbrev pub fixed : LayerTree
-fixed = record {
+abbrev pub constant_layer : LayerTree
+constant_layer = record {
   name = codes "fixed";
   cells = [];
   headers = with_fields (codes "fields") 4 ∷ [];
@@ -65,10 +66,10 @@ fixed = record {
 }
 
 abbrev pub ConstantFields : Type 0
-ConstantFields = map (λ out. out.headers) (outs_of (shape (fixed ∷ []) app_cast First)) ≡
+ConstantFields = map (λ out. out.headers) (outs_of (shape (constant_layer ∷ []) app_cast First)) ≡
     (header 1 (Some 14 ∷ None ∷ None ∷ Some 6 ∷ []) ∷ []) ∷ []
 
--- A message that no handler is for passes behind `none`, and can't be drawn behind another header.
+-- A message that no handler is for passes after `none`, and can't be drawn after another header.
 abbrev pub Unhandled : Type 0
 Unhandled =
     (length_of (shape (counter ∷ []) (packet_entry Cast (0 ∷ [])) First) ≡ Ok 1) ×
@@ -78,7 +79,7 @@ Unhandled =
 abbrev pub parting : LayerTree
 parting = record {
   name = codes "parting";
-  cells = named (codes "parts") (queue 4 (record { numbers = []; message = Some (codes "p", part) })) ∷ [];
+  cells = named_cell (codes "parts") (queue 4 (record { numbers = []; message = Some (codes "p", part) })) ∷ [];
   headers = record { name = codes "piece"; fields = 0; ends = true } ∷ [];
   handlers = on Down Cast 0 always
       (push 0 (number 0) 4 (record { numbers = []; message = Some (cut (message 0) (number 0) (number 8)) }) none ∷
@@ -91,7 +92,7 @@ parting = record {
 abbrev pub sending : MessageTree → LayerTree
 sending m = record {
   name = codes "sending";
-  cells = named (codes "kept") (queue 4 (record { numbers = []; message = Some (codes "m", kept_rows) })) ∷ [];
+  cells = named_cell (codes "kept") (queue 4 (record { numbers = []; message = Some (codes "m", kept_rows) })) ∷ [];
   headers = [];
   handlers = on Down Cast 0 always (sends Down Cast (local 0) m 0 [] ∷ []) ∷ [];
 }
@@ -103,7 +104,7 @@ stored_first = held 0 (number 0) (number 0) kept_rows
 -- before another.
 abbrev pub PartsAndStored : Type 0
 PartsAndStored =
-    (map (λ out. out.headers) (outs_of (shape (silent ∷ parting ∷ []) app_cast First)) ≡
+    (map (λ out. out.headers) (outs_of (shape (silent_layer ∷ parting ∷ []) app_cast First)) ≡
     (header 0 [] ∷ header 1 [] ∷ []) ∷ (header 0 [] ∷ header 1 [] ∷ []) ∷ []) ×
     (shape (sending (tail stored_first (number 1)) ∷ []) app_cast First ≡ Err (no_shape.stored 0)) ×
     (shape (sending (join (cut (message 0) (number 0) (number 1)) stored_first) ∷ []) app_cast First ≡

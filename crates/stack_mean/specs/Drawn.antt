@@ -113,7 +113,7 @@ pub record DrawnVisit : Type 0 where
   pub sent : List (Dir × DrawnEvent)
   pub length : ℕ
 
--- An event as its layer meets it: the tag that is popped going up, 0 where there is no header, and the headers behind
+-- An event as its layer meets it: the tag that is popped going up, 0 where there is no header, and the headers after
 -- it.
 pub record DrawnMet : Type 0 where
   pub tag : ℕ
@@ -132,7 +132,7 @@ drawn_met Down (Some headers) = record { tag = 0; headers = Some headers }
 abbrev pub drawn_on : Dir → DrawnEvent → Option (List DrawnHeader) → DrawnVisit
 drawn_on dir event headers = record { sent = (dir, record event { headers = headers }) ∷ []; length = 0 }
 
--- A missing handler passes an event on: down behind `none`, and up where `none` was popped.
+-- A missing handler passes an event on: down after `none`, and up where `none` was popped.
 abbrev pub drawn_unhandled : ℕ → Dir → DrawnEvent → ℕ → Option (List DrawnHeader) → Result DrawnVisit NoShape
 drawn_unhandled place dir event tag None = Ok (drawn_on dir event None)
 drawn_unhandled place Down event tag (Some headers) =

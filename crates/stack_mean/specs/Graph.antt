@@ -32,7 +32,7 @@ same_node a b = (a.at == b.at) && (a.tag == b.tag) && sameb dir_row.the_type a.d
 abbrev pub tags_of : LayerTree → List ℕ
 tags_of layer = range_with_len 0 (length layer.headers + 1)
 
--- The tags that a message of a kind can have in front of a layer; an event of another kind has none.
+-- The tags that a message of a kind can have before a layer; an event of another kind has none.
 abbrev pub tags_for : Kind → LayerTree → List ℕ
 tags_for kind layer = if carries kind then tags_of layer else 0 ∷ []
 
@@ -51,7 +51,7 @@ nodes stack = flat_map
     (λ at. flat_map (λ kind. nodes_of stack at Up kind.1 ++ nodes_of stack at Down kind.1) kinds)
     (range_with_len 0 (length stack + 2))
 
--- Whether a message is the one that a handler was entered with, or has its headers: a tail of it, or a part in front of
+-- Whether a message is the one that a handler was entered with, or has its headers: a tail of it, or a part before
 -- it.
 abbrev pub keeps_headers : MessageTree → Bool
 keeps_headers (message k) = k == 0
@@ -94,8 +94,8 @@ abbrev pub emission_arrow : List LayerTree → Node → Repeated → Arrow
 emission_arrow stack node x =
     arrow_to x.times node x.emission.direction x.emission.kind (emission_tags stack node x.emission x.emission.content)
 
--- A missing handler passes an event on once: down behind `none`, and up behind whatever header of the layer above; a
--- message behind another header than `none` it drops.
+-- A missing handler passes an event on once: down after `none`, and up after whatever header of the layer above; a
+-- message after another header than `none` it drops.
 abbrev pub passing : List LayerTree → Node → Dir → List Arrow
 passing stack node Down = arrow_to 1 node Down node.kind (0 ∷ []) ∷ []
 passing stack node Up = if node.tag == 0
@@ -130,16 +130,16 @@ unknown_of known [] = []
 unknown_of known (x ∷ xs) = if list_any (same_node x) known then unknown_of known xs else x ∷ unknown_of (x ∷ known) xs
 
 -- The nodes to which arrows lead: those that are known, the new ones, and in so many steps all that follow from these.
-abbrev pub reached : ℕ → List LayerTree → List Node → List Node → List Node
-reached steps stack known [] = known
-reached zero stack known new = known ++ new
-reached (suc steps) stack known (x ∷ xs) = let all = known ++ x ∷ xs in
-    reached steps stack all (unknown_of all (flat_map (following stack) (x ∷ xs)))
+abbrev pub reached_nodes : ℕ → List LayerTree → List Node → List Node → List Node
+reached_nodes steps stack known [] = known
+reached_nodes zero stack known new = known ++ new
+reached_nodes (suc steps) stack known (x ∷ xs) = let all = known ++ x ∷ xs in
+    reached_nodes steps stack all (unknown_of all (flat_map (following stack) (x ∷ xs)))
 
 -- A node lies on a cycle where arrows lead from it to itself.
 abbrev pub is_on_cycle : List LayerTree → Node → Bool
 is_on_cycle stack node =
-    list_any (same_node node) (reached (length (nodes stack)) stack [] (unknown_of [] (following stack node)))
+    list_any (same_node node) (reached_nodes (length (nodes stack)) stack [] (unknown_of [] (following stack node)))
 
 -- The first node on a cycle, by place and kind.
 abbrev pub first_on_cycle : List LayerTree → Option Node

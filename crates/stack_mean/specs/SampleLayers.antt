@@ -47,8 +47,8 @@ cell c = element c (number 0)
 abbrev pub raise : ℕ → StatementTree
 raise c = assign c (number 0) (binary Add (cell c) (number 1))
 
-abbrev pub named : List ℕ → Form → CellTree
-named name form = record { name = name; form = form }
+abbrev pub named_cell : List ℕ → Form → CellTree
+named_cell name form = record { name = name; form = form }
 
 abbrev pub with_fields : List ℕ → ℕ → HeaderTree
 with_fields name fields = record { name = name; fields = fields; ends = false }
@@ -61,7 +61,7 @@ bare_layer name handlers = record { name = name; cells = []; headers = []; handl
 abbrev pub counter : LayerTree
 counter = record {
   name = codes "cnt";
-  cells = named (codes "k") (numbers One (number 0)) ∷ named (codes "e") (numbers Array (number 0)) ∷ [];
+  cells = named_cell (codes "k") (numbers One (number 0)) ∷ named_cell (codes "e") (numbers Array (number 0)) ∷ [];
   headers = with_fields (codes "num") 1 ∷ [];
   handlers =
       on Down Cast 0 always (sends Down Cast (local 0) (message 0) 1 (cell 0 ∷ []) ∷ raise 0 ∷ []) ∷
@@ -95,7 +95,7 @@ local_copy = bare_layer (codes "local")
 abbrev pub total : LayerTree
 total = record {
   name = codes "total";
-  cells = named (codes "out") (numbers One (number 0)) ∷ named (codes "next") (numbers One (number 0)) ∷ [];
+  cells = named_cell (codes "out") (numbers One (number 0)) ∷ named_cell (codes "next") (numbers One (number 0)) ∷ [];
   headers = with_fields (codes "num") 2 ∷ with_fields (codes "ask") 0 ∷ [];
   handlers =
       on Down Cast 0 always (branch likely.First (binary Equal me (number 0))
@@ -160,10 +160,11 @@ abbrev pub mnak : LayerTree
 mnak = record {
   name = codes "mnak";
   cells =
-      named (codes "out") (numbers One (number 0)) ∷ named (codes "base") (numbers One (number 0)) ∷
-      named (codes "told") (numbers One (number 0)) ∷ named (codes "next") (numbers Array (number 0)) ∷
-      named (codes "kept") (queue 64 (record { numbers = []; message = Some (codes "m", kept_rows) })) ∷
-      named (codes "early") (queues 16 (record { numbers = codes "seq" ∷ []; message = Some (codes "m", kept_rows) })) ∷
+      named_cell (codes "out") (numbers One (number 0)) ∷ named_cell (codes "base") (numbers One (number 0)) ∷
+      named_cell (codes "told") (numbers One (number 0)) ∷ named_cell (codes "next") (numbers Array (number 0)) ∷
+      named_cell (codes "kept") (queue 64 (record { numbers = []; message = Some (codes "m", kept_rows) })) ∷
+      named_cell (codes "early")
+      (queues 16 (record { numbers = codes "seq" ∷ []; message = Some (codes "m", kept_rows) })) ∷
       [];
   headers =
       with_fields (codes "num") 1 ∷ record { name = codes "nak"; fields = 2; ends = true } ∷
@@ -197,14 +198,15 @@ joiner inner = bare_layer (codes "joiner")
     (block (sends Down Cast (local 0) (join (message 0) (join (message 0) (message 0))) 0 [] ∷ [])) ∷ [])) ∷ []) ∷ [])
 
 -- A cast isn't expected at all.
-abbrev pub surprised : LayerTree
-surprised = bare_layer (codes "surprised") (on Down Cast 0 rare (sends Down Cast (local 0) (message 0) 0 [] ∷ []) ∷ [])
+abbrev pub surprised_layer : LayerTree
+surprised_layer = bare_layer (codes "surprised")
+    (on Down Cast 0 rare (sends Down Cast (local 0) (message 0) 0 [] ∷ []) ∷ [])
 
--- The oldest cast that was kept is sent in the place of the new one, though a loop comes behind it.
+-- The oldest cast that was kept is sent in the place of the new one, though a loop comes after it.
 abbrev pub late : LayerTree
 late = record {
   name = codes "late";
-  cells = named (codes "kept") (queue 4 (record { numbers = []; message = Some (codes "m", kept_rows) })) ∷ [];
+  cells = named_cell (codes "kept") (queue 4 (record { numbers = []; message = Some (codes "m", kept_rows) })) ∷ [];
   headers = [];
   handlers = on Down Cast 0 always
       (push 0 (number 0) 4 (record { numbers = []; message = Some (message 0) }) none ∷
@@ -220,7 +222,7 @@ mirror = bare_layer (codes "mirror")
 abbrev pub memory : LayerTree
 memory = record {
   name = codes "memory";
-  cells = named (codes "kept") (queue 4 (record { numbers = []; message = Some (codes "m", kept_rows) })) ∷ [];
+  cells = named_cell (codes "kept") (queue 4 (record { numbers = []; message = Some (codes "m", kept_rows) })) ∷ [];
   headers = [];
   handlers = on Down Cast 0 always (sends Up Cast (local 0) (held 0 (number 0) (number 0) kept_rows) 0 [] ∷ []) ∷ [];
 }
@@ -243,5 +245,5 @@ doubler = bare_layer (codes "doubler")
     []) ∷ [])
 
 -- A layer with a header and without handlers.
-abbrev pub silent : LayerTree
-silent = record { name = codes "silent"; cells = []; headers = with_fields (codes "word") 1 ∷ []; handlers = [] }
+abbrev pub silent_layer : LayerTree
+silent_layer = record { name = codes "silent"; cells = []; headers = with_fields (codes "word") 1 ∷ []; handlers = [] }

@@ -10,7 +10,7 @@ use Rattle.layer_mean.specs.Tree.{LayerTree}
 use Rattle.layer_mean.specs.Effect.{unusual}
 use Rattle.layer_mean.specs.Visit.{Visited, fresh, step}
 use Rattle.layer_mean.specs.Marked.{Source}
-use Rattle.stack_mean.specs.Acceptance.{cycle, too_many, too_many_joins, accepted, largest_weight, largest_joins}
+use Rattle.stack_mean.specs.Acceptance.{cycle, too_many, too_many_joins, acceptance, largest_weight, largest_joins}
 use Rattle.stack_mean.specs.Acceptance.{rows_of}
 use Rattle.stack_mean.specs.NoShape as no_shape
 use Rattle.stack_mean.specs.NoShape.{NoShape, drawn_from}
@@ -18,11 +18,11 @@ use Rattle.stack_mean.specs.Drawn.{DrawnHeader}
 use Rattle.stack_mean.specs.Shape.{app_cast, app_send, packet_entry, ShapeVisit, ShapeOut, Shape, shape}
 use Rattle.stack_mean.specs.Plans.{plans_of}
 use Rattle.stack_mean.specs.SampleLayers.{counter, bottom, mnak, local_copy, total, echo, fan, repeater, joiner}
-use Rattle.stack_mean.specs.SampleLayers.{surprised, late, mirror, memory, answering, doubler, silent}
+use Rattle.stack_mean.specs.SampleLayers.{surprised_layer, late, mirror, memory, answering, doubler, silent_layer}
 
 -- Two layers that send each cast back to each other go on forever; one alone doesn't.
 abbrev pub TwoEchoes : Type 0
-TwoEchoes = (accepted (echo ∷ echo ∷ []) ≡ Err (cycle 0 Cast)) × (accepted (echo ∷ []) ≡ Ok (echo ∷ []))
+TwoEchoes = (acceptance (echo ∷ echo ∷ []) ≡ Err (cycle 0 Cast)) × (acceptance (echo ∷ []) ≡ Ok (echo ∷ []))
 
 -- Each layer makes sixteen of one; four are too many.
 abbrev pub fans : ℕ → List LayerTree
@@ -32,21 +32,21 @@ abbrev pub FanWeights : Type 0
 FanWeights = map (λ n. largest_weight (fans n)) (1 ∷ 2 ∷ 3 ∷ 4 ∷ []) ≡ 17 ∷ 273 ∷ 4369 ∷ 69905 ∷ []
 
 abbrev pub FourFans : Type 0
-FourFans = (accepted (fans 4) ≡ Err (too_many 69905)) × (accepted (fans 3) ≡ Ok (fans 3))
+FourFans = (acceptance (fans 4) ≡ Err (too_many 69905)) × (acceptance (fans 3) ≡ Ok (fans 3))
 
 -- The joins of a loop's bound count outside it: three times one and, in a loop of 32, two; a layer above does this as
 -- often as it sends.
 abbrev pub NestedJoins : Type 0
 NestedJoins =
-    (largest_joins (joiner 32 ∷ []) ≡ 195) × (accepted (joiner 32 ∷ []) ≡ Ok (joiner 32 ∷ [])) ×
-    (accepted (joiner 32 ∷ joiner 32 ∷ []) ≡ Err too_many_joins)
+    (largest_joins (joiner 32 ∷ []) ≡ 195) × (acceptance (joiner 32 ∷ []) ≡ Ok (joiner 32 ∷ [])) ×
+    (acceptance (joiner 32 ∷ joiner 32 ∷ []) ≡ Err too_many_joins)
 
 -- A message that comes back with its headers can't be answered again and again; one that isn't known may have any
 -- header.
 abbrev pub ReturnedHeaders : Type 0
 ReturnedHeaders =
-    (accepted (mirror ∷ answering ∷ []) ≡ Ok (mirror ∷ answering ∷ [])) ×
-    (accepted (memory ∷ answering ∷ []) ≡ Err (cycle 0 Cast))
+    (acceptance (mirror ∷ answering ∷ []) ≡ Ok (mirror ∷ answering ∷ [])) ×
+    (acceptance (memory ∷ answering ∷ []) ≡ Err (cycle 0 Cast))
 
 -- A queue of 64 messages, and one of 16 for each of five members.
 abbrev pub MessageRows : Type 0
@@ -57,8 +57,8 @@ abbrev pub NotDrawn : Type 0
 NotDrawn =
     (shape (repeater ∷ []) app_cast First ≡ Err (no_shape.loop 0)) ×
     (shape (repeater ∷ []) app_send First ≡ Err (no_shape.loop 0)) ×
-    (shape (bottom ∷ surprised ∷ late ∷ []) app_cast First ≡ Err (no_shape.stored 2)) ×
-    (shape (late ∷ surprised ∷ bottom ∷ []) app_cast First ≡ Err (no_shape.rare 1))
+    (shape (bottom ∷ surprised_layer ∷ late ∷ []) app_cast First ≡ Err (no_shape.stored 2)) ×
+    (shape (late ∷ surprised_layer ∷ bottom ∷ []) app_cast First ≡ Err (no_shape.rare 1))
 
 -- How long a shape is, without its visits.
 abbrev pub length_of : Result Shape NoShape → Result ℕ NoShape
@@ -67,8 +67,8 @@ length_of = drawn_from (λ s. Ok s.length)
 -- Nine layers of which each but the highest doubles a cast make 256 visits and as many outputs; one more is too long.
 abbrev pub LongShapes : Type 0
 LongShapes =
-    (length_of (shape (replicate 8 doubler ++ silent ∷ []) app_cast First) ≡ Ok 766) ×
-    (shape (replicate 8 doubler ++ silent ∷ silent ∷ []) app_cast First ≡ Err no_shape.long)
+    (length_of (shape (replicate 8 doubler ++ silent_layer ∷ []) app_cast First) ≡ Ok 766) ×
+    (shape (replicate 8 doubler ++ silent_layer ∷ silent_layer ∷ []) app_cast First ≡ Err no_shape.long)
 
 -- A header as shapes show it.
 abbrev pub header : ℕ → List (Option ℕ) → DrawnHeader
@@ -83,12 +83,12 @@ visit place dir tag maker = record { place = place; dir = dir; kind = Cast; tag 
 abbrev pub out : Dir → List DrawnHeader → Option Source → ShapeOut
 out dir headers maker = record { dir = dir; kind = Cast; headers = headers; made_by = maker }
 
--- A numbered cast goes out, and comes back to its sender behind that.
-abbrev pub ordered : List LayerTree
-ordered = bottom ∷ local_copy ∷ total ∷ []
+-- A numbered cast goes out, and comes back to its sender after that.
+abbrev pub ordering_stack : List LayerTree
+ordering_stack = bottom ∷ local_copy ∷ total ∷ []
 
 abbrev pub OrderedShape : Type 0
-OrderedShape = shape ordered app_cast First ≡ Ok (record {
+OrderedShape = shape ordering_stack app_cast First ≡ Ok (record {
   visits = visit 2 Down 0 None ∷ visit 1 Down 1 (made_by 0 0) ∷ visit 0 Down 0 (made_by 1 0) ∷
       visit 2 Up 1 (made_by 1 1) ∷ [];
   outs =
@@ -98,11 +98,11 @@ OrderedShape = shape ordered app_cast First ≡ Ok (record {
 })
 
 -- The same over a layer that keeps what it sends: the cast comes back first.
-abbrev pub kept : List LayerTree
-kept = bottom ∷ mnak ∷ local_copy ∷ total ∷ []
+abbrev pub keeping_stack : List LayerTree
+keeping_stack = bottom ∷ mnak ∷ local_copy ∷ total ∷ []
 
 abbrev pub KeptShape : Type 0
-KeptShape = shape kept app_cast First ≡ Ok (record {
+KeptShape = shape keeping_stack app_cast First ≡ Ok (record {
   visits =
       visit 3 Down 0 None ∷ visit 2 Down 1 (made_by 0 0) ∷ visit 1 Down 0 (made_by 1 0) ∷ visit 3 Up 1 (made_by 1 1) ∷
       visit 0 Down 1 (made_by 2 0) ∷ [];
@@ -113,20 +113,21 @@ KeptShape = shape kept app_cast First ≡ Ok (record {
   length = 20;
 })
 
--- Both are accepted; sixteen casts that waited may go up behind one.
+-- Both are accepted; sixteen casts that waited may go up after one.
 abbrev pub OrderedAccepted : Type 0
 OrderedAccepted =
-    (accepted ordered ≡ Ok ordered) × (accepted kept ≡ Ok kept) × (largest_weight ordered ≡ 9) ×
-    (largest_weight kept ≡ 55)
+    (acceptance ordering_stack ≡ Ok ordering_stack) × (acceptance keeping_stack ≡ Ok keeping_stack) ×
+    (largest_weight ordering_stack ≡ 9) ×
+    (largest_weight keeping_stack ≡ 55)
 
 -- The plans of both stacks: the lowest layer's number is constant.
 abbrev pub OrderedPlans : Type 0
-OrderedPlans = plans_of ordered ≡
+OrderedPlans = plans_of ordering_stack ≡
     record { kind = Cast; tags = 1 ∷ 0 ∷ 1 ∷ []; fields = Some 1 ∷ None ∷ None ∷ [] } ∷
     record { kind = Send; tags = 1 ∷ 0 ∷ 0 ∷ []; fields = Some 1 ∷ [] } ∷ []
 
 abbrev pub KeptPlans : Type 0
-KeptPlans = plans_of kept ≡
+KeptPlans = plans_of keeping_stack ≡
     record { kind = Cast; tags = 1 ∷ 1 ∷ 0 ∷ 1 ∷ []; fields = Some 1 ∷ None ∷ None ∷ None ∷ [] } ∷
     record { kind = Send; tags = 1 ∷ 0 ∷ 0 ∷ 0 ∷ []; fields = Some 1 ∷ [] } ∷ []
 
@@ -141,27 +142,27 @@ abbrev pub cast_of : Content → Event
 cast_of m = record { kind = Cast; peer = 1; a = 0; b = 0; message = Some m }
 
 abbrev pub at_silent : Dir → Event → Visited
-at_silent dir event = step 3 silent (fresh silent 0 2 0) dir event
+at_silent dir event = step 3 silent_layer (fresh silent_layer 0 2 0) dir event
 
-abbrev pub passed : Dir → Event → Visited
-passed dir event = record { state = fresh silent 0 2 0; sent = (dir, event) ∷ []; decided = [] }
+abbrev pub passed_visit : Dir → Event → Visited
+passed_visit dir event = record { state = fresh silent_layer 0 2 0; sent = (dir, event) ∷ []; decided = [] }
 
 -- A message with a header of this tag at place 3, before the letter x.
-abbrev pub tagged : ℕ → List ℕ → Content
-tagged tag fields = record { headers = record { layer = 3; tag = tag; fields = fields } ∷ []; body = codes "x" }
+abbrev pub tagged_content : ℕ → List ℕ → Content
+tagged_content tag fields = record { headers = record { layer = 3; tag = tag; fields = fields } ∷ []; body = codes "x" }
 
-abbrev pub untagged : Content
-untagged = record { headers = []; body = codes "x" }
+abbrev pub untagged_content : Content
+untagged_content = record { headers = []; body = codes "x" }
 
 abbrev pub tick : Event
 tick = record { kind = Timer; peer = 0; a = 5; b = 0; message = None }
 
--- An event without a message passes, a message passes going down behind `none`, and going up where that was popped;
--- behind another header it is dropped, which isn't predicted.
+-- An event without a message passes, a message passes going down after `none`, and going up where that was popped;
+-- after another header it is dropped, which isn't predicted.
 abbrev pub MissingHandlers : Type 0
 MissingHandlers =
-    (at_silent Up tick ≡ passed Up tick) × (at_silent Down tick ≡ passed Down tick) ×
-    (at_silent Down (cast_of untagged) ≡ passed Down (cast_of (tagged 0 []))) ×
-    (at_silent Up (cast_of (tagged 0 [])) ≡ passed Up (cast_of untagged)) ×
-    (at_silent Up (cast_of (tagged 1 (7 ∷ []))) ≡
-    record { state = fresh silent 0 2 0; sent = []; decided = unusual ∷ [] })
+    (at_silent Up tick ≡ passed_visit Up tick) × (at_silent Down tick ≡ passed_visit Down tick) ×
+    (at_silent Down (cast_of untagged_content) ≡ passed_visit Down (cast_of (tagged_content 0 []))) ×
+    (at_silent Up (cast_of (tagged_content 0 [])) ≡ passed_visit Up (cast_of untagged_content)) ×
+    (at_silent Up (cast_of (tagged_content 1 (7 ∷ []))) ≡
+    record { state = fresh silent_layer 0 2 0; sent = []; decided = unusual ∷ [] })

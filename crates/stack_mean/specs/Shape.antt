@@ -10,10 +10,10 @@ use Rattle.layer_ast.specs.declared.tokens.Kind.{Kind}
 use Rattle.layer_ast.specs.declared.tokens.Kind.TheVariants.{Cast, Send}
 use Rattle.layer_mean.specs.declared.run.Case.{Case}
 use Rattle.layer_mean.specs.declared.run.Case.TheVariants.{First, Second}
-use Rattle.layer_mean.specs.Headers.{declared}
+use Rattle.layer_mean.specs.Headers.{header_of_tag}
 use Rattle.layer_mean.specs.Tree.{LayerTree}
 use Rattle.layer_mean.specs.Queue.{Task, Turn, Player, run_for, starting, layer_at}
-use Rattle.layer_mean.specs.Marked.{Source, Logged, Log, marked, marked_start}
+use Rattle.layer_mean.specs.Marked.{Source, Logged, Log, marking_player, marked_start}
 use Rattle.stack_mean.specs.Acceptance.{weight_limit}
 use Rattle.stack_mean.specs.NoShape as no_shape
 use Rattle.stack_mean.specs.NoShape.{NoShape, drawn_from}
@@ -82,9 +82,9 @@ entry_place stack Down = length stack
 -- A header of a layer of which the tag alone is known: none of its fields is.
 abbrev pub unknown_header : LayerTree → ℕ → DrawnHeader
 unknown_header layer tag =
-    record { tag = tag; fields = replicate (option_map_or (λ h. h.fields) (declared layer tag) 0) None }
+    record { tag = tag; fields = replicate (option_map_or (λ h. h.fields) (header_of_tag layer tag) 0) None }
 
--- The headers of an entry, from these layers on; what stands behind the highest layer's has no fields.
+-- The headers of an entry, from these layers on; what stands after the highest layer's has no fields.
 abbrev pub entry_headers : List LayerTree → List ℕ → List DrawnHeader
 entry_headers layers [] = []
 entry_headers [] (tag ∷ tags) = record { tag = tag; fields = [] } ∷ entry_headers [] tags
@@ -108,9 +108,9 @@ meets_fork stack at dir event (Err reason) = false
 meets_fork stack at dir event (Ok p) = nat_lt p.visits visits_limit &&
     visit_forks (at - 1) (layer_at stack at) dir event
 
-abbrev pub watched : List LayerTree → ℕ → Dir → DrawnEvent → Watched → Turn (Result Progress NoShape) DrawnEvent →
+abbrev pub watched_turn : List LayerTree → ℕ → Dir → DrawnEvent → Watched → Turn (Result Progress NoShape) DrawnEvent →
     Turn Watched DrawnEvent
-watched stack at dir event w turn = record {
+watched_turn stack at dir event w turn = record {
   world = record { drawn = turn.world; forks = w.forks || meets_fork stack at dir event w.drawn };
   sent = turn.sent;
 }
@@ -118,7 +118,7 @@ watched stack at dir event w turn = record {
 -- The player that draws a run in the first case and watches for such conditions.
 abbrev pub watcher : List LayerTree → Player Watched DrawnEvent
 watcher stack = record {
-  visit = λ at dir event w. watched stack at dir event w (shaped_visit First stack at dir event w.drawn);
+  visit = λ at dir event w. watched_turn stack at dir event w (shaped_visit First stack at dir event w.drawn);
   output = λ dir event w. record w { drawn = drawn_from (λ p. Ok (with_output p)) w.drawn };
 }
 
@@ -186,7 +186,7 @@ shape_of log = drawn_from (λ p. Ok (shape_with log p)) log.world
 -- heaviest entry weighs are enough.)
 unfoldable pub drawn_shape : List LayerTree → Known → Case → Result Shape NoShape
 drawn_shape stack k case =
-    shape_of (run_for (length stack) (marked (shaper case stack)) weight_limit
+    shape_of (run_for (length stack) (marking_player (shaper case stack)) weight_limit
     (marked_start undrawn (entry_task stack k))).world
 
 -- The shape of an entry in a case, or the first reason for which it has none: the first case is always made.

@@ -11,7 +11,7 @@ use Rattle.layer_mean.specs.Tree.{numbers, LayerTree}
 use Rattle.stack_mean.specs.NoShape as no_shape
 use Rattle.stack_mean.specs.Shape.{app_cast, app_send, packet_entry, shape}
 use Rattle.stack_mean.specs.Plans.{plans_of}
-use Rattle.stack_mean.specs.SampleLayers.{block, sends, on, cell, raise, named, with_fields, silent}
+use Rattle.stack_mean.specs.SampleLayers.{block, sends, on, cell, raise, named_cell, with_fields, silent_layer}
 use Rattle.stack_mean.specs.Samples.{length_of, header, visit, out, made_by}
 
 -- Whether the counter is odd.
@@ -26,7 +26,7 @@ either first second = branch Two is_odd (block first) (block second)
 abbrev pub casting : List StatementTree → LayerTree
 casting statements = record {
   name = codes "flip";
-  cells = named (codes "k") (numbers One (number 0)) ∷ [];
+  cells = named_cell (codes "k") (numbers One (number 0)) ∷ [];
   headers = with_fields (codes "a") 1 ∷ with_fields (codes "b") 1 ∷ [];
   handlers = on Down Cast 0 always statements ∷ [];
 }
@@ -75,12 +75,12 @@ looping = each 1 (number 2) 2 (block [])
 abbrev pub plain_cast : StatementTree
 plain_cast = sends Down Cast (local 0) (message 0) 0 []
 
--- The first case may fail behind a condition with two predicted ways, and the second have a shape; in front of it both
--- fail. A condition that the first case meets behind a visit of another layer counts.
+-- The first case may fail after a condition with two predicted ways, and the second have a shape; before it both
+-- fail. A condition that the first case meets after a visit of another layer counts.
 abbrev pub FailedCases : Type 0
 FailedCases =
     (shape (casting (either (looping ∷ []) (plain_cast ∷ []) ∷ []) ∷ []) app_cast First ≡ Err (no_shape.loop 0)) ×
     (length_of (shape (casting (either (looping ∷ []) (plain_cast ∷ []) ∷ []) ∷ []) app_cast Second) ≡ Ok 3) ×
     (shape (casting (looping ∷ either (plain_cast ∷ []) (plain_cast ∷ []) ∷ []) ∷ []) app_cast Second ≡
     Err no_shape.same) ×
-    (length_of (shape (flip ∷ silent ∷ []) app_cast Second) ≡ Ok 5)
+    (length_of (shape (flip ∷ silent_layer ∷ []) app_cast Second) ≡ Ok 5)

@@ -16,7 +16,7 @@ use Rattle.run_mean.specs.Member.{Output}
 use Rattle.run_mean.specs.Report.{moments, run_of}
 use Rattle.run_mean.specs.World.{World, first_world}
 use Rattle.view_core.specs.declared.step.Did.{Did}
-use Rattle.report_text.specs.Counts.{counted, counts_of, no_counts}
+use Rattle.report_text.specs.Counts.{with_event_counted, counts_of, no_counts}
 use Rattle.report_text.specs.declared.counts.Counts.{Counts}
 use Rattle.report_text.proofs.Gained.{counted_moment}
 use Rattle.group_feed.specs.Beginning.{IsAtFirst}
@@ -35,11 +35,12 @@ pub record Counted (mode : Mode) (stack : List LayerTree) (plans : List Plan) (s
 pub counted_event : (mode : Mode) (stack : List LayerTree) (plans : List Plan) (w : World) (event : ScriptEvent)
     (old new : Playing)
     (outs : List (Output × Option ℕ)) (did : Did) (before after : Counts) →
-    Happened mode stack plans w event new.group outs old.visits new.visits did → after ≡ counted before did outs →
+    Happened mode stack plans w event new.group outs old.visits new.visits did →
+    after ≡ with_event_counted before did outs →
     IsCounted mode stack plans w event new before after
 counted_event mode stack plans w event old new outs did before after h is = record {
   world = h.world;
-  counts = λ run was. is ∙ ap (λ c. counted c did outs) was
+  counts = λ run was. is ∙ ap (λ c. with_event_counted c did outs) was
       ∙ counted_moment mode stack plans run (moment_at stack plans w event) outs old.visits new.visits did h.told;
 }
 

@@ -12,10 +12,11 @@ use Rattle.script_mean.specs.declared.event.ScriptEvent.{ScriptEvent}
 use Rattle.script_mean.specs.declared.event.ScriptEvent.TheVariants as script
 use Rattle.stack_mean.specs.Plan.{Plan}
 use Rattle.run_mean.specs.Member.{Member, inside, out, Output, Input, cast, send, leave, tick, datagram, Refusal}
-use Rattle.run_mean.specs.Member.{Entered, entered}
+use Rattle.run_mean.specs.Member.{Entered, entered_input}
 use Rattle.run_mean.specs.Report.{mode_if, moment_lines, visits_in}
 use Rattle.run_mean.specs.World as world
-use Rattle.run_mean.specs.World.{World, happens, here_of, member_at, packet_number, stepped_inside, stepped_of, given}
+use Rattle.run_mean.specs.World.{World, happens, here_of, member_at, packet_number, stepped_inside, stepped_of}
+use Rattle.run_mean.specs.World.{given_packet}
 use Rattle.outside.specs.Lines.{Wrote}
 use Rattle.outside.specs.Tells.{Tells}
 use Rattle.outside.proofs.Turns.{wrote_as}
@@ -30,7 +31,7 @@ use Rattle.group_feed.specs.Showing.{shown_in}
 use Rattle.group_feed.specs.Standing.{Peopled, Stands}
 use Rattle.stack_play.specs.Turns.{Playing, moment_at, TellsEvent}
 
--- An event happened: the world behind it, and what is told of it.
+-- An event happened: the world after it, and what is told of it.
 pub record Happened (mode : Mode) (stack : List LayerTree) (plans : List Plan) (w : World) (event : ScriptEvent)
     (c : Peopled) (outs : List (Output × Option ℕ))
     (before after : ℕ) (did : Did) : Type 0 where
@@ -82,12 +83,12 @@ module _ (stack : List LayerTree) (plans : List Plan) (w : World) where
   -- a step shows no member
   step_shows_none : (id : ℕ) (input : Input) (m : Member) → (stepped_of stack plans w id input m).did ≡ world.shown → ⊥
   step_shows_none id input out is = cc is
-  step_shows_none id input (inside view states) is = go (entered stack plans (here_of w view id) input) is where
+  step_shows_none id input (inside view states) is = go (entered_input stack plans (here_of w view id) input) is where
     go : (r : Result Entered Refusal) → (stepped_inside stack w id view states r).did ≡ world.shown → ⊥
     go (Err refusal) is = cc is
     go (Ok what) is = cc is
 
-  given_shows_none : (id : ℕ) (p : Option Packet) → (given stack plans w id p).did ≡ world.shown → ⊥
+  given_shows_none : (id : ℕ) (p : Option Packet) → (given_packet stack plans w id p).did ≡ world.shown → ⊥
   given_shows_none id None is = cc is
   given_shows_none id (Some p) is = step_shows_none id (datagram (full_bytes p)) (member_at w id) is
 

@@ -11,7 +11,7 @@ use Rattle.run_mean.specs.World.{World, first_world, happens}
 use Rattle.stack_play.specs.Turns.{moment_at}
 
 module _ (stack : List LayerTree) (plans : List Plan) where
-  -- the world behind events
+  -- the world after events
   abbrev pub behind : World → List ScriptEvent → World
   behind w [] = w
   behind w (e ∷ events) = behind (happens stack plans w e).world events
@@ -31,7 +31,7 @@ module _ (stack : List LayerTree) (plans : List Plan) where
   moments_length w (e ∷ events) = ap suc (moments_length (happens stack plans w e).world events)
 
   module _ (s : Script) where
-    -- the world behind the first events of a script, and their moments
+    -- the world after the first events of a script, and their moments
     abbrev pub stands_at : ℕ → World
     stands_at k = behind (first_world stack s.group s.stamp s.members) (take k s.events)
 
@@ -50,7 +50,7 @@ module _ (stack : List LayerTree) (plans : List Plan) where
       stands_more = ap (behind (first_world stack s.group s.stamp s.members)) taken
           ∙ behind_append (first_world stack s.group s.stamp s.members) (take k s.events) (event ∷ [])
 
-      -- the moments behind those
+      -- the moments after those
       abbrev pub rest : List Moment
       rest = moments stack plans (stands_at (k + 1)) (drop (k + 1) s.events)
 

@@ -40,7 +40,7 @@ pub record Keeps (mode : Mode) (stack : List LayerTree) (plans : List Plan) (old
 abbrev pub moment_at : List LayerTree → List Plan → World → ScriptEvent → Moment
 moment_at stack plans w event = record { before = w; event = event; happening = happens stack plans w event }
 
--- An event was played and its lines are written: the run stands at the world behind it, and its visits are counted.
+-- An event was played and its lines are written: the run stands at the world after it, and its visits are counted.
 pub record IsTold (mode : Mode) (stack : List LayerTree) (plans : List Plan) (wire : Bool) (w : World)
     (event : ScriptEvent) (old new : Playing)
     (before after : Tells) : Type 0 where
@@ -57,7 +57,7 @@ TellsEvent mode stack plans wire w event old new before after (Ok done) =
 TellsEvent mode stack plans wire w event old new before after (Err e) =
     Wrote (moment_lines stack plans (mode_if wire mode) (moment_at stack plans w event)) before after (Err e)
 
--- An event was played and its lines are counted, behind those of any run.
+-- An event was played and its lines are counted, after those of any run.
 pub record IsCounted (mode : Mode) (stack : List LayerTree) (plans : List Plan) (w : World) (event : ScriptEvent)
     (new : Playing) (before after : Counts)
     : Type 0 where

@@ -9,9 +9,9 @@ use Rattle.slot_pool.proofs.References.{moved-same, moved-reordered}
 use Rattle.layer_mean.specs.declared.run.Event.{Event}
 use Rattle.layer_mean.specs.Tree.{LayerTree}
 use Rattle.layer_mean.specs.State.{State}
-use Rattle.layer_mean.specs.Queue.{Task, Line, Work, Player, layers, run_for, run, unstarted}
+use Rattle.layer_mean.specs.Queue.{Task, Line, Work, Player, layers, run_for, run, unstarted_work}
 use Rattle.stack_mean.specs.Graph.{Node, first_on_cycle}
-use Rattle.stack_mean.specs.Acceptance.{weight_limit, without_cycle, accepted}
+use Rattle.stack_mean.specs.Acceptance.{weight_limit, without_cycle, acceptance}
 use Rattle.weight_laws.specs.Nodes.{IsKnown}
 use Rattle.weight_laws.specs.Visits.{task_weight, task_joins}
 use Rattle.weight_laws.specs.Runs.{Enters, IsRun}
@@ -35,7 +35,7 @@ use Rattle.stack_queue.specs.Going.{Begun, Now, BeginsWell, Going}
 use Rattle.stack_queue.proofs.Refs.{all_as}
 
 -- an accepted stack has no cycle
-off_cycles : (stack : List LayerTree) → accepted stack ≡ Ok stack → first_on_cycle stack ≡ None
+off_cycles : (stack : List LayerTree) → acceptance stack ≡ Ok stack → first_on_cycle stack ≡ None
 off_cycles stack h = go (first_on_cycle stack) refl h where
   go : (o : Option Node) → first_on_cycle stack ≡ o → without_cycle stack o ≡ Ok stack → first_on_cycle stack ≡ None
   go None is e = is
@@ -43,13 +43,14 @@ off_cycles stack h = go (first_on_cycle stack) refl h where
 
 -- the definition's run is its turns from its beginning
 turns_of_run : (k : ℕ) (stack : List LayerTree) (states : List State) (first : Task Event) →
-    run_for (length stack) (layers stack) k (record { world = unstarted states; tasks = first ∷ [] }) ≡
+    run_for (length stack) (layers stack) k (record { world = unstarted_work states; tasks = first ∷ [] }) ≡
     run k stack states first
 unfolding run
 turns_of_run k stack states first = refl
 
 counts_of_run : (k : ℕ) (stack : List LayerTree) (states : List State) (first : Task Event) (counts : List ℕ) →
-    counted_on (visited_for (length stack) (layers stack) k (record { world = unstarted states; tasks = first ∷ [] }))
+    counted_on (visited_for (length stack) (layers stack) k
+    (record { world = unstarted_work states; tasks = first ∷ [] }))
     counts ≡ taken_within k stack states first counts
 unfolding taken_within
 counts_of_run k stack states first counts = refl
@@ -60,7 +61,7 @@ none_visited : (places : ℕ) (play : Player Work Event) (k : ℕ) (w : Work) �
 none_visited places play zero w = refl
 none_visited places play (suc k) w = refl
 
-module _ (stack : List LayerTree) (typed : TypedStack stack) (accepts : accepted stack ≡ Ok stack)
+module _ (stack : List LayerTree) (typed : TypedStack stack) (accepts : acceptance stack ≡ Ok stack)
     (few : length stack ≤ most_places)
     (p : List Held) (states : List State) (chained : AreChainedStates stack states) (first : PoolTask)
     (first_chained : IsChainedTask stack (task_seen p first))
@@ -79,7 +80,7 @@ module _ (stack : List LayerTree) (typed : TypedStack stack) (accepts : accepted
     taken = taken;
   }
 
-  line_chained : IsChainedLine stack (record { world = unstarted states; tasks = task_seen p first ∷ [] })
+  line_chained : IsChainedLine stack (record { world = unstarted_work states; tasks = task_seen p first ∷ [] })
   line_chained = record { states = chained; outs = tt; tasks = (first_chained, tt) }
 
   is_run : IsRun stack states (task_seen p first)
@@ -90,9 +91,9 @@ module _ (stack : List LayerTree) (typed : TypedStack stack) (accepts : accepted
     known = λ k.
         let r : Line Work Event =
         run_for (length stack) (layers stack) k
-        (record { world = unstarted states; tasks = task_seen p first ∷ [] }) in
+        (record { world = unstarted_work states; tasks = task_seen p first ∷ [] }) in
         all_as (IsChainedTask stack) (IsKnown stack) (chained_is_known stack) r.tasks
-        (runs_keep_chains stack k (record { world = unstarted states; tasks = task_seen p first ∷ [] }) typed
+        (runs_keep_chains stack k (record { world = unstarted_work states; tasks = task_seen p first ∷ [] }) typed
         line_chained).tasks;
   }
 
@@ -121,7 +122,7 @@ module _ (stack : List LayerTree) (typed : TypedStack stack) (accepts : accepted
         taken = taken;
       })
   begins lies lie covers = record {
-    world = unstarted states;
+    world = unstarted_work states;
     left = weight_limit;
     comes = turns_of_run weight_limit stack states (task_seen p first);
     counts = counts_of_run weight_limit stack states (task_seen p first) taken;

@@ -5,7 +5,7 @@ use Rattle.std.specs.Prelude.{if◌then◌else◌}
 use Rattle.layer_mean.specs.Tree.{LayerTree}
 use Rattle.stack_mean.specs.Graph.{Node, first_on_cycle}
 use Rattle.stack_mean.specs.Acceptance.{weight, most_joins, entries, largest_weight, largest_joins, weight_limit}
-use Rattle.stack_mean.specs.Acceptance.{joins_limit, Refusal, without_cycle, accepted}
+use Rattle.stack_mean.specs.Acceptance.{joins_limit, Refusal, without_cycle, acceptance}
 use Rattle.weight_laws.specs.Nodes.{task_node}
 use Rattle.weight_laws.proofs.Members.{In, in_map}
 use Rattle.weight_laws.proofs.Runs.{entering}
@@ -26,7 +26,7 @@ entries_fit stack first chained enters =
     }
 
 -- an accepted stack is within the limit
-within_limit : (stack : List LayerTree) → accepted stack ≡ Ok stack → largest_weight stack ≤ weight_limit
+within_limit : (stack : List LayerTree) → acceptance stack ≡ Ok stack → largest_weight stack ≤ weight_limit
 within_limit stack h = go (first_on_cycle stack) h where
   judged : (b c : Bool) (x y : Refusal) → (if b then Err x else if c then Err y else Ok stack) ≡ Ok stack → b ≡ false
   judged true c x y e = absurd (cc e)

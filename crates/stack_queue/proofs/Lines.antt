@@ -6,7 +6,7 @@ use Rattle.std.specs.List.{AllByRecursion}
 use Rattle.layer_mean.specs.declared.run.Event.{Event}
 use Rattle.layer_mean.specs.Tree.{LayerTree}
 use Rattle.layer_mean.specs.Visit.{step}
-use Rattle.layer_mean.specs.Queue.{Task, Line, Work, is_place, layer_at, state_at, visited, taken_turn, next_of}
+use Rattle.layer_mean.specs.Queue.{Task, Line, Work, is_place, layer_at, state_at, visit_turn, taken_turn, next_of}
 use Rattle.layer_mean.specs.Queue.{run_for, layers}
 use Rattle.stack_mean.specs.Graph.{first_on_cycle}
 use Rattle.weight_laws.specs.Nodes.{IsKnown}
@@ -22,7 +22,7 @@ use Rattle.stack_queue.proofs.Refs.{all_right, all_as}
 module _ (stack : List LayerTree) (typed : TypedStack stack) (off : first_on_cycle stack ≡ None) (w : Work)
     (t : Task Event) (rest : List (Task Event))
     (chained : IsChainedLine stack (record { world = w; tasks = t ∷ rest })) where
-  -- the line behind a turn
+  -- the line after a turn
   abbrev pub behind : Line Work Event
   behind = next_of (length stack) (layers stack) (t ∷ rest) w
 
@@ -57,7 +57,7 @@ module _ (stack : List LayerTree) (typed : TypedStack stack) (off : first_on_cyc
 
   pub visited_behind : is_place (length stack) t.at ≡ true →
       behind ≡ taken_turn t.at rest
-      (visited t.at w (step (t.at - 1) (layer_at stack t.at) (state_at w t.at) t.dir t.event))
+      (visit_turn t.at w (step (t.at - 1) (layer_at stack t.at) (state_at w t.at) t.dir t.event))
   visited_behind placed = ap
       (λ (c : Bool). if◌then◌else◌ {A = Line Work Event} c
       (taken_turn t.at rest ((layers stack).visit t.at t.dir t.event w))

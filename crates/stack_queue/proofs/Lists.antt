@@ -54,7 +54,7 @@ no_first (at ∷ places) xs tasks None view is = absurd (cc is)
 no_first [] xs tasks (Some at) view is = tt
 no_first (at' ∷ places) xs tasks (Some at) view is = tt
 
--- the first of some tasks, which stands there, has the others behind it
+-- the first of some tasks, which stands there, has the others after it
 abbrev pub IsFirst : List PoolTask → ℕ → Type 0
 IsFirst ts at = (ts ≡ first_task ts ∷ drop 1 ts) × ((first_task ts).at ≡ at)
 
@@ -85,7 +85,7 @@ pub first_event : (places : List ℕ) (xs : List (Dir × PoolEvent)) (tasks : Li
 first_event places xs tasks same view =
     subst (λ ts. ((first_task ts).direction, (first_task ts).event) ≡ first_sent xs) view (first_goes places xs same)
 
--- and those behind it
+-- and those after it
 rest_goes : (places : List ℕ) (xs : List (Dir × PoolEvent)) → length places ≡ length xs →
     tasks_at (drop 1 places) (drop 1 xs) ≡ drop 1 (tasks_at places xs)
 rest_goes [] xs same = refl
@@ -126,7 +126,7 @@ events_lie p [] (x ∷ xs) same lie = absurd (omega (arith, same))
 events_lie p (at ∷ places) [] same lie = absurd (omega (arith, same))
 events_lie p (at ∷ places) (x ∷ xs) same lie = (lie.0, events_lie p places xs (omega (arith, same)) lie.1)
 
--- what was sent from a place is seen as tasks behind the others
+-- what was sent from a place is seen as tasks after the others
 sent_on : (q : List Held) (at : ℕ) (ys : List (Dir × PoolEvent)) → tasks_seen q (tasks_at (places_on at ys) ys) ≡
     tasks_of at (sent_seen q ys)
 sent_on q at [] = refl
@@ -147,7 +147,7 @@ sent_behind p q at (to ∷ places) (x ∷ xs) (y ∷ ys) sent same is =
     let first = ap (λ (es : List (Dir × Event)). get_or es 0 (x.0, event_seen p x.1)) is in
     λ k. record { at = to; dir = (first k).0; event = (first k).1 } ∷ behind k
 
--- there are no fewer events behind a visit
+-- there are no fewer events after a visit
 pub more_now : (p q : List Held) (xs ys : List (Dir × PoolEvent)) (sent : List (Dir × Event)) →
     sent_seen q ys ≡ sent_seen p xs ++ sent →
     length xs ≤ length ys
@@ -196,7 +196,7 @@ alone_goes_on at (p ∷ q ∷ places) ys dir to room now one other next there is
 alone_goes_on at (p ∷ []) [] dir to room now one other next there is = absurd (omega (arith, other))
 alone_goes_on at (p ∷ []) (y ∷ z ∷ ys) dir to room now one other next there is = absurd (omega (arith, other))
 
--- the same behind the places that are left once the first is gone
+-- the same after the places that are left once the first is gone
 pub goes_behind : (at : ℕ) (places : List ℕ) (ys : List (Dir × PoolEvent)) (room : ℕ) (left now : Buffer ℕ) →
     left ≡ buffer (drop 1 places) room →
     now ≡ buffer (left.items ++ places_on at (drop (length left.items) ys)) left.capacity →

@@ -158,7 +158,7 @@ module _ {S : Type 0} (place : S → ℕ) (layer : S → LayerTree) (refs : S �
               (sym (ap (λ (v : Visited). tasks_of at v.sent) visit))
               (sym (ap (λ (v : Visited). as_predicted v.decided) visit))
 
-    -- A layer that is asked to let the event pass does so, behind what went before.
+    -- A layer that is asked to let the event pass does so, after what went before.
     module _ (first : List S) (tasks : List PoolTask) (begun : ℕ) (stages : List S) (at : ℕ) (sent : Dir × PoolEvent)
         (visits : ℕ)
         (on : Continues place layer refs Ready state taken first tasks begun stages (standing_at at sent ∷ []) visits)

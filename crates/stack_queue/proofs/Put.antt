@@ -1,4 +1,4 @@
--- A task is put where its event is put, and its place behind the other places.
+-- A task is put where its event is put, and its place after the other places.
 use Rattle.std.proofs.Common.{◌-◌, ◌≡◌, ℕ, List, [], ◌∷◌, ◌++◌, length, ap, ◌∙◌, Some}
 use Rattle.circular_buffer.specs.Buffer.{Buffer, buffer}
 use Rattle.slot_pool.specs.Held.{Held}

@@ -12,7 +12,7 @@ use Rattle.layer_ast.specs.declared.tokens.Dir.{Dir}
 use Rattle.layer_mean.specs.declared.run.Event.{Event}
 use Rattle.layer_mean.specs.State.{State}
 use Rattle.layer_mean.specs.Visit.{Visited, step, no_state}
-use Rattle.layer_mean.specs.Queue.{Line, Work, is_place, layer_at, state_at, tasks_of, visited, layers, run_for, run}
+use Rattle.layer_mean.specs.Queue.{Line, Work, is_place, layer_at, state_at, tasks_of, visit_turn, layers, run_for, run}
 use Rattle.stack_mean.specs.Acceptance.{weight_limit}
 use Rattle.weight_laws.specs.Visits.{task_joins, sent_tasks}
 use Rattle.weight_laws.specs.Runs.{pending_weight, pending_joins}
@@ -34,7 +34,7 @@ use Rattle.stack_queue.proofs.Lines.{behind, chained_behind, lighter, joins_less
 use Rattle.stack_queue.proofs.Lines.{comes_behind, enough_behind, counts_behind}
 use Rattle.stack_queue.proofs.Asked.{fits, slots_are}
 
--- one more is seen behind others
+-- one more is seen after others
 one_more : {A B : Type 0} (f : A → B) (xs : List A) (x : A) (ys zs : List B) → map f xs ≡ ys ++ zs →
     map f (xs ++ x ∷ []) ≡ ys ++ (zs ++ f x ∷ [])
 one_more f xs x ys zs is = map-append f xs (x ∷ []) ∙ ap (λ vs. vs ++ f x ∷ []) is ∙ append_assoc ys zs (f x ∷ [])
@@ -109,8 +109,9 @@ module _ (b : Begun) (well : BeginsWell b) (p : List Held) (states : List State)
     tasks_next : tasks_seen q after ≡ tasks_seen p rest ++ tasks_of t.at (visit_of b p g.world.states t).sent
     tasks_next = tasks_are ∙ ap (λ (x : Visited). tasks_seen p rest ++ tasks_of t.at x.sent) same_visit
 
-    line_next : line_of (visited t.at g.world (visit_of b p g.world.states t)).world q after ≡ next
-    line_next = ap (λ ts. record { world = (visited t.at g.world (visit_of b p g.world.states t)).world; tasks = ts })
+    line_next : line_of (visit_turn t.at g.world (visit_of b p g.world.states t)).world q after ≡ next
+    line_next = ap (λ ts.
+        record { world = (visit_turn t.at g.world (visit_of b p g.world.states t)).world; tasks = ts })
         tasks_next
         ∙ sym (visited_behind b.stack well.typed well.no_cycle g.world (task_seen p t) (tasks_seen p rest) g.chained
         placed)
@@ -149,7 +150,7 @@ module _ (b : Begun) (well : BeginsWell b) (p : List Held) (states : List State)
       taken = taken';
     })
     visit_goes taken' taken_is = record {
-      world = (visited t.at g.world (visit_of b p g.world.states t)).world;
+      world = (visit_turn t.at g.world (visit_of b p g.world.states t)).world;
       left = g.left - 1;
       comes = ap (run_for (length b.stack) (layers b.stack) (g.left - 1)) line_next ∙ comes_next;
       counts = (λ k. counted_on (visited_for (length b.stack) (layers b.stack) (g.left - 1) (line_next k)) (taken_is k))

@@ -1,4 +1,4 @@
--- One turn of a run over stages: what it asks is there, and the run goes on behind it.
+-- One turn of a run over stages: what it asks is there, and the run goes on after it.
 use Rattle.std.proofs.Common.{◌≡◌, ℕ, suc, ◌+◌, ◌-◌, ◌<◌, ◌≤◌, Bool, true, false, ◌&&◌, not, List, [], ◌∷◌, ◌++◌, map}
 use Rattle.std.proofs.Common.{set, get_or, flat_map, drop, length, refl, sym, ap, ◌∙◌, subst, arith}
 use Rattle.std.specs.Prelude.{nat_le}
@@ -98,7 +98,7 @@ module _ {S : Type 0} (place : S → ℕ) (layer : S → LayerTree) (refs : S �
       taken = map taken stages;
     }))
     (at : ℕ) (is : IsFirst tasks at) where
-  -- the first task, and those behind it
+  -- the first task, and those after it
   abbrev t : PoolTask
   t = first_task tasks
 
@@ -224,7 +224,7 @@ module _ {S : Type 0} (place : S → ℕ) (layer : S → LayerTree) (refs : S �
         (covers_at place layer refs Ready state frame few b.stack p stages stand k lt d pending (sent_refs out)
         all_covered)
 
-    -- and behind it the run goes on
+    -- and after it the run goes on
     module _ (q : List Held) (s' : S) (after : List PoolTask) (decided : Predicted)
         (moved : Moved p q (refs (get_or stages k d) ++ tasks_refs tasks) (refs s' ++ tasks_refs after))
         (spent : spare p ≤ spare q + slots_needed (layer (get_or stages k d)) t.direction (event_seen p t.event))

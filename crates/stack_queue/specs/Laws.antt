@@ -3,7 +3,7 @@ use Rattle.std.specs.Prelude.{◌≡◌, ◌<◌, ◌≤◌, List, Ok}
 use Rattle.layer_mean.specs.declared.run.Event.{Event}
 use Rattle.layer_mean.specs.Tree.{LayerTree}
 use Rattle.layer_mean.specs.Queue.{Task}
-use Rattle.stack_mean.specs.Acceptance.{largest_weight, largest_joins, accepted}
+use Rattle.stack_mean.specs.Acceptance.{largest_weight, largest_joins, acceptance}
 use Rattle.weight_laws.specs.Visits.{task_weight, task_joins}
 use Rattle.weight_laws.specs.Runs.{Enters}
 use Rattle.chain_laws.specs.Runs.{IsChainedTask}
@@ -20,4 +20,4 @@ EntriesFit = (stack : List LayerTree) (first : Task Event) → IsChainedTask sta
 
 -- A stack that is accepted weighs less than there may be events in a list.
 abbrev pub StacksFit : Type 0
-StacksFit = (stack : List LayerTree) → accepted stack ≡ Ok stack → largest_weight stack < most_sent
+StacksFit = (stack : List LayerTree) → acceptance stack ≡ Ok stack → largest_weight stack < most_sent

@@ -4,7 +4,7 @@ use Rattle.std.specs.Prelude.{slice_set}
 use Rattle.layer_mean.specs.declared.run.Event.{Event}
 use Rattle.layer_mean.specs.State.{State}
 use Rattle.layer_mean.specs.Tree.{LayerTree}
-use Rattle.layer_mean.specs.Queue.{Task, Line, Player, is_place, is_done, next, layers, starting, unstarted}
+use Rattle.layer_mean.specs.Queue.{Task, Line, Player, is_place, is_done, next, layers, starting, unstarted_work}
 use Rattle.stack_mean.specs.Acceptance.{weight_limit}
 use Rattle.layer_stage.specs.Taken.{one_more}
 
@@ -23,15 +23,15 @@ visited_for places play (suc n) r = if is_done r.tasks then [] else place_visite
 abbrev pub counted_at : List ℕ → ℕ → List ℕ
 counted_at counts at = slice_set counts (at - 1) (one_more (slice_index_or counts (at - 1) 0))
 
--- What was taken, behind visits at these places.
+-- What was taken, after visits at these places.
 abbrev pub counted_on : List ℕ → List ℕ → List ℕ
 counted_on visited counts = fold counted_at counts visited
 
--- What was taken, behind at most so many turns from one task.
+-- What was taken, after at most so many turns from one task.
 unfoldable pub taken_within : ℕ → List LayerTree → List State → Task Event → List ℕ → List ℕ
 taken_within most stack states first counts =
-    counted_on (visited_for (length stack) (layers stack) most (starting (unstarted states) first)) counts
+    counted_on (visited_for (length stack) (layers stack) most (starting (unstarted_work states) first)) counts
 
--- What was taken, behind the run of a stack from one task.
+-- What was taken, after the run of a stack from one task.
 abbrev pub taken_behind : List LayerTree → List State → Task Event → List ℕ → List ℕ
 taken_behind stack states first counts = taken_within weight_limit stack states first counts

@@ -55,7 +55,7 @@ pub(crate) fn go_on(places: &mut ShortQueue<u16>, events: &Events, at: u16)
     put_places(places, events, at);
 }
 
-/// The events behind those that have places were sent from one: each goes on to its neighbour.
+/// The events after those that have places were sent from one: each goes on to its neighbour.
 fn put_places(places: &mut ShortQueue<u16>, events: &Events, at: u16)
     requires place { (1 ≤ at) × (at ≤ 255) }
     requires room { events.now.capacity ≤ places.old.capacity }

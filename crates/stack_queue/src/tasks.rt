@@ -169,7 +169,7 @@ impl Tasks {
         to
     }
 
-    /// A layer takes the event of the first task, which stands at a place, and what it sends becomes tasks behind the
+    /// A layer takes the event of the first task, which stands at a place, and what it sends becomes tasks after the
     /// others. What it decided is joined to what was decided before.
     pub(crate) fn visit<S: Stage>(
         &mut self,

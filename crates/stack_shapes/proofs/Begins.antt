@@ -7,7 +7,7 @@ use Rattle.layer_mean.specs.declared.run.Case.TheVariants.{First, Second}
 use Rattle.stack_mean.specs.NoShape.{NoShape}
 use Rattle.stack_mean.specs.Plans.{outs_of}
 use Rattle.stack_mean.specs.Shape.{Known, Shape, app_cast, app_send, shape}
-use Rattle.shape_core.specs.Answer.{held}
+use Rattle.shape_core.specs.Answer.{held_answer}
 use Rattle.shape_core.specs.Cases.{CaseShapes, shapes_of}
 use Rattle.stack_shapes.specs.Lists.{packets_in}
 use Rattle.stack_shapes.specs.Starts.{starts_of}
@@ -15,7 +15,7 @@ use Rattle.stack_shapes.proofs.Held.{held_outs}
 
 -- the groups that stand before others
 of_group : (stack : List LayerTree) (known : Known) (case : Case) (drawn : Result Shape NoShape) (n : ℕ) →
-    drawn ≡ held (shape stack known case) →
+    drawn ≡ held_answer (shape stack known case) →
     n ≡ length (packets_in (outs_of drawn)) → n ≡ length (packets_in (outs_of (shape stack known case)))
 of_group stack known case drawn n is many =
     many ∙ ap (λ d. length (packets_in (outs_of d))) is ∙

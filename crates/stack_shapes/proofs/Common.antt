@@ -20,7 +20,7 @@ use Rattle.run_mean.specs.Member.{Entered, app_cast, app_send, app_leave, clock_
 use Rattle.stack_shapes.specs.declared.entry.EntryOf.{EntryOf}
 use Rattle.shape_core.specs.Cases.{CaseShapes}
 use Rattle.stack_shapes.specs.Shapes.{ShortShapes, limited, kept_shapes, plan_shapes, short_shapes}
-use Rattle.stack_shapes.specs.Entries.{planned, entry_for, shapes_at, common_by, EntriesTellCommon}
+use Rattle.stack_shapes.specs.Entries.{planned_entry, entry_for, shapes_at, common_by, EntriesTellCommon}
 
 -- a shape is kept exactly where it is short enough
 short_is_kept : (drawn : Result Shape NoShape) → is_ok (limited drawn) ≡ is_short drawn
@@ -72,7 +72,7 @@ module _ (stack : List LayerTree) (case : Case) where
   plan_told (plan ∷ plans) (suc k) = plan_told plans k
 
 module _ (stack : List LayerTree) (plans : List Plan) where
-  fit_told : (case : Case) (fit : Option ℕ) → there_in case (shapes_at (short_shapes stack plans) (planned fit))
+  fit_told : (case : Case) (fit : Option ℕ) → there_in case (shapes_at (short_shapes stack plans) (planned_entry fit))
       ≡ option_map_or (λ known. is_short (shape stack known case))
       (option_and_then (λ k. option_map plan_entry (slice_get plans k)) fit) false
   fit_told case None = refl

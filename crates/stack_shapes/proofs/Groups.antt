@@ -1,4 +1,4 @@
--- The plans of the groups, one behind the other.
+-- The plans of the groups, one after the other.
 use Rattle.std.proofs.Common.{◌≡◌, ◌≤◌, append-nil, List, [], ◌∷◌, ◌++◌, map, flat_map, take, length, sym, ap, ◌∙◌}
 use Rattle.std.specs.Prelude.{Result, Err}
 use Rattle.std.proofs.lemmas.List.{map-append}
@@ -11,7 +11,7 @@ use Rattle.stack_mean.specs.NoShape.{NoShape}
 use Rattle.stack_mean.specs.Plan as mean
 use Rattle.stack_mean.specs.Plans.{Group, outs_of, packets_of, plan_of, plans_of}
 use Rattle.stack_mean.specs.Shape.{Known, Shape, app_cast, app_send, shape}
-use Rattle.shape_core.specs.Answer.{held}
+use Rattle.shape_core.specs.Answer.{held_answer}
 use Rattle.shape_core.specs.declared.absent.Absent.{Absent}
 use Rattle.shape_core.specs.declared.types.Shape as code
 use Rattle.shape_core.specs.Cases.{CaseShapes, drawn_tree, shapes_of}
@@ -27,7 +27,7 @@ abbrev drawn_plans : Result Shape NoShape → List mean.Plan
 drawn_plans drawn = map plan_of (packets_in (outs_of drawn))
 
 of_group : (stack : List LayerTree) (known : Known) (case : Case) (drawn : Result Shape NoShape) →
-    drawn ≡ held (shape stack known case) →
+    drawn ≡ held_answer (shape stack known case) →
     drawn_plans drawn ≡ map plan_of (packets_of stack (group known case))
 of_group stack known case drawn is = ap drawn_plans is ∙
     ap (λ outs. map plan_of (packets_in outs)) (held_outs (shape stack known case))
@@ -46,7 +46,7 @@ flat_more f xs x =
 
 group_more : (stack : List LayerTree) (groups : List Group) (known : Known) (case : Case) (drawn : Result Shape NoShape)
     (done next : List mean.Plan) →
-    drawn ≡ held (shape stack known case) → done ≡ take 250 (map plan_of (flat_map (packets_of stack) groups)) →
+    drawn ≡ held_answer (shape stack known case) → done ≡ take 250 (map plan_of (flat_map (packets_of stack) groups)) →
     next ≡ take 250 (done ++ drawn_plans drawn) →
     next ≡ take 250 (map plan_of (flat_map (packets_of stack) (groups ++ group known case ∷ [])))
 group_more stack groups known case drawn done next is so_far more =

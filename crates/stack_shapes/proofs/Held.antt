@@ -10,18 +10,18 @@ use Rattle.stack_mean.specs.NoShape as no_shape
 use Rattle.stack_mean.specs.Plan.{Plan}
 use Rattle.stack_mean.specs.Plans.{outs_of, plans_of}
 use Rattle.stack_mean.specs.Shape.{Known, Shape, app_cast, app_send, shape}
-use Rattle.shape_core.specs.Answer.{held, held_shape}
+use Rattle.shape_core.specs.Answer.{held_answer, held_shape}
 use Rattle.shape_core.specs.Cases.{CaseShapes, shapes_of}
 use Rattle.stack_shapes.specs.Shapes.{ShortShapes, limited, limited_cases, kept_shapes, plan_shapes, short_shapes}
 
-pub held_outs : (drawn : Result Shape NoShape) → outs_of (held drawn) ≡ outs_of drawn
+pub held_outs : (drawn : Result Shape NoShape) → outs_of (held_answer drawn) ≡ outs_of drawn
 held_outs (Ok s) = refl
 held_outs (Err reason) = refl
 
 abbrev choice : Shape → Bool → Result Shape NoShape
 choice s b = if b then Ok s else Err no_shape.long
 
-limited_held : (drawn : Result Shape NoShape) → limited (held drawn) ≡ limited drawn
+limited_held : (drawn : Result Shape NoShape) → limited (held_answer drawn) ≡ limited drawn
 limited_held (Err reason) = refl
 limited_held (Ok s) = go (leb s.length 4096) refl where
   go : (b : Bool) → leb s.length 4096 ≡ b → limited (Ok (held_shape s)) ≡ limited (Ok s)

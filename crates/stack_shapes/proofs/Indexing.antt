@@ -94,7 +94,7 @@ printed_at plans k plan below is =
     ∙ sym (get_or-map plan_print (map plan_tree plans) k (plan_tree plan) 0 (omega (arith, length-map plans plan_tree))
     ∙ ap plan_print (get_or-map plan_tree plans k plan (plan_tree plan) below))
 
--- nothing is known behind the last plan
+-- nothing is known after the last plan
 pub indexed_none : (plans : List Plan) (n : ℕ) (first next : List (Option ℕ)) → n ≡ length plans →
     first ≡ replicate 256 None →
     length next ≡ length plans → IndexesFrom plans n first next

@@ -15,14 +15,14 @@ use Rattle.stack_shapes.specs.declared.entry.EntryOf.{EntryOf}
 use Rattle.stack_shapes.specs.declared.entry.EntryOf.TheVariants as entry
 
 -- The entry of what a step entered as: for a packet the least plan that it fits, if there is one.
-abbrev pub planned : Option ℕ → EntryOf
-planned (Some number) = entry.Plan number
-planned None = entry.None
+abbrev pub planned_entry : Option ℕ → EntryOf
+planned_entry (Some number) = entry.Plan number
+planned_entry None = entry.None
 
 abbrev pub entry_for : List Plan → Entered → EntryOf
 entry_for plans (app_cast body) = entry.Cast
 entry_for plans (app_send to body) = entry.Send
-entry_for plans (from_peer packet) = planned (least_fit plans packet)
+entry_for plans (from_peer packet) = planned_entry (least_fit plans packet)
 entry_for plans app_leave = entry.None
 entry_for plans (clock_tick moment) = entry.None
 

@@ -11,7 +11,7 @@ use msg_core::Memory;
 use shape_core::ShapeOut;
 use std::alloc::Global;
 
-/// Puts the fields of a header behind others.
+/// Puts the fields of a header after others.
 fn add_fields(fields: &mut Vec<Option<u32>>, more: &[Option<u32>]) -> Result<(), Memory>
     ensures { OnOk result (fields.new.items ≡ fields.old.items ++ more.now) }
 {

@@ -51,7 +51,7 @@ impl Plans {
         self.index.first[usize::from(print.byte)]
     }
 
-    /// The next plan behind one, of the same print.
+    /// The next plan after one, of the same print.
     pub fn next(&self, number: u8) -> Option<u8>
         requires { number < length (plans_tree self.now) }
         ensures { IsNext (plans_tree self.now) (print_at (plans_tree self.now) number) (number + 1) result }

@@ -257,7 +257,7 @@ fn library_layers_are_accepted(rt: HostRuntime) -> Result<(), Fail> {
     Ok(())
 }
 
-/// A text of so many lines, each with two digits in it, behind a first line and in front of a last one.
+/// A text of so many lines, each with two digits in it, after a first line and before a last one.
 fn lines(alloc: Global, parts: [&[u8]; 4], count: u8) -> Result<Vec<u8>, AllocError> {
     let [first, front, back, last] = parts;
     let mut text = Vec::new(alloc);

@@ -51,7 +51,7 @@ const SENDER: Here = Here {
     rank: 0,
 };
 
-/// The headers of a cast by rank 0 with a number in front of its rank.
+/// The headers of a cast by rank 0 with a number before its rank.
 fn cast(number: u32) -> Headers {
     let mut headers = Headers::none();
     headers.push_front(Header {

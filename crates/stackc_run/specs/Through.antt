@@ -9,13 +9,13 @@ use Rattle.job_mean.specs.Job.{Job, job_of_words}
 use Rattle.end_mean.specs.Status.{Ended}
 use Rattle.run_mean.specs.Journal.{node_lines}
 use Rattle.group_mean.specs.Node.{node_words}
-use Rattle.group_mean.specs.Node.{Surroundings, failed, noted, played}
+use Rattle.group_mean.specs.Node.{Surroundings, failed_sends, node_notes, node_moments}
 use Rattle.output_mean.specs.Output.{IsNode}
 use Rattle.outside.specs.Said.{errors}
 use Rattle.outside.specs.Tells.{Tells}
 use Rattle.program_streams.specs.Streams.{Stream, stream}
 use Rattle.job_ends.specs.Comes.{Good, surrounding}
-use Rattle.job_streams.specs.Closes.{Closes, closed}
+use Rattle.job_streams.specs.Closes.{Closes, end_after_delivery}
 use Rattle.node_loop.specs.Serve.{MadeAllTurns}
 use Rattle.node_jobs.specs.Comes.{Beyond, Node, Ran}
 use Rattle.stackc_run.specs.Performed.{Way, over_files, over_network, way_of, Performed, Does}
@@ -28,7 +28,7 @@ pub record RunsThrough (words : List Text) (told : Option Shelved) (reads reads_
   pub end : Ended
   pub performed : Performed (job_of_words words) (surrounding told reads reads_after out.before put) n end
   pub closes : Closes end (stream put out.after out.holds) err status
-  pub does : closed closes.whole end ≡ end →
+  pub does : end_after_delivery closes.whole end ≡ end →
       Does words (surrounding told reads reads_after out.before put) n (errors err.before closes.closing status)
 
 -- The status of a whole output: 0, or 8 where that is a breach of a law.
@@ -44,8 +44,8 @@ pub record DeliversOutput (job : Job) (told : Option Shelved) (reads reads_after
 -- The whole journal of a node over what its surroundings told.
 abbrev pub journal_of : {file second : List ℕ} (w : Node) → IsNode file second w.me → Surroundings → List (List ℕ)
 journal_of w node s = let words = node_words w.turns w.me w.patience w.mode in
-    node_lines node.stack (plans_of node.stack) (failed s) (noted node.plan words s)
-    (played node.stack node.plan words s)
+    node_lines node.stack (plans_of node.stack) (failed_sends s) (node_notes node.plan words s)
+    (node_moments node.stack node.plan words s)
 
 -- A node made all its turns, and the output's stream gained its whole journal.
 pub record DeliversJournal (w : Node) (told : Option Shelved) (reads reads_after : ℕ) (n : Beyond) (out : Stream) : Type

@@ -5,7 +5,7 @@ ghost use Rattle.std.specs.String.{string_bytes};
 ghost use Rattle.job_mean.specs.Job.{job_of_words};
 ghost use Rattle.job_text.specs.Shown.{shown_job};
 ghost use Rattle.job_ends.specs.Comes.{around};
-ghost use Rattle.job_ends.specs.Shown.{shown};
+ghost use Rattle.job_ends.specs.Shown.{shown_end};
 ghost use Rattle.node_jobs.specs.Comes.{beyond};
 ghost use Rattle.stackc_run.specs.Performed.{Performed};
 
@@ -29,7 +29,7 @@ pub(crate) fn perform<S: Shelf, O: Sink, N: Links, C: Clock>(
 ) -> Ending
     ensures { Performed (job_of_words (map string_bytes words.now))
         (around S.Shelf O.Sink shelf.old shelf.new out.old out.new)
-        (beyond N.Links C.Clock links.old links.new clock.old clock.new) (shown result) }
+        (beyond N.Links C.Clock links.old links.new clock.old clock.new) (shown_end result) }
 {
     match job(alloc, words) {
         Ok(Some(job)) => perform_job(alloc, &job, shelf, out, links, clock),
@@ -49,7 +49,7 @@ fn perform_job<S: Shelf, O: Sink, N: Links, C: Clock>(
 ) -> Ending
     ensures { Performed (Some (shown_job job.now))
         (around S.Shelf O.Sink shelf.old shelf.new out.old out.new)
-        (beyond N.Links C.Clock links.old links.new clock.old clock.new) (shown result) }
+        (beyond N.Links C.Clock links.old links.new clock.old clock.new) (shown_end result) }
 {
     match job {
         Job::Check(file) => check_stack(alloc, *file, shelf, out),

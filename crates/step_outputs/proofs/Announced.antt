@@ -7,7 +7,7 @@ use Rattle.std.proofs.lemmas.List.{take-append-drop, take_all}
 use Rattle.std.proofs.lemmas.List.Elements.{filter_map-append}
 use Rattle.msg_core.specs.declared.message.Header.{Header}
 use Rattle.packet_mean.specs.declared.here.Here.{Here}
-use Rattle.run_mean.specs.Member.{announced, Output}
+use Rattle.run_mean.specs.Member.{announced_ranks, Output}
 use Rattle.step_outputs.specs.Kept.{announced_by, bytes_in, output_in, output_with}
 use Rattle.step_outputs.specs.declared.kept.Kept.{Kept}
 use Rattle.step_outputs.specs.declared.kept.What.{What}
@@ -16,7 +16,7 @@ use Rattle.step_outputs.specs.declared.kept.What.TheVariants.{Quiet}
 
 -- what is announced doesn't hang on where, on headers or on bytes
 one_announced : (here : Here) (what : What) (headers : List Header) (body : List ℕ) →
-    announced (output_with here what headers body).0 ≡ announced_by what
+    announced_ranks (output_with here what headers body).0 ≡ announced_by what
 one_announced here (Cast peer) headers body = refl
 one_announced here (Send peer) headers body = refl
 one_announced here (Block a) headers body = refl
@@ -31,12 +31,12 @@ abbrev pub all_announced : List Kept → List ℕ
 all_announced list = filter_map (λ k. announced_by k.what) list
 
 pub announced_in : (here : Here) (bytes : List ℕ) (list : List Kept) →
-    filter_map announced (map (λ o. o.0) (map (output_in here bytes) list)) ≡ all_announced list
+    filter_map announced_ranks (map (λ o. o.0) (map (output_in here bytes) list)) ≡ all_announced list
 announced_in here bytes [] = refl
 announced_in here bytes (k ∷ list) = λ i. cons_option (one_announced here k.what k.headers (bytes_in bytes k.body) i)
     (announced_in here bytes list i)
 
--- the first one is found where none stands in front of it
+-- the first one is found where none stands before it
 pub first_found : (list : List Kept) (n : ℕ) (k : Kept) (ranks : ℕ) → n < length list → all_announced (take n list) ≡
     [] →
     announced_by (get_or list n k).what ≡ Some ranks → slice_get (all_announced list) 0 ≡ Some ranks
@@ -61,18 +61,20 @@ pub first_told : (outputs : List (Output × Option ℕ)) (here : Here) (bytes : 
     (k : Kept) (ranks : ℕ) →
     map (output_in here bytes) list ≡ outputs → items ≡ list → n < length items → all_announced (take n items) ≡ [] →
     k ≡ get_or items n k →
-    announced_by k.what ≡ Some ranks → Some ranks ≡ slice_get (filter_map announced (map (λ o. o.0) outputs)) 0
+    announced_by k.what ≡ Some ranks → Some ranks ≡ slice_get (filter_map announced_ranks (map (λ o. o.0) outputs)) 0
 first_told outputs here bytes list items n k ranks shown same within none this is =
-    sym (ap (λ (xs : List (Output × Option ℕ)). slice_get (filter_map announced (map (λ o. o.0) xs)) 0) (sym shown)
+    sym (ap (λ (xs : List (Output × Option ℕ)). slice_get (filter_map announced_ranks (map (λ o. o.0) xs)) 0)
+    (sym shown)
     ∙ ap (λ xs. slice_get xs 0) (announced_in here bytes list)
     ∙ ap (λ (xs : List Kept). slice_get (all_announced xs) 0) (sym same)
     ∙ first_found items n k ranks within none (ap (λ (x : Kept). announced_by x.what) (sym this) ∙ is))
 
 pub none_told : (outputs : List (Output × Option ℕ)) (here : Here) (bytes : List ℕ) (list items : List Kept) (n : ℕ) →
     map (output_in here bytes) list ≡ outputs → items ≡ list → length items ≤ n → all_announced (take n items) ≡ [] →
-    None ≡ slice_get (filter_map announced (map (λ o. o.0) outputs)) 0
+    None ≡ slice_get (filter_map announced_ranks (map (λ o. o.0) outputs)) 0
 none_told outputs here bytes list items n shown same past none =
-    sym (ap (λ (xs : List (Output × Option ℕ)). slice_get (filter_map announced (map (λ o. o.0) xs)) 0) (sym shown)
+    sym (ap (λ (xs : List (Output × Option ℕ)). slice_get (filter_map announced_ranks (map (λ o. o.0) xs)) 0)
+    (sym shown)
     ∙ ap (λ xs. slice_get xs 0) (announced_in here bytes list)
     ∙ ap (λ (xs : List Kept). slice_get (all_announced xs) 0) (sym same ∙ sym (take_all n items past))
     ∙ ap (λ xs. slice_get xs 0) none)

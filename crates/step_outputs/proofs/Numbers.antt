@@ -14,7 +14,8 @@ use Rattle.packet_mean.specs.declared.here.Here.{Here}
 use Rattle.run_mean.specs.Common.{is_planned, plan_for, plan_behind, with_plans}
 use Rattle.run_mean.specs.Member.{Output}
 use Rattle.stack_mean.specs.Plan.{Plan}
-use Rattle.step_outputs.specs.Kept.{number_behind, number_below, numbered, output_in, output_with, under, AreKept}
+use Rattle.step_outputs.specs.Kept.{number_behind, number_below, numbered_outputs, output_in, output_with, under}
+use Rattle.step_outputs.specs.Kept.{AreKept}
 use Rattle.step_outputs.specs.Kept.{LiesWithin}
 use Rattle.step_outputs.specs.declared.kept.Kept.{Kept}
 use Rattle.step_outputs.specs.declared.kept.What.{What}
@@ -72,7 +73,7 @@ one_numbered here plans n (Nowhere plan) headers body = ap (λ k. ((output_with 
     (number_is plans n)
 one_numbered here plans n (Quiet dir signal) headers body = refl
 
--- the numbers behind it
+-- the numbers after it
 more_past : (plans : List Plan) (n : ℕ) (outs : List Output) (b : Bool) → nat_lt n (length plans) ≡ b →
     with_plans plans (Some (if b then n + 1 else n)) outs ≡ with_plans plans (Some (n + 1)) outs
 more_past plans n outs true is = refl
@@ -95,7 +96,7 @@ behind_numbered here plans n (Quiet dir signal) headers body outs = refl
 
 -- outputs that took their numbers
 numbered_tells : (here : Here) (bytes : List ℕ) (plans : List Plan) (n : ℕ) (list : List Kept) →
-    map (output_in here bytes) (numbered (length plans) n list) ≡
+    map (output_in here bytes) (numbered_outputs (length plans) n list) ≡
     with_plans plans (Some n) (map (λ o. o.0) (map (output_in here bytes) list))
 numbered_tells here bytes plans n [] = refl
 numbered_tells here bytes plans n (k ∷ list) =
@@ -113,24 +114,24 @@ only_outputs (o ∷ outs) = ap (λ more. o ∷ more) (only_outputs outs)
 pub sent_short : (here : Here) (bytes : List ℕ) (plans : List Plan) (count n : ℕ) (list : List Kept)
     (all : List (Output × Option ℕ)) (outs : List Output) →
     map (output_in here bytes) list ≡ all → length plans ≡ count → all ≡ map (λ o. (o, None)) outs →
-    map (output_in here bytes) (numbered count n list) ≡ with_plans plans (Some n) outs
+    map (output_in here bytes) (numbered_outputs count n list) ≡ with_plans plans (Some n) outs
 sent_short here bytes plans count n list all outs shown many full =
-    ap (λ c. map (output_in here bytes) (numbered c n list)) (sym many) ∙ numbered_tells here bytes plans n list
+    ap (λ c. map (output_in here bytes) (numbered_outputs c n list)) (sym many) ∙ numbered_tells here bytes plans n list
     ∙ ap (λ (xs : List (Output × Option ℕ)). with_plans plans (Some n) (map (λ o. o.0) xs)) (shown ∙ full) ∙
     ap (with_plans plans (Some n)) (only_outputs outs)
 
 -- what is kept stays where it is
-length-numbered : (count n : ℕ) (list : List Kept) → length (numbered count n list) ≡ length list
+length-numbered : (count n : ℕ) (list : List Kept) → length (numbered_outputs count n list) ≡ length list
 length-numbered count n [] = refl
 length-numbered count n (k ∷ list) = ap suc (length-numbered count (number_behind count n k.what) list)
 
 numbered_lie : (bytes : List ℕ) (count n : ℕ) (list : List Kept) → AllByRecursion (λ k. LiesWithin bytes k.body) list →
-    AllByRecursion (λ k. LiesWithin bytes k.body) (numbered count n list)
+    AllByRecursion (λ k. LiesWithin bytes k.body) (numbered_outputs count n list)
 numbered_lie bytes count n [] lie = tt
 numbered_lie bytes count n (k ∷ list) lie = (lie.0, numbered_lie bytes count (number_behind count n k.what) list lie.1)
 
 pub numbered_kept : (places room bodies : ℕ) (bytes : List ℕ) (count n : ℕ) (list new : List Kept) (room_behind : ℕ) →
-    AreKept places room bodies bytes list → new ≡ numbered count n list → room_behind ≡ room →
+    AreKept places room bodies bytes list → new ≡ numbered_outputs count n list → room_behind ≡ room →
     AreKept places room_behind bodies bytes new
 numbered_kept places room bodies bytes count n list new room_behind kept is room_is =
     let same = ap length is ∙ length-numbered count n list in record {
@@ -144,29 +145,29 @@ numbered_kept places room bodies bytes count n list new room_behind kept is room
 
 -- one more takes its number
 pub number_more : (count i n : ℕ) (whole list : List Kept) (d new : Kept) (next : ℕ) → i < length list →
-    whole ≡ take i list ++ numbered count n (drop i list) →
+    whole ≡ take i list ++ numbered_outputs count n (drop i list) →
     new ≡ record (get_or list i d) { what = under (number_below count n) (get_or list i d).what } →
     next ≡ number_behind count n (get_or list i d).what → whole ≡ take (i + 1) (set list i new) ++
-    numbered count next (drop (i + 1) (set list i new))
+    numbered_outputs count next (drop (i + 1) (set list i new))
 number_more count i n whole list d new next within so is behind =
     let k = get_or list i d in
     let left : drop i list ≡ k ∷ drop (i + 1) list = drop-cons list i d within ∙
     ap (λ m. k ∷ drop m list) (sym (add-one i)) in
-    so ∙ ap (λ xs. take i list ++ numbered count n xs) left
-    ∙ (λ t. take i list ++ sym is t ∷ numbered count (sym behind t) (drop (i + 1) list))
-    ∙ sym (append_assoc (take i list) (new ∷ []) (numbered count next (drop (i + 1) list)))
+    so ∙ ap (λ xs. take i list ++ numbered_outputs count n xs) left
+    ∙ (λ t. take i list ++ sym is t ∷ numbered_outputs count (sym behind t) (drop (i + 1) list))
+    ∙ sym (append_assoc (take i list) (new ∷ []) (numbered_outputs count next (drop (i + 1) list)))
     ∙ sym (λ t. take_more_set list i new within t ++
-    numbered count next (drop-set-lt (i + 1) list i new (omega arith) t))
+    numbered_outputs count next (drop-set-lt (i + 1) list i new (omega arith) t))
 
 pub all_numbered : (count n i : ℕ) (whole list : List Kept) → length list ≤ i →
-    whole ≡ take i list ++ numbered count n (drop i list) → list ≡ whole
+    whole ≡ take i list ++ numbered_outputs count n (drop i list) → list ≡ whole
 all_numbered count n i whole list past so =
-    sym (so ∙ (λ t. take_all i list past t ++ numbered count n (drop_all i list past t)) ∙ append-nil list)
+    sym (so ∙ (λ t. take_all i list past t ++ numbered_outputs count n (drop_all i list past t)) ∙ append-nil list)
 
--- the first ones take their numbers, with others behind them
+-- the first ones take their numbers, with others after them
 pub front_numbered : (count n used : ℕ) (list new behind : List Kept) → used ≤ length list →
-    new ≡ numbered count n (take used list) →
-    take used (new ++ behind) ≡ numbered count n (take used list)
+    new ≡ numbered_outputs count n (take used list) →
+    take used (new ++ behind) ≡ numbered_outputs count n (take used list)
 front_numbered count n used list new behind within is =
     let size : length new ≡ used = ap length is ∙ length-numbered count n (take used list) ∙
     length-take-le used list within in

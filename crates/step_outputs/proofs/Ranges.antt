@@ -1,4 +1,4 @@
--- Ranges of bytes, with more bytes behind.
+-- Ranges of bytes, with more bytes after.
 use Rattle.std.proofs.Common.{◌≡◌, ℕ, ◌+◌, ◌<◌, ◌≤◌, List, [], ◌∷◌, ◌++◌, Option, None, refl, sym, ap, ◌∙◌, subst}
 use Rattle.std.proofs.Common.{arith, length, length-append, length-drop, map, take, drop}
 use Rattle.std.specs.List.{AllByRecursion}
@@ -13,7 +13,7 @@ use Rattle.step_outputs.specs.Kept.{bytes_in, LiesWithin, output_in, output_with
 use Rattle.step_outputs.specs.declared.kept.Kept.{Kept}
 use Rattle.step_outputs.specs.declared.kept.Span.{Span}
 
--- a range within bytes is the same with more behind
+-- a range within bytes is the same with more after
 pub range_stays : (from len : ℕ) (bytes more : List ℕ) → from + len ≤ length bytes → range from len (bytes ++ more) ≡
     range from len bytes
 range_stays from len bytes more within =
@@ -24,7 +24,7 @@ range_stays from len bytes more within =
 within_stays : (bytes more : List ℕ) (span : Span) → LiesWithin bytes span → LiesWithin (bytes ++ more) span
 within_stays bytes more span within = let both = length-append bytes more in omega arith
 
--- outputs are the same with more bytes behind
+-- outputs are the same with more bytes after
 outputs_stay : (here : Here) (bytes more : List ℕ) (list : List Kept) →
     AllByRecursion (λ k. LiesWithin bytes k.body) list →
     map (output_in here (bytes ++ more)) list ≡ map (output_in here bytes) list

@@ -21,7 +21,7 @@ use Rattle.step_outputs.specs.declared.kept.What.TheVariants.{Quiet}
 abbrev pub bytes_in : List ℕ → Span → List ℕ
 bytes_in bytes span = range span.from span.len bytes
 
--- Where a body stands that is put behind bytes.
+-- Where a body stands that is put after bytes.
 abbrev pub span_of : (bytes body : List ℕ) → Span
 span_of bytes body = record { from = length bytes; len = length body }
 
@@ -70,15 +70,15 @@ under plan what = what
 abbrev pub number_below : ℕ → ℕ → Option ℕ
 number_below count k = if nat_lt k count then Some k else None
 
--- The next number behind it; those that no plan has are all the same.
+-- The next number after it; those that no plan has are all the same.
 abbrev pub number_behind : ℕ → ℕ → What → ℕ
 number_behind count k what = if takes_number what && nat_lt k count then k + 1 else k
 
 -- Outputs that take their numbers in order, from this one on.
-abbrev pub numbered : ℕ → ℕ → List Kept → List Kept
-numbered count k [] = []
-numbered count k (x ∷ list) = record x { what = under (number_below count k) x.what } ∷
-    numbered count (number_behind count k x.what) list
+abbrev pub numbered_outputs : ℕ → ℕ → List Kept → List Kept
+numbered_outputs count k [] = []
+numbered_outputs count k (x ∷ list) = record x { what = under (number_below count k) x.what } ∷
+    numbered_outputs count (number_behind count k x.what) list
 
 -- Outputs are kept in so many places: there is room for the rest of them, and for the longest body of each.
 pub record AreKept (places room room_of_bytes : ℕ) (bytes : List ℕ) (list : List Kept) : Type 0 where

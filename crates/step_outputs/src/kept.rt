@@ -75,7 +75,7 @@ pub(crate) fn body_of<'p>(event: &'p PoolEvent, pool: &'p Pool) -> &'p [u8]
     }
 }
 
-/// Where a body is to stand, behind those of the others.
+/// Where a body is to stand, after those of the others.
 pub(crate) fn span_behind(body: &[u8], bytes: &Vec<u8>) -> Span
     ensures { result ≡ span_of bytes.now.items body.now }
 {
@@ -86,7 +86,7 @@ pub(crate) fn span_behind(body: &[u8], bytes: &Vec<u8>) -> Span
     }
 }
 
-/// Puts the bytes of a body behind those of the others, and tells where they are.
+/// Puts the bytes of a body after those of the others, and tells where they are.
 pub(crate) fn keep_bytes(body: &[u8], bytes: &mut Vec<u8>) -> Span
     requires { vec_len bytes.old + length body.now ≤ vec_capacity bytes.old }
     ensures items { bytes.new.items ≡ bytes.old.items ++ body.now }
@@ -235,7 +235,7 @@ fn number_more(next: u32, count: u32) -> u32
 }
 
 /// An output takes the next number, if it takes one, and is sent short under it where there are more plans. Tells the
-/// next number behind it.
+/// next number after it.
 pub(crate) fn take_number(kept: &mut Kept, next: u32, count: u32) -> u32
     requires { count ≤ plans_limit }
     ensures kept { kept.new ≡ record kept.old { what = under (number_below count next) kept.old.what } }
@@ -254,7 +254,7 @@ pub(crate) fn take_number(kept: &mut Kept, next: u32, count: u32) -> u32
     }
 }
 
-/// Puts what an event is behind the others, with the headers of its message; there is none where it has no message.
+/// Puts what an event is after the others, with the headers of its message; there is none where it has no message.
 pub(crate) fn keep(list: &mut KeptList, what: What, event: &PoolEvent, body: Span)
     requires { length list.old.items < list.old.capacity }
     ensures { (p : List Held) →

@@ -1,8 +1,8 @@
-//! Outputs that are kept, one behind the other.
+//! Outputs that are kept, one after the other.
 
 ghost use Rattle.std.specs.Prelude.{◌≡◌, ◌≤◌, [], length, take};
 ghost use Rattle.stack_mean.specs.Plans.{plans_limit};
-ghost use Rattle.step_outputs.specs.Kept.{numbered};
+ghost use Rattle.step_outputs.specs.Kept.{numbered_outputs};
 
 use crate::kept::{Kept, Span, What, take_number};
 use msg_core::Headers;
@@ -33,7 +33,7 @@ impl KeptList {
     ghost use Rattle.std.specs.Prelude.{◌≡◌, ◌<◌, ◌≤◌, [], ◌∷◌, ◌++◌, length, IfOk};
     ghost use Rattle.circular_buffer.specs.Buffer.{buffer};
     ghost use Rattle.stack_mean.specs.Plans.{plans_limit};
-    ghost use Rattle.step_outputs.specs.Kept.{numbered};
+    ghost use Rattle.step_outputs.specs.Kept.{numbered_outputs};
 
     /// No output, with so many places.
     pub fn fresh(alloc: Global, places: usize) -> Result<KeptList, AllocError>
@@ -65,7 +65,7 @@ impl KeptList {
         self.count = 0;
     }
 
-    /// Puts one with these headers behind the others.
+    /// Puts one with these headers after the others.
     pub fn push(&mut self, what: What, headers: &Headers, body: Span)
         requires { length self.old.items < self.old.capacity }
         ensures { self.new ≡ buffer (self.old.items ++ record { what = what; headers = headers.now; body = body } ∷ [])
@@ -79,7 +79,7 @@ impl KeptList {
         self.places[last].headers.copy_from(headers);
     }
 
-    /// Puts one without headers behind the others.
+    /// Puts one without headers after the others.
     pub fn push_bare(&mut self, what: What, body: Span)
         requires { length self.old.items < self.old.capacity }
         ensures { self.new ≡ buffer (self.old.items ++ record { what = what; headers = []; body = body } ∷ [])
@@ -101,7 +101,7 @@ impl KeptList {
     /// Each takes its number, from this one on, of so many plans.
     pub fn number(&mut self, first: u32, count: u32)
         requires { count ≤ plans_limit }
-        ensures { self.new ≡ buffer (numbered count first self.old.items) self.old.capacity }
+        ensures { self.new ≡ buffer (numbered_outputs count first self.old.items) self.old.capacity }
     {
         number_front(self.places.as_mut_slice(), self.count, first, count);
     }
@@ -111,7 +111,7 @@ impl KeptList {
 fn number_front(list: &mut [Kept], used: usize, first: u32, count: u32)
     requires few { count ≤ plans_limit }
     requires within { used ≤ length list.old }
-    ensures { take used list.new ≡ numbered count first (take used list.old) }
+    ensures { take used list.new ≡ numbered_outputs count first (take used list.old) }
 {
     number_all(&mut list[..used], first, count);
 }
@@ -119,7 +119,7 @@ fn number_front(list: &mut [Kept], used: usize, first: u32, count: u32)
 /// Each of some outputs takes its number, from this one on, of so many plans.
 fn number_all(list: &mut [Kept], first: u32, count: u32)
     requires { count ≤ plans_limit }
-    ensures { list.new ≡ numbered count first list.old }
+    ensures { list.new ≡ numbered_outputs count first list.old }
 {
     let mut next = first;
     for kept in list.iter_mut() {

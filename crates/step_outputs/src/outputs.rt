@@ -12,7 +12,7 @@ ghost use Rattle.layer_mean.specs.Envelope.{event_in};
 ghost use Rattle.layer_mean.specs.Event.{carries};
 ghost use Rattle.pool_message.specs.Seen.{event_seen, EventLies};
 ghost use Rattle.run_mean.specs.Common.{with_plans};
-ghost use Rattle.run_mean.specs.Member.{announced, output_of, Output};
+ghost use Rattle.run_mean.specs.Member.{announced_ranks, output_of, Output};
 ghost use Rattle.step_outputs.specs.Gathered.{full_output};
 ghost use Rattle.step_outputs.specs.Views.{output_meant};
 
@@ -37,7 +37,7 @@ use std::marker::Model;
 pub struct Outputs {
     here: Here,
     list: KeptList,
-    /// The bodies, one behind the other.
+    /// The bodies, one after the other.
     bytes: Vec<u8>,
     places: usize,
 }
@@ -95,7 +95,7 @@ impl Outputs {
         self.bytes.clear();
     }
 
-    /// Puts what an event is that leaves the stack going up or down behind the others.
+    /// Puts what an event is that leaves the stack going up or down after the others.
     pub fn put(&mut self, direction: Dir, event: &PoolEvent, pool: &Pool)
         requires lies { EventLies pool.now event.now }
         requires brings { is_some event.now.message ≡ carries event.now.kind }
@@ -110,7 +110,7 @@ impl Outputs {
         keep(&mut self.list, what, event, body);
     }
 
-    /// Puts what an event is that leaves the stack with a message of these headers and a copy of these bytes behind the
+    /// Puts what an event is that leaves the stack with a message of these headers and a copy of these bytes after the
     /// others.
     pub fn put_content(
         &mut self,
@@ -134,7 +134,7 @@ impl Outputs {
         keep_bytes(body, &mut self.bytes);
     }
 
-    /// Puts what an event is that leaves the stack without a message behind the others.
+    /// Puts what an event is that leaves the stack without a message after the others.
     pub fn put_bare(&mut self, direction: Dir, envelope: Envelope)
         requires carries { carries envelope.kind ≡ false }
         requires room { length self.old.outputs < self.old.places }
@@ -190,7 +190,7 @@ impl Outputs {
 
     /// The ranks of the first view that is announced, as bits, if one is.
     pub fn first_announced(&self) -> Option<u32>
-        ensures { result ≡ slice_get (filter_map announced (map (λ o. o.0) self.now.outputs)) 0 }
+        ensures { result ≡ slice_get (filter_map announced_ranks (map (λ o. o.0) self.now.outputs)) 0 }
     {
         for kept in self.list.slice() {
             if let Some(ranks) = announces(kept) {

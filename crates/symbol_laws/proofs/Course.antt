@@ -1,4 +1,4 @@
--- What acts do on the states of a member by themselves: values are read from what each cell held behind each write, and
+-- What acts do on the states of a member by themselves: values are read from what each cell held after each write, and
 -- from the rows that were taken.
 use Rattle.std.specs.Prelude.{ℕ, suc, ◌+◌, ◌==◌, ◌&&◌, if◌then◌else◌, List, [], ◌∷◌, ◌++◌, map, length, drop, slice_get}
 use Rattle.std.specs.Prelude.{slice_index, slice_index_or, Option, Some, None, option_map}
@@ -10,7 +10,7 @@ use Rattle.layer_mean.specs.declared.run.Event.{Event}
 use Rattle.layer_mean.specs.declared.run.Row.{Row}
 use Rattle.layer_mean.specs.Event.{event_of}
 use Rattle.layer_mean.specs.State as state
-use Rattle.layer_mean.specs.State.{State, Contents, numbers_in, queues_in, flat_index, rows_at, row_at, filled}
+use Rattle.layer_mean.specs.State.{State, Contents, numbers_in, queues_in, flat_index, rows_at, row_at, with_queue}
 use Rattle.layer_mean.specs.Value.{is_true, applied, function_of, number_in, message_in}
 use Rattle.trace_mean.specs.Worth.{Input, state_of}
 use Rattle.trace_mean.specs.Follow.{Answer, reached, stopped}
@@ -79,7 +79,7 @@ pub record Course : Type 0 where
   pub outs : List (Dir × Event)
   pub checks : ℕ
 
--- what cells held, with what one holds behind its n-th write
+-- what cells held, with what one holds after its n-th write
 abbrev pub holding : (Seen → Contents) → ℕ → ℕ → ℕ → Contents → Seen → Contents
 holding f p c n now x = if (x.writes == n) && is_here x.place x.cell p c then now else f x
 
@@ -98,15 +98,16 @@ takes y row = record y { past = record y.past { rows = y.past.rows ++ row ∷ []
 
 abbrev pub acts : Input → Course → Act → Course
 acts i y (check e) = record y { checks = y.checks + 1 }
-acts i y (set p c e x) = writes y p c (state.written (worth i y.past e) (worth i y.past x) (cell_in y.states p c))
+acts i y (set p c e x) = writes y p c (state.with_element (worth i y.past e) (worth i y.past x) (cell_in y.states p c))
 acts i y (set_square p c r k x) = writes y p c
-    (state.written (flat_index i.count (worth i y.past r) (worth i y.past k)) (worth i y.past x) (cell_in y.states p c))
+    (state.with_element (flat_index i.count (worth i y.past r) (worth i y.past k)) (worth i y.past x)
+    (cell_in y.states p c))
 acts i y (push p c e numbers message) =
-    writes y p c (filled (worth i y.past e) (rows_at (state_of y.states p) c (worth i y.past e)
+    writes y p c (with_queue (worth i y.past e) (rows_at (state_of y.states p) c (worth i y.past e)
     ++ record { numbers = map (worth i y.past) numbers; message = option_map (sent_of i y.past) message } ∷ [])
     (cell_in y.states p c))
 acts i y (take p c e) = writes (takes y (row_at (state_of y.states p) c (worth i y.past e) 0)) p c
-    (filled (worth i y.past e) (drop 1 (rows_at (state_of y.states p) c (worth i y.past e))) (cell_in y.states p c))
+    (with_queue (worth i y.past e) (drop 1 (rows_at (state_of y.states p) c (worth i y.past e))) (cell_in y.states p c))
 acts i y (output dir kind numbers message) = record y {
   outs = y.outs ++ (dir, event_of kind (map (worth i y.past) numbers) (option_map (sent_of i y.past) message)) ∷ [];
 }

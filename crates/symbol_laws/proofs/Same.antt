@@ -7,7 +7,7 @@ use Rattle.layer_ast.specs.declared.tokens.Kind.{Kind}
 use Rattle.layer_mean.specs.declared.run.Row.{Row}
 use Rattle.layer_mean.specs.Event.{event_of}
 use Rattle.layer_mean.specs.State as state
-use Rattle.layer_mean.specs.State.{State, Contents, flat_index, rows_at, row_at, filled}
+use Rattle.layer_mean.specs.State.{State, Contents, flat_index, rows_at, row_at, with_queue}
 use Rattle.layer_mean.specs.Value.{is_true}
 use Rattle.trace_mean.specs.Trace.{Atom, TraceNumber, Chained, Operation, bind, note, check, set, set_square, push}
 use Rattle.trace_mean.specs.Trace.{take, output}
@@ -41,18 +41,19 @@ module _ (i : Input) where
 
     pub set_is : (p c : ℕ) (e x : TraceNumber) →
         writes (course v t f) p c
-        (state.written (number_of i t.kept t.states e) (number_of i t.kept t.states x) (cell_in t.states p c)) ≡
+        (state.with_element (number_of i t.kept t.states e) (number_of i t.kept t.states x) (cell_in t.states p c)) ≡
         acts i (course v t f) (value.set p c (number_value v e) (number_value v x))
-    set_is p c e x = λ z. writes (course v t f) p c (state.written (worth_is e z) (worth_is x z) (cell_in t.states p c))
+    set_is p c e x = λ z.
+        writes (course v t f) p c (state.with_element (worth_is e z) (worth_is x z) (cell_in t.states p c))
 
     pub set_square_is : (p c : ℕ) (r k x : TraceNumber) →
         writes (course v t f) p c
-        (state.written (flat_index i.count (number_of i t.kept t.states r) (number_of i t.kept t.states k))
+        (state.with_element (flat_index i.count (number_of i t.kept t.states r) (number_of i t.kept t.states k))
         (number_of i t.kept t.states x) (cell_in t.states p c)) ≡
         acts i (course v t f) (value.set_square p c (number_value v r) (number_value v k) (number_value v x))
     set_square_is p c r k x =
         λ z. writes (course v t f) p c
-        (state.written (flat_index i.count (worth_is r z) (worth_is k z)) (worth_is x z) (cell_in t.states p c))
+        (state.with_element (flat_index i.count (worth_is r z) (worth_is k z)) (worth_is x z) (cell_in t.states p c))
 
     pub row_is : (numbers : List TraceNumber) (message : Option Chained) →
         ◌≡◌ {A = Row} (record {
@@ -73,7 +74,7 @@ module _ (i : Input) where
 
     pub push_is : (p c : ℕ) (e : TraceNumber) (numbers : List TraceNumber) (message : Option Chained) →
         writes (course v t f) p c
-        (filled (number_of i t.kept t.states e) (rows_at (state_of t.states p) c (number_of i t.kept t.states e)
+        (with_queue (number_of i t.kept t.states e) (rows_at (state_of t.states p) c (number_of i t.kept t.states e)
         ++ record {
           numbers = map (number_of i t.kept t.states) numbers;
           message =
@@ -83,16 +84,16 @@ module _ (i : Input) where
         acts i (course v t f)
         (value.push p c (number_value v e) (map (number_value v) numbers) (option_map (chained_value v) message))
     push_is p c e numbers message = λ z.
-        writes (course v t f) p c (filled (worth_is e z) (rows_at (state_of t.states p) c (worth_is e z)
+        writes (course v t f) p c (with_queue (worth_is e z) (rows_at (state_of t.states p) c (worth_is e z)
         ++ row_is numbers message z ∷ []) (cell_in t.states p c))
 
     pub take_is : (p c : ℕ) (e : TraceNumber) →
         writes (takes (course v t f) (row_at (state_of t.states p) c (number_of i t.kept t.states e) 0)) p c
-        (filled (number_of i t.kept t.states e)
+        (with_queue (number_of i t.kept t.states e)
         (drop 1 (rows_at (state_of t.states p) c (number_of i t.kept t.states e))) (cell_in t.states p c)) ≡
         acts i (course v t f) (value.take p c (number_value v e))
     take_is p c e = λ z. writes (takes (course v t f) (row_at (state_of t.states p) c (worth_is e z) 0)) p c
-        (filled (worth_is e z) (drop 1 (rows_at (state_of t.states p) c (worth_is e z))) (cell_in t.states p c))
+        (with_queue (worth_is e z) (drop 1 (rows_at (state_of t.states p) c (worth_is e z))) (cell_in t.states p c))
 
     pub event_is : (kind : Kind) (numbers : List Atom) (message : Option Chained) →
         event_of kind (map (atom_at i t.kept) numbers) (option_map (content_at i t.kept) message) ≡

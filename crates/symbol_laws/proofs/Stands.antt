@@ -16,7 +16,7 @@ use Rattle.trace_mean.specs.Worth.{Input, Kept, atom_at, core_at, number_of, mes
 use Rattle.guard_mean.specs.Hoist.{is_here}
 use Rattle.guard_laws.proofs.States.{is_there, cell_in, celled, cell_after, here}
 use Rattle.symbol_mean.specs.Value.{Seen, number, nothing}
-use Rattle.symbol_mean.specs.Symbolic.{Values, writes_to, seen, taken_row, atom_value, core_value, number_value}
+use Rattle.symbol_mean.specs.Symbolic.{Values, writes_to, cell_seen, taken_row, atom_value, core_value, number_value}
 use Rattle.symbol_mean.specs.Symbolic.{message_value, link_value, chained_value, with_bound, with_noted, with_taken}
 use Rattle.symbol_mean.specs.Symbolic.{with_written}
 use Rattle.symbol_laws.proofs.Course.{Past, row_in, rows_of, worth, content, header_of, sent_of, holding}
@@ -36,15 +36,15 @@ later_same written taken h = record { cells = λ x less. refl; rows = λ k less.
 pub record Stands (i : Input) (v : Values) (k : Kept) (ss : List State) (f : Seen → Contents) : Type 0 where
   pub values : k.values ≡ []
   pub taken : v.takes ≡ length k.rows
-  pub now : (p c : ℕ) → f (seen v p c) ≡ cell_in ss p c
+  pub now : (p c : ℕ) → f (cell_seen v p c) ≡ cell_in ss p c
   pub numbers : (u : Past) → Later v.written v.takes (past k f) u → map (worth i u) v.numbers ≡ k.numbers
   pub messages : (u : Past) → Later v.written v.takes (past k f) u → map (content i u) v.messages ≡ k.messages
 
 module _ (i : Input) (v : Values) (k : Kept) (ss : List State) (f : Seen → Contents) (stands : Stands i v k ss f) where
   -- what expressions are worth
   module _ (u : Past) (later : Later v.written v.takes (past k f) u) where
-    cell_is : (p c : ℕ) → u.cells (seen v p c) ≡ cell_in ss p c
-    cell_is p c = later.cells (seen v p c) (omega arith) ∙ stands.now p c
+    cell_is : (p c : ℕ) → u.cells (cell_seen v p c) ≡ cell_in ss p c
+    cell_is p c = later.cells (cell_seen v p c) (omega arith) ∙ stands.now p c
 
     row_is : (row : ℕ) → row_in u (taken_row v row) ≡ slice_index_or k.rows row None
     row_is row = go (nat_lt row v.takes) refl where
@@ -160,7 +160,7 @@ module _ (i : Input) (v : Values) (k : Kept) (ss : List State) (f : Seen → Con
     abbrev cells : Seen → Contents
     cells = holding f p c (suc (writes_to v.written p c)) (cell_in changed p c)
 
-    now_is : (q d : ℕ) → cells (seen (with_written v p c) q d) ≡ cell_in changed q d
+    now_is : (q d : ℕ) → cells (cell_seen (with_written v p c) q d) ≡ cell_in changed q d
     now_is q d = go (is_here q d p c) refl where
       go : (b : Bool) → is_here q d p c ≡ b →
           cells (record {
@@ -178,8 +178,9 @@ module _ (i : Input) (v : Values) (k : Kept) (ss : List State) (f : Seen → Con
           ∙ (λ z. cell_in changed (sym at.0 z) (sym at.1 z))
       go false is = no (writes_to v.written q d == suc (writes_to v.written p c)) ∙ stands.now q d
           ∙ sym (cell_after ss p c held q d ∙ ap (λ b. if b && is_there ss p c then held else cell_in ss q d) is) where
-            no : (b : Bool) → (if b && is_here q d p c then cell_in changed p c else f (seen v q d)) ≡ f (seen v q d)
-            no true = ap (λ b. if b then cell_in changed p c else f (seen v q d)) is
+            no : (b : Bool) → (if b && is_here q d p c then cell_in changed p c else f (cell_seen v q d)) ≡
+                f (cell_seen v q d)
+            no true = ap (λ b. if b then cell_in changed p c else f (cell_seen v q d)) is
             no false = refl
 
     -- what was held before isn't lost

@@ -10,7 +10,7 @@ use Rattle.symbol_mean.specs.Value.{NumberValue, number, peer, taken_number, ele
 use Rattle.symbol_mean.specs.Value.{set_square, push, take, output}
 use Rattle.symbol_mean.specs.Symbolic.{symbolic}
 
--- Cell 0 of place 0, behind so many writes.
+-- Cell 0 of place 0, after so many writes.
 abbrev pub cell_behind : ℕ → NumberValue
 cell_behind n = element (record { place = 0; cell = 0; writes = n }) (number 0)
 
@@ -22,8 +22,8 @@ put_out numbers fields = trace.output Down Cast numbers (with_chain (link 0 1 fi
 
 -- A number that is read, counted on and sent as it was: as the layer's text has it, and with each bind written out
 -- where it can be.
-abbrev pub counted : List Operation
-counted = bind (atom trace.peer) ∷ bind (cell 0 0) ∷ trace.set 0 0 (lit 0) (next (cell 0 0)) ∷
+abbrev pub counting_trace : List Operation
+counting_trace = bind (atom trace.peer) ∷ bind (cell 0 0) ∷ trace.set 0 0 (lit 0) (next (cell 0 0)) ∷
     put_out (bound 0 ∷ []) (bound 1 ∷ []) ∷ []
 
 abbrev pub written_out : List Operation
@@ -37,14 +37,14 @@ counted_acts = set 0 0 (number 0) (binary Add (cell_behind 0) (number 1)) ∷ ou
 })) ∷ []
 
 abbrev pub BindsWriteOut : Type 0
-BindsWriteOut = (symbolic counted ≡ counted_acts) × (symbolic written_out ≡ counted_acts)
+BindsWriteOut = (symbolic counting_trace ≡ counted_acts) × (symbolic written_out ≡ counted_acts)
 
--- With its bind behind the set it sends another number.
+-- With its bind after the set it sends another number.
 abbrev pub counted_late : List Operation
 counted_late = trace.set 0 0 (lit 0) (next (cell 0 0)) ∷ bind (cell 0 0) ∷ put_out (trace.peer ∷ []) (bound 0 ∷ []) ∷ []
 
 abbrev pub LateDiffers : Type 0
-LateDiffers = symbolic counted_late ≡ symbolic counted → ⊥
+LateDiffers = symbolic counted_late ≡ symbolic counting_trace → ⊥
 
 -- Another number differs.
 abbrev pub counting_by : ℕ → List Operation
@@ -53,7 +53,7 @@ counting_by n = trace.set 0 1 (atom trace.peer) (trace.binary Add (atom (trace.f
 abbrev pub NumbersDiffer : Type 0
 NumbersDiffer = symbolic (counting_by 1) ≡ symbolic (counting_by 2) → ⊥
 
--- A check behind a set of what it reads.
+-- A check after a set of what it reads.
 abbrev pub is_due : Operation
 is_due = trace.check (trace.binary Equal (atom (trace.field 0)) (cell 0 0))
 

@@ -27,8 +27,8 @@ abbrev pub writes_to : List (ℕ × ℕ) → ℕ → ℕ → ℕ
 writes_to [] p c = 0
 writes_to (w ∷ written) p c = if is_here p c w.0 w.1 then suc (writes_to written p c) else writes_to written p c
 
-abbrev pub seen : Values → ℕ → ℕ → Seen
-seen v p c = record { place = p; cell = c; writes = writes_to v.written p c }
+abbrev pub cell_seen : Values → ℕ → ℕ → Seen
+cell_seen v p c = record { place = p; cell = c; writes = writes_to v.written p c }
 
 -- A row, where it was taken already.
 abbrev pub taken_row : Values → ℕ → Option ℕ
@@ -56,10 +56,10 @@ abbrev mutual
   number_value v trace.me = me
   number_value v trace.count = count
   number_value v trace.ltime = ltime
-  number_value v (trace.element p c e) = element (seen v p c) (number_value v e)
-  number_value v (trace.square p c r k) = square (seen v p c) (number_value v r) (number_value v k)
-  number_value v (trace.rows p c e) = rows (seen v p c) (number_value v e)
-  number_value v (trace.item p c e r k) = item (seen v p c) (number_value v e) (number_value v r) k
+  number_value v (trace.element p c e) = element (cell_seen v p c) (number_value v e)
+  number_value v (trace.square p c r k) = square (cell_seen v p c) (number_value v r) (number_value v k)
+  number_value v (trace.rows p c e) = rows (cell_seen v p c) (number_value v e)
+  number_value v (trace.item p c e r k) = item (cell_seen v p c) (number_value v e) (number_value v r) k
   number_value v (trace.size m) = size (message_value v m)
   number_value v (trace.binary o a b) = binary o (number_value v a) (number_value v b)
   number_value v (trace.apply f a) = apply f (number_value v a)
@@ -67,12 +67,12 @@ abbrev mutual
 
   pub message_value : Values → TraceMessage → MessageValue
   message_value v (core c) = core_value v c
-  message_value v (trace.held p c e r carried) = held (seen v p c) (number_value v e) (number_value v r) carried
+  message_value v (trace.held p c e r carried) = held (cell_seen v p c) (number_value v e) (number_value v r) carried
   message_value v (trace.cut m f n) = cut (message_value v m) (number_value v f) (number_value v n)
   message_value v (trace.tail m f) = tail (message_value v m) (number_value v f)
   message_value v (trace.join a b) = join (message_value v a) (message_value v b)
 
--- The values of a message behind known headers.
+-- The values of a message after known headers.
 abbrev pub link_value : Values → Link → LinkValue
 link_value v l = record { place = l.place; tag = l.tag; fields = map (atom_value v) l.fields }
 

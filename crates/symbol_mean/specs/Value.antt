@@ -43,7 +43,7 @@ mutual
     tail : MessageValue → (from : NumberValue) → MessageValue
     join : MessageValue → MessageValue → MessageValue
 
--- A known header, and a message behind such headers.
+-- A known header, and a message after such headers.
 pub record LinkValue : Type 0 where
   pub place : ℕ
   pub tag : ℕ

@@ -9,7 +9,7 @@ pub fn binds_write_out()
     ensures { BindsWriteOut }
 {}
 
-/// One that is made behind a set of its cell does.
+/// One that is made after a set of its cell does.
 pub fn late_differs()
     ensures { LateDiffers }
 {}
@@ -19,7 +19,7 @@ pub fn numbers_differ()
     ensures { NumbersDiffer }
 {}
 
-/// And a check that is moved behind a set of what it reads.
+/// And a check that is moved after a set of what it reads.
 pub fn checks_stay()
     ensures { ChecksStay }
 {}

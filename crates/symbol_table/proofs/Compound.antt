@@ -13,7 +13,7 @@ use Rattle.trace_core.specs.View as term
 use Rattle.trace_core.specs.View.{Term, load_tree, term_of}
 use Rattle.trace_core.specs.Arena as arena
 use Rattle.symbol_mean.specs.Value as value
-use Rattle.symbol_mean.specs.Symbolic.{Values, seen, number_value, message_value}
+use Rattle.symbol_mean.specs.Symbolic.{Values, cell_seen, number_value, message_value}
 use Rattle.symbol_table.specs.declared.sort.Sort.{Sort}
 use Rattle.symbol_table.specs.declared.sort.Sort.TheVariants as sorts
 use Rattle.symbol_table.specs.declared.form.Seen.{Seen}
@@ -126,7 +126,7 @@ module _ (ts : List Term) (ms : List Meant) (v : Values) where
   m2 : (j i : ℕ) (rest vs : List ℕ) → arena.IsMessage ts i → Parts (j ∷ i ∷ rest) vs → MessagePart i (slice_index vs 1)
   m2 j i rest vs b h = message_part i (slice_index vs 1) b (second_part ms vs (meant j) (meant i) (map meant rest) h)
 
-  module _ (sees : ℕ → ℕ → Seen) (same : (p c : ℕ) → seen_tree (sees p c) ≡ seen v p c) where
+  module _ (sees : ℕ → ℕ → Seen) (same : (p c : ℕ) → seen_tree (sees p c) ≡ cell_seen v p c) where
     -- A form is well, and means what a node does.
     pub record FormIs (x : Node) (f : Form) : Type 0 where
       pub well : IsWell ms f

@@ -1,4 +1,4 @@
--- What a form of a list stands for, once others are behind it.
+-- What a form of a list stands for, once others are after it.
 use Rattle.std.proofs.Common.{◌≡◌, ℕ, zero, suc, ◌+◌, ◌<◌, List, [], ◌∷◌, ◌++◌, length, Option, Some, refl, sym, ap}
 use Rattle.std.proofs.Common.{subst, ◌∙◌, arith}
 use Rattle.std.specs.List.{fold, slice_get}
@@ -203,7 +203,7 @@ pub form_found : (fs : List Form) (k : ℕ) (x : Form) → AreWell [] fs → sli
 unfolding meanings
 form_found fs k x h e = let same : k ≡ 0 + k = omega arith in form_in [] fs k k x same h e
 
--- what a form stands for stays where it is put behind its parts
+-- what a form stands for stays where it is put after its parts
 pub last_stays : (old : List Form) (x : Form) → IsWell (meanings old) x → meant_of (meanings (old ++ x ∷ [])) x ≡
     meant_of (meanings old) x
 last_stays old x b = meant_stays (meanings old) (meanings (old ++ x ∷ [])) (meanings_agree old (x ∷ [])) x b

@@ -1,4 +1,4 @@
--- What is known behind one more operation, and its act.
+-- What is known after one more operation, and its act.
 use Rattle.std.proofs.Common.{◌≡◌, ℕ, suc, ◌+◌, ◌<◌, List, [], ◌∷◌, ◌++◌, length, take, Option, Some, refl, sym, ap}
 use Rattle.std.proofs.Common.{subst, ◌∙◌, arith}
 use Rattle.std.specs.Prelude.{option_to_list, option_map, if◌then◌else◌}
@@ -186,7 +186,7 @@ stepped a b c w u acts new made o there h m l e = record {
   };
 }
 
--- In front of all operations nothing is known.
+-- Before all operations nothing is known.
 none_known : (os : List trace.Operation) (n : ℕ) → n ≡ 0 → values_after os n ≡ no_values
 unfolding values_after
 none_known os n e = ap (λ k. fold known_after no_values (take k os)) e

@@ -23,7 +23,7 @@ use Rattle.symbol_table.specs.Walk.{known_to, AreNumbers, AllNumbers, AllMade, S
 use Rattle.symbol_table.proofs.Growing.{grown_on, not_grown, stands_grown, made_as, made_behind, number_is}
 use Rattle.symbol_table.proofs.Growing.{number_there, message_is, zip_last, numbers_grown, all_grown}
 
--- One more behind the first of some.
+-- One more after the first of some.
 pub one_more : {A : Type 0} (xs : List A) (many : ℕ) (d : A) → 1 ≤ many → many ≤ length xs →
     take many xs ≡ take (many - 1) xs ++ get_or xs (many - 1) d ∷ []
 one_more xs many d pos le = let e : many - 1 + 1 ≡ many = omega (arith, pos) in

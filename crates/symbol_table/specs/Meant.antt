@@ -63,7 +63,7 @@ sending_in ms k = sending_of (slice_get ms k)
 abbrev pub seen_tree : Seen → value.Seen
 seen_tree s = record { place = s.place; cell = s.cell; writes = s.writes }
 
--- What a form behind these stands for.
+-- What a form after these stands for.
 abbrev pub number_meant : List Meant → number_form.NumberForm → NumberValue
 number_meant ms (numbers.Number n) = value.number n
 number_meant ms numbers.Peer = value.peer

@@ -62,7 +62,7 @@ fn go(table: &mut Table, walk: &mut Walk<'_>, acts: &mut Vec<ActForm>) -> Result
     Ok(())
 }
 
-/// A trace in front of its operations.
+/// A trace before its operations.
 #[tactic(auto, using(crate::proofs::Learning::begun))]
 fn begin<'a>(alloc: Global, trace: &'a Trace) -> Walk<'a>
     ensures trace { result.trace ≡ trace.entry }

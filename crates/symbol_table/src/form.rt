@@ -103,7 +103,7 @@ pub enum MessageForm {
     },
 }
 
-/// What is stored and sent: numbers, known headers, and messages behind these.
+/// What is stored and sent: numbers, known headers, and messages after these.
 #[derive(Clone, Copy, Debug, PartialEq, Eq, Hash)]
 pub enum SentForm {
     NoNumbers,

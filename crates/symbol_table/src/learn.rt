@@ -1,4 +1,4 @@
-//! What is known behind one more operation.
+//! What is known after one more operation.
 
 ghost use Rattle.std.specs.Prelude.{◌≡◌, ◌<◌, ◌+◌, OnOk, length};
 ghost use Rattle.trace_mean.specs.Trace as trace;
@@ -46,7 +46,7 @@ fn note(table: &mut Table, walk: &mut Walk<'_>, node: u32) -> Result<(), AllocEr
     Ok(())
 }
 
-/// A cell is written, behind so many takes.
+/// A cell is written, after so many takes.
 fn write(walk: &mut Walk<'_>, place: u8, cell: u8, takes: u32) -> Result<(), AllocError>
     requires more { walk.old.done < length walk.old.trace.now.operations.items }
     ensures { OnOk result (Wrote walk.old walk.new place cell takes) }
@@ -78,7 +78,7 @@ fn pass(walk: &mut Walk<'_>)
     walk.done += 1;
 }
 
-/// What is known behind an operation.
+/// What is known after an operation.
 #[tactic(auto, using(crate::proofs::Learning::set_learns, crate::proofs::Learning::take_learns, crate::proofs::Learning::pass_learns))]
 pub(crate) fn learn(
     table: &mut Table,

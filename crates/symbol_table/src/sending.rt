@@ -1,4 +1,4 @@
-//! What is stored and sent, put into a table: rows of numbers, chains of known headers, and messages behind these.
+//! What is stored and sent, put into a table: rows of numbers, chains of known headers, and messages after these.
 
 ghost use Rattle.std.specs.Prelude.{◌≡◌, ◌+◌, ◌≤◌, Some, drop, length, map, option_map, slice_index_or, take};
 ghost use Rattle.msg_core.specs.Headers.{most_fields};
@@ -84,7 +84,8 @@ pub(crate) fn row(table: &mut Table, numbers: &Fields) -> Result<u32, AllocError
 #[tactic(auto, using(crate::proofs::Sent::all_numbers, crate::proofs::Sent::row_of_numbers))]
 pub(crate) fn atom_row(table: &mut Table, walk: &Walk<'_>, atoms: &Atoms) -> Result<u32, AllocError>
     requires knows { Knows table.old walk.now }
-    ensures { Makes table.old table.new (a_row (map (atom_value (known_to walk.now)) (map atom_tree atoms.now))) result }
+    ensures { Makes table.old table.new (a_row (map (atom_value (known_to walk.now)) (map atom_tree atoms.now)))
+        result }
 {
     let many = atoms.len();
     let values = atom_values(table, walk, atoms, many)?;
@@ -120,7 +121,7 @@ fn chain(table: &mut Table, walk: &Walk<'_>, number: u32) -> Result<u32, AllocEr
     }
 }
 
-/// A message behind known headers.
+/// A message after known headers.
 #[tactic(auto, using(crate::proofs::Sent::message_sent, crate::proofs::Sent::chain_later, crate::proofs::Growing::message_later, crate::proofs::Growing::knows_made))]
 fn sent_message(table: &mut Table, walk: &Walk<'_>, sent: Chained) -> Result<u32, AllocError>
     requires there { links.IsChain (chains walk.now.trace.now.links) sent.chain }

@@ -62,7 +62,7 @@ impl Table {
         Ok(number as u32)
     }
 
-    /// Each value stands once, behind its parts.
+    /// Each value stands once, after its parts.
     pub fn is_sound(&self)
         ensures once { AreOne self.now }
         ensures well { AreWell [] self.now }

@@ -1,10 +1,10 @@
--- Known headers, one behind the other.
+-- Known headers, one after the other.
 use Rattle.std.proofs.Common.{◌≡◌, ℕ, suc, zero, ◌-◌, ◌<◌, List, [], ◌∷◌, ◌++◌, codes, sym, ap, subst, ◌∙◌, arith}
 use Rattle.std.proofs.lemmas.List.{append-nil, append_assoc}
 use Rattle.std.specs.Option.{option_map_or}
 use Rattle.std.specs.Prelude.{OnOk, Result, Ok, Err, slice_get}
 use Rattle.bypass_mean.specs.Text.{Written, atom_text, behind, link_text}
-use Rattle.layer_mean.specs.Headers.{declared}
+use Rattle.layer_mean.specs.Headers.{header_of_tag}
 use Rattle.layer_mean.specs.Tree.{LayerTree}
 use Rattle.synth_print.specs.Headers.{header_called, more_links}
 use Rattle.trace_core.specs.Links.{IsFrontLink, chain_in, link_tree}
@@ -12,7 +12,7 @@ use Rattle.trace_core.specs.declared.links.Link.{Link}
 use Rattle.trace_mean.specs.Fuse.{fields_of}
 use Rattle.trace_mean.specs.Trace as trace
 
--- a declared header stands behind `none`
+-- a declared header stands after `none`
 later_get : {X : Type 0} (x : X) (xs : List X) (k : ℕ) → 0 < k → slice_get (x ∷ xs) k ≡ slice_get xs (k - 1)
 later_get x xs zero lt = absurd (omega (arith, lt))
 later_get x xs (suc k) lt = let same : k ≡ suc k - 1 = omega arith in ap (slice_get xs) same
@@ -20,7 +20,7 @@ later_get x xs (suc k) lt = let same : k ≡ suc k - 1 = omega arith in ap (slic
 pub declared_behind : {E : Type 0} (r : Result (Unit {0}) E) (layer : LayerTree) (tag number : ℕ) (old new : List ℕ) →
     0 < tag → number ≡ tag - 1 →
     OnOk r (new ≡ old ++ header_called (slice_get layer.headers number)) →
-    OnOk r (new ≡ old ++ header_called (declared layer tag))
+    OnOk r (new ≡ old ++ header_called (header_of_tag layer tag))
 declared_behind r layer tag number old new lt is put =
     subst (λ h. OnOk r (new ≡ old ++ header_called h))
     (ap (slice_get layer.headers) is ∙ sym (later_get _ layer.headers tag lt)) put

@@ -6,9 +6,10 @@ use Rattle.std.specs.Option.{option_map_or}
 use Rattle.std.specs.Prelude.{codes, slice_index_or}
 use Rattle.layer_ast.specs.Spelling.{kind_word}
 use Rattle.layer_ast.specs.Printed.{direction_sign, function_sign, operator_sign}
-use Rattle.layer_mean.specs.Headers.{declared}
+use Rattle.layer_mean.specs.Headers.{header_of_tag}
 use Rattle.bypass_mean.specs.Text as mean
-use Rattle.bypass_mean.specs.Text.{atom_text, core_text, cell_text, cell_name, indexed, listed, number_text}
+use Rattle.bypass_mean.specs.Text.{atom_text, core_text, cell_text, cell_name, bracketed_index, bracketed_list}
+use Rattle.bypass_mean.specs.Text.{number_text}
 use Rattle.bypass_mean.specs.Text.{message_text, line_of, writes, sign_text}
 use Rattle.layer_mean.specs.Tree.{LayerTree}
 use Rattle.synth_print.specs.Headers.{header_called, more_links}
@@ -44,26 +45,26 @@ module _ (stack : List LayerTree) (many : ℕ) (w : mean.Written) where
     number_bare trace.ltime = refl
     number_bare (trace.element p c e) = λ t. cell_text stack p c (number_bare e t)
     number_bare (trace.square p c i j) =
-        λ t. cell_name stack p c ++ indexed (number_bare i t) ++ indexed (number_bare j t)
-    number_bare (trace.rows p c e) = λ t. codes "len" ++ listed (cell_text stack p c (number_bare e t) ∷ [])
+        λ t. cell_name stack p c ++ bracketed_index (number_bare i t) ++ bracketed_index (number_bare j t)
+    number_bare (trace.rows p c e) = λ t. codes "len" ++ bracketed_list (cell_text stack p c (number_bare e t) ∷ [])
     number_bare (trace.item p c e row k) =
-        λ t. codes "at" ++ listed (cell_text stack p c (number_bare e t) ∷ number_bare row t ∷ []) ++ codes "."
+        λ t. codes "at" ++ bracketed_list (cell_text stack p c (number_bare e t) ∷ number_bare row t ∷ []) ++ codes "."
         ++ slice_index_or (mean.numbers_called (form_at (mean.layer_of stack p) c)) k []
-    number_bare (trace.size m) = λ t. codes "size" ++ listed (message_bare m t ∷ [])
+    number_bare (trace.size m) = λ t. codes "size" ++ bracketed_list (message_bare m t ∷ [])
     number_bare (trace.binary o a b) = λ t. codes "(" ++ number_bare a t ++ codes " " ++ sign_text (operator_sign o)
         ++ codes " " ++ number_bare b t ++ codes ")"
-    number_bare (trace.apply f a) = λ t. sign_text (function_sign f) ++ listed (number_bare a t ∷ [])
+    number_bare (trace.apply f a) = λ t. sign_text (function_sign f) ++ bracketed_list (number_bare a t ∷ [])
     number_bare (trace.pick c a b) =
-        λ t. codes "pick" ++ listed (number_bare c t ∷ number_bare a t ∷ number_bare b t ∷ [])
+        λ t. codes "pick" ++ bracketed_list (number_bare c t ∷ number_bare a t ∷ number_bare b t ∷ [])
 
     pub message_bare : (m : TraceMessage) → message_text stack (counting many w) m ≡ message_text stack w m
     message_bare (trace.core c) = core_bare c
     message_bare (trace.held p c e row carried) =
-        λ t. codes "held" ++ listed (cell_text stack p c (number_bare e t) ∷ number_bare row t ∷ [])
+        λ t. codes "held" ++ bracketed_list (cell_text stack p c (number_bare e t) ∷ number_bare row t ∷ [])
     message_bare (trace.cut m i n) =
-        λ t. codes "cut" ++ listed (message_bare m t ∷ number_bare i t ∷ number_bare n t ∷ [])
-    message_bare (trace.tail m i) = λ t. codes "tail" ++ listed (message_bare m t ∷ number_bare i t ∷ [])
-    message_bare (trace.join m x) = λ t. codes "join" ++ listed (message_bare m t ∷ message_bare x t ∷ [])
+        λ t. codes "cut" ++ bracketed_list (message_bare m t ∷ number_bare i t ∷ number_bare n t ∷ [])
+    message_bare (trace.tail m i) = λ t. codes "tail" ++ bracketed_list (message_bare m t ∷ number_bare i t ∷ [])
+    message_bare (trace.join m x) = λ t. codes "join" ++ bracketed_list (message_bare m t ∷ message_bare x t ∷ [])
 
   atoms_bare : (atoms : List Atom) → map (atom_text (counting many w)) atoms ≡ map (atom_text w) atoms
   atoms_bare [] = refl
@@ -77,8 +78,8 @@ module _ (stack : List LayerTree) (many : ℕ) (w : mean.Written) where
   link_bare : (l : trace.Link) →
       mean.link_text stack (atom_text (counting many w)) l ≡ mean.link_text stack (atom_text w) l
   link_bare l = λ t. (mean.layer_of stack l.place).name ++ codes "." ++
-      header_called (declared (mean.layer_of stack l.place) l.tag)
-      ++ listed (atoms_bare l.fields t)
+      header_called (header_of_tag (mean.layer_of stack l.place) l.tag)
+      ++ bracketed_list (atoms_bare l.fields t)
 
   more_bare : (ls : List trace.Link) → more_links stack (counting many w) ls ≡ more_links stack w ls
   more_bare [] = refl
@@ -119,16 +120,16 @@ line_bare stack w (trace.set_square p c i j x) =
     number_bare stack w.binds w x t
 line_bare stack w (trace.push p c e row message) = λ t. codes "push " ++
     cell_text stack p c (number_bare stack w.binds w e t) ++ codes " "
-    ++ listed (numbers_bare stack w.binds w row t ++ message_parts stack w.binds w message t)
+    ++ bracketed_list (numbers_bare stack w.binds w row t ++ message_parts stack w.binds w message t)
 line_bare stack w (trace.take p c e) =
     λ t. codes "take " ++ cell_text stack p c (number_bare stack w.binds w e t) ++ codes " row." ++
     decimal (length w.rows)
 line_bare stack w (trace.output dir kind arguments message) =
     λ t. codes "out " ++ sign_text (direction_sign dir) ++ codes " " ++ kind_word kind
-    ++ listed (atoms_bare stack w.binds w arguments t ++ core_parts stack w.binds w message t) ++
+    ++ bracketed_list (atoms_bare stack w.binds w arguments t ++ core_parts stack w.binds w message t) ++
     header_parts stack w.binds w message t
 
--- an operation does the same to what was written without lines, and puts its line behind those that there are
+-- an operation does the same to what was written without lines, and puts its line after those that there are
 pub writes_bare : (noting : Bool) (stack : List LayerTree) (w : mean.Written) (o : Operation) →
     bare (writes noting stack (bare w) o) ≡ bare (writes noting stack w o)
 writes_bare noting stack w (trace.bind e) = refl

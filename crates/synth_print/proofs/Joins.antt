@@ -10,7 +10,7 @@ use Rattle.bypass_mean.specs.Text.{Written, atom_text, number_text}
 use Rattle.layer_mean.specs.Tree.{LayerTree}
 use Rattle.report_lines.proofs.Joined.{join_step, line_more}
 use Rattle.report_lines.specs.Lead.{lead}
-use Rattle.synth_print.specs.Headers.{atom_texts, joined}
+use Rattle.synth_print.specs.Headers.{atom_texts, comma_list}
 use Rattle.synth_print.specs.Operations.{core_of, last_part, listed_cores, listed_rows, number_texts, pushed_of}
 use Rattle.trace_core.specs.Operations.{operation_in}
 use Rattle.trace_core.specs.View.{Term, atom_tree, number_in}
@@ -19,10 +19,10 @@ use Rattle.trace_core.specs.declared.operation.Chained.{Chained}
 use Rattle.trace_core.specs.declared.operation.Operation.{Operation}
 use Rattle.trace_mean.specs.Trace as trace
 
--- one more text behind a line that has those before it
-pub line_lead : (parts : List (List ℕ)) (k : ℕ) (base a b c : List ℕ) → a ≡ base ++ joined (take k parts) →
+-- one more text after a line that has those before it
+pub line_lead : (parts : List (List ℕ)) (k : ℕ) (base a b c : List ℕ) → a ≡ base ++ comma_list (take k parts) →
     b ≡ a ++ lead (codes ",") k →
-    c ≡ b ++ get_or parts k [] → k < length parts → c ≡ base ++ joined (take (k + 1) parts)
+    c ≡ b ++ get_or parts k [] → k < length parts → c ≡ base ++ comma_list (take (k + 1) parts)
 line_lead parts k base a b c ea eb ec lt = line_more (λ part. part) (codes ",") parts k (get_or parts k []) [] base a b
     c ea eb ec lt refl
 
@@ -63,10 +63,10 @@ atom_missing w atoms k old is =
 
 -- parts and a last one, in brackets
 with_last : (parts : List (List ℕ)) (n : ℕ) (text : List ℕ) → n ≡ length parts →
-    joined (parts ++ text ∷ []) ≡ joined parts ++ last_part n (Some text)
+    comma_list (parts ++ text ∷ []) ≡ comma_list parts ++ last_part n (Some text)
 with_last parts n text is = join_step (λ part. part) (codes ",") parts text
-    ∙ append_assoc (joined parts) (lead (codes ",") (length parts)) text
-    ∙ ap (λ k. joined parts ++ last_part k (Some text)) (sym is)
+    ∙ append_assoc (comma_list parts) (lead (codes ",") (length parts)) text
+    ∙ ap (λ k. comma_list parts ++ last_part k (Some text)) (sym is)
 
 bracketed : {E : Type 0} (r : Result (Unit {0}) E) (old new parts last all : List ℕ) → all ≡ parts ++ last →
     OnOk r (new ≡ old ++ codes "(" ++ parts ++ last ++ codes ")") →
@@ -86,21 +86,21 @@ pub many_numbers : (stack : List LayerTree) (w : Written) (ts : List Term) (ks :
 many_numbers stack w ts ks = length-map (map (number_in ts) ks) (number_text stack w) ∙ length-map ks (number_in ts)
 
 all_parts : (parts : List (List ℕ)) (n : ℕ) (last : Option (List ℕ)) → n ≡ length parts →
-    joined (parts ++ option_to_list last) ≡ joined parts ++ last_part n last
-all_parts parts n None is = ap joined (append-nil parts) ∙ sym (append-nil (joined parts))
+    comma_list (parts ++ option_to_list last) ≡ comma_list parts ++ last_part n last
+all_parts parts n None is = ap comma_list (append-nil parts) ∙ sym (append-nil (comma_list parts))
 all_parts parts n (Some text) is = with_last parts n text is
 
 pub cores_listed : {E : Type 0} (w : Written) (cs : List (List trace.Link)) (atoms : List Atom)
     (message : Option Chained) (r : Result (Unit {0}) E)
     (old new : List ℕ) →
-    OnOk r (new ≡ old ++ codes "(" ++ joined (atom_texts w atoms) ++
+    OnOk r (new ≡ old ++ codes "(" ++ comma_list (atom_texts w atoms) ++
     last_part (length atoms) (option_map (core_of w) message) ++ codes ")") →
     OnOk r (new ≡ old ++ listed_cores w cs atoms message)
 cores_listed w cs atoms None r old new put =
-    bracketed r old new (joined (atom_texts w atoms)) [] (joined (atom_texts w atoms ++ []))
+    bracketed r old new (comma_list (atom_texts w atoms)) [] (comma_list (atom_texts w atoms ++ []))
     (all_parts (atom_texts w atoms) (length atoms) None (sym (many_atoms w atoms))) put
 cores_listed w cs atoms (Some m) r old new put =
-    bracketed r old new (joined (atom_texts w atoms)) (last_part (length atoms) (Some (core_of w m))) (joined
+    bracketed r old new (comma_list (atom_texts w atoms)) (last_part (length atoms) (Some (core_of w m))) (comma_list
     (atom_texts w atoms ++ core_of w m ∷ []))
     (all_parts (atom_texts w atoms) (length atoms) (Some (core_of w m)) (sym (many_atoms w atoms))) put
 
@@ -108,15 +108,16 @@ pub rows_listed : {E : Type 0} (stack : List LayerTree) (w : Written) (ts : List
     (ks : List ℕ)
     (message : Option Chained) (r : Result (Unit {0}) E) (old new : List ℕ) →
     OnOk r (new ≡ old
-    ++ codes "(" ++ joined (number_texts stack w ts ks) ++
+    ++ codes "(" ++ comma_list (number_texts stack w ts ks) ++
     last_part (length ks) (option_map (pushed_of stack w cs) message) ++ codes ")") →
     OnOk r (new ≡ old ++ listed_rows stack w ts cs ks message)
 rows_listed stack w ts cs ks None r old new put =
-    bracketed r old new (joined (number_texts stack w ts ks)) [] (joined (number_texts stack w ts ks ++ []))
+    bracketed r old new (comma_list (number_texts stack w ts ks)) [] (comma_list (number_texts stack w ts ks ++ []))
     (all_parts (number_texts stack w ts ks) (length ks) None (sym (many_numbers stack w ts ks))) put
 rows_listed stack w ts cs ks (Some m) r old new put =
-    bracketed r old new (joined (number_texts stack w ts ks)) (last_part (length ks) (Some (pushed_of stack w cs m)))
-    (joined (number_texts stack w ts ks ++ pushed_of stack w cs m ∷ []))
+    bracketed r old new (comma_list (number_texts stack w ts ks))
+    (last_part (length ks) (Some (pushed_of stack w cs m)))
+    (comma_list (number_texts stack w ts ks ++ pushed_of stack w cs m ∷ []))
     (all_parts (number_texts stack w ts ks) (length ks) (Some (pushed_of stack w cs m))
     (sym (many_numbers stack w ts ks))) put
 

@@ -12,7 +12,7 @@ use Rattle.outside.specs.declared.sink.SinkError.{SinkError}
 use Rattle.outside.specs.Tells.{Tells}
 use Rattle.outside.specs.Lines.{Gains, Wrote}
 use Rattle.outside.proofs.Gaining.{cut_short, gains_then}
-use Rattle.synth_print.specs.Lines.{all_done, bare, conjunct_turn, done_lines, ended, opened_line, value_turn}
+use Rattle.synth_print.specs.Lines.{all_done, bare, conjunct_turn, done_lines, ended_lines, opened_line, value_turn}
 use Rattle.synth_print.proofs.Follows.{writes_bare, writes_lines}
 use Rattle.trace_mean.specs.Trace.{TraceNumber, Operation, Guarded}
 
@@ -22,19 +22,19 @@ so_far noting stack os = fold (writes noting stack) nothing_written os
 
 -- lines of operations as they are put
 put_lines : Bool → List (List ℕ) → List (List ℕ)
-put_lines noting lines = ended (map (opened_line noting) lines)
+put_lines noting lines = ended_lines (map (opened_line noting) lines)
 
-ended_both : (xs ys : List (List ℕ)) → ended (xs ++ ys) ≡ ended xs ++ ended ys
+ended_both : (xs ys : List (List ℕ)) → ended_lines (xs ++ ys) ≡ ended_lines xs ++ ended_lines ys
 ended_both xs ys = map-append ended_line xs ys
 
 put_both : (noting : Bool) (xs ys : List (List ℕ)) → put_lines noting (xs ++ ys) ≡ put_lines noting xs ++
     put_lines noting ys
 unfolding put_lines
 put_both noting xs ys =
-    ap ended (map-append (opened_line noting) xs ys) ∙
+    ap ended_lines (map-append (opened_line noting) xs ys) ∙
     ended_both (map (opened_line noting) xs) (map (opened_line noting) ys)
 
--- lines are put behind those that there are
+-- lines are put after those that there are
 grown : (noting : Bool) (stack : List LayerTree) (w : Written) (os : List Operation) →
     (more : List (List ℕ)) × ((fold (writes noting stack) w os).lines ≡ w.lines ++ more)
 grown noting stack w [] = ([], sym (append-nil w.lines))
@@ -92,7 +92,7 @@ operations_done noting stack os n a b h le = subst (λ xs. Gains a b (all_done n
 
 -- entry values and conjuncts, with their numbers
 pub values_turns : (stack : List LayerTree) (k : ℕ) (es : List TraceNumber) →
-    flat_map (value_turn stack) (enumerate_from k es) ≡ ended (value_lines stack k es)
+    flat_map (value_turn stack) (enumerate_from k es) ≡ ended_lines (value_lines stack k es)
 values_turns stack k [] = refl
 values_turns stack k (e ∷ es) =
     let next : k + 1 ≡ suc k = omega arith in
@@ -100,27 +100,28 @@ values_turns stack k (e ∷ es) =
     (ap (λ n. flat_map (value_turn stack) (enumerate_from n es)) next ∙ values_turns stack (suc k) es)
 
 pub conjuncts_turns : (stack : List LayerTree) (k : ℕ) (es : List TraceNumber) →
-    flat_map (conjunct_turn stack) (enumerate_from k es) ≡ ended (map (conjunct_line stack) es)
+    flat_map (conjunct_turn stack) (enumerate_from k es) ≡ ended_lines (map (conjunct_line stack) es)
 conjuncts_turns stack k [] = refl
 conjuncts_turns stack k (e ∷ es) = ap (λ ls. conjunct_turn stack (k, e) ++ ls) (conjuncts_turns stack (k + 1) es)
 
 pub handler_lines : (stack : List LayerTree) (noting : Bool) (g : Guarded) → noting ≡ false →
     flat_map (value_turn stack) (enumerate_from 0 g.values) ++ flat_map (conjunct_turn stack)
     (enumerate_from 0 g.conjuncts) ++ all_done noting stack g.operations
-    ≡ ended (guarded_lines stack g)
+    ≡ ended_lines (guarded_lines stack g)
 handler_lines stack noting g spelled =
     let values = value_lines stack 0 g.values in
     let conjuncts = map (conjunct_line stack) g.conjuncts in
     let done = map done_line (operation_lines false stack g.operations) in
     ap (λ n. flat_map (value_turn stack) (enumerate_from 0 g.values) ++ flat_map (conjunct_turn stack)
     (enumerate_from 0 g.conjuncts) ++ all_done n stack g.operations) spelled
-    ∙ ap (λ ls. ls ++ flat_map (conjunct_turn stack) (enumerate_from 0 g.conjuncts) ++ ended done)
+    ∙ ap (λ ls. ls ++ flat_map (conjunct_turn stack) (enumerate_from 0 g.conjuncts) ++ ended_lines done)
     (values_turns stack 0 g.values)
-    ∙ ap (λ ls. ended values ++ ls ++ ended done) (conjuncts_turns stack 0 g.conjuncts)
-    ∙ ap (λ ls. ls ++ ended done) (sym (ended_both values conjuncts))
+    ∙ ap (λ ls. ended_lines values ++ ls ++ ended_lines done) (conjuncts_turns stack 0 g.conjuncts)
+    ∙ ap (λ ls. ls ++ ended_lines done) (sym (ended_both values conjuncts))
     ∙ sym (ended_both (values ++ conjuncts) done)
 
 -- a trace's lines have nothing before them
 pub trace_lines : (stack : List LayerTree) (noting : Bool) (os : List Operation) → noting ≡ true →
-    all_done noting stack os ≡ ended (operation_lines true stack os)
-trace_lines stack noting os is = ap (λ n. all_done n stack os) is ∙ ap ended (map-id (operation_lines true stack os))
+    all_done noting stack os ≡ ended_lines (operation_lines true stack os)
+trace_lines stack noting os is = ap (λ n. all_done n stack os) is ∙
+    ap ended_lines (map-id (operation_lines true stack os))

@@ -5,10 +5,10 @@ use Rattle.std.proofs.lemmas.List.{append_assoc, drop-drop, drop_all, take_all}
 use Rattle.std.specs.List.{flat_map, join_by}
 use Rattle.bypass_mean.specs.Lines.{ended_line, packet_word, plan_line, plan_name, planned_field}
 use Rattle.bypass_mean.specs.Text.{chain_text, layer_of, link_text}
-use Rattle.layer_mean.specs.Headers.{declared}
+use Rattle.layer_mean.specs.Headers.{header_of_tag}
 use Rattle.layer_mean.specs.Tree.{LayerTree, no_layer}
 use Rattle.stack_mean.specs.Plan.{Plan}
-use Rattle.synth_print.specs.Entries.{all_headers, count_of, more_headers, plan_text, planned, planned_header}
+use Rattle.synth_print.specs.Entries.{all_headers, count_of, more_headers, plan_text, field_text, planned_header}
 use Rattle.synth_print.specs.Headers.{header_called}
 use Rattle.trace_mean.specs.Fuse.{entry_chain, field_atoms, fields_of}
 use Rattle.trace_mean.specs.Trace as trace
@@ -21,10 +21,10 @@ pub none_behind : {X : Type 0} (xs rest : List X) (n : ℕ) → length xs ≤ n 
 none_behind xs rest n le is = is ∙ sym (drop_all n xs le)
 
 -- the fields of a header
-atoms_planned : (n : ℕ) (fields : List (Option ℕ)) → map planned_field (field_atoms n fields) ≡ map planned fields
+atoms_planned : (n : ℕ) (fields : List (Option ℕ)) → map planned_field (field_atoms n fields) ≡ map field_text fields
 atoms_planned n [] = refl
-atoms_planned n (Some m ∷ fields) = ap (λ ls. planned (Some m) ∷ ls) (atoms_planned n fields)
-atoms_planned n (None ∷ fields) = ap (λ ls. planned None ∷ ls) (atoms_planned (suc n) fields)
+atoms_planned n (Some m ∷ fields) = ap (λ ls. field_text (Some m) ∷ ls) (atoms_planned n fields)
+atoms_planned n (None ∷ fields) = ap (λ ls. field_text None ∷ ls) (atoms_planned (suc n) fields)
 
 behind_map : {X : Type 0} (f : X → List ℕ) (sep : List ℕ) (xs : List X) →
     flat_map (λ piece. sep ++ piece) (map f xs) ≡ flat_map (λ x. sep ++ f x) xs
@@ -56,10 +56,10 @@ linked place tag fields = record { place = place; tag = tag; fields = fields }
 link_planned : (stack : List LayerTree) (place tag n : ℕ) (fields : List (Option ℕ)) →
     link_text stack planned_field (linked place tag (field_atoms n fields)) ≡ planned_header stack place tag fields
 link_planned stack place tag n fields =
-    let name = (layer_of stack place).name ++ codes "." ++ header_called (declared (layer_of stack place) tag) in
-    let texts = join_by planned (codes ",") fields in
+    let name = (layer_of stack place).name ++ codes "." ++ header_called (header_of_tag (layer_of stack place) tag) in
+    let texts = join_by field_text (codes ",") fields in
     ap (λ parts. name ++ (codes "(" ++ join_by (λ part. part) (codes ",") parts ++ codes ")")) (atoms_planned n fields)
-    ∙ ap (λ text. name ++ (codes "(" ++ text ++ codes ")")) (join_map planned (codes ",") fields)
+    ∙ ap (λ text. name ++ (codes "(" ++ text ++ codes ")")) (join_map field_text (codes ",") fields)
     ∙ sym (append_assoc name (codes "(") (texts ++ codes ")"))
     ∙ sym (append_assoc (name ++ codes "(") texts (codes ")"))
 

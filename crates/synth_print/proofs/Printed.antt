@@ -16,7 +16,7 @@ use Rattle.stack_mean.specs.Plan.{Plan}
 use Rattle.synth_print.specs.Counts.{counts_of, no_counts, with_cases, with_made, with_second}
 use Rattle.synth_print.specs.Entries.{case_lines, counted_line, found_lines, heading, if_made, name_text, plan_text}
 use Rattle.synth_print.specs.Entries.{plan_turn}
-use Rattle.synth_print.specs.Lines.{ended}
+use Rattle.synth_print.specs.Lines.{ended_lines}
 use Rattle.synth_print.specs.declared.counts.Counts.{Counts}
 use Rattle.synth_print.specs.declared.name.Name.{Name}
 use Rattle.synth_print.specs.declared.name.Name.TheVariants as names
@@ -25,7 +25,7 @@ use Rattle.trace_core.specs.Bypasses.{bypasses_tree, first_tree, second_tree}
 use Rattle.trace_core.specs.declared.bypass.Bypasses.{Bypasses}
 use Rattle.trace_core.specs.declared.bypass.Cases.{Cases}
 
-pub ended_both : (xs ys : List (List ℕ)) → ended (xs ++ ys) ≡ ended xs ++ ended ys
+pub ended_both : (xs ys : List (List ℕ)) → ended_lines (xs ++ ys) ≡ ended_lines xs ++ ended_lines ys
 ended_both xs ys = map-append ended_line xs ys
 
 -- what is put of an entry, given what is told of it in its first case and in its second
@@ -33,32 +33,33 @@ module _ (f g : mean.Made → List (List ℕ)) where
   abbrev told : Option mean.Made → Option (Option mean.Made) → List (List ℕ)
   told first second = flat_map f (option_to_list first) ++ flat_map g (option_to_list (option_flatten second))
 
-  told_is : (first : mean.Made) (second : Option mean.Made) → ended (f first) ++ if_made g second ≡
-      ended (told (Some first) (Some second))
-  told_is first None = append-nil (ended (f first)) ∙ ap ended (sym (append-nil (f first ++ []) ∙ append-nil (f first)))
+  told_is : (first : mean.Made) (second : Option mean.Made) → ended_lines (f first) ++ if_made g second ≡
+      ended_lines (told (Some first) (Some second))
+  told_is first None = append-nil (ended_lines (f first)) ∙
+      ap ended_lines (sym (append-nil (f first ++ []) ∙ append-nil (f first)))
   told_is first (Some m) = sym (ended_both (f first) (g m)) ∙
-      ap ended (sym (λ t. append-nil (f first) t ++ append-nil (g m) t))
+      ap ended_lines (sym (λ t. append-nil (f first) t ++ append-nil (g m) t))
 
   pub entry_told : (b : mean.Bypasses) (n : ℕ) (first : mean.Made) (second : Option mean.Made) →
       slice_get b.made n ≡ Some first → slice_get b.second n ≡ Some second →
-      ended (f first) ++ if_made g second ≡ ended (told (slice_get b.made n) (slice_get b.second n))
+      ended_lines (f first) ++ if_made g second ≡ ended_lines (told (slice_get b.made n) (slice_get b.second n))
   entry_told b n first second is also =
-      told_is first second ∙ ap (λ o. ended (told o (Some second))) (sym is) ∙
-      ap (λ o. ended (told (slice_get b.made n) o)) (sym also)
+      told_is first second ∙ ap (λ o. ended_lines (told o (Some second))) (sym is) ∙
+      ap (λ o. ended_lines (told (slice_get b.made n) o)) (sym also)
 
   pub entry_none : (b : mean.Bypasses) (n : ℕ) → slice_get b.made n ≡ None → slice_get b.second n ≡ None →
-      [] ≡ ended (told (slice_get b.made n) (slice_get b.second n))
-  entry_none b n is also = ap (λ o. ended (told o None)) (sym is) ∙
-      ap (λ o. ended (told (slice_get b.made n) o)) (sym also)
+      [] ≡ ended_lines (told (slice_get b.made n) (slice_get b.second n))
+  entry_none b n is also = ap (λ o. ended_lines (told o None)) (sym is) ∙
+      ap (λ o. ended_lines (told (slice_get b.made n) o)) (sym also)
 
 entry_is : (stack : List LayerTree) (b : mean.Bypasses) (n : ℕ) (name : Name) (first : mean.Made)
     (second : Option mean.Made) →
     slice_get b.made n ≡ Some first → slice_get b.second n ≡ Some second →
-    case_lines stack name first second ≡ ended (entry_lines stack b n (name_text name))
+    case_lines stack name first second ≡ ended_lines (entry_lines stack b n (name_text name))
 entry_is stack b n name first second is also =
     entry_told (made_lines stack (heading name false)) (made_lines stack (heading name true)) b n first second is also
 
--- the entry of a plan is behind the two of the application
+-- the entry of a plan is after the two of the application
 later_two : {X : Type 0} (x y : X) (xs : List X) (k : ℕ) → slice_get (x ∷ y ∷ xs) (k + 2) ≡ slice_get xs k
 later_two x y xs k = let same : k + 2 ≡ suc (suc k) = omega arith in ap (slice_get (x ∷ y ∷ xs)) same
 
@@ -68,7 +69,7 @@ plan_made f b k o is = later_two (f b.cast) (f b.send) (map f b.plans.items) k �
     ap (option_map f) (sym is)
 
 found_is : (stack : List LayerTree) (b : Bypasses) (k : ℕ) (o : Option Cases) → o ≡ slice_get b.plans.items k →
-    found_lines stack (names.Plan k) o ≡ ended (entry_lines stack (bypasses_tree b) (k + 2) (plan_name k))
+    found_lines stack (names.Plan k) o ≡ ended_lines (entry_lines stack (bypasses_tree b) (k + 2) (plan_name k))
 found_is stack b k None is =
     entry_none (made_lines stack (heading (names.Plan k) false)) (made_lines stack (heading (names.Plan k) true))
     (bypasses_tree b) (k + 2)
@@ -86,7 +87,7 @@ turn_is stack b k plan o is =
     ∙ ap (λ lines. ended_line (plan_line stack k plan) ∷ lines) (found_is stack b k o is)
 
 turns_are : (stack : List LayerTree) (b : mean.Bypasses) (k : ℕ) (plans : List Plan) →
-    flat_map (plan_turn stack b) (enumerate_from k plans) ≡ ended (plans_lines stack b k plans)
+    flat_map (plan_turn stack b) (enumerate_from k plans) ≡ ended_lines (plans_lines stack b k plans)
 turns_are stack b k [] = refl
 turns_are stack b k (plan ∷ plans) =
     let next : k + 1 ≡ suc k = omega arith in
@@ -108,13 +109,13 @@ all_is stack plans b =
     let rest = plans_lines stack bs 0 plans in
     let last = end_line bs ∷ [] in
     ap (λ l. l ++ case_lines stack names.Send (first_tree b.send) (second_tree b.send)
-    ++ flat_map (plan_turn stack bs) (enumerate_from 0 plans) ++ ended last)
+    ++ flat_map (plan_turn stack bs) (enumerate_from 0 plans) ++ ended_lines last)
     (entry_is stack bs 0 names.Cast (first_tree b.cast) (second_tree b.cast) refl refl)
-    ∙ ap (λ l. ended cast ++ l ++ flat_map (plan_turn stack bs) (enumerate_from 0 plans) ++ ended last)
+    ∙ ap (λ l. ended_lines cast ++ l ++ flat_map (plan_turn stack bs) (enumerate_from 0 plans) ++ ended_lines last)
     (entry_is stack bs 1 names.Send (first_tree b.send) (second_tree b.send) refl refl)
-    ∙ ap (λ l. ended cast ++ ended send ++ l ++ ended last) (turns_are stack bs 0 plans)
-    ∙ ap (λ l. l ++ ended rest ++ ended last) (sym (ended_both cast send))
-    ∙ ap (λ l. l ++ ended last) (sym (ended_both (cast ++ send) rest))
+    ∙ ap (λ l. ended_lines cast ++ ended_lines send ++ l ++ ended_lines last) (turns_are stack bs 0 plans)
+    ∙ ap (λ l. l ++ ended_lines rest ++ ended_lines last) (sym (ended_both cast send))
+    ∙ ap (λ l. l ++ ended_lines last) (sym (ended_both (cast ++ send) rest))
     ∙ sym (ended_both (cast ++ send ++ rest) last)
 
 -- an element of a list that is mapped

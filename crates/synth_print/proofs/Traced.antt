@@ -8,7 +8,7 @@ use Rattle.layer_ast.specs.declared.tokens.Kind.TheVariants.{Cast}
 use Rattle.layer_mean.specs.Tree.{LayerTree}
 use Rattle.stack_mean.specs.Plan.{Plan}
 use Rattle.synth_print.specs.Entries.{name_text}
-use Rattle.synth_print.specs.Lines.{ended}
+use Rattle.synth_print.specs.Lines.{ended_lines}
 use Rattle.synth_print.specs.Traces.{all_traces, case_traces, found_traces, plan_traces, plan_turn, trace_heading}
 use Rattle.synth_print.specs.declared.name.Name.{Name}
 use Rattle.synth_print.specs.declared.name.Name.TheVariants as names
@@ -24,7 +24,7 @@ no_plan = record { kind = Cast; tags = []; fields = [] }
 entry_is : (stack : List LayerTree) (b : mean.Bypasses) (n : ℕ) (name : Name) (first : mean.Made)
     (second : Option mean.Made) →
     slice_get b.made n ≡ Some first → slice_get b.second n ≡ Some second →
-    case_traces stack name first second ≡ ended (entry_traces stack b n (name_text name))
+    case_traces stack name first second ≡ ended_lines (entry_traces stack b n (name_text name))
 entry_is stack b n name first second is also =
     entry_told (trace_lines stack (trace_heading name false)) (trace_lines stack (trace_heading name true)) b n first
     second is also
@@ -41,7 +41,7 @@ found_is stack b k (Some c) is =
     (plan_made second_tree b k (Some c) is)
 
 turns_are : (stack : List LayerTree) (b : mean.Bypasses) (k : ℕ) (plans : List Plan) →
-    flat_map (plan_turn stack b) (enumerate_from k plans) ≡ ended (plans_traces stack b k plans)
+    flat_map (plan_turn stack b) (enumerate_from k plans) ≡ ended_lines (plans_traces stack b k plans)
 turns_are stack b k [] = refl
 turns_are stack b k (plan ∷ plans) =
     let next : k + 1 ≡ suc k = omega arith in
@@ -51,7 +51,7 @@ turns_are stack b k (plan ∷ plans) =
 
 pub all_is : (stack : List LayerTree) (plans : List Plan) (b : Bypasses) →
     (ended_line (codes "bypasses 1") ∷ []) ++ (all_traces stack plans b ++ ended_line (codes "end") ∷ [])
-    ≡ ended (file_lines stack plans (bypasses_tree b))
+    ≡ ended_lines (file_lines stack plans (bypasses_tree b))
 all_is stack plans b =
     let bs = bypasses_tree b in
     let cast = entry_traces stack bs 0 (codes "cast") in
@@ -60,11 +60,11 @@ all_is stack plans b =
     let last = codes "end" ∷ [] in
     ap (λ l. ended_line (codes "bypasses 1") ∷ l)
     (ap (λ l. l ++ case_traces stack names.Send (first_tree b.send) (second_tree b.send)
-    ++ flat_map (plan_turn stack bs) (enumerate_from 0 plans) ++ ended last)
+    ++ flat_map (plan_turn stack bs) (enumerate_from 0 plans) ++ ended_lines last)
     (entry_is stack bs 0 names.Cast (first_tree b.cast) (second_tree b.cast) refl refl)
-    ∙ ap (λ l. ended cast ++ l ++ flat_map (plan_turn stack bs) (enumerate_from 0 plans) ++ ended last)
+    ∙ ap (λ l. ended_lines cast ++ l ++ flat_map (plan_turn stack bs) (enumerate_from 0 plans) ++ ended_lines last)
     (entry_is stack bs 1 names.Send (first_tree b.send) (second_tree b.send) refl refl)
-    ∙ ap (λ l. ended cast ++ ended send ++ l ++ ended last) (turns_are stack bs 0 plans)
-    ∙ ap (λ l. l ++ ended rest ++ ended last) (sym (ended_both cast send))
-    ∙ ap (λ l. l ++ ended last) (sym (ended_both (cast ++ send) rest))
+    ∙ ap (λ l. ended_lines cast ++ ended_lines send ++ l ++ ended_lines last) (turns_are stack bs 0 plans)
+    ∙ ap (λ l. l ++ ended_lines rest ++ ended_lines last) (sym (ended_both cast send))
+    ∙ ap (λ l. l ++ ended_lines last) (sym (ended_both (cast ++ send) rest))
     ∙ sym (ended_both (cast ++ send ++ rest) last))

@@ -9,7 +9,7 @@ use Rattle.bypass_mean.specs.Text.{layer_of}
 use Rattle.layer_mean.specs.Tree.{LayerTree}
 use Rattle.stack_mean.specs.Plan.{Plan}
 use Rattle.synth_print.specs.Headers.{header_front}
-use Rattle.synth_print.specs.Lines.{ended}
+use Rattle.synth_print.specs.Lines.{ended_lines}
 use Rattle.synth_print.specs.declared.counts.Counts.{Counts}
 use Rattle.synth_print.specs.declared.name.Name.{Name}
 use Rattle.synth_print.specs.declared.name.Name.TheVariants as names
@@ -30,29 +30,30 @@ heading name true = codes "entry " ++ name_text name ++ codes " second"
 -- What is made of an entry in its first case, and in its second where there is one.
 abbrev pub if_made : (mean.Made → List (List ℕ)) → Option mean.Made → List (List ℕ)
 if_made lines None = []
-if_made lines (Some made) = ended (lines made)
+if_made lines (Some made) = ended_lines (lines made)
 
 abbrev pub second_lines : List LayerTree → Name → Option mean.Made → List (List ℕ)
 second_lines stack name second = if_made (made_lines stack (heading name true)) second
 
 abbrev pub case_lines : List LayerTree → Name → mean.Made → Option mean.Made → List (List ℕ)
-case_lines stack name first second = ended (made_lines stack (heading name false) first) ++
+case_lines stack name first second = ended_lines (made_lines stack (heading name false) first) ++
     second_lines stack name second
 
 -- A field of a plan.
-abbrev pub planned : Option ℕ → List ℕ
-planned None = codes "?"
-planned (Some n) = decimal n
+abbrev pub field_text : Option ℕ → List ℕ
+field_text None = codes "?"
+field_text (Some n) = decimal n
 
 abbrev pub more_planned : List (Option ℕ) → List ℕ
-more_planned fields = flat_map (λ field. codes "," ++ planned field) fields
+more_planned fields = flat_map (λ field. codes "," ++ field_text field) fields
 
 -- How many fields the header of a place with a tag has; and the header with these.
 abbrev pub count_of : List LayerTree → (place tag : ℕ) → ℕ
 count_of stack place tag = fields_of (layer_of stack place) tag
 
 abbrev pub planned_header : List LayerTree → (place tag : ℕ) → List (Option ℕ) → List ℕ
-planned_header stack place tag fields = header_front stack place tag ++ join_by planned (codes ",") fields ++ codes ")"
+planned_header stack place tag fields = header_front stack place tag ++ join_by field_text (codes ",") fields ++
+    codes ")"
 
 -- The headers from a place on, each with `/` in front.
 abbrev pub more_headers : List LayerTree → ℕ → List ℕ → List (Option ℕ) → List ℕ
@@ -68,14 +69,14 @@ all_headers stack (tag ∷ tags) fields =
     planned_header stack 0 tag (take (count_of stack 0 tag) fields) ++
     more_headers stack 1 tags (drop (count_of stack 0 tag) fields)
 
--- The line of a plan, and the lines of its entry behind it.
+-- The line of a plan, and the lines of its entry after it.
 abbrev pub plan_text : List LayerTree → ℕ → Plan → List ℕ
 plan_text stack k plan =
     ended_line (plan_name k ++ codes " " ++ packet_word plan.kind ++ codes " " ++
     all_headers stack plan.tags plan.fields)
 
 abbrev pub plan_turn : List LayerTree → mean.Bypasses → ℕ × Plan → List (List ℕ)
-plan_turn stack b x = ended (plan_line stack x.0 x.1 ∷ entry_lines stack b (x.0 + 2) (plan_name x.0))
+plan_turn stack b x = ended_lines (plan_line stack x.0 x.1 ∷ entry_lines stack b (x.0 + 2) (plan_name x.0))
 
 -- The lines of an entry of which something is made.
 abbrev pub found_lines : List LayerTree → Name → Option Cases → List (List ℕ)

@@ -14,8 +14,8 @@ use Rattle.trace_core.specs.declared.operation.Operation as code
 use Rattle.trace_mean.specs.Trace.{TraceNumber, TraceMessage, Operation, Guarded}
 
 -- Lines with their ends.
-abbrev pub ended : List (List ℕ) → List (List ℕ)
-ended lines = map ended_line lines
+abbrev pub ended_lines : List (List ℕ) → List (List ℕ)
+ended_lines lines = map ended_line lines
 
 -- What was written, without the lines so far.
 abbrev pub bare : Written → Written
@@ -35,7 +35,7 @@ opened_line noting line = opening noting ++ line
 
 -- The line of an operation, where it has one.
 abbrev pub done_lines : Bool → List LayerTree → Written → Operation → List (List ℕ)
-done_lines noting stack w o = ended (map (opened_line noting) (writes noting stack w o).lines)
+done_lines noting stack w o = ended_lines (map (opened_line noting) (writes noting stack w o).lines)
 
 abbrev pub line_if : Bool → List ℕ → List (List ℕ)
 line_if true line = line ∷ []
@@ -43,7 +43,7 @@ line_if false line = []
 
 -- The lines of operations.
 abbrev pub all_done : Bool → List LayerTree → List Operation → List (List ℕ)
-all_done noting stack os = ended (map (opened_line noting) (operation_lines noting stack os))
+all_done noting stack os = ended_lines (map (opened_line noting) (operation_lines noting stack os))
 
 -- The line of a numbered entry value, and that of a numbered conjunct.
 abbrev pub value_turn : List LayerTree → ℕ × TraceNumber → List (List ℕ)
@@ -67,7 +67,7 @@ handler_in s values conjuncts =
 abbrev pub message_of : Source → ℕ → TraceMessage
 message_of s k = message_in (terms (nodes_in s.nodes)) k
 
--- The line of an operation that isn't a note, as it is put, and that of a note; and what is written behind an
+-- The line of an operation that isn't a note, as it is put, and that of a note; and what is written after an
 -- operation, without the lines so far.
 abbrev pub done_text : Bool → List LayerTree → Written → Operation → List ℕ
 done_text noting stack w o = ended_line (opened_line noting (line_of stack w o))

@@ -1,7 +1,7 @@
 -- The parts of operations, as text.
 use Rattle.std.specs.Prelude.{ℕ, Bool, true, false, List, [], ◌++◌, codes, map, Option, Some, None, option_map}
 use Rattle.std.specs.Prelude.{option_to_list}
-use Rattle.bypass_mean.specs.Text.{Written, behind, core_text, listed, number_text, pushed_text}
+use Rattle.bypass_mean.specs.Text.{Written, behind, core_text, bracketed_list, number_text, pushed_text}
 use Rattle.layer_mean.specs.Tree.{LayerTree}
 use Rattle.report_lines.specs.Lead.{lead}
 use Rattle.synth_print.specs.Headers.{atom_texts}
@@ -20,7 +20,7 @@ is_change (operations.SetSquare place cell row column value) = true
 is_change (operations.Push place cell index numbers message) = true
 is_change _ = false
 
--- The last of parts with commas between, where there is one behind n others.
+-- The last of parts with commas between, where there is one after n others.
 abbrev pub last_part : ℕ → Option (List ℕ) → List ℕ
 last_part n None = []
 last_part n (Some text) = lead (codes ",") n ++ text
@@ -42,11 +42,11 @@ behind_of stack w m = behind stack w m.chain
 -- The parts of an output, and those of a row that is pushed.
 abbrev pub listed_cores : Written → List (List trace.Link) → List Atom → Option Chained → List ℕ
 listed_cores w cs atoms message =
-    listed (atom_texts w atoms ++
+    bracketed_list (atom_texts w atoms ++
     map (λ (m : trace.Chained). core_text w m.core) (option_to_list (option_map (chained_in cs) message)))
 
 abbrev pub listed_rows : List LayerTree → Written → List Term → List (List trace.Link) → List ℕ → Option Chained →
     List ℕ
 listed_rows stack w ts cs ks message =
-    listed (number_texts stack w ts ks ++
+    bracketed_list (number_texts stack w ts ks ++
     map (pushed_text stack w) (option_to_list (option_map (chained_in cs) message)))

@@ -21,7 +21,7 @@ abbrev pub AreBelow : ℕ → List Part → Type 0
 AreBelow n [] = Unit {0}
 AreBelow n (p ∷ ps) = (part_node p < n) × AreBelow n ps
 
--- Parts with what opens the first, what stands between two, and a bracket behind the last.
+-- Parts with what opens the first, what stands between two, and a bracket after the last.
 abbrev pub parts_text : Scope → (opening between : List ℕ) → List Part → List ℕ
 parts_text s opening between [] = codes ")"
 parts_text s opening between (p ∷ ps) = opening ++ part_text s p ++ parts_text s between between ps

@@ -6,7 +6,7 @@ use Rattle.bypass_mean.specs.Lines.{entry_traces, plan_name, trace_lines}
 use Rattle.layer_mean.specs.Tree.{LayerTree}
 use Rattle.stack_mean.specs.Plan.{Plan}
 use Rattle.synth_print.specs.Entries.{if_made, name_text}
-use Rattle.synth_print.specs.Lines.{ended}
+use Rattle.synth_print.specs.Lines.{ended_lines}
 use Rattle.synth_print.specs.declared.name.Name.{Name}
 use Rattle.synth_print.specs.declared.name.Name.TheVariants as names
 use Rattle.trace_core.specs.Bypasses.{bypasses_tree, first_tree, second_tree}
@@ -23,7 +23,7 @@ abbrev pub second_traces : List LayerTree → Name → Option mean.Made → List
 second_traces stack name second = if_made (trace_lines stack (trace_heading name true)) second
 
 abbrev pub case_traces : List LayerTree → Name → mean.Made → Option mean.Made → List (List ℕ)
-case_traces stack name first second = ended (trace_lines stack (trace_heading name false) first) ++
+case_traces stack name first second = ended_lines (trace_lines stack (trace_heading name false) first) ++
     second_traces stack name second
 
 -- Those of an entry of which something is made, and those of the entry of a numbered plan.
@@ -32,7 +32,7 @@ found_traces stack name None = []
 found_traces stack name (Some cases) = case_traces stack name (first_tree cases) (second_tree cases)
 
 abbrev pub plan_traces : List LayerTree → mean.Bypasses → ℕ → List (List ℕ)
-plan_traces stack b k = ended (entry_traces stack b (k + 2) (plan_name k))
+plan_traces stack b k = ended_lines (entry_traces stack b (k + 2) (plan_name k))
 
 abbrev pub plan_turn : List LayerTree → mean.Bypasses → ℕ × Plan → List (List ℕ)
 plan_turn stack b x = plan_traces stack b x.0

@@ -28,7 +28,7 @@ before_note stack spots texts many = record {
   lines = [];
 }
 
--- How a noted message is told behind those that are written so: by its number, or written out.
+-- How a noted message is told after those that are written so: by its number, or written out.
 abbrev pub note_text : List LayerTree → List Term → List Spot → List (List ℕ) → Note → List ℕ
 note_text stack ts spots texts notes.Called = codes "m." ++ decimal (length texts)
 note_text stack ts spots texts (notes.Spelled message rows) = message_text stack (before_note stack spots texts rows)

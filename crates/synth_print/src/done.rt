@@ -1,4 +1,4 @@
-//! What operations leave: their lines, and what those behind them may name.
+//! What operations leave: their lines, and what those after them may name.
 
 ghost use Rattle.std.specs.Prelude.{◌≡◌, ◌+◌, ◌^◌, ◌<◌, ◌≤◌, ◌++◌, [], IfOk, OnOk, codes, length};
 ghost use Rattle.std.specs.Fmt.{decimal};

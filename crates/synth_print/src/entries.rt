@@ -8,7 +8,7 @@ ghost use Rattle.outside.specs.Lines.{Wrote};
 ghost use Rattle.outside.specs.Tells.{tells_of};
 ghost use Rattle.shape_core.specs.Cases.{reason_tree};
 ghost use Rattle.synth_print.specs.Entries.{case_lines, heading, name_text, second_lines};
-ghost use Rattle.synth_print.specs.Lines.{ended};
+ghost use Rattle.synth_print.specs.Lines.{ended_lines};
 ghost use Rattle.trace_core.specs.Bypasses.{first_tree, made_tree, second_tree};
 ghost use Rattle.trace_core.specs.Trees.{guarded_tree};
 
@@ -131,7 +131,7 @@ fn write_fused<O: Sink>(
     guarded: &Guarded,
     out: &mut O,
 ) -> Result<(), SinkError>
-    ensures { Wrote (ended_line (heading name second ++ codes " fused") ∷ ended (guarded_lines (stack_tree stack.now) (guarded_tree guarded.now)))
+    ensures { Wrote (ended_line (heading name second ++ codes " fused") ∷ ended_lines (guarded_lines (stack_tree stack.now) (guarded_tree guarded.now)))
         (tells_of O.Sink out.old) (tells_of O.Sink out.new) result }
 {
     write_heading(line, name, second, out)?;
@@ -148,7 +148,7 @@ fn write_made<O: Sink>(
     made: &Made,
     out: &mut O,
 ) -> Result<(), SinkError>
-    ensures { Wrote (ended (made_lines (stack_tree stack.now) (heading name second) (made_tree made.now)))
+    ensures { Wrote (ended_lines (made_lines (stack_tree stack.now) (heading name second) (made_tree made.now)))
         (tells_of O.Sink out.old) (tells_of O.Sink out.new) result }
 {
     match made {

@@ -8,7 +8,8 @@ ghost use Rattle.bypass_mean.specs.Text.{nothing_written, number_text, operation
 ghost use Rattle.event_graph.specs.Answer.{stack_tree};
 ghost use Rattle.outside.specs.Lines.{Wrote};
 ghost use Rattle.outside.specs.Tells.{tells_of};
-ghost use Rattle.synth_print.specs.Lines.{all_done, conjunct_turn, done_lines, ended, follows, handler_in, numbers_of};
+ghost use Rattle.synth_print.specs.Lines.{all_done, conjunct_turn, done_lines, ended_lines, follows, handler_in};
+ghost use Rattle.synth_print.specs.Lines.{numbers_of};
 ghost use Rattle.synth_print.specs.Lines.{operation_of, value_turn};
 ghost use Rattle.synth_print.specs.Source.{nodes_in, operations_in};
 ghost use Rattle.synth_print.specs.Texts.{layers_in, terms_in, written_in, written_of};
@@ -229,7 +230,8 @@ fn write_parts<O: Sink>(
 ) -> Result<(), SinkError>
     requires parts { are_parts (nodes_in source.now.nodes) source.now.links.now source.now.operations.now ≡ true }
     requires spelled { source.now.noting ≡ false }
-    ensures { Wrote (ended (guarded_lines (stack_tree stack.now) (handler_in source.now values.now conjuncts.now)))
+    ensures { Wrote (ended_lines
+        (guarded_lines (stack_tree stack.now) (handler_in source.now values.now conjuncts.now)))
         (tells_of O.Sink out.old) (tells_of O.Sink out.new) result }
 {
     let mut written = nothing(alloc, stack, source);
@@ -245,7 +247,7 @@ pub(crate) fn write_handler<O: Sink>(
     guarded: &Guarded,
     out: &mut O,
 ) -> Result<(), SinkError>
-    ensures { Wrote (ended (guarded_lines (stack_tree stack.now) (guarded_tree guarded.now)))
+    ensures { Wrote (ended_lines (guarded_lines (stack_tree stack.now) (guarded_tree guarded.now)))
         (tells_of O.Sink out.old) (tells_of O.Sink out.new) result }
 {
     let source = Source {
@@ -269,7 +271,7 @@ fn write_noting<O: Sink>(
 ) -> Result<(), SinkError>
     requires parts { are_parts (nodes_in source.now.nodes) source.now.links.now source.now.operations.now ≡ true }
     requires noting { source.now.noting ≡ true }
-    ensures { Wrote (ended (operation_lines true (stack_tree stack.now) (operations_in source.now)))
+    ensures { Wrote (ended_lines (operation_lines true (stack_tree stack.now) (operations_in source.now)))
         (tells_of O.Sink out.old) (tells_of O.Sink out.new) result }
 {
     let mut written = nothing(alloc, stack, source);
@@ -284,7 +286,7 @@ pub(crate) fn write_trace<O: Sink>(
     trace: &Trace,
     out: &mut O,
 ) -> Result<(), SinkError>
-    ensures { Wrote (ended (operation_lines true (stack_tree stack.now) (trace_tree trace.now)))
+    ensures { Wrote (ended_lines (operation_lines true (stack_tree stack.now) (trace_tree trace.now)))
         (tells_of O.Sink out.old) (tells_of O.Sink out.new) result }
 {
     let source = Source {

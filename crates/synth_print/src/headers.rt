@@ -3,9 +3,9 @@
 ghost use Rattle.std.specs.Prelude.{◌≡◌, ◌++◌, [], OnOk, slice_get, slice_index_or};
 ghost use Rattle.bypass_mean.specs.Text.{atom_text, behind, link_text, pushed_text};
 ghost use Rattle.event_graph.specs.Answer.{stack_tree};
-ghost use Rattle.layer_mean.specs.Headers.{declared};
+ghost use Rattle.layer_mean.specs.Headers.{header_of_tag};
 ghost use Rattle.synth_print.specs.Cells.{layer_or_none};
-ghost use Rattle.synth_print.specs.Headers.{atom_texts, header_called, header_front, joined, more_links};
+ghost use Rattle.synth_print.specs.Headers.{atom_texts, header_called, header_front, comma_list, more_links};
 ghost use Rattle.synth_print.specs.Texts.{chains_in, layers_in, written_in};
 ghost use Rattle.trace_core.specs.Links.{IsChain, chain_in, link_tree};
 ghost use Rattle.trace_core.specs.Operations.{chained_in};
@@ -32,7 +32,8 @@ fn push_layer(line: &mut Line, layer: Option<&TypedLayer>) -> Result<(), Memory>
 
 /// The name of a declared header of a layer that there may be.
 fn push_declared(line: &mut Line, layer: Option<&TypedLayer>, number: usize) -> Result<(), Memory>
-    ensures { OnOk result (line.new ≡ line.old ++ header_called (slice_get (layer_or_none layer.entry).headers number)) }
+    ensures { OnOk result
+        (line.new ≡ line.old ++ header_called (slice_get (layer_or_none layer.entry).headers number)) }
 {
     let Some(layer) = layer else { return Ok(()) };
     match layer.headers.get(number) {
@@ -44,7 +45,7 @@ fn push_declared(line: &mut Line, layer: Option<&TypedLayer>, number: usize) -> 
 /// The name of the header with a tag: `none`, or a declared one.
 #[tactic(auto, using(crate::proofs::Chains::declared_behind))]
 fn push_tag(line: &mut Line, layer: Option<&TypedLayer>, tag: u8) -> Result<(), Memory>
-    ensures { OnOk result (line.new ≡ line.old ++ header_called (declared (layer_or_none layer.entry) tag)) }
+    ensures { OnOk result (line.new ≡ line.old ++ header_called (header_of_tag (layer_or_none layer.entry) tag)) }
 {
     if tag > 0 {
         push_declared(line, layer, usize::from(tag) - 1)
@@ -82,7 +83,7 @@ fn push_some(line: &mut Line, scope: &Scope<'_>, atoms: &Atoms, k: u32) -> Resul
 
 /// Atoms, with commas between.
 pub(crate) fn push_atoms(line: &mut Line, scope: &Scope<'_>, atoms: &Atoms) -> Result<(), Memory>
-    ensures { OnOk result (line.new ≡ line.old ++ joined (atom_texts (written_in scope.now) atoms.now)) }
+    ensures { OnOk result (line.new ≡ line.old ++ comma_list (atom_texts (written_in scope.now) atoms.now)) }
 {
     for k in 0..atoms.len() {
         push_lead(line, b",", k)?;
@@ -118,7 +119,7 @@ fn push_rest(line: &mut Line, scope: &Scope<'_>, chain: u32) -> Result<(), Memor
     }
 }
 
-/// Known headers behind what they are of, where there are any.
+/// Known headers after what they are of, where there are any.
 #[tactic(auto, using(crate::proofs::Chains::behind_read, crate::proofs::Chains::behind_empty))]
 pub(crate) fn push_behind(line: &mut Line, scope: &Scope<'_>, chain: u32) -> Result<(), Memory>
     requires { IsChain (chains_in scope.now) chain }

@@ -4,7 +4,8 @@
 //! definitions read the number 0 and no bytes, and so does this.
 
 ghost use Rattle.std.specs.Prelude.{◌≡◌, ◌<◌, ◌++◌, ◌∷◌, [], OnOk, Some, codes, slice_get, slice_index_or, take};
-ghost use Rattle.bypass_mean.specs.Text.{cell_name, core_text, indexed, layer_of, listed, numbers_called};
+ghost use Rattle.bypass_mean.specs.Text.{cell_name, core_text, bracketed_index, layer_of, bracketed_list};
+ghost use Rattle.bypass_mean.specs.Text.{numbers_called};
 ghost use Rattle.synth_print.specs.Parts.{AreBelow, part_text, parts_text};
 ghost use Rattle.synth_print.specs.Source.{nodes_in};
 ghost use Rattle.synth_print.specs.Texts.{cell_at, layers_in, message_at, number_at, terms_in, written_in};
@@ -242,7 +243,7 @@ fn push_part(line: &mut Line, scope: &Scope<'_>, part: Part) -> Result<(), Memor
     }
 }
 
-/// Parts, behind what opens them and with something between, whose nodes are below a number.
+/// Parts, after what opens them and with something between, whose nodes are below a number.
 #[cycle(texts)]
 fn push_parts(
     line: &mut Line,
@@ -268,7 +269,7 @@ fn push_parts(
 /// A number in square brackets.
 #[cycle(texts)]
 pub(crate) fn push_indexed(line: &mut Line, scope: &Scope<'_>, index: u32) -> Result<(), Memory>
-    ensures { OnOk result (line.new ≡ line.old ++ indexed (number_at scope.now index)) }
+    ensures { OnOk result (line.new ≡ line.old ++ bracketed_index (number_at scope.now index)) }
 {
     line.text(b"[")?;
     push_number(line, scope, index)?;
@@ -304,7 +305,7 @@ fn push_square(
 ) -> Result<(), Memory>
     requires { (row < above) × (column < above) }
     ensures { OnOk result (line.new ≡ line.old ++ cell_name (layers_in scope.now) spot.place spot.cell
-        ++ indexed (number_at scope.now row) ++ indexed (number_at scope.now column)) }
+        ++ bracketed_index (number_at scope.now row) ++ bracketed_index (number_at scope.now column)) }
 {
     push_cell_name(line, scope.stack, spot.place, spot.cell)?;
     push_indexed(line, scope, row)?;
@@ -323,7 +324,7 @@ fn push_item(
     item: u8,
 ) -> Result<(), Memory>
     requires { (index < above) × (row < above) }
-    ensures { OnOk result (line.new ≡ line.old ++ codes "at" ++ listed (cell_at scope.now spot index ∷ number_at scope.now row ∷ []) ++ codes "."
+    ensures { OnOk result (line.new ≡ line.old ++ codes "at" ++ bracketed_list (cell_at scope.now spot index ∷ number_at scope.now row ∷ []) ++ codes "."
         ++ slice_index_or (numbers_called (form_at (layer_of (layers_in scope.now) spot.place) spot.cell)) item []) }
 {
     let parts = [Part::Cell(spot, index), Part::Number(row)];

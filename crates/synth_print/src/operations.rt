@@ -2,9 +2,9 @@
 
 ghost use Rattle.std.specs.Prelude.{◌≡◌, ◌++◌, [], true, OnOk, codes, length, option_map};
 ghost use Rattle.std.specs.Option.{option_map_or};
-ghost use Rattle.bypass_mean.specs.Text.{cell_name, indexed};
+ghost use Rattle.bypass_mean.specs.Text.{cell_name, bracketed_index};
 ghost use Rattle.layer_ast.specs.Printed.{direction_sign};
-ghost use Rattle.synth_print.specs.Headers.{atom_texts, joined};
+ghost use Rattle.synth_print.specs.Headers.{atom_texts, comma_list};
 ghost use Rattle.synth_print.specs.Operations.{behind_of, core_of, is_change, last_part, listed_cores, listed_rows};
 ghost use Rattle.synth_print.specs.Operations.{number_texts, pushed_of};
 ghost use Rattle.synth_print.specs.Texts.{chains_in, layers_in, number_at, operation_text, terms_in, written_in};
@@ -25,7 +25,7 @@ use trace_core::{Atoms, Chained, Operation};
 /// Numbers, with commas between.
 fn push_numbers(line: &mut Line, scope: &Scope<'_>, numbers: &Fields) -> Result<(), Memory>
     ensures { OnOk result (line.new ≡ line.old
-        ++ joined (number_texts (layers_in scope.now) (written_in scope.now) (terms_in scope.now) numbers.now)) }
+        ++ comma_list (number_texts (layers_in scope.now) (written_in scope.now) (terms_in scope.now) numbers.now)) }
 {
     for k in 0..numbers.len() {
         push_lead(line, b",", k)?;
@@ -34,7 +34,7 @@ fn push_numbers(line: &mut Line, scope: &Scope<'_>, numbers: &Fields) -> Result<
     Ok(())
 }
 
-/// The message of a row that is pushed, behind so many numbers.
+/// The message of a row that is pushed, after so many numbers.
 fn push_last_message(
     line: &mut Line,
     scope: &Scope<'_>,
@@ -63,7 +63,7 @@ fn push_row_parts(
 ) -> Result<(), Memory>
     requires { HasChain (chains_in scope.now) message }
     ensures { OnOk result (line.new ≡ line.old ++ codes "("
-        ++ joined (number_texts (layers_in scope.now) (written_in scope.now) (terms_in scope.now) numbers.now)
+        ++ comma_list (number_texts (layers_in scope.now) (written_in scope.now) (terms_in scope.now) numbers.now)
         ++ last_part (length numbers.now)
         (option_map (pushed_of (layers_in scope.now) (written_in scope.now) (chains_in scope.now)) message)
         ++ codes ")") }
@@ -89,14 +89,15 @@ fn push_row(
     push_row_parts(line, scope, numbers, message)
 }
 
-/// The message of an output, behind so many numbers and without its known headers.
+/// The message of an output, after so many numbers and without its known headers.
 fn push_last_core(
     line: &mut Line,
     scope: &Scope<'_>,
     count: u32,
     message: Option<Chained>,
 ) -> Result<(), Memory>
-    ensures { OnOk result (line.new ≡ line.old ++ last_part count (option_map (core_of (written_in scope.now)) message)) }
+    ensures { OnOk result
+        (line.new ≡ line.old ++ last_part count (option_map (core_of (written_in scope.now)) message)) }
 {
     match message {
         Some(message) => {
@@ -114,7 +115,7 @@ fn push_output_parts(
     numbers: &Atoms,
     message: Option<Chained>,
 ) -> Result<(), Memory>
-    ensures { OnOk result (line.new ≡ line.old ++ codes "(" ++ joined (atom_texts (written_in scope.now) numbers.now)
+    ensures { OnOk result (line.new ≡ line.old ++ codes "(" ++ comma_list (atom_texts (written_in scope.now) numbers.now)
         ++ last_part (length numbers.now) (option_map (core_of (written_in scope.now)) message) ++ codes ")") }
 {
     line.text(b"(")?;
@@ -202,7 +203,7 @@ fn push_pair(
     column: u32,
 ) -> Result<(), Memory>
     ensures { OnOk result (line.new ≡ line.old ++ cell_name (layers_in scope.now) spot.place spot.cell
-        ++ indexed (number_at scope.now row) ++ indexed (number_at scope.now column)) }
+        ++ bracketed_index (number_at scope.now row) ++ bracketed_index (number_at scope.now column)) }
 {
     push_cell_name(line, scope.stack, spot.place, spot.cell)?;
     push_indexed(line, scope, row)?;
@@ -256,7 +257,8 @@ fn rows_of(scope: &Scope<'_>) -> u64
 
 /// The operation that takes a row.
 fn push_take(line: &mut Line, scope: &Scope<'_>, spot: Spot, index: u32) -> Result<(), Memory>
-    ensures { OnOk result (line.new ≡ line.old ++ operation_text scope.now (operations.Take spot.place spot.cell index)) }
+    ensures { OnOk result
+        (line.new ≡ line.old ++ operation_text scope.now (operations.Take spot.place spot.cell index)) }
 {
     line.text(b"take ")?;
     push_cell(line, scope, spot, index)?;

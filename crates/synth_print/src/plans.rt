@@ -6,7 +6,7 @@ ghost use Rattle.std.specs.Option.{option_map_or};
 ghost use Rattle.event_graph.specs.Answer.{stack_tree};
 ghost use Rattle.stack_shapes.specs.Lists.{plan_tree};
 ghost use Rattle.synth_print.specs.Cells.{layer_or_none};
-ghost use Rattle.synth_print.specs.Entries.{all_headers, more_headers, more_planned, plan_text, planned};
+ghost use Rattle.synth_print.specs.Entries.{all_headers, more_headers, more_planned, plan_text, field_text};
 ghost use Rattle.synth_print.specs.Entries.{planned_header};
 ghost use Rattle.trace_mean.specs.Fuse.{fields_of};
 
@@ -23,7 +23,7 @@ use typed_layer::TypedLayer;
 
 /// A field of a plan.
 fn push_planned(line: &mut Line, field: Option<u32>) -> Result<(), Memory>
-    ensures { OnOk result (line.new ≡ line.old ++ planned field) }
+    ensures { OnOk result (line.new ≡ line.old ++ field_text field) }
 {
     match field {
         Some(number) => line.number(u64::from(number)),
@@ -44,7 +44,7 @@ fn push_more_planned(line: &mut Line, fields: &[Option<u32>]) -> Result<(), Memo
 
 /// Fields of a plan, with commas between.
 fn push_all_planned(line: &mut Line, fields: &[Option<u32>]) -> Result<(), Memory>
-    ensures { OnOk result (line.new ≡ line.old ++ join_by planned (codes ",") fields.now) }
+    ensures { OnOk result (line.new ≡ line.old ++ join_by field_text (codes ",") fields.now) }
 {
     match fields {
         [] => Ok(()),
@@ -90,7 +90,7 @@ fn first_fields(fields: &[Option<u32>], count: usize) -> &[Option<u32>]
     }
 }
 
-/// The fields behind so many first ones.
+/// The fields after so many first ones.
 #[tactic(auto, using(crate::proofs::Planned::none_behind))]
 fn later_fields(fields: &[Option<u32>], count: usize) -> &[Option<u32>]
     ensures { result.now ≡ drop count fields.now }

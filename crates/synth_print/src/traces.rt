@@ -10,7 +10,7 @@ ghost use Rattle.outside.specs.Tells.{tells_of};
 ghost use Rattle.stack_shapes.specs.Lists.{plan_tree};
 ghost use Rattle.stack_shapes.specs.Trees.{plans_tree};
 ghost use Rattle.synth_print.specs.Entries.{cases_shown};
-ghost use Rattle.synth_print.specs.Lines.{ended};
+ghost use Rattle.synth_print.specs.Lines.{ended_lines};
 ghost use Rattle.synth_print.specs.Traces.{all_traces, case_traces, found_traces, plan_traces, plan_turn};
 ghost use Rattle.synth_print.specs.Traces.{second_traces, trace_heading};
 ghost use Rattle.synth_print.specs.declared.name.Name.TheVariants as names;
@@ -57,7 +57,7 @@ fn write_heading<O: Sink>(
     put_line(line.slice(), out)
 }
 
-/// Puts the trace of a case of an entry behind its heading.
+/// Puts the trace of a case of an entry after its heading.
 fn write_headed<O: Sink>(
     alloc: Global,
     line: &mut Line,
@@ -68,7 +68,7 @@ fn write_headed<O: Sink>(
     out: &mut O,
 ) -> Result<(), SinkError>
     ensures { Wrote (ended_line (trace_heading name second) ∷
-        ended (operation_lines true (stack_tree stack.now) (trace_tree trace.now)))
+        ended_lines (operation_lines true (stack_tree stack.now) (trace_tree trace.now)))
         (tells_of O.Sink out.old) (tells_of O.Sink out.new) result }
 {
     write_heading(line, name, second, out)?;
@@ -85,7 +85,7 @@ fn write_made<O: Sink>(
     made: &Made,
     out: &mut O,
 ) -> Result<(), SinkError>
-    ensures { Wrote (ended (trace_lines (stack_tree stack.now) (trace_heading name second) (made_tree made.now)))
+    ensures { Wrote (ended_lines (trace_lines (stack_tree stack.now) (trace_heading name second) (made_tree made.now)))
         (tells_of O.Sink out.old) (tells_of O.Sink out.new) result }
 {
     match made {
@@ -247,7 +247,7 @@ fn write_file<O: Sink>(
     write_rest(alloc, stack, plans, bypasses, out)
 }
 
-/// Puts the traces of a stack's bypasses as a file, a line a put: each trace that was made behind its entry and case,
+/// Puts the traces of a stack's bypasses as a file, a line a put: each trace that was made after its entry and case,
 /// with a line for each note. No more than one line is held at a time.
 pub fn print_traces<O: Sink>(
     alloc: Global,

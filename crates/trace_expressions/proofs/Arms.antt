@@ -3,7 +3,7 @@ use Rattle.std.proofs.Common.{◌≡◌, ℕ, List, [], ◌∷◌, Option, Some,
 use Rattle.layer_ast.specs.declared.syntax.Function.{Function}
 use Rattle.layer_ast.specs.declared.syntax.Operator.{Operator}
 use Rattle.layer_mean.specs.Tree.{Carried, LayerTree}
-use Rattle.pack_mean.specs.Reader.{◌>>=◌, yields, given, the_text, a_name, a_word}
+use Rattle.pack_mean.specs.Reader.{◌>>=◌, yields, option_reader, the_text, a_name, a_word}
 use Rattle.pack_mean.specs.Named.{items_at, operator_named}
 use Rattle.pack_mean.specs.Expression.{Inner, QueueNamed, held_in, item_named}
 use Rattle.pack_mean.specs.Expression.{a_choice, a_cut, a_held, a_join, a_length, a_size, a_tail, an_application}
@@ -74,7 +74,8 @@ pub item_read : (stack : List LayerTree) (inner : Inner) (t0 t1 t2 t3 t4 t5 t6 :
 item_read stack inner t0 t1 t2 t3 t4 t5 t6 a b c d q row f k name opened q_read comma r close named found made =
     number_read _ _ _ _ _ _
     (onto _ opened (onto _ q_read.is (onto _ comma (onto _ r.is
-    (onto _ close (onto (λ x. given (item_named stack (queue_in (terms b) q) (number_in (terms c) row) x.0) x.1) named
+    (onto _ close (onto (λ x. option_reader (item_named stack (queue_in (terms b) q) (number_in (terms c) row) x.0) x.1)
+    named
     (ap (option_map (λ v. (v, t6))) (item_is stack (queue_in (terms b) q) (number_in (terms c) row) name f found))))))))
     (item_made q_read.made r.made made)
 
@@ -101,7 +102,7 @@ application_read inner function t0 t1 t2 t3 a b c i k opened m close made = numb
 -- what follows an operator's word
 abbrev behind_word : Inner → TraceNumber → List ℕ × List ℕ → Option (TraceNumber × List ℕ)
 behind_word inner first x =
-    (given (operator_named x.0) >>= λ operator. the_text (codes " ") >>= λ _. inner.number >>= λ second.
+    (option_reader (operator_named x.0) >>= λ operator. the_text (codes " ") >>= λ _. inner.number >>= λ second.
     the_text (codes ")") >>= λ _. yields (binary operator first second)) x.1
 
 pub operation_read : (inner : Inner) (o : Operator) (t0 t1 t2 t3 t4 t5 t6 : List ℕ) (word : List ℕ)

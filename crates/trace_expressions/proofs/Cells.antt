@@ -6,7 +6,7 @@ use Rattle.layer_mean.specs.Tree.{Form, LayerTree, numbers, queue, queues}
 use Rattle.bypass_mean.specs.Text.{layer_of}
 use Rattle.trace_mean.specs.Fuse.{form_at}
 use Rattle.trace_mean.specs.Trace.{TraceNumber, element, square}
-use Rattle.pack_mean.specs.Reader.{a_name, given, ◌>>=◌}
+use Rattle.pack_mean.specs.Reader.{a_name, option_reader, ◌>>=◌}
 use Rattle.pack_mean.specs.Named.{cell_named}
 use Rattle.pack_mean.specs.Expression.{Inner, a_cell, an_index, index_of_queue, number_of_cell, queue_with}
 use Rattle.trace_core.specs.declared.node.Node.{Node}
@@ -51,7 +51,8 @@ cell_by : (stack : List LayerTree) (inner : Inner) (name : List (List ℕ)) (spo
     sort ≡ option_map sort_of (form_at (layer_of stack spot.place) spot.cell) →
     a_cell stack inner name t ≡ number_by_sort inner spot.place spot.cell sort t
 cell_by stack inner name spot sort t found sorted =
-    ap (λ o. (given o >>= λ cell. number_of_cell inner cell.0 cell.1 (form_at (layer_of stack cell.0) cell.1)) t)
+    ap (λ o. (option_reader o >>= λ cell. number_of_cell inner cell.0 cell.1 (form_at (layer_of stack cell.0) cell.1))
+    t)
     (sym found)
     ∙ ap (λ read. read t) (number_is_by inner spot.place spot.cell (form_at (layer_of stack spot.place) spot.cell)
     ∙ ap (number_by_sort inner spot.place spot.cell) (sym sorted))
@@ -71,9 +72,10 @@ pub queue_by : (stack : List LayerTree) (inner : Inner) (name : List (List ℕ))
     sort ≡ option_map sort_of (form_at (layer_of stack spot.place) spot.cell) →
     queue_with stack inner t0 ≡ queue_by_sort inner spot.place spot.cell sort t1
 queue_by stack inner name spot sort t0 t1 named found sorted =
-    ap (option_and_then (λ taken. (given (cell_named stack taken.0)
+    ap (option_and_then (λ taken. (option_reader (cell_named stack taken.0)
     >>= λ cell. index_of_queue inner cell.0 cell.1 (form_at (layer_of stack cell.0) cell.1)) taken.1)) named
-    ∙ ap (λ o. (given o >>= λ cell. index_of_queue inner cell.0 cell.1 (form_at (layer_of stack cell.0) cell.1)) t1)
+    ∙ ap (λ o. (option_reader o >>= λ cell. index_of_queue inner cell.0 cell.1 (form_at (layer_of stack cell.0) cell.1))
+    t1)
     (sym found)
     ∙ ap (λ read. read t1) (queue_is_by inner spot.place spot.cell (form_at (layer_of stack spot.place) spot.cell)
     ∙ ap (queue_by_sort inner spot.place spot.cell) (sym sorted))
@@ -82,9 +84,10 @@ pub no_queue_by : (stack : List LayerTree) (inner : Inner) (name : List (List �
     a_name t0 ≡ Some (name, t1) →
     None ≡ cell_named stack name → queue_with stack inner t0 ≡ None
 no_queue_by stack inner name t0 t1 named none =
-    ap (option_and_then (λ taken. (given (cell_named stack taken.0)
+    ap (option_and_then (λ taken. (option_reader (cell_named stack taken.0)
     >>= λ cell. index_of_queue inner cell.0 cell.1 (form_at (layer_of stack cell.0) cell.1)) taken.1)) named
-    ∙ ap (λ o. (given o >>= λ cell. index_of_queue inner cell.0 cell.1 (form_at (layer_of stack cell.0) cell.1)) t1)
+    ∙ ap (λ o. (option_reader o >>= λ cell. index_of_queue inner cell.0 cell.1 (form_at (layer_of stack cell.0) cell.1))
+    t1)
     (sym none)
 
 -- nodes of cells

@@ -29,11 +29,13 @@ use Rattle.trace_mean.specs.Trace.{taken_message, nothing, TraceNumber, TraceMes
 use Rattle.trace_mean.specs.Trace.{Chained, Operation, bind, note, check}
 use Rattle.trace_mean.specs.Scope.{Named, Names, no_number, no_message, Worded, traced_number, traced_message, bounds}
 use Rattle.trace_mean.specs.Scope.{fill_numbers, fill_message, taken_name, taken_names}
-use Rattle.trace_mean.specs.Fuse.{TracedEvent, Made, Tracing, adding, settled, notes_of, notes_in, core_of, chained_of}
+use Rattle.trace_mean.specs.Fuse.{TracedEvent, Made, Tracing, adding, core_if_settled, notes_of, notes_in, core_of}
+use Rattle.trace_mean.specs.Fuse.{chained_of}
 use Rattle.trace_mean.specs.Fuse.{queues_of, form_at, items_of, is_alone, room_check, room_in, row_in, pushing}
 use Rattle.trace_mean.specs.Fuse.{row_word, binding, sent_chain, sending, sending_message, sending_known, traced_send}
 use Rattle.trace_mean.specs.Fuse.{stepping, trace_step, trace_steps, TracedVisit, TracedMet, popped_chain, traced_met}
-use Rattle.trace_mean.specs.Fuse.{traced_on, traced_unhandled, traced_arguments, named, traced_entered, traced_way}
+use Rattle.trace_mean.specs.Fuse.{traced_on, traced_unhandled, traced_arguments, named_chain, traced_entered}
+use Rattle.trace_mean.specs.Fuse.{traced_way}
 use Rattle.trace_mean.specs.Fuse.{traced_handled, traced_visit, Fused, with_output, field_atoms, fields_of, entry_chain}
 use Rattle.trace_form_laws.specs.Names.{Name, NumberNames, MessageNames, AtomNames, LinkNames, ChainedNames, SentNames}
 use Rattle.trace_form_laws.specs.Names.{OperationNames}
@@ -269,7 +271,7 @@ module _ (stack : List LayerTree) where
   bounds_closed r next [] le = tt
   bounds_closed r next (x ∷ xs) le = (omega (arith, le), bounds_closed r (suc next) xs (omega (arith, le)))
 
-  settled_closed : (r : Reach) (m : TraceMessage) (c : Core) → settled m ≡ Some c → MessageNames (So r) m →
+  settled_closed : (r : Reach) (m : TraceMessage) (c : Core) → core_if_settled m ≡ Some c → MessageNames (So r) m →
       CoreIsMade r c
   settled_closed r (core body) c is h = let same : body ≡ c = cc in subst (CoreIsMade r) same h
   settled_closed r (core (noted n)) c is h = let same : noted n ≡ c = cc in subst (CoreIsMade r) same h
@@ -289,13 +291,13 @@ module _ (stack : List LayerTree) where
   unmoved r = let same : r.notes ≡ r.notes + 0 = omega arith in ap (λ n. record r { notes = n }) same
 
   notes_lead : (r : Reach) (m : TraceMessage) (next : ℕ) → r.notes ≡ next → MessageNames (So r) m → Notes r m next
-  notes_lead r m next is h = record { leads = go (settled m); core_is = stands (settled m) refl } where
+  notes_lead r m next is h = record { leads = go (core_if_settled m); core_is = stands (core_if_settled m) refl } where
     go : (s : Option Core) →
         Leads r (option_map_or (λ c. []) s (note m ∷ [])) (with_notes r (option_map_or (λ c. 0) s 1))
     go None = record { closed = (h, tt); to = refl }
     go (Some c) = record { closed = tt; to = unmoved r }
 
-    stands : (s : Option Core) → settled m ≡ s →
+    stands : (s : Option Core) → core_if_settled m ≡ s →
         CoreIsMade (with_notes r (option_map_or (λ c. 0) s 1)) (option_map_or (λ c. c) s (noted next))
     stands None same = omega (arith, is)
     stands (Some c) same = wider_core r (with_notes r 0) (noted_within r 0) c (settled_closed r m c same h)
@@ -592,7 +594,7 @@ module _ (stack : List LayerTree) where
   arguments_closed r _ ns h = (each_or (AtomNames (So r)) ns 0 no_number h tt, tt)
 
   own_named : (r : Reach) (m : Option Chained) → SentNames (So r) m →
-      AllByRecursion (NamedNames r) (option_to_list (option_map named m))
+      AllByRecursion (NamedNames r) (option_to_list (option_map named_chain m))
   own_named r None h = tt
   own_named r (Some m) h = (h, tt)
 

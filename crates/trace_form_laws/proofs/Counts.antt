@@ -21,7 +21,7 @@ use Rattle.layer_mean.specs.Visit.{handler_for}
 use Rattle.layer_mean.specs.Queue.{Task, is_done, tasks_of, is_place, layer_at}
 use Rattle.stack_mean.specs.Graph.{Node, first_on_cycle, entered_handler, handler_arrows}
 use Rattle.stack_mean.specs.Acceptance.{largest, weight, weight_limit, largest_weight, most_joins, largest_joins}
-use Rattle.stack_mean.specs.Acceptance.{joins_limit, entries, Refusal, without_cycle, accepted}
+use Rattle.stack_mean.specs.Acceptance.{joins_limit, entries, Refusal, without_cycle, acceptance}
 use Rattle.stack_mean.specs.NoShape.{NoShape, drawn_from}
 use Rattle.stack_mean.specs.NoShape as no_shape
 use Rattle.stack_mean.specs.Shape.{Known, visits_limit, entry_place}
@@ -35,12 +35,13 @@ use Rattle.weight_laws.proofs.Runs.{entering}
 use Rattle.trace_mean.specs.Trace.{Core, TraceNumber, TraceMessage, Chained, Operation, bind, note, check, push, output}
 use Rattle.trace_mean.specs.Trace as trace
 use Rattle.trace_mean.specs.Scope.{Names, Worded, taken_names, traced_number, traced_message}
-use Rattle.trace_mean.specs.Fuse.{TracedEvent, Made, Tracing, settled, notes_of, chained_of, room_in, form_at, items_of}
+use Rattle.trace_mean.specs.Fuse.{TracedEvent, Made, Tracing, core_if_settled, notes_of, chained_of, room_in, form_at}
+use Rattle.trace_mean.specs.Fuse.{items_of}
 use Rattle.trace_mean.specs.Fuse.{pushing, row_word, binding, sending, sending_known, traced_send, stepping, trace_step}
 use Rattle.trace_mean.specs.Fuse.{trace_steps, TracedVisit, TracedMet, traced_met, traced_on, traced_unhandled}
 use Rattle.trace_mean.specs.Fuse.{traced_entered, traced_way, traced_handled, traced_visit, Fused, with_output}
 use Rattle.trace_mean.specs.Fuse.{traced_task}
-use Rattle.trace_mean.specs.Counts.{counted, a_note, an_output, trace_length, trace_notes, trace_outputs}
+use Rattle.trace_mean.specs.Counts.{operation_length, a_note, an_output, trace_length, trace_notes, trace_outputs}
 use Rattle.trace_laws.specs.Shapes.{outlets_of, trace_outlets}
 use Rattle.trace_laws.proofs.Shapes.{outputs_are_told}
 use Rattle.trace_form_laws.specs.Entries.{IsEntry, entry_node}
@@ -55,7 +56,7 @@ record Adds (os : List Operation) (sent : ℕ) : Type 0 where
   outlets : trace_outlets os ≡ []
 
 notes_add : (m : TraceMessage) → Adds (notes_of m) 1
-notes_add m = go (settled m) where
+notes_add m = go (core_if_settled m) where
   go : (s : Option Core) → Adds (option_map_or (λ c. []) s (note m ∷ [])) 1
   go None = record { notes = omega arith; outlets = refl }
   go (Some c) = record { notes = omega arith; outlets = refl }
@@ -66,13 +67,13 @@ no_outlets os more h k = flat_map-append outlets_of os more ∙ ap (λ x. x ++ t
 
 adds_both : (os more : List Operation) (m n k : ℕ) → m + n ≤ k → Adds os m → Adds more n → Adds (os ++ more) k
 adds_both os more m n k le a b = record {
-  notes = omega (arith, sum_by-append a_note os more, sum_by-append counted os more, a.notes, b.notes, le);
+  notes = omega (arith, sum_by-append a_note os more, sum_by-append operation_length os more, a.notes, b.notes, le);
   outlets = no_outlets os more a.outlets b.outlets;
 }
 
-an_other : (o : Operation) → a_note o ≡ 0 → counted o ≡ 1 → outlets_of o ≡ [] → Adds (o ∷ []) 0
+an_other : (o : Operation) → a_note o ≡ 0 → operation_length o ≡ 1 → outlets_of o ≡ [] → Adds (o ∷ []) 0
 an_other o note_is counted_is none = record {
-  notes = omega (arith, sum_by-cons a_note o [], sum_by-cons counted o [], note_is, counted_is);
+  notes = omega (arith, sum_by-cons a_note o [], sum_by-cons operation_length o [], note_is, counted_is);
   outlets = flat_map-cons outlets_of o [] ∙ ap (λ x. x ++ []) none;
 }
 
@@ -103,7 +104,7 @@ more_few before sent more next y os b n k is h a = record {
   notes = omega (
     arith,
     sum_by-append a_note y.operations os,
-    sum_by-append counted y.operations os,
+    sum_by-append operation_length y.operations os,
     h.notes,
     a.notes,
     is,
@@ -139,9 +140,9 @@ module _ (before : Made) where
         notes = omega (
           arith,
           sum_by-cons a_note (check room) (notes_of x.message ++ os),
-          sum_by-cons counted (check room) (notes_of x.message ++ os),
+          sum_by-cons operation_length (check room) (notes_of x.message ++ os),
           sum_by-append a_note (notes_of x.message) os,
-          sum_by-append counted (notes_of x.message) os,
+          sum_by-append operation_length (notes_of x.message) os,
           n.notes,
         );
         outlets = flat_map-cons outlets_of (check room) (notes_of x.message ++ os) ∙
@@ -251,7 +252,7 @@ module _ (case : Case) (stack : List LayerTree) (orderly : IsOrderly stack) (off
           arith,
           h.notes,
           sum_by-append a_note f.made.operations os,
-          sum_by-append counted f.made.operations os,
+          sum_by-append operation_length f.made.operations os,
         );
         visits = h.visits;
         took = omega (arith, h.took, sum_by-append an_output f.made.operations os);
@@ -316,7 +317,7 @@ traces_are_few case stack k fields operations orderly off is enough made =
     }
 
 -- what an accepted stack is
-accepts_parts : (stack : List LayerTree) → accepted stack ≡ Ok stack →
+accepts_parts : (stack : List LayerTree) → acceptance stack ≡ Ok stack →
     (first_on_cycle stack ≡ None) × (largest_weight stack ≤ weight_limit) × (largest_joins stack ≤ joins_limit)
 accepts_parts stack h = go (first_on_cycle stack) refl h where
   judged : (b c : Bool) (x y : Refusal) → (if b then Err x else if c then Err y else Ok stack) ≡ Ok stack →

@@ -9,7 +9,7 @@ use Rattle.layer_ast.specs.declared.tokens.Dir.TheVariants.{Up, Down}
 use Rattle.layer_ast.specs.declared.tokens.Kind.{Kind}
 use Rattle.layer_mean.specs.declared.run.Event.{Event}
 use Rattle.layer_mean.specs.Event.{carries, event_of}
-use Rattle.layer_mean.specs.Headers.{declared}
+use Rattle.layer_mean.specs.Headers.{header_of_tag}
 use Rattle.layer_mean.specs.Tree.{HeaderTree, LayerTree}
 use Rattle.stack_mean.specs.Shape.{entry_place}
 use Rattle.packet_mean.specs.Chained.{IsChain}
@@ -57,7 +57,7 @@ tags_declared : (i : Input) (p : ℕ) (layers : List LayerTree) (tags : List ℕ
 tags_declared i p layers [] atoms h = tt
 tags_declared i p [] (tag ∷ tags) atoms h = absurd (cc h)
 tags_declared i p (layer ∷ above) (tag ∷ tags) atoms h =
-    go (declared layer tag) h (tags_declared i (suc p) above tags (drop (fields_of layer tag) atoms)) where
+    go (header_of_tag layer tag) h (tags_declared i (suc p) above tags (drop (fields_of layer tag) atoms)) where
       hs : List Header
       hs = map (header_at i nothing_kept) (entry_chain (suc p) above tags (drop (fields_of layer tag) atoms)) ++ []
 

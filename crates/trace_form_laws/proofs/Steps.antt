@@ -13,7 +13,7 @@ use Rattle.layer_ast.specs.declared.tokens.Dir.TheVariants.{Up, Down}
 use Rattle.layer_ast.specs.declared.tokens.Kind.{Kind}
 use Rattle.layer_mean.specs.declared.run.Case.TheVariants.{First, Second}
 use Rattle.layer_mean.specs.Event.{carries}
-use Rattle.layer_mean.specs.Headers.{declared}
+use Rattle.layer_mean.specs.Headers.{header_of_tag}
 use Rattle.layer_mean.specs.Tree as tree
 use Rattle.layer_mean.specs.Tree.{Carried, ExpressionTree, MessageTree, ContentTree, EmissionTree, RowTree, TakenTree}
 use Rattle.layer_mean.specs.Tree.{LayerTree, no_layer}
@@ -30,7 +30,8 @@ use Rattle.weight_laws.proofs.Visits.{at_most_largest}
 use Rattle.trace_mean.specs.Trace.{Atom, Core, TraceMessage, Link, Chained, Operation, bind, note, check, push}
 use Rattle.trace_mean.specs.Scope.{Named, Names, no_message, Worded, traced_number, traced_message, fill_message}
 use Rattle.trace_mean.specs.Scope.{taken_name, bounds, taken_names}
-use Rattle.trace_mean.specs.Fuse.{TracedEvent, Tracing, settled, notes_of, notes_in, core_of, pushing, chained_of}
+use Rattle.trace_mean.specs.Fuse.{TracedEvent, Tracing, core_if_settled, notes_of, notes_in, core_of, pushing}
+use Rattle.trace_mean.specs.Fuse.{chained_of}
 use Rattle.trace_mean.specs.Fuse.{room_in, form_at, items_of, row_word, binding, sent_chain, sending, sending_known}
 use Rattle.trace_mean.specs.Fuse.{traced_send, stepping, trace_step, trace_steps}
 use Rattle.trace_mean.specs.Counts.{message_joins, note_joins, trace_joins}
@@ -49,7 +50,7 @@ message_joins_in p l (tree.tail m from) = omega (arith, message_joins_in p l m)
 message_joins_in p l (tree.join q m) = omega (arith, message_joins_in p l q, message_joins_in p l m)
 
 notes_join : (m : TraceMessage) → trace_joins (notes_of m) ≤ message_joins m
-notes_join m = go (settled m) where
+notes_join m = go (core_if_settled m) where
   go : (s : Option Core) → trace_joins (option_map_or (λ c. []) s (note m ∷ [])) ≤ message_joins m
   go None = omega arith
   go (Some c) = omega arith
@@ -139,7 +140,7 @@ module _ (stack : List LayerTree) (f : Node → ℕ) (n : Node) where
     go true both = let halves = and_parts (goes_down n.dir n.kind) (keeps_headers c.message) both in
         inl (worded_first p l c.message halves.1 ∙ h.first halves.0)
     go false both = tag_in (layer_at stack (n.at + 1)) (link_tag (traced_message p l c.message).chain)
-        (subst (λ j. is_some (declared (slice_index_or stack j no_layer)
+        (subst (λ j. is_some (header_of_tag (slice_index_or stack j no_layer)
         (link_tag (traced_message p l c.message).chain)) ≡ true) (sym (one_more n.at))
         (front_fits stack n.at (traced_message p l c.message).chain (worded_fits stack n p l c.message h.each)))
 

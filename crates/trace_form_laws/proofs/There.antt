@@ -26,7 +26,7 @@ use Rattle.file_laws.specs.Named.{NamedAll, NamedExpected, slots_of, NamedHandle
 use Rattle.trace_mean.specs.Trace as trace
 use Rattle.trace_mean.specs.Trace.{Atom, Core, TraceNumber, TraceMessage, Link, Chained, Operation, bind, note, check}
 use Rattle.trace_mean.specs.Scope.{Names, Worded, traced_number, traced_message}
-use Rattle.trace_mean.specs.Fuse.{TracedEvent, Made, Tracing, settled, notes_of, chained_of, is_alone, form_at}
+use Rattle.trace_mean.specs.Fuse.{TracedEvent, Made, Tracing, core_if_settled, notes_of, chained_of, is_alone, form_at}
 use Rattle.trace_mean.specs.Fuse.{queues_of, room_check, room_in, pushing, binding, sending_known, traced_send}
 use Rattle.trace_mean.specs.Fuse.{trace_step, trace_steps, TracedVisit, traced_met, traced_on, traced_unhandled}
 use Rattle.trace_mean.specs.Fuse.{traced_entered, traced_way, traced_handled, traced_visit}
@@ -54,7 +54,7 @@ module _ (stack : List LayerTree) where
   sent_there (Some m) = record { chain_is = chain_there m.chain; core_is = tt }
 
   notes_there : (m : TraceMessage) → MessageNames There m → AreThere stack (notes_of m)
-  notes_there m h = go (settled m) where
+  notes_there m h = go (core_if_settled m) where
     go : (s : Option Core) → AreThere stack (option_map_or (λ c. []) s (note m ∷ []))
     go None = (h, tt)
     go (Some c) = tt

@@ -10,7 +10,7 @@ use Rattle.layer_ast.specs.declared.tokens.Dir.{Dir}
 use Rattle.layer_ast.specs.declared.tokens.Dir.TheVariants.{Up, Down}
 use Rattle.layer_ast.specs.declared.tokens.Kind.{Kind}
 use Rattle.layer_mean.specs.declared.run.Case.{Case}
-use Rattle.layer_mean.specs.Headers.{declared}
+use Rattle.layer_mean.specs.Headers.{header_of_tag}
 use Rattle.layer_mean.specs.Tree.{HandlerTree, Expected, always, common, rare, LayerTree, no_layer}
 use Rattle.layer_mean.specs.Way.{Step, test, ways, expected_way}
 use Rattle.layer_mean.specs.Visit.{is_for, handler_for, with_room}
@@ -30,7 +30,7 @@ use Rattle.weight_laws.proofs.Sends.{total_in, total_in_is}
 use Rattle.trace_mean.specs.Trace.{Core, Link, Chained}
 use Rattle.trace_mean.specs.Scope.{Named, no_message}
 use Rattle.trace_mean.specs.Fuse.{TracedEvent, Made, Tracing, TracedVisit, TracedMet, popped_chain, traced_met}
-use Rattle.trace_mean.specs.Fuse.{traced_on, traced_unhandled, named, traced_entered, traced_way, traced_handled}
+use Rattle.trace_mean.specs.Fuse.{traced_on, traced_unhandled, named_chain, traced_entered, traced_way, traced_handled}
 use Rattle.trace_mean.specs.Fuse.{traced_visit, trace_steps}
 use Rattle.trace_mean.specs.Counts.{trace_joins}
 use Rattle.trace_form_laws.proofs.Turns.{IfMade, from_made, more_made}
@@ -58,10 +58,11 @@ room_empty zero = refl
 room_empty (suc k) = room_keeps k no_message []
 
 first_tag : (k : ℕ) (m : Option Chained) →
-    link_tag (slice_index_or (with_room k no_message (option_to_list (option_map named m))) 0 no_message).message.chain
+    link_tag (slice_index_or (with_room k no_message (option_to_list (option_map named_chain m))) 0
+    no_message).message.chain
     ≡ traced_tag m
 first_tag k None = ap (λ x. link_tag x.message.chain) (room_empty k)
-first_tag k (Some c) = ap (λ x. link_tag x.message.chain) (room_keeps k (named c) [])
+first_tag k (Some c) = ap (λ x. link_tag x.message.chain) (room_keeps k (named_chain c) [])
 
 module _ (stack : List LayerTree) (at : ℕ) (here : (1 ≤ at) × (at ≤ length stack)) where
   met_fits : (dir : Dir) (kind : Kind) (m : Option Chained) → MessageFits stack (arrival dir at) kind m →
@@ -101,12 +102,13 @@ module _ (stack : List LayerTree) (at : ℕ) (here : (1 ≤ at) × (at ≤ lengt
     first = λ down. go dir event.message down;
   } where
     alone : (m : Option Chained) → MessageFits stack at event.kind m →
-        AllByRecursion (NamedFits stack at) (option_to_list (option_map named m))
+        AllByRecursion (NamedFits stack at) (option_to_list (option_map named_chain m))
     alone None k = tt
     alone (Some m) k = (k.1, tt)
 
     go : (d : Dir) (m : Option Chained) → goes_down d event.kind ≡ true →
-        let names = with_room h.messages no_message (option_to_list (option_map named (traced_met d m).message)) in
+        let names = with_room h.messages no_message (option_to_list (option_map named_chain (traced_met d m).message))
+        in
         link_tag (slice_index_or names 0 no_message).message.chain ≡ traced_tag m
     go Up m down = absurd (cc down)
     go Down None down = first_tag h.messages None
@@ -143,7 +145,7 @@ module _ (stack : List LayerTree) (at : ℕ) (here : (1 ≤ at) × (at ≤ lengt
         In (traced_tag m) (tags_for kind (layer_at stack (at + 1)))
     up_tag kind None fits = had_in kind (layer_at stack (at + 1)) 0 (zero_had kind (layer_at stack (at + 1)))
     up_tag kind (Some m) fits = had_in kind (layer_at stack (at + 1)) (link_tag m.chain)
-        (rw fits.0 (subst (λ j. is_some (declared (slice_index_or stack j no_layer) (link_tag m.chain)) ≡ true)
+        (rw fits.0 (subst (λ j. is_some (header_of_tag (slice_index_or stack j no_layer) (link_tag m.chain)) ≡ true)
         (sym (one_more at))
         (front_fits stack at m.chain fits.1)))
 

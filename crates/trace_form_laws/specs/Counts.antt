@@ -3,7 +3,7 @@ use Rattle.std.specs.Prelude.{◌≡◌, ℕ, ◌+◌, ◌<◌, ◌≤◌, List,
 use Rattle.layer_mean.specs.declared.run.Case.{Case}
 use Rattle.layer_mean.specs.Tree.{LayerTree}
 use Rattle.stack_mean.specs.Graph.{first_on_cycle}
-use Rattle.stack_mean.specs.Acceptance.{weight, weight_limit, most_joins, joins_limit, accepted}
+use Rattle.stack_mean.specs.Acceptance.{weight, weight_limit, most_joins, joins_limit, acceptance}
 use Rattle.stack_mean.specs.Shape.{Known, visits_limit}
 use Rattle.weight_laws.specs.Orderly.{IsOrderly}
 use Rattle.trace_mean.specs.Trace.{Operation}
@@ -43,5 +43,5 @@ pub record IsWithin (operations : List Operation) : Type 0 where
 abbrev pub AcceptedTracesFit : Type 0
 AcceptedTracesFit = (case : Case) (stack : List LayerTree) (k : Known) (fields : List (Option ℕ))
     (operations : List Operation) →
-    IsOrderly stack → accepted stack ≡ Ok stack → IsEntry stack k →
+    IsOrderly stack → acceptance stack ≡ Ok stack → IsEntry stack k →
     trace_of case stack k fields ≡ Ok operations → IsWithin operations

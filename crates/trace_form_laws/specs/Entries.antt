@@ -3,7 +3,7 @@ use Rattle.std.specs.Prelude.{◌≡◌, ℕ, true, List, [], ◌∷◌, Option,
 use Rattle.layer_ast.specs.declared.tokens.Dir.{Dir}
 use Rattle.layer_ast.specs.declared.tokens.Dir.TheVariants.{Up, Down}
 use Rattle.layer_mean.specs.Event.{carries}
-use Rattle.layer_mean.specs.Headers.{declared}
+use Rattle.layer_mean.specs.Headers.{header_of_tag}
 use Rattle.layer_mean.specs.Tree.{LayerTree}
 use Rattle.stack_mean.specs.Graph.{Node}
 use Rattle.stack_mean.specs.Shape.{Known, entry_place}
@@ -15,7 +15,7 @@ use Rattle.trace_mean.specs.Fuse.{entry_task}
 abbrev pub AreDeclared : List LayerTree → List ℕ → Type 0
 AreDeclared layers [] = Unit {0}
 AreDeclared [] (tag ∷ tags) = ⊥
-AreDeclared (layer ∷ above) (tag ∷ tags) = (is_some (declared layer tag) ≡ true) × AreDeclared above tags
+AreDeclared (layer ∷ above) (tag ∷ tags) = (is_some (header_of_tag layer tag) ≡ true) × AreDeclared above tags
 
 -- The layers whose headers the message of an entry has: all where it comes from below, none where it comes from above.
 abbrev pub entry_layers : List LayerTree → Dir → List LayerTree

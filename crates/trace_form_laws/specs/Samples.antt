@@ -2,7 +2,7 @@
 use Rattle.std.specs.Prelude.{◌≡◌, ℕ, List, [], ◌∷◌, Ok}
 use Rattle.layer_mean.specs.declared.run.Case.TheVariants.{First}
 use Rattle.layer_mean.specs.Tree.{number, MessageTree, message, cut, join, LayerTree}
-use Rattle.stack_mean.specs.Acceptance.{weight, most_joins, accepted}
+use Rattle.stack_mean.specs.Acceptance.{weight, most_joins, acceptance}
 use Rattle.stack_mean.specs.Cases.{sending}
 use Rattle.stack_mean.specs.NoShape.{drawn_from}
 use Rattle.stack_mean.specs.Shape.{app_cast}
@@ -37,6 +37,6 @@ abbrev pub JoinsAreMet : Type 0
 JoinsAreMet =
     (drawn_from (λ operations. Ok (sums operations)) (trace_of First joining app_cast []) ≡
     Ok (record { joins = 2; notes = 1; outputs = 1; length = 2 })) ×
-    (accepted joining ≡ Ok joining) ×
+    (acceptance joining ≡ Ok joining) ×
     (most_joins joining (entry_node joining app_cast) ≡ 2) ×
     (weight joining (entry_node joining app_cast) ≡ 2)

@@ -20,7 +20,7 @@ use Rattle.layer_mean.specs.Tree.{StatementTrees, none, more, Expected, always, 
 use Rattle.layer_mean.specs.State.{State, flat_index, row_at, has_room, with_number, with_row, without_front}
 use Rattle.layer_mean.specs.Value.{Scope, is_true, val}
 use Rattle.layer_mean.specs.Effect.{with_slot, row_of, with_taken}
-use Rattle.layer_mean.specs.Visit.{Met, met, is_for, handler_for, entered}
+use Rattle.layer_mean.specs.Visit.{Met, met, is_for, handler_for, entered_scope}
 use Rattle.layer_mean.specs.Way.{Step, test, fork, set_slot, set_number, set_square, put, get, send, loop, way, ways}
 use Rattle.layer_mean.specs.Way.{expected_way}
 use Rattle.packet_mean.specs.ChainedState.{IsState, IsEvent}
@@ -160,7 +160,7 @@ module _ (P Q : List Header → Type 0) (layer : LayerTree) (place : ℕ) (blank
       (same_true dir_row.the_type tt h.direction dir both.0)
       (ap carries (same_true kind_row.the_type tt h.kind e.kind both.1)) (eqb-true h.tag m.tag all.1)
       (arguments_small (come_headers P Q dir) e.kind e event) is in
-      expected_goes h.expected (ways case h.block) (sorts_of layer h) s (entered h e m)
+      expected_goes h.expected (ways case h.block) (sorts_of layer h) s (entered_scope h e m)
       (way_goes case h.block (sorts_of layer h) typed.0)
       state scope
 

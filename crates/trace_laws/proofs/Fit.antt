@@ -17,7 +17,7 @@ use Rattle.layer_mean.specs.Tree.{ItemsTree, Form, numbers, queue, queues, CellT
 use Rattle.layer_mean.specs.State as state
 use Rattle.layer_mean.specs.State.{State, Contents, no_cell, queues_in}
 use Rattle.layer_mean.specs.Value.{Scope, val}
-use Rattle.layer_mean.specs.Queue.{Task, Line, Work, is_place, layer_at, state_at, run_for, layers, run, unstarted}
+use Rattle.layer_mean.specs.Queue.{Task, Line, Work, is_place, layer_at, state_at, run_for, layers, run, unstarted_work}
 use Rattle.layer_mean.specs.Queue.{starting}
 use Rattle.layer_mean.specs.Way.{Step, put, get, send}
 use Rattle.packet_mean.specs.ChainedState.{IsFrom, IsRow, IsState, HoldsForm, IsQueue}
@@ -141,6 +141,6 @@ next_fits case stack w (t ∷ rest) typed states h = (h.0, λ placed. task_fits 
 pub typed_runs_fit : TypedRunsFit
 unfolding run
 typed_runs_fit case stack states task typed h is = λ k.
-    let q : Line Work Event = run_for (length stack) (layers stack) k (starting (unstarted states) task) in
+    let q : Line Work Event = run_for (length stack) (layers stack) k (starting (unstarted_work states) task) in
     let line = run_from_a_task stack k states task typed h is in
     next_fits case stack q.world q.tasks typed line.states line.tasks

@@ -8,7 +8,7 @@ use Rattle.layer_mean.specs.Value.{is_true}
 use Rattle.trace_mean.specs.Trace.{Core, TraceNumber, TraceMessage, Operation, bind, note, check, set, set_square, push}
 use Rattle.trace_mean.specs.Trace.{take, output}
 use Rattle.trace_mean.specs.Follow.{Trail, Followed, on, stopped_at, goes_on, follows}
-use Rattle.trace_mean.specs.Fuse.{settled, notes_of}
+use Rattle.trace_mean.specs.Fuse.{core_if_settled, notes_of}
 use Rattle.trace_laws.specs.Safe.{SafeFrom, SafeTrace}
 use Rattle.trace_laws.proofs.Later.{stays, behind}
 use Rattle.trace_mean.specs.Worth.{Input, number_of}
@@ -88,7 +88,7 @@ quiet_binds f [] = tt
 quiet_binds f (e ∷ es) = (tt, quiet_binds f es)
 
 pub quiet_notes : (m : TraceMessage) → AllByRecursion Quiet (notes_of m)
-quiet_notes m = go (settled m) where
+quiet_notes m = go (core_if_settled m) where
   go : (s : Option Core) → AllByRecursion Quiet (option_map_or (λ c. []) s (note m ∷ []))
   go None = (tt, tt)
   go (Some c) = tt

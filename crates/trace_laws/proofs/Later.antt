@@ -1,4 +1,4 @@
--- What a trace has kept stays, and what it keeps behind that.
+-- What a trace has kept stays, and what it keeps after that.
 use Rattle.std.proofs.Common.{◌≡◌, ℕ, suc, ◌+◌, Bool, List, [], ◌∷◌, ◌++◌, map, length, Option, Some, None, refl, sym}
 use Rattle.std.proofs.Common.{ap, ◌∙◌, arith}
 use Rattle.std.specs.Prelude.{if◌then◌else◌, slice_index_or}
@@ -15,7 +15,7 @@ use Rattle.trace_mean.specs.Trace.{Core, body, noted, taken_message, nothing, Tr
 use Rattle.trace_mean.specs.Trace.{cut, tail, join, Operation, bind, note, check}
 use Rattle.trace_mean.specs.Follow.{Trail, Followed, on, stopped_at, with_bound, with_noted, goes_on, follows}
 use Rattle.trace_mean.specs.Scope.{bounds}
-use Rattle.trace_mean.specs.Fuse.{settled, notes_of, notes_in, core_of}
+use Rattle.trace_mean.specs.Fuse.{core_if_settled, notes_of, notes_in, core_of}
 use Rattle.trace_mean.specs.Worth.{Input, Kept, atom_at, core_at, number_of, message_of}
 
 -- one list begins with another
@@ -77,13 +77,13 @@ later_rows k rs = record {
       begins_append k.rows rs;
 }
 
--- what stands behind so many
+-- what stands after so many
 pub nth : {A : Type 0} (xs : List A) (x d : A) (ys : List A) (n : ℕ) → length xs ≡ n → Begins (xs ++ x ∷ []) ys →
     slice_index_or ys n d ≡ x
 nth xs x d ys n long b =
     (λ t. slice_index_or ((b.is ∙ append_assoc xs (x ∷ []) b.more) t) (sym long t) d) ∙ get_or-append_seam xs x b.more d
 
--- a trace that stopped stays so, and one that goes on does so behind what it did
+-- a trace that stopped stays so, and one that goes on does so after what it did
 pub stays : (i : Input) (os : List Operation) (n : ℕ) → follows i os (stopped_at n) ≡ stopped_at n
 stays i [] n = refl
 stays i (o ∷ os) n = stays i os n
@@ -133,9 +133,9 @@ abbrev pub with_notes : Trail → List Content → Trail
 with_notes t ms = record t { kept = more_messages t.kept ms }
 
 abbrev pub note_values : TraceMessage → Content → List Content
-note_values m v = option_map_or (λ c. []) (settled m) (v ∷ [])
+note_values m v = option_map_or (λ c. []) (core_if_settled m) (v ∷ [])
 
-settled_is : (m : TraceMessage) (c : Core) → settled m ≡ Some c → (i : Input) (k : Kept) (ss : List State) →
+settled_is : (m : TraceMessage) (c : Core) → core_if_settled m ≡ Some c → (i : Input) (k : Kept) (ss : List State) →
     core_at i k c ≡ message_of i k ss m
 settled_is (core body) c is i k ss = cc
 settled_is (core (noted n)) c is i k ss = cc
@@ -148,7 +148,7 @@ settled_is (join q m) c is i k ss = absurd (cc is)
 
 pub notes_follow : (i : Input) (m : TraceMessage) (t : Trail) (v : Content) → message_of i t.kept t.states m ≡ v →
     follows i (notes_of m) (on t) ≡ on (with_notes t (note_values m v))
-notes_follow i m t v worth = go (settled m) where
+notes_follow i m t v worth = go (core_if_settled m) where
   go : (s : Option Core) →
       follows i (option_map_or (λ c. []) s (note m ∷ [])) (on t) ≡
       on (with_notes t (option_map_or (λ c. []) s (v ∷ [])))
@@ -157,7 +157,7 @@ notes_follow i m t v worth = go (settled m) where
 
 pub notes_count : (m : TraceMessage) (v : Content) (xs : List Content) (n : ℕ) → length xs ≡ n →
     length (xs ++ note_values m v) ≡ n + notes_in m
-notes_count m v xs n long = go (settled m) where
+notes_count m v xs n long = go (core_if_settled m) where
   go : (s : Option Core) → length (xs ++ option_map_or (λ c. []) s (v ∷ [])) ≡ n + option_map_or (λ c. 0) s 1
   go None = length-append xs (v ∷ []) ∙ omega (arith, long)
   go (Some c) = length-append xs [] ∙ omega (arith, long)
@@ -165,8 +165,8 @@ notes_count m v xs n long = go (settled m) where
 pub core_worth : (i : Input) (u : Kept) (ss : List State) (m : TraceMessage) (v : Content) (xs : List Content) (n : ℕ) →
     length xs ≡ n →
     Begins (xs ++ note_values m v) u.messages → message_of i u ss m ≡ v → core_at i u (core_of n m) ≡ v
-core_worth i u ss m v xs n long b worth = go (settled m) refl b where
-  go : (s : Option Core) → settled m ≡ s → Begins (xs ++ option_map_or (λ c. []) s (v ∷ [])) u.messages →
+core_worth i u ss m v xs n long b worth = go (core_if_settled m) refl b where
+  go : (s : Option Core) → core_if_settled m ≡ s → Begins (xs ++ option_map_or (λ c. []) s (v ∷ [])) u.messages →
       core_at i u (option_map_or (λ c. c) s (noted n)) ≡ v
   go None is b = nth xs v (plain []) u.messages n long b
   go (Some c) is b = settled_is m c is i u ss ∙ worth

@@ -15,11 +15,12 @@ use Rattle.layer_mean.specs.Tree.{StatementTrees, none, more, Expected, always, 
 use Rattle.layer_mean.specs.State.{State, has_room, row_at, with_row, without_front}
 use Rattle.layer_mean.specs.Value.{Scope, is_true, val}
 use Rattle.layer_mean.specs.Effect.{usual, unusual, Outcome, Act, after, done, decides, in_order, turns, row_of}
-use Rattle.layer_mean.specs.Effect.{with_slot, with_taken, chosen, taking, does, acts}
-use Rattle.layer_mean.specs.Visit.{Met, met, handler_for, entered, Visited, sent_on, unhandled, expecting, handled}
+use Rattle.layer_mean.specs.Effect.{with_slot, with_taken, chosen_outcome, taking, does, acts}
+use Rattle.layer_mean.specs.Visit.{Met, met, handler_for, entered_scope, Visited, sent_on, unhandled_visit, expecting}
+use Rattle.layer_mean.specs.Visit.{handled_visit}
 use Rattle.layer_mean.specs.Visit.{step}
 use Rattle.layer_mean.specs.Queue.{Task, Line, Work, tasks_of, is_place, next_of, run_for, run, layer_at, state_at}
-use Rattle.layer_mean.specs.Queue.{visited, layers, unstarted, starting}
+use Rattle.layer_mean.specs.Queue.{visit_turn, layers, unstarted_work, starting}
 use Rattle.shape_laws.proofs.Runs.{first_turn}
 use Rattle.std.proofs.lemmas.Bool.{and_parts, leb-true}
 use Rattle.trace_laws.specs.Members.{IsOf, AreOf, RunsKeepMembers}
@@ -70,7 +71,7 @@ module _ (i : Input) (place : ℕ) where
   taking_of (Some r) first second one other = one r
 
   chosen_of : (b : Bool) (x : Likely) (first second : Outcome) → IsOf i first.state → IsOf i second.state →
-      IsOf i (chosen b x first second).state
+      IsOf i (chosen_outcome b x first second).state
   chosen_of true likely.First first second one other = one
   chosen_of true likely.Else first second one other = one
   chosen_of true likely.Two first second one other = one
@@ -121,7 +122,7 @@ module _ (i : Input) (place : ℕ) where
     go false = of
 
   unhandled_of : (s : State) (dir : Dir) (e : Event) (m : Met) (c : Option Content) → IsOf i s →
-      IsOf i (unhandled place s dir e m c).state
+      IsOf i (unhandled_visit place s dir e m c).state
   unhandled_of s dir e m None of = of
   unhandled_of s Down e m (Some c) of = of
   unhandled_of s Up e m (Some c) of = go (m.tag == 0) where
@@ -131,11 +132,11 @@ module _ (i : Input) (place : ℕ) where
     go false = of
 
   handled_of : (x : Option HandlerTree) (s : State) (dir : Dir) (e : Event) (m : Met) → IsOf i s →
-      IsOf i (handled place x s dir e m).state
+      IsOf i (handled_visit place x s dir e m).state
   handled_of None s dir e m of = unhandled_of s dir e m m.message of
   handled_of (Some h) s dir e m of =
-      expecting_of h.expected s (entered h e m) (in_order (acts place h.block) s (entered h e m))
-      (acts_of h.block (done s (entered h e m)) of)
+      expecting_of h.expected s (entered_scope h e m) (in_order (acts place h.block) s (entered_scope h e m))
+      (acts_of h.block (done s (entered_scope h e m)) of)
 
   step_of : (layer : LayerTree) (s : State) (dir : Dir) (e : Event) → IsOf i s → IsOf i (step place layer s dir e).state
   unfolding step
@@ -150,7 +151,7 @@ turn_keeps i stack (t ∷ rest) w are = go (is_place (length stack) t.at) refl w
   v = step (t.at - 1) (layer_at stack t.at) (state_at w t.at) t.dir t.event
 
   line : Bool → Line Work Event
-  line b = if b then record { world = (visited t.at w v).world; tasks = rest ++ tasks_of t.at v.sent }
+  line b = if b then record { world = (visit_turn t.at w v).world; tasks = rest ++ tasks_of t.at v.sent }
       else record { world = record w { outs = w.outs ++ (t.dir, t.event) ∷ [] }; tasks = rest }
 
   go : (b : Bool) → is_place (length stack) t.at ≡ b → AreOf i stack (line b).world.states
@@ -170,4 +171,4 @@ run_keeps i stack (suc k) r are = subst (λ (q : Line Work Event). AreOf i stack
 
 pub runs_keep_members : RunsKeepMembers
 unfolding run
-runs_keep_members i stack states most task are = run_keeps i stack most (starting (unstarted states) task) are
+runs_keep_members i stack states most task are = run_keeps i stack most (starting (unstarted_work states) task) are

@@ -28,20 +28,22 @@ use Rattle.stack_mean.specs.Drawn.{draw_step, draw_steps, DrawnVisit, DrawnMet, 
 use Rattle.stack_mean.specs.Drawn.{drawn_unhandled, drawn_entered, drawn_way, drawn_handled, drawn_visit}
 use Rattle.trace_mean.specs.Trace.{Atom, Core, TraceMessage, Link, Chained, Operation, note, check}
 use Rattle.trace_mean.specs.Scope.{Named, Names, no_message, Worded, traced_message, bounds, taken_name, fill_message}
-use Rattle.trace_mean.specs.Fuse.{TracedEvent, Made, Tracing, settled, notes_of, core_of, pushing, row_word, room_in}
+use Rattle.trace_mean.specs.Fuse.{TracedEvent, Made, Tracing, core_if_settled, notes_of, core_of, pushing, row_word}
+use Rattle.trace_mean.specs.Fuse.{room_in}
 use Rattle.trace_mean.specs.Fuse.{binds_one, binding, sent_chain, sending_known, traced_send, trace_step, trace_steps}
-use Rattle.trace_mean.specs.Fuse.{TracedVisit, TracedMet, popped_chain, traced_met, traced_on, traced_unhandled, named}
+use Rattle.trace_mean.specs.Fuse.{TracedVisit, TracedMet, popped_chain, traced_met, traced_on, traced_unhandled}
+use Rattle.trace_mean.specs.Fuse.{named_chain}
 use Rattle.trace_mean.specs.Fuse.{traced_entered, traced_way, traced_handled, traced_visit}
 use Rattle.trace_laws.specs.Shapes.{Told, told_by_trace, outlets_of, trace_outlets}
 use Rattle.trace_laws.proofs.Visits.{map_room}
-use Rattle.trace_mean.specs.Counts.{counted, trace_length}
+use Rattle.trace_mean.specs.Counts.{operation_length, trace_length}
 
 -- what operations tell, and so many more of them that put nothing out
 abbrev pub more : Told → ℕ → Told
 more t n = record t { length = t.length + n }
 
 long_both : (xs ys : List Operation) → trace_length (xs ++ ys) ≡ trace_length xs + trace_length ys
-long_both xs ys = sum_by-append counted xs ys
+long_both xs ys = sum_by-append operation_length xs ys
 
 pub told_both : (xs ys : List Operation) → told_by_trace (xs ++ ys) ≡
     record { length = trace_length xs + trace_length ys; outlets = trace_outlets xs ++ trace_outlets ys }
@@ -59,13 +61,13 @@ inside_binds p l [] = refl
 inside_binds p l (e ∷ es) =
     let rest = inside_binds p l es in
     let long : trace_length (binding p l (e ∷ es)) ≡ suc (length es) =
-    omega (arith, sum_by-cons counted (binds_one p l e) (binding p l es), ap (λ x. x.length) rest) in
+    omega (arith, sum_by-cons operation_length (binds_one p l e) (binding p l es), ap (λ x. x.length) rest) in
     let none : trace_outlets (binding p l (e ∷ es)) ≡ [] = flat_map-cons outlets_of (binds_one p l e) (binding p l es) ∙
     ap (λ x. x.outlets) rest in
     λ t. record { length = long t; outlets = none t }
 
 inside_notes : (m : TraceMessage) → Inside (notes_of m) 0
-inside_notes m = go (settled m) where
+inside_notes m = go (core_if_settled m) where
   go : (s : Option Core) → Inside (option_map_or (λ c. []) s (note m ∷ [])) 0
   go None = refl
   go (Some c) = refl
@@ -160,7 +162,7 @@ pub more_nothing : (n : Told) → n ≡ more n 0
 more_nothing n = let same : n.length ≡ n.length + 0 = omega arith in λ t. record n { length = same t }
 
 module _ (layer : LayerTree) (p : ℕ) where
-  -- operations behind those that there are
+  -- operations after those that there are
   longer : (y : Tracing) (os : List Operation) (n : ℕ) → Inside os n →
       told_by_trace (y.made.operations ++ os) ≡ more (told_by_trace y.made.operations) n
   longer y os n is = told_both y.made.operations os
@@ -341,7 +343,8 @@ unhandled_alike p m dir d t tag tag' None (Some c) kind is same = absurd (cc sam
 unhandled_alike p m dir d t tag tag' (Some headers) None kind is same = absurd (cc same)
 
 own_alike : (headers : Option (List DrawnHeader)) (c : Option Chained) → header_tags headers ≡ chain_tags c →
-    map drawn_tags (option_to_list (option_map chained headers)) ≡ map named_tags (option_to_list (option_map named c))
+    map drawn_tags (option_to_list (option_map chained headers)) ≡
+    map named_tags (option_to_list (option_map named_chain c))
 own_alike None None same = refl
 own_alike (Some headers) (Some c) same = λ r. same r ∷ []
 own_alike None (Some c) same = absurd (cc same)

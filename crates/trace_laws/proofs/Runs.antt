@@ -13,7 +13,7 @@ use Rattle.layer_mean.specs.Effect.{Decision}
 use Rattle.layer_mean.specs.Visit.{handler_for, Visited, step}
 use Rattle.layer_mean.specs.Way.{Step, handler_way}
 use Rattle.layer_mean.specs.Queue.{Task, Turn, Line, beyond, tasks_of, is_place, next_of, run_for, Work, layer_at}
-use Rattle.layer_mean.specs.Queue.{state_at, visited, layers}
+use Rattle.layer_mean.specs.Queue.{state_at, visit_turn, layers}
 use Rattle.stack_mean.specs.NoShape.{NoShape, drawn_from}
 use Rattle.stack_mean.specs.NoShape as no_shape
 use Rattle.stack_mean.specs.Shape.{visits_limit}
@@ -128,7 +128,7 @@ missed_stays : (case : Case) (ds es : List Decision) (n : ℕ) → tally case ds
     tally case (ds ++ es) 0 ≡ missed_at n
 missed_stays case ds es n is = tally_both case ds es 0 ∙ ap (counting_on (tally case es)) is
 
--- behind a check that was 0, and behind a visit that can't be traced, nothing is claimed of the run
+-- after a check that was 0, and after a visit that can't be traced, nothing is claimed of the run
 failed_next : (i : Input) (f : Start) (case : Case) (tasks : List (Task TracedEvent)) (reason : NoShape) (n : Tally)
     (r : RunLine) →
     let y = made_next case f.stack tasks (Err reason) in InStep i f y.world y.tasks n r
@@ -240,7 +240,7 @@ turn_in_step i f case at dir d e z rest w us n usual both worth tasks fit = go (
       { world = Err no_shape.long; sent = [] }
 
   run_line : Bool → RunLine
-  run_line b = if b then record { world = (visited at w v).world; tasks = us ++ tasks_of at v.sent }
+  run_line b = if b then record { world = (visit_turn at w v).world; tasks = us ++ tasks_of at v.sent }
       else record { world = record w { outs = w.outs ++ (dir, e) ∷ [] }; tasks = us }
 
   made_line : Bool → TracedLine
@@ -333,7 +333,7 @@ missed_next case stack (u ∷ us) w n is = go (is_place (length stack) u.at) whe
   v = step (u.at - 1) (layer_at stack u.at) (state_at w u.at) u.dir u.event
 
   line : Bool → RunLine
-  line b = if b then record { world = (visited u.at w v).world; tasks = us ++ tasks_of u.at v.sent }
+  line b = if b then record { world = (visit_turn u.at w v).world; tasks = us ++ tasks_of u.at v.sent }
       else record { world = record w { outs = w.outs ++ (u.dir, u.event) ∷ [] }; tasks = us }
 
   go : (b : Bool) → tally case (line b).world.decided 0 ≡ missed_at n

@@ -23,7 +23,7 @@ use Rattle.layer_mean.specs.State.{State, queues_in, cell_at, flat_index, rows_a
 use Rattle.layer_mean.specs.State.{with_row, without_front}
 use Rattle.layer_mean.specs.Value.{Scope, is_true, of_bool, val, mval, message_in, number_in}
 use Rattle.layer_mean.specs.Effect as effect
-use Rattle.layer_mean.specs.Effect.{with_slot, with_slots, row_of, header_of, sent_as, emitted}
+use Rattle.layer_mean.specs.Effect.{with_slot, with_slots, row_of, header_of, sent_as, emitted_event}
 use Rattle.layer_mean.specs.Visit.{no_state}
 use Rattle.layer_mean.specs.Way.{Step, test, fork, set_slot, set_number, set_square, put, get, send, loop}
 use Rattle.stack_mean.specs.NoShape.{NoShape}
@@ -275,7 +275,7 @@ queues_worth i k ss (Some (tree.numbers shape initial)) = refl
 queues_worth i k ss None = refl
 
 module _ (i : Input) (f : Start) (base : List State) (layer : LayerTree) (p : ℕ) (inside : p < length base) where
-  -- a trail stands behind what was made in a visit, where a walk has come to
+  -- a trail stands after what was made in a visit, where a walk has come to
   pub record Stands (y : Tracing) (t : Trail) (h : Here) : Type 0 where
     pub is_on : Goes f.stack i y.made.operations f.followed (on t)
     pub states : t.states ≡ slice_set base p h.state

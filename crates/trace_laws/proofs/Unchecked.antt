@@ -21,7 +21,7 @@ record Plainly (stack : List LayerTree) (i : Input) (os : List Operation) (t u :
   goes : follows i (unchecked os) (on t) ≡ on (counting u checks)
   safe : SafeTrace stack i (unchecked os) (on t)
 
--- a trace that goes on behind a check has passed it
+-- a trace that goes on after a check has passed it
 passed : (i : Input) (os : List Operation) (b : Bool) (t u : Trail) (n : ℕ) →
     follows i os (if b then on t else stopped_at n) ≡ on u → b ≡ true
 passed i os true t u n is = refl

@@ -16,8 +16,9 @@ use Rattle.layer_mean.specs.Event.{carries, event_of, arguments}
 use Rattle.layer_mean.specs.Tree.{HandlerTree, LayerTree}
 use Rattle.layer_mean.specs.State.{State}
 use Rattle.layer_mean.specs.Effect.{unusual, Outcome, in_order, acts}
-use Rattle.layer_mean.specs.Visit.{Met, behind, met, handler_for, with_room, entered, none_header, Visited, sent_on}
-use Rattle.layer_mean.specs.Visit.{unhandled, expecting, handled, step, no_state}
+use Rattle.layer_mean.specs.Visit.{Met, behind, met, handler_for, with_room, entered_scope, none_header, Visited}
+use Rattle.layer_mean.specs.Visit.{sent_on}
+use Rattle.layer_mean.specs.Visit.{unhandled_visit, expecting, handled_visit, step, no_state}
 use Rattle.layer_mean.specs.Way.{Step, handler_way}
 use Rattle.stack_mean.specs.NoShape.{NoShape, drawn_from}
 use Rattle.stack_mean.specs.NoShape as no_shape
@@ -26,7 +27,8 @@ use Rattle.trace_mean.specs.Trace.{Atom, Core, Link, Chained}
 use Rattle.trace_mean.specs.Follow.{Trail, on, stopped_at}
 use Rattle.trace_mean.specs.Scope.{no_number, no_message}
 use Rattle.trace_mean.specs.Fuse.{TracedEvent, Made, Tracing, TracedVisit, TracedMet, popped_chain, traced_met}
-use Rattle.trace_mean.specs.Fuse.{traced_on, traced_unhandled, traced_arguments, named, traced_entered, traced_way}
+use Rattle.trace_mean.specs.Fuse.{traced_on, traced_unhandled, traced_arguments, named_chain, traced_entered}
+use Rattle.trace_mean.specs.Fuse.{traced_way}
 use Rattle.trace_mean.specs.Fuse.{traced_handled, traced_visit, trace_steps}
 use Rattle.trace_laws.specs.Along.{AlongWay, AlongHandled, AlongVisit}
 use Rattle.trace_laws.specs.Fit.{FitStep}
@@ -63,7 +65,7 @@ own_whole None = refl
 own_whole (Some m) = λ r. whole_again m r ∷ []
 
 own_named : (i : Input) (u : Kept) (m : Option Chained) →
-    map (named_at i u) (option_to_list (option_map named m)) ≡ option_to_list (option_map (chained_at i u) m)
+    map (named_at i u) (option_to_list (option_map named_chain m)) ≡ option_to_list (option_map (chained_at i u) m)
 own_named i u None = refl
 own_named i u (Some m) = refl
 
@@ -188,7 +190,7 @@ unhandled_came : (i : Input) (f : Start) (base : List State) (case : Case) (p : 
     Ended i f base p t (traced_on m dir d c) (state_of base p) ((dir, record e { message = n }) ∷ []) t.checks) →
     (tag : ℕ) (x : Met) (c : Option Chained) (n : Option Content) → tag ≡ x.tag →
     ((u : Kept) → Later t.kept u → option_map (chained_at i u) c ≡ option_map told_apart n) →
-    let v = unhandled p (state_of base p) dir e x n in
+    let v = unhandled_visit p (state_of base p) dir e x n in
     VisitClaim i f base p t (traced_unhandled p m dir d tag c) (tally case v.decided t.checks) v.state v.sent
 unhandled_came i f base case p t m d e dir passed tag x None None popped_tag same = passed None None same
 unhandled_came i f base case p t m d e Down passed tag x (Some c) (Some n) popped_tag same =
@@ -203,9 +205,9 @@ unhandled_came i f base case p t m d e Down passed tag x (Some c) (Some n) poppe
           λ r. Some (record (one r) { headers = none_header p ∷ (one r).headers })
 unhandled_came i f base case p t m d e Up passed tag x (Some c) (Some n) popped_tag same =
     subst (λ k. VisitClaim i f base p t (if k == 0 then Ok (traced_on m Up d (Some c)) else Err (no_shape.rare p))
-    (tally case (unhandled p (state_of base p) Up e x (Some n)).decided t.checks)
-    (unhandled p (state_of base p) Up e x (Some n)).state
-    (unhandled p (state_of base p) Up e x (Some n)).sent)
+    (tally case (unhandled_visit p (state_of base p) Up e x (Some n)).decided t.checks)
+    (unhandled_visit p (state_of base p) Up e x (Some n)).state
+    (unhandled_visit p (state_of base p) Up e x (Some n)).sent)
     (sym popped_tag) (go (x.tag == 0)) where
       go : (b : Bool) → let v : Visited = if b then sent_on (state_of base p) Up e
           (Some n) else record { state = state_of base p; sent = []; decided = unusual ∷ [] } in
@@ -259,15 +261,15 @@ module _ (i : Input) (f : Start) (base : List State) (case : Case) (layer : Laye
 
   -- the way of a handler
   handler_came : (x : HandlerTree) (dm : TracedMet) (rm : Met) → ((u : Kept) → Later t.kept u → MetSame i u dm rm) →
-      AlongWay (FitStep f.stack p layer) p (handler_way case x) (state_of base p) (entered x e rm) →
-      let v = handled p (Some x) (state_of base p) dir e rm in
+      AlongWay (FitStep f.stack p layer) p (handler_way case x) (state_of base p) (entered_scope x e rm) →
+      let v = handled_visit p (Some x) (state_of base p) dir e rm in
       VisitClaim i f base p t (traced_way layer p m (handler_way case x) (traced_entered x d dm))
       (tally case v.decided t.checks) v.state v.sent
   handler_came x dm rm same fit =
-      go (handler_way case x) fit (handler_goes case p x (state_of base p) (entered x e rm) t.checks) where
+      go (handler_way case x) fit (handler_goes case p x (state_of base p) (entered_scope x e rm) t.checks) where
         o : Outcome
-        o = expecting x.expected (state_of base p) (entered x e rm)
-            (in_order (acts p x.block) (state_of base p) (entered x e rm))
+        o = expecting x.expected (state_of base p) (entered_scope x e rm)
+            (in_order (acts p x.block) (state_of base p) (entered_scope x e rm))
 
         y : Tracing
         y = record { made = m; names = traced_entered x d dm; sent = [] }
@@ -275,7 +277,7 @@ module _ (i : Input) (f : Start) (base : List State) (case : Case) (layer : Laye
         apart : List Apart
         apart = with_room x.messages no_apart (option_to_list (option_map told_apart rm.message))
 
-        begins : Stands i f base layer p inside y t (start [] (state_of base p) (entered x e rm))
+        begins : Stands i f base layer p inside y t (start [] (state_of base p) (entered_scope x e rm))
         begins = record {
           is_on = begun.is_on;
           states = same_states;
@@ -317,19 +319,20 @@ module _ (i : Input) (f : Start) (base : List State) (case : Case) (layer : Laye
           outs = claim.outs;
         }
 
-        go : (w : Option (List Step)) → AlongWay (FitStep f.stack p layer) p w (state_of base p) (entered x e rm) →
-            Went case p w (state_of base p) (entered x e rm) o t.checks →
+        go : (w : Option (List Step)) →
+            AlongWay (FitStep f.stack p layer) p w (state_of base p) (entered_scope x e rm) →
+            Went case p w (state_of base p) (entered_scope x e rm) o t.checks →
             VisitClaim i f base p t (traced_way layer p m w (traced_entered x d dm)) (tally case o.decided t.checks)
             o.state o.sent
         go None fit went = tt
         go (Some steps) fit went = ended (trace_steps layer p steps y) (tally case o.decided t.checks)
             (subst (Claim i f base layer p inside t (trace_steps layer p steps y)) (sym went)
-            (way_came i f base layer p inside steps y t (start [] (state_of base p) (entered x e rm)) begins fit))
+            (way_came i f base layer p inside steps y t (start [] (state_of base p) (entered_scope x e rm)) begins fit))
 
   handled_came : (x : Option HandlerTree) (dm : TracedMet) (rm : Met) →
       ((u : Kept) → Later t.kept u → MetSame i u dm rm) →
       AlongHandled (FitStep f.stack p layer) case p x (state_of base p) e rm →
-      let v = handled p x (state_of base p) dir e rm in
+      let v = handled_visit p x (state_of base p) dir e rm in
       VisitClaim i f base p t (traced_handled case layer p m x dir d dm) (tally case v.decided t.checks) v.state v.sent
   handled_came None dm rm same fit = unhandled_came i f base case p t m d e dir passed dm.tag rm dm.message rm.message
       (same t.kept (later_self t.kept)).tag (λ u later. (same u later).message)
@@ -345,7 +348,7 @@ module _ (i : Input) (f : Start) (base : List State) (case : Case) (layer : Laye
       let chosen : handler_for layer dir e.kind (met dir e.message).tag ≡
       handler_for layer dir d.kind (traced_met dir d.message).tag =
       λ r. handler_for layer dir (sym same_kind r) (sym (same t.kept (later_self t.kept)).tag r) in
-      let v = handled p (handler_for layer dir e.kind (met dir e.message).tag) (state_of base p) dir e
+      let v = handled_visit p (handler_for layer dir e.kind (met dir e.message).tag) (state_of base p) dir e
       (met dir e.message) in
       subst (λ x. VisitClaim i f base p t (traced_handled case layer p m x dir d (traced_met dir d.message))
       (tally case v.decided t.checks) v.state v.sent)

@@ -16,7 +16,7 @@ use Rattle.layer_mean.specs.Tree.{StatementTrees, none, more, Expected, always, 
 use Rattle.layer_mean.specs.State.{State, has_room, row_at, without_front}
 use Rattle.layer_mean.specs.Value.{Scope, is_true, val}
 use Rattle.layer_mean.specs.Effect.{Decision, usual, unusual, went_as, Outcome, Act, after, done, decides, in_order}
-use Rattle.layer_mean.specs.Effect.{does, acts, chosen, taking, with_taken}
+use Rattle.layer_mean.specs.Effect.{does, acts, chosen_outcome, taking, with_taken}
 use Rattle.layer_mean.specs.Visit.{expecting}
 use Rattle.layer_mean.specs.Way.{Step, test, fork, put, get, way, ways, expected_way, handler_way}
 use Rattle.shape_laws.specs.Walk.{Here, walk_step, took}
@@ -90,7 +90,7 @@ walk_both place (x ∷ xs) ys n h =
     (decides_it x) n (walk_step place x h)
     ∙ walked_both (walk place xs) (walk place ys) (decides_it x) n (walk_step place x h)
 
--- what was decided before, and what is behind it
+-- what was decided before, and what is after it
 abbrev pub counting_on : (ℕ → Tally) → Tally → Tally
 counting_on go (all_of n) = go n
 counting_on go (missed_at n) = missed_at n
@@ -144,7 +144,8 @@ push_goes case place false t l pre n other = refl
 first_goes : (case : Case) (place : ℕ) (steps : List Step) (st : Here) (pre : List (Dir × Event)) (n : ℕ) (b : Bool)
     (first second : Outcome) →
     told (tally case first.decided (n + 1)) (here pre first) ≡ walk place steps (n + 1) st →
-    told (tally case (chosen b likely.First first second).decided n) (here pre (chosen b likely.First first second)) ≡
+    told (tally case (chosen_outcome b likely.First first second).decided n)
+    (here pre (chosen_outcome b likely.First first second)) ≡
     walked_on (walk place steps) true n (if b then Some st else None)
 first_goes case place steps st pre n true first second leads = leads
 first_goes case place steps st pre n false first second leads = refl
@@ -152,7 +153,8 @@ first_goes case place steps st pre n false first second leads = refl
 else_goes : (case : Case) (place : ℕ) (steps : List Step) (st : Here) (pre : List (Dir × Event)) (n : ℕ) (b : Bool)
     (first second : Outcome) →
     told (tally case second.decided (n + 1)) (here pre second) ≡ walk place steps (n + 1) st →
-    told (tally case (chosen b likely.Else first second).decided n) (here pre (chosen b likely.Else first second)) ≡
+    told (tally case (chosen_outcome b likely.Else first second).decided n)
+    (here pre (chosen_outcome b likely.Else first second)) ≡
     walked_on (walk place steps) true n (if b then None else Some st)
 else_goes case place steps st pre n false first second leads = leads
 else_goes case place steps st pre n true first second leads = refl
@@ -160,7 +162,8 @@ else_goes case place steps st pre n true first second leads = refl
 two_first : (place : ℕ) (steps : List Step) (st : Here) (pre : List (Dir × Event)) (n : ℕ) (b : Bool)
     (first second : Outcome) →
     told (tally First first.decided (n + 1)) (here pre first) ≡ walk place steps (n + 1) st →
-    told (tally First (chosen b likely.Two first second).decided n) (here pre (chosen b likely.Two first second)) ≡
+    told (tally First (chosen_outcome b likely.Two first second).decided n)
+    (here pre (chosen_outcome b likely.Two first second)) ≡
     walked_on (walk place steps) true n (if b then Some st else None)
 two_first place steps st pre n true first second leads = leads
 two_first place steps st pre n false first second leads = refl
@@ -168,7 +171,8 @@ two_first place steps st pre n false first second leads = refl
 two_second : (place : ℕ) (steps : List Step) (st : Here) (pre : List (Dir × Event)) (n : ℕ) (b : Bool)
     (first second : Outcome) →
     told (tally Second second.decided (n + 1)) (here pre second) ≡ walk place steps (n + 1) st →
-    told (tally Second (chosen b likely.Two first second).decided n) (here pre (chosen b likely.Two first second)) ≡
+    told (tally Second (chosen_outcome b likely.Two first second).decided n)
+    (here pre (chosen_outcome b likely.Two first second)) ≡
     walked_on (walk place steps) true n (if b then None else Some st)
 two_second place steps st pre n true first second leads = refl
 two_second place steps st pre n false first second leads = leads

@@ -1,4 +1,4 @@
--- What following the operations of predicted steps does is what walking them does; behind a check that was 0 nothing is
+-- What following the operations of predicted steps does is what walking them does; after a check that was 0 nothing is
 -- done.
 use Rattle.std.proofs.Common.{◌≡◌, ℕ, ◌<◌, Bool, true, false, List, [], ◌∷◌, ◌++◌, Option, Some, None, refl, ◌∙◌, subst}
 use Rattle.std.specs.Prelude.{length, Result, Ok, Err}

@@ -17,7 +17,7 @@ use Rattle.trace_mean.specs.Scope.{Named, Names, no_number, no_message, Worded, 
 use Rattle.trace_laws.specs.Members.{IsOf}
 use Rattle.trace_mean.specs.Worth.{Input, Kept, atom_at, core_at, state_of, number_of, message_of, header_at}
 
--- a message apart: whether its headers are known, those in front, and the message behind these
+-- a message apart: whether its headers are known, those in front, and the message after these
 pub record Apart : Type 0 where
   pub known : Bool
   pub headers : List Header
@@ -110,7 +110,7 @@ together_is (tree.join q m) s l =
     (ap (λ x. x.body) (together_is q s l))
     ∙ ap (parts.join (mval q s (scope_of l))) (together_is m s l)
 
--- what is known has no headers behind those in front
+-- what is known has no headers after those in front
 abbrev pub Plain : List Apart → Type 0
 Plain [] = Unit {0}
 Plain (x ∷ xs) = (x.known ≡ true → x.behind.headers ≡ []) × Plain xs

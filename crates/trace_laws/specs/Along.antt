@@ -6,7 +6,7 @@ use Rattle.layer_mean.specs.declared.run.Event.{Event}
 use Rattle.layer_mean.specs.Tree.{HandlerTree, LayerTree}
 use Rattle.layer_mean.specs.State.{State}
 use Rattle.layer_mean.specs.Value.{Scope}
-use Rattle.layer_mean.specs.Visit.{Met, met, handler_for, entered}
+use Rattle.layer_mean.specs.Visit.{Met, met, handler_for, entered_scope}
 use Rattle.layer_mean.specs.Way.{Step, handler_way}
 use Rattle.shape_laws.specs.Walk.{Here, walk_step}
 use Rattle.shape_laws.specs.Bare.{BareBeyond}
@@ -21,7 +21,7 @@ AlongWay At place (Some steps) s l = Along At place steps (record { state = s; s
 
 abbrev pub AlongHandled : (Step → Here → Type 0) → Case → ℕ → Option HandlerTree → State → Event → Met → Type 0
 AlongHandled At case place None s event m = Unit {0}
-AlongHandled At case place (Some h) s event m = AlongWay At place (handler_way case h) s (entered h event m)
+AlongHandled At case place (Some h) s event m = AlongWay At place (handler_way case h) s (entered_scope h event m)
 
 abbrev pub AlongVisit : (Step → Here → Type 0) → Case → ℕ → LayerTree → State → Dir → Event → Type 0
 AlongVisit At case place layer s dir event =

@@ -4,9 +4,9 @@ use Rattle.std.specs.List.{sum_by}
 use Rattle.trace_mean.specs.Trace.{TraceMessage, core, held, cut, tail, join, Operation, note, output}
 
 -- An operation counts for one, but for a note.
-abbrev pub counted : Operation → ℕ
-counted (note m) = 0
-counted _ = 1
+abbrev pub operation_length : Operation → ℕ
+operation_length (note m) = 0
+operation_length _ = 1
 
 -- One for a note, and nothing for any other operation.
 abbrev pub a_note : Operation → ℕ
@@ -20,7 +20,7 @@ an_output _ = 0
 
 -- How long a trace is: its operations without notes.
 abbrev pub trace_length : List Operation → ℕ
-trace_length operations = sum_by counted operations
+trace_length operations = sum_by operation_length operations
 
 -- How many notes it has.
 abbrev pub trace_notes : List Operation → ℕ

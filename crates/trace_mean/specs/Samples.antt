@@ -14,9 +14,9 @@ use Rattle.layer_mean.specs.State.{State}
 use Rattle.layer_mean.specs.Visit.{fresh}
 use Rattle.stack_mean.specs.NoShape as no_shape
 use Rattle.stack_mean.specs.NoShape.{NoShape, drawn_from}
-use Rattle.stack_mean.specs.SampleLayers.{block, sends, on, named, counter, surprised, bottom, late}
+use Rattle.stack_mean.specs.SampleLayers.{block, sends, on, named_cell, counter, surprised_layer, bottom, late}
 use Rattle.stack_mean.specs.Cases.{parting}
-use Rattle.stack_mean.specs.Samples.{kept}
+use Rattle.stack_mean.specs.Samples.{keeping_stack}
 use Rattle.stack_mean.specs.Shape.{app_cast, app_send, packet_entry}
 use Rattle.stack_mean.specs.TwoCases.{flip}
 use Rattle.trace_mean.specs.Trace.{Atom, number, peer, field, bound, taken_number, Core, body, noted, taken_message}
@@ -55,9 +55,9 @@ CounterTraces =
     Ok (output Up Send (peer ∷ []) (with_chain [] body) ∷ []))
 
 -- A cast that comes back to its sender before its packet goes out: one bind for each number argument, the headers'
--- fields behind the event's peer, and the delivery first.
+-- fields after the event's peer, and the delivery first.
 abbrev pub KeptTrace : Type 0
-KeptTrace = trace_of First kept app_cast [] ≡ Ok
+KeptTrace = trace_of First keeping_stack app_cast [] ≡ Ok
     (check (binary Equal me (lit 0)) ∷ bind (atom peer) ∷ bind me ∷ bind (cell 3 0) ∷
     set 3 0 (lit 0) (binary Add (cell 3 0) (lit 1)) ∷
     bind (atom (bound 0)) ∷ bind me ∷
@@ -73,7 +73,7 @@ KeptTrace = trace_of First kept app_cast [] ≡ Ok
     [])
 
 abbrev pub KeptLength : Type 0
-KeptLength = drawn_from (λ ops. Ok (length ops)) (trace_of First kept app_cast []) ≡ Ok 20
+KeptLength = drawn_from (λ ops. Ok (length ops)) (trace_of First keeping_stack app_cast []) ≡ Ok 20
 
 -- A layer with two common cases.
 abbrev pub odd : TraceNumber
@@ -92,7 +92,7 @@ FlipTraces =
 
 abbrev pub NoTraces : Type 0
 NoTraces =
-    (trace_of First (bottom ∷ surprised ∷ late ∷ []) app_cast [] ≡ Err (no_shape.stored 2)) ×
+    (trace_of First (bottom ∷ surprised_layer ∷ late ∷ []) app_cast [] ≡ Err (no_shape.stored 2)) ×
     (trace_of First (flip ∷ []) (packet_entry Cast (1 ∷ [])) (None ∷ []) ≡ Err (no_shape.rare 0))
 
 -- The counter's cast followed by the first of two members, and a packet that comes too early, which stops at the first
@@ -115,14 +115,15 @@ cast_of n text = record {
   message = Some (record { headers = record { layer = 0; tag = 1; fields = n ∷ [] } ∷ []; body = text });
 }
 
-abbrev pub followed : Input → State → Result (List Operation) NoShape → Result Answer NoShape
-followed i s = drawn_from (λ operations. Ok (follow i operations (s ∷ [])))
+abbrev pub followed_trace : Input → State → Result (List Operation) NoShape → Result Answer NoShape
+followed_trace i s = drawn_from (λ operations. Ok (follow i operations (s ∷ [])))
 
 abbrev pub CounterFollowed : Type 0
 CounterFollowed =
-    (followed first_input (fresh counter 0 2 0) (trace_of First (counter ∷ []) app_cast []) ≡
+    (followed_trace first_input (fresh counter 0 2 0) (trace_of First (counter ∷ []) app_cast []) ≡
     Ok (reached (counting 1 ∷ []) ((Down, cast_of 0 (codes "x")) ∷ []))) ×
-    (followed early_input (fresh counter 0 2 0) (trace_of First (counter ∷ []) (packet_entry Cast (1 ∷ [])) (None ∷ []))
+    (followed_trace early_input (fresh counter 0 2 0)
+    (trace_of First (counter ∷ []) (packet_entry Cast (1 ∷ [])) (None ∷ []))
     ≡ Ok (stopped 0))
 
 -- A part is cut, kept, taken back and sent, and then one that is held: each is noted where it is pushed or sent.
@@ -138,11 +139,11 @@ NotedTrace = trace_of First (parting ∷ []) app_cast [] ≡ Ok
 abbrev pub NotedLength : Type 0
 NotedLength = drawn_from (λ ops. Ok (trace_length ops)) (trace_of First (parting ∷ []) app_cast []) ≡ Ok 8
 
--- A number and a part are kept and taken back, and the part is put in front of the message that is sent.
+-- A number and a part are kept and taken back, and the part is put before the message that is sent.
 abbrev pub joiner : LayerTree
 joiner = record {
   name = codes "joiner";
-  cells = named (codes "q") (queue 4 (record { numbers = codes "x" ∷ []; message = Some (codes "p", part) })) ∷ [];
+  cells = named_cell (codes "q") (queue 4 (record { numbers = codes "x" ∷ []; message = Some (codes "p", part) })) ∷ [];
   headers = [];
   handlers = on Down Cast 0 always
       (tree.push 0 (tree.number 0) 4
@@ -152,11 +153,11 @@ joiner = record {
       (block (sends Down Cast (local 1) (tree.join (message 1) (message 0)) 0 [] ∷ [])) none ∷ []) ∷ [];
 }
 
-abbrev pub joined : Result (List Operation) NoShape
-joined = trace_of First (joiner ∷ []) app_cast []
+abbrev pub joiner_trace : Result (List Operation) NoShape
+joiner_trace = trace_of First (joiner ∷ []) app_cast []
 
 abbrev pub JoinedTrace : Type 0
-JoinedTrace = joined ≡ Ok
+JoinedTrace = joiner_trace ≡ Ok
     (check (binary Less (rows 0 0 (lit 0)) (lit 4)) ∷ note (cut (core body) (lit 0) (lit 2)) ∷
     push 0 0 (lit 0) (lit 7 ∷ []) (with_chain [] (noted 0)) ∷
     check (binary Greater (rows 0 0 (lit 0)) (lit 0)) ∷ take 0 0 (lit 0) ∷
@@ -166,17 +167,17 @@ JoinedTrace = joined ≡ Ok
 -- It counts for six operations, with two notes, one join and one output.
 abbrev pub JoinedCounts : Type 0
 JoinedCounts =
-    (drawn_from (λ ops. Ok (trace_length ops)) joined ≡ Ok 6) ×
-    (drawn_from (λ ops. Ok (trace_notes ops)) joined ≡ Ok 2) ×
-    (drawn_from (λ ops. Ok (trace_joins ops)) joined ≡ Ok 1) ×
-    (drawn_from (λ ops. Ok (trace_outputs ops)) joined ≡ Ok 1)
+    (drawn_from (λ ops. Ok (trace_length ops)) joiner_trace ≡ Ok 6) ×
+    (drawn_from (λ ops. Ok (trace_notes ops)) joiner_trace ≡ Ok 2) ×
+    (drawn_from (λ ops. Ok (trace_joins ops)) joiner_trace ≡ Ok 1) ×
+    (drawn_from (λ ops. Ok (trace_outputs ops)) joiner_trace ≡ Ok 1)
 
--- Followed, it sends what it took in front of what it was given, and leaves its queue empty.
+-- Followed, it sends what it took before what it was given, and leaves its queue empty.
 abbrev pub abc : Input
 abc = record first_input { body = codes "abc" }
 
 abbrev pub JoinedFollowed : Type 0
-JoinedFollowed = followed abc (fresh joiner 0 2 0) joined ≡ Ok (reached (fresh joiner 0 2 0 ∷ []) ((
+JoinedFollowed = followed_trace abc (fresh joiner 0 2 0) joiner_trace ≡ Ok (reached (fresh joiner 0 2 0 ∷ []) ((
   Down,
   record {
     kind = Cast;
@@ -191,7 +192,7 @@ JoinedFollowed = followed abc (fresh joiner 0 2 0) joined ≡ Ok (reached (fresh
 abbrev pub keeper : LayerTree
 keeper = record {
   name = codes "keeper";
-  cells = named (codes "from") (queues 4 (record { numbers = codes "p" ∷ []; message = None })) ∷ [];
+  cells = named_cell (codes "from") (queues 4 (record { numbers = codes "p" ∷ []; message = None })) ∷ [];
   headers = [];
   handlers = on Down Cast 0 always
       (tree.push 0 (local 0) 4 (record { numbers = local 0 ∷ []; message = None }) none ∷
@@ -210,7 +211,7 @@ KeeperTrace = trace_of First (keeper ∷ []) app_cast [] ≡ Ok
 abbrev pub leaver : LayerTree
 leaver = record {
   name = codes "leaver";
-  cells = named (codes "q") (queue 4 (record { numbers = []; message = Some (codes "p", part) })) ∷ [];
+  cells = named_cell (codes "q") (queue 4 (record { numbers = []; message = Some (codes "p", part) })) ∷ [];
   headers = [];
   handlers = on Down Cast 0 always
       (sends Down Cast (local 0) (tree.held 0 (tree.number 0) (tree.number 0) part) 0 [] ∷
@@ -249,6 +250,6 @@ left_with text = reached (leaving [] ∷ []) ((
 
 abbrev pub LeaverFollowed : Type 0
 LeaverFollowed =
-    (followed first_input (leaving (kept_part ∷ [])) (trace_of First (leaver ∷ []) app_cast []) ≡
+    (followed_trace first_input (leaving (kept_part ∷ [])) (trace_of First (leaver ∷ []) app_cast []) ≡
     Ok (left_with (codes "ab"))) ×
     (follow first_input noted_late (leaving (kept_part ∷ []) ∷ []) ≡ left_with [])

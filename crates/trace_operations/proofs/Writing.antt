@@ -6,7 +6,7 @@ use Rattle.std.proofs.lemmas.List.{length-map}
 use Rattle.layer_mean.specs.Tree.{ItemsTree, LayerTree}
 use Rattle.trace_mean.specs.Trace as trace
 use Rattle.trace_mean.specs.Trace.{TraceNumber}
-use Rattle.pack_mean.specs.Reader.{Reader, ◌>>=◌, each_of, given, the_text, yields}
+use Rattle.pack_mean.specs.Reader.{Reader, ◌>>=◌, each_of, option_reader, the_text, yields}
 use Rattle.pack_mean.specs.Named.{Named, items_at}
 use Rattle.pack_mean.specs.Expression.{QueueNamed, a_number, a_queue}
 use Rattle.pack_mean.specs.Operation as operation
@@ -42,10 +42,10 @@ row_text front text after stack rows r h =
 -- What is set, by any readers of its parts.
 abbrev setting_by : Reader TraceNumber → Reader TraceNumber → Reader trace.Operation
 setting_by target number = the_text (codes " ") >>= λ _. (target >>= λ t.
-    (the_text (codes " = ") >>= λ _. (number >>= λ x. given (operation.setting t x))))
+    (the_text (codes " = ") >>= λ _. (number >>= λ x. option_reader (operation.setting t x))))
 
 abbrev after_target : Reader TraceNumber → TraceNumber → Reader trace.Operation
-after_target number t = the_text (codes " = ") >>= λ _. (number >>= λ x. given (operation.setting t x))
+after_target number t = the_text (codes " = ") >>= λ _. (number >>= λ x. option_reader (operation.setting t x))
 
 set_parts : (target number : Reader TraceNumber) (t0 t1 t2 t3 t4 : List ℕ) (t x : TraceNumber) (o : trace.Operation) →
     the_text
@@ -56,9 +56,9 @@ set_parts : (target number : Reader TraceNumber) (t0 t1 t2 t3 t4 : List ℕ) (t 
 set_parts target number t0 t1 t2 t3 t4 t x o space first is second set =
     ap (option_and_then (λ (z : Unit {0} × List ℕ). (target >>= after_target number) z.1)) space
     ∙ ap (option_and_then (λ (z : TraceNumber × List ℕ). after_target number z.0 z.1)) first
-    ∙ ap (option_and_then (λ (z : Unit {0} × List ℕ). (number >>= λ y. given (operation.setting t y)) z.1)) is
-    ∙ ap (option_and_then (λ (z : TraceNumber × List ℕ). given (operation.setting t z.0) z.1)) second
-    ∙ ap (λ z. given z t4) set
+    ∙ ap (option_and_then (λ (z : Unit {0} × List ℕ). (number >>= λ y. option_reader (operation.setting t y)) z.1)) is
+    ∙ ap (option_and_then (λ (z : TraceNumber × List ℕ). option_reader (operation.setting t z.0) z.1)) second
+    ∙ ap (λ z. option_reader z t4) set
 
 set_by : (stack : List LayerTree) (s : Named) (text : List ℕ) →
     a_set stack s text ≡ setting_by (a_target stack s) (a_number stack s) text

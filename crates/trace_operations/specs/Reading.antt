@@ -8,7 +8,7 @@ use Rattle.layer_ast.specs.Spelling.{beside}
 use Rattle.pack_mean.specs.Named.{kind_named}
 use Rattle.pack_mean.specs.Operation as operation
 use Rattle.pack_mean.specs.Operation.{directions}
-use Rattle.pack_mean.specs.Reader.{Reader, ◌>>=◌, given, a_name, a_word}
+use Rattle.pack_mean.specs.Reader.{Reader, ◌>>=◌, option_reader, a_name, a_word}
 use Rattle.trace_core.specs.declared.node.Atom.{Atom}
 use Rattle.trace_core.specs.declared.node.Node.{Node}
 use Rattle.trace_core.specs.declared.links.Link.{Link}
@@ -55,12 +55,12 @@ TagIs found (Err Memory) = Unit {0}
 abbrev pub a_direction : Reader Dir
 a_direction = do
   word ← a_word
-  given (beside directions word)
+  option_reader (beside directions word)
 
 abbrev pub a_kind : Reader Kind
 a_kind = do
   name ← a_name
-  given (kind_named name)
+  option_reader (kind_named name)
 
 -- A header at a place.
 abbrev pub header_at : ℕ → Header → trace.Link

@@ -17,7 +17,7 @@ use Rattle.layer_ast.specs.contracts.tokens.Kind as kind_row
 use Rattle.layer_ast.specs.declared.tokens.Dir.TheVariants.{Up}
 use Rattle.layer_mean.specs.declared.run.Event.{Event}
 use Rattle.layer_mean.specs.Event.{event_of}
-use Rattle.layer_mean.specs.Headers.{declared}
+use Rattle.layer_mean.specs.Headers.{header_of_tag}
 use Rattle.layer_mean.specs.Tree.{HeaderTree, LayerTree}
 use Rattle.layer_mean.specs.Queue.{Task, run}
 use Rattle.packet_mean.specs.Chained.{IsChain}
@@ -39,7 +39,7 @@ use Rattle.trace_mean.specs.Fuse as fuse
 use Rattle.trace_mean.specs.Fuse.{field_atoms, entry_chain, entry_task}
 use Rattle.trace_laws.proofs.Later.{nth}
 use Rattle.trace_laws.proofs.Law.{traces_are_right}
-use Rattle.trace_step_laws.specs.Steps.{entry_fields, given, input_of, EntriesBegin, StepsFollowTraces}
+use Rattle.trace_step_laws.specs.Steps.{entry_fields, entry_input, input_of, EntriesBegin, StepsFollowTraces}
 use Rattle.trace_mean.specs.Worth.{Input, Kept, nothing_kept, atom_at, header_at}
 
 -- the numbers of a plan's packet
@@ -91,14 +91,14 @@ chain_worth i u place [] [] atoms chain same = refl
 chain_worth i u place [] (h ∷ hs) atoms chain same = absurd (cc chain)
 chain_worth i u place (layer ∷ above) [] atoms chain same = absurd chain
 chain_worth i u place (layer ∷ above) (h ∷ hs) atoms chain same =
-    there (declared layer h.tag) _ chain (λ d listed is. one d listed is
+    there (header_of_tag layer h.tag) _ chain (λ d listed is. one d listed is
     (λ inner. chain_worth i u (suc place) above hs (drop (fuse.fields_of layer h.tag) atoms) inner
     (behind d listed is.1))) where
-      many : (d : HeaderTree) → declared layer h.tag ≡ Some d → length h.fields ≡ d.fields →
+      many : (d : HeaderTree) → header_of_tag layer h.tag ≡ Some d → length h.fields ≡ d.fields →
           length h.fields ≡ fuse.fields_of layer h.tag
       many d listed long = long ∙ ap (λ o. option_map_or (λ (x : HeaderTree). x.fields) o 0) (sym listed)
 
-      behind : (d : HeaderTree) → declared layer h.tag ≡ Some d → length h.fields ≡ d.fields →
+      behind : (d : HeaderTree) → header_of_tag layer h.tag ≡ Some d → length h.fields ≡ d.fields →
           map (atom_at i u) (drop (fuse.fields_of layer h.tag) atoms) ≡ flat_map (λ h. h.fields) hs
       behind d listed long = map_drop (atom_at i u) (fuse.fields_of layer h.tag) atoms ∙
           ap (drop (fuse.fields_of layer h.tag)) same
@@ -114,7 +114,7 @@ chain_worth i u place (layer ∷ above) (h ∷ hs) atoms chain same =
           (sym none) refl
       rest_is false chain inner = inner chain
 
-      one : (d : HeaderTree) → declared layer h.tag ≡ Some d → (h.layer ≡ place) × (length h.fields ≡ d.fields) ×
+      one : (d : HeaderTree) → header_of_tag layer h.tag ≡ Some d → (h.layer ≡ place) × (length h.fields ≡ d.fields) ×
           MatchBool d.ends (hs ≡ [])
           (IsChain above (suc place) hs) →
           (IsChain above (suc place) hs → map (header_at i u) (entry_chain (suc place) above (map (λ h. h.tag) hs)
@@ -134,7 +134,7 @@ packet_begins : (stack : List LayerTree) (here : Here) (plan : Plan) (p : Packet
     entry_task stack (plan_entry plan) plan.fields (input_of here plan.fields (from_peer p)) ≡
     first_task stack here.rank (from_peer p)
 packet_begins stack here plan p fit spelled =
-    let i = given here p.sender (variable plan.fields (fields_of p.message)) p.message.body in
+    let i = entry_input here p.sender (variable plan.fields (fields_of p.message)) p.message.body in
     let all = and_parts (sameb kind_row.the_type plan.kind (kind_of p.dest) && bytes_eq plan.tags (tags_of p.message))
     (agree plan.fields (fields_of p.message)) fit in
     let both = and_parts (sameb kind_row.the_type plan.kind (kind_of p.dest)) (bytes_eq plan.tags (tags_of p.message))
@@ -159,11 +159,13 @@ some_once x y is = cc
 pub entries_begin : EntriesBegin
 entries_begin stack plans here (app_cast body) k is inside =
     let same : entry.app_cast ≡ k = cc in
-    subst (λ x. entry_task stack x [] (given here here.rank [] body) ≡ first_task stack here.rank (app_cast body)) same
+    subst (λ x. entry_task stack x [] (entry_input here here.rank [] body) ≡ first_task stack here.rank (app_cast body))
+    same
     refl
 entries_begin stack plans here (app_send to body) k is inside =
     let same : entry.app_send ≡ k = cc in
-    subst (λ x. entry_task stack x [] (given here to [] body) ≡ first_task stack here.rank (app_send to body)) same refl
+    subst (λ x. entry_task stack x [] (entry_input here to [] body) ≡ first_task stack here.rank (app_send to body))
+    same refl
 entries_begin stack plans here app_leave k is inside = absurd (cc is)
 entries_begin stack plans here (clock_tick moment) k is inside = absurd (cc is)
 entries_begin stack plans here (from_peer p) k is inside = found (least_fit plans p) refl is where

@@ -28,8 +28,8 @@ entry_fields plans (from_peer p) =
 entry_fields plans _ = []
 
 -- The input of an entry that a member is given: its peer, the numbers that its plan leaves variable, and its body.
-abbrev pub given : Here → (peer : ℕ) → (fields body : List ℕ) → Input
-given here peer fields body = record {
+abbrev pub entry_input : Here → (peer : ℕ) → (fields body : List ℕ) → Input
+entry_input here peer fields body = record {
   me = here.rank;
   count = member_count here.view;
   ltime = here.view.ltime;
@@ -39,10 +39,10 @@ given here peer fields body = record {
 }
 
 abbrev pub input_of : Here → List (Option ℕ) → Entered → Input
-input_of here fields (app_cast body) = given here here.rank [] body
-input_of here fields (app_send to body) = given here to [] body
-input_of here fields (from_peer p) = given here p.sender (variable fields (fields_of p.message)) p.message.body
-input_of here fields _ = given here 0 [] []
+input_of here fields (app_cast body) = entry_input here here.rank [] body
+input_of here fields (app_send to body) = entry_input here to [] body
+input_of here fields (from_peer p) = entry_input here p.sender (variable fields (fields_of p.message)) p.message.body
+input_of here fields _ = entry_input here 0 [] []
 
 -- What entered begins with the task of its entry under its input.
 abbrev pub EntriesBegin : Type 0

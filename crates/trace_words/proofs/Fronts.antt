@@ -28,7 +28,7 @@ pub front_equal : (wanted text : List ℕ) → bytes_eq wanted (take (length wan
     bytes_eq (take (length wanted) text) wanted
 front_equal wanted text = swap wanted (take (length wanted) text)
 
--- what is behind a text that stands at the front
+-- what is after a text that stands at the front
 abbrev rest_behind : List ℕ → List ℕ → Option (List ℕ)
 rest_behind [] text = Some text
 rest_behind (x ∷ wanted) [] = None
@@ -60,11 +60,11 @@ rest_both (x ∷ a) b (y ∷ text) = go (nat_eq y x) (rest_both a b text) where
   go true e = e
   go false e = refl
 
--- this text behind what was taken
+-- this text after what was taken
 abbrev then_text : List ℕ → Option (Unit {0} × List ℕ) → Option (Unit {0} × List ℕ)
 then_text b taken = option_and_then (λ (t : Unit {0} × List ℕ). the_text b t.1) taken
 
--- two texts, one behind the other
+-- two texts, one after the other
 pub text_both : (a b text : List ℕ) → the_text (a ++ b) text ≡ (the_text a >>= λ _. the_text b) text
 text_both a b text = rest_is (a ++ b) text ∙
     (ap with_unit (rest_both a b text) ∙ go (rest_behind a text) (rest_is a text)) where

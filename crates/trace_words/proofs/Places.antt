@@ -40,7 +40,7 @@ header_found word headers =
     sym (position_map (λ h. h.name) (bytes_eq word) (map header_tree headers)
     ∙ position_map header_tree (λ h. bytes_eq word h.name) headers)
 
--- the place of the first, and of one behind another
+-- the place of the first, and of one after another
 first : {X : Type 0} (p : X → Bool) (x : X) (xs : List X) → p x ≡ true → Some 0 ≡ position p (x ∷ xs)
 first p x xs passes = sym (
     ap (λ b. let k = if not b then 1 + position_or_len p xs else 0 in
@@ -92,7 +92,7 @@ pub no_header : (word : List ℕ) (headers : List HeaderForm) → bytes_eq word 
 no_header word headers other is = ap next (is ∙ header_found word headers)
     ∙ sym (behind_first (bytes_eq word) (codes "none") (map (λ h. h.name) (map header_tree headers)) other)
 
--- a declared header stands behind `none`
+-- a declared header stands after `none`
 later_get : {X : Type 0} (x : X) (xs : List X) (k : ℕ) → 0 < k → slice_get (x ∷ xs) k ≡ slice_get xs (k - 1)
 later_get x xs zero lt = absurd (omega (arith, lt))
 later_get x xs (suc k) lt = let same : k ≡ suc k - 1 = omega arith in ap (slice_get xs) same

@@ -8,7 +8,7 @@ use Rattle.trace_words.specs.declared.text.Text.{Text}
 abbrev pub left : Text → List ℕ
 left text = text.rest.now
 
--- What a reader took from the front, and the bytes behind it.
+-- What a reader took from the front, and the bytes after it.
 abbrev pub Takes : {A : Type 0} → Option (A × List ℕ) → Result A LineError → List ℕ → Type 0
 Takes taken (Ok value) behind = taken ≡ Some (value, behind)
 Takes taken (Err Form) behind = taken ≡ None

@@ -12,7 +12,7 @@ pub enum Name<'a> {
     One(&'a [u8]),
     Two(&'a [u8], &'a [u8]),
     Three(&'a [u8], &'a [u8], &'a [u8]),
-    /// The first four words, and what stands behind them if anything does.
+    /// The first four words, and what stands after them if anything does.
     More(&'a [u8], &'a [u8], &'a [u8], &'a [u8], Option<&'a [u8]>),
 }
 

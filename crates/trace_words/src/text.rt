@@ -42,7 +42,7 @@ fn name_length(bytes: &[u8]) -> usize
     name_bytes(bytes)
 }
 
-/// How many bytes are in front of the first space.
+/// How many bytes are before the first space.
 fn word_bytes(bytes: &[u8]) -> usize
     ensures count { result ≡ prefix_len (λ byte. not (byte == 32)) bytes.now }
     ensures within { result ≤ length bytes.now }
@@ -50,7 +50,7 @@ fn word_bytes(bytes: &[u8]) -> usize
     bytes.iter().take_while(|byte| **byte != b' ').count()
 }
 
-/// How many bytes are in front of the first space.
+/// How many bytes are before the first space.
 #[tactic(auto, using(crate::proofs::Runs::word_run))]
 fn word_length(bytes: &[u8]) -> usize
     ensures count { result ≡ position_or_len (λ byte. not (not (byte == 32))) bytes.now }
@@ -108,7 +108,7 @@ impl<'a> Text<'a> {
         self.the(buffer.format(number).as_bytes())
     }
 
-    /// These bytes, and the digits of this number behind them.
+    /// These bytes, and the digits of this number after them.
     #[tactic(auto, using(crate::proofs::Fronts::both_texts, crate::proofs::Fronts::not_front))]
     pub fn the_numbered(&mut self, front: &[u8], number: u64) -> Result<(), LineError>
         ensures { Takes (reader.the_text (front.now ++ decimal number) (left self.old)) result (left self.new) }
@@ -126,7 +126,7 @@ impl<'a> Text<'a> {
         Name::of(name)
     }
 
-    /// What comes in front of the next space.
+    /// What comes before the next space.
     pub fn word(&mut self) -> &'a [u8]
         ensures { reader.a_word (left self.old) ≡ Some (result.now, left self.new) }
     {

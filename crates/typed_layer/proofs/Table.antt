@@ -151,7 +151,7 @@ none_beyond (h ∷ rest) dir kind tag large tagged =
         let same = eqb-true h.tag tag p.1 in
         absurd (omega (arith, same, small, large))
 
--- A handler's entry in front of others'.
+-- A handler's entry before others'.
 set_entry : (f : ℕ → ℕ) (n a i v : ℕ) →
     slice_set (map f (range_with_len a n)) i v ≡ map (λ j. if (a + i) == j then v else f j) (range_with_len a n)
 set_entry f zero a i v = refl
@@ -222,7 +222,7 @@ table_starts handlers table is = is ∙ ap (λ rest. map (entry_from (length han
     drop_all [] = refl
     drop_all (h ∷ rest) = drop_all rest
 
--- The handler in front of those that the table has is entered.
+-- The handler before those that the table has is entered.
 pub table_step : (handlers : List Handler) (left : ℕ) (h : Handler) (old new : List ℕ) → 0 < left →
     left ≤ length handlers →
     h ≡ get_or handlers (left - 1) h → old ≡ table_from left (drop left handlers) →

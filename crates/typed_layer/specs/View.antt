@@ -93,7 +93,7 @@ emission_tree e = record {
   content = option_map content_tree e.content;
 }
 
--- Statements one behind the other.
+-- Statements one after the other.
 abbrev pub trees : List StatementTree → StatementTrees
 trees [] = none
 trees (x ∷ rest) = more x (trees rest)

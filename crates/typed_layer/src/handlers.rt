@@ -104,7 +104,7 @@ fn handler_number(handler: &Handler) -> usize
     code_of(handler.direction, handler.kind, handler.tag)
 }
 
-/// The table of handlers: a handler in front of others of its number stands in it.
+/// The table of handlers: a handler before others of its number stands in it.
 fn table_of(alloc: Global, handlers: &[Handler]) -> Result<Vec<u8>, AllocError>
     requires { length handlers.now ≤ MOST_HANDLERS }
     ensures { IfOk result (λ table. table.items ≡ table_from 0 handlers.now) }
@@ -118,7 +118,7 @@ fn table_of(alloc: Global, handlers: &[Handler]) -> Result<Vec<u8>, AllocError>
     Ok(table)
 }
 
-/// Enters a handler in front of those that the table has.
+/// Enters a handler before those that the table has.
 fn enter(table: &mut Vec<u8>, number: u8, handler: &Handler)
     ensures { table.new.items ≡ slice_set table.old.items (handler_code handler.now) number }
 {

@@ -77,7 +77,7 @@ pub struct HeaderForm {
 }
 
 /// What a layer does on an event of one direction, kind and popped header. Its scope has the event's numbers, the
-/// header's fields and the event's message, and behind these so many more numbers and messages, which its block
+/// header's fields and the event's message, and after these so many more numbers and messages, which its block
 /// declares.
 #[derive(Drop)]
 pub struct Handler {
@@ -329,7 +329,7 @@ pub enum MessageExpression {
         message: Box<MessageExpression>,
         from: Box<Expression>,
     },
-    /// A part in front of a message.
+    /// A part before a message.
     Join {
         first: Box<MessageExpression>,
         second: Box<MessageExpression>,

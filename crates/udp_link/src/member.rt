@@ -75,7 +75,7 @@ impl Member {
     }
 }
 
-// The peers, with nobody behind them.
+// The peers, with nobody after them.
 fn table(peers: &[Peer]) -> [Peer; MOST_PEERS]
     requires { length peers.now ≤ MOST_PEERS }
     ensures { take (length peers.now) result ≡ peers.now }

@@ -6,10 +6,10 @@ use Rattle.stack_mean.specs.Plan.{Plan}
 use Rattle.run_mean.specs.Common.{as_sent, is_common}
 use Rattle.run_mean.specs.Member as member
 use Rattle.run_mean.specs.Member.{Output, Step}
-use Rattle.run_mean.specs.Report.{counted}
+use Rattle.run_mean.specs.Report.{visit_count}
 use Rattle.run_mean.specs.World as world
 use Rattle.view_core.specs.Refusals.{refusal_meant}
-use Rattle.view_core.specs.Steps.{changed}
+use Rattle.view_core.specs.Steps.{installed_change}
 use Rattle.view_core.specs.declared.refusal.Refusal.{Refusal}
 use Rattle.view_core.specs.declared.step.Change.{Change}
 use Rattle.view_core.specs.declared.step.Did.{Did}
@@ -29,8 +29,8 @@ pub record IsTaken (mode : Mode) (stack : List LayerTree) (plans : List Plan) (s
     (common : Bool) (change : Option Change) : Type 0 where
   pub outs_are : outs ≡ as_sent mode stack plans s
   pub common_is : common ≡ is_common stack plans s
-  pub change_is : change ≡ changed s.installs
-  pub visits_are : after ≡ before + counted mode stack plans s
+  pub change_is : change ≡ installed_change s.installs
+  pub visits_are : after ≡ before + visit_count mode stack plans s
 
 -- A refusal is told by its cause.
 pub record IsRefused (r : member.Refusal) (outs : List (Output × Option ℕ)) (before after : ℕ) (told : Refusal) : Type 0
@@ -39,7 +39,7 @@ pub record IsRefused (r : member.Refusal) (outs : List (Output × Option ℕ)) (
     pub quiet : IsQuiet outs before after
 
 -- What an event came to in a mode is told so: by an answer, by outputs, and by the number of visits before it and
--- behind it.
+-- after it.
 abbrev pub DidIs : Mode → List LayerTree → List Plan → world.Did → List (Output × Option ℕ) → ℕ → ℕ → Did → Type 0
 DidIs mode stack plans (world.taken s) outs before after (Stepped (Taken common change)) =
     IsTaken mode stack plans s outs before after common change

@@ -1,4 +1,4 @@
--- Inputs, and where members are behind a step, as the definitions have them.
+-- Inputs, and where members are after a step, as the definitions have them.
 use Rattle.std.specs.Prelude.{Option, option_map}
 use Rattle.run_mean.specs.Member as member
 use Rattle.run_mean.specs.Member.{Member, inside, out}
@@ -19,6 +19,6 @@ abbrev pub change_to : Member → Change
 change_to (inside view states) = Into view
 change_to out = Out
 
--- Where it is behind a step that installed something.
-abbrev pub changed : Option Member → Option Change
-changed installs = option_map change_to installs
+-- Where it is after a step that installed something.
+abbrev pub installed_change : Option Member → Option Change
+installed_change installs = option_map change_to installs

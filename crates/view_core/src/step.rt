@@ -18,7 +18,7 @@ pub enum Input<'b> {
     Datagram(&'b [u8]),
 }
 
-/// Where a member is behind a step that announced a view.
+/// Where a member is after a step that announced a view.
 #[derive(Clone, Copy, Debug, PartialEq, Eq)]
 pub enum Change {
     /// It is in this view now.

@@ -1,4 +1,4 @@
-//! Who is in a view, and the view behind it.
+//! Who is in a view, and the view after it.
 
 ghost use Rattle.std.specs.Prelude.{◌≡◌, ◌==◌, ◌<◌};
 ghost use Rattle.std.specs.Int.{bit_at};
@@ -49,7 +49,7 @@ fn mask_of(view: View, ranks: u32) -> u32
     mask
 }
 
-/// The view behind a view, with the members at the ranks that are set in a number. None exactly where the count of
+/// The view after a view, with the members at the ranks that are set in a number. None exactly where the count of
 /// views is at its end.
 pub fn next_view(view: View, ranks: u32) -> Option<View>
     ensures { result ≡ views.next_view view ranks }

@@ -7,7 +7,7 @@ use Rattle.msg_core.specs.declared.message.Header.{Header}
 use Rattle.layer_ast.specs.declared.tokens.Dir.{Dir}
 use Rattle.layer_ast.specs.declared.tokens.Dir.TheVariants.{Up, Down}
 use Rattle.layer_mean.specs.Event.{carries}
-use Rattle.layer_mean.specs.Headers.{declared}
+use Rattle.layer_mean.specs.Headers.{header_of_tag}
 use Rattle.layer_mean.specs.Tree.{LayerTree, no_layer}
 use Rattle.stack_mean.specs.Graph.{header_layer}
 use Rattle.packet_mean.specs.Chained.{IsChain}
@@ -19,15 +19,16 @@ there None P h = absurd h
 there (Some x) P h = refl
 
 front_known : (stack : List LayerTree) (k place : ℕ) (hs : List Header) → IsChain (drop k stack) place hs →
-    is_some (declared (slice_index_or stack k no_layer) (front_tag hs)) ≡ true
+    is_some (header_of_tag (slice_index_or stack k no_layer) (front_tag hs)) ≡ true
 front_known [] zero place hs h = rw h refl
 front_known [] (suc k) place hs h = rw h refl
 front_known (layer ∷ above) zero place [] h = absurd h
-front_known (layer ∷ above) zero place (header ∷ hs) h = there (declared layer header.tag) _ h
+front_known (layer ∷ above) zero place (header ∷ hs) h = there (header_of_tag layer header.tag) _ h
 front_known (layer ∷ above) (suc k) place hs h = front_known above k place hs h
 
 had : (b : Bool) (stack : List LayerTree) (place : ℕ) (m : Option Content) → HasChain stack place b m →
-    (if b then is_some (declared (slice_index_or stack place no_layer) (message_tag m)) else message_tag m == 0) ≡ true
+    (if b then is_some (header_of_tag (slice_index_or stack place no_layer) (message_tag m)) else message_tag m == 0) ≡
+    true
 had true stack place (Some m) h = front_known stack place place m.headers h
 had false stack place None h = refl
 had true stack place None h = absurd h

@@ -10,7 +10,8 @@ use denote.Enum.Bare.{sameb, same_true}
 use Rattle.layer_ast.specs.contracts.tokens.Dir as dir_row
 use Rattle.layer_ast.specs.contracts.tokens.Kind as kind_row
 use Rattle.layer_mean.specs.Tree.{LayerTree}
-use Rattle.stack_mean.specs.Graph.{Node, same_node, nodes, Arrow, arrows, following, unknown_of, reached, is_on_cycle}
+use Rattle.stack_mean.specs.Graph.{Node, same_node, nodes, Arrow, arrows, following, unknown_of, reached_nodes}
+use Rattle.stack_mean.specs.Graph.{is_on_cycle}
 use Rattle.stack_mean.specs.Graph.{first_on_cycle}
 use Rattle.stack_mean.specs.Acceptance.{largest, cost_in, cost}
 use Rattle.weight_laws.specs.Nodes.{IsNode}
@@ -45,13 +46,14 @@ unknown_is known (x ∷ xs) =
     λ i. if list_any (same_node x) known then unknown_is known xs i else x ∷ unknown_is (x ∷ known) xs i
 
 reached_is : (stack : List LayerTree) (steps : ℕ) (known new : List Node) →
-    reached steps stack known new ≡ reached_by same_node (following stack) steps known new
+    reached_nodes steps stack known new ≡ reached_by same_node (following stack) steps known new
 reached_is stack steps known [] = refl
 reached_is stack zero known (x ∷ xs) = refl
 reached_is stack (suc steps) known (x ∷ xs) =
     let all = known ++ x ∷ xs in
     let found = flat_map (following stack) (x ∷ xs) in
-    ap (reached steps stack all) (unknown_is all found) ∙ reached_is stack steps all (unknown_by same_node all found)
+    ap (reached_nodes steps stack all) (unknown_is all found) ∙
+    reached_is stack steps all (unknown_by same_node all found)
 
 -- none is found where none is
 none_found : {A : Type 0} (p : A → Bool) (xs : List A) (x : A) → find p xs ≡ None → In x xs → p x ≡ false
@@ -79,11 +81,11 @@ same_behind f g (a ∷ arrs) h =
     + same_behind f g arrs (λ t m. h t (in_right t a.targets _ m)) i)
     ∙ sym (sum_by-cons (λ arrow. arrow.times * largest (map g arrow.targets)) a arrs)
 
--- a node is on a cycle where it is behind itself
+-- a node is on a cycle where it is after itself
 pub cycle_is : (stack : List LayerTree) (n : Node) →
     is_on_cycle stack n ≡ list_any (same_node n) (behind same_node (following stack) (nodes stack) n)
 cycle_is stack n = ap (list_any (same_node n))
-    (ap (reached (length (nodes stack)) stack []) (unknown_is [] (following stack n))
+    (ap (reached_nodes (length (nodes stack)) stack []) (unknown_is [] (following stack n))
     ∙ reached_is stack (length (nodes stack)) [] (unknown_by same_node [] (following stack n)))
 
 module _ (stack : List LayerTree) (orderly : IsOrderly stack) (off : first_on_cycle stack ≡ None) where

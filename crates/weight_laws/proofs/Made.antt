@@ -10,7 +10,7 @@ use Rattle.layer_mean.specs.Tree.{StatementTrees, none, more, HandlerTree}
 use Rattle.layer_mean.specs.State.{State, row_at, has_room, without_front}
 use Rattle.layer_mean.specs.Value.{Scope, is_true, val}
 use Rattle.layer_mean.specs.Effect.{Act, Outcome, turns, with_slot, with_taken, in_order, acts, does}
-use Rattle.layer_mean.specs.Visit.{Met, entered}
+use Rattle.layer_mean.specs.Visit.{Met, entered_scope}
 use Rattle.stack_mean.specs.Emissions.{joins_in_row, joins, joins_of, handler_joins}
 use Rattle.weight_laws.specs.Made.{made_in_turns, made, made_in, handler_made}
 
@@ -75,4 +75,4 @@ mutual
 pub handler_makes : (place : ℕ) (o : Option HandlerTree) (s : State) (event : Event) (m : Met) →
     handler_made place o s event m ≤ option_map_or handler_joins o 0
 handler_makes place None s event m = omega arith
-handler_makes place (Some h) s event m = omega (arith, made_in_le place h.block s (entered h event m))
+handler_makes place (Some h) s event m = omega (arith, made_in_le place h.block s (entered_scope h event m))

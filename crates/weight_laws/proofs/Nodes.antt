@@ -14,7 +14,7 @@ use Rattle.layer_ast.specs.declared.tokens.Kind.TheVariants as kinds_of
 use Rattle.layer_ast.specs.contracts.tokens.Kind as kind_row
 use Rattle.layer_ast.specs.Spelling.{kinds}
 use Rattle.layer_mean.specs.Event.{carries}
-use Rattle.layer_mean.specs.Headers.{header_none, declared}
+use Rattle.layer_mean.specs.Headers.{header_none, header_of_tag}
 use Rattle.layer_mean.specs.Tree.{ContentTree, EmissionTree, StatementTree, bind, assign, assign_square, push, take}
 use Rattle.layer_mean.specs.Tree.{branch, each, emit, StatementTrees, none, more, HandlerTree, LayerTree, no_layer}
 use Rattle.layer_mean.specs.Visit.{is_for}
@@ -53,11 +53,11 @@ below_there [] i h = absurd (omega arith)
 below_there (x ∷ xs) zero h = refl
 below_there (x ∷ xs) (suc i) h = below_there xs i (omega arith)
 
-pub tag_in : (layer : LayerTree) (tag : ℕ) → is_some (declared layer tag) ≡ true → In tag (tags_of layer)
+pub tag_in : (layer : LayerTree) (tag : ℕ) → is_some (header_of_tag layer tag) ≡ true → In tag (tags_of layer)
 tag_in layer tag h = in_range 0 (length layer.headers + 1) tag (omega arith)
     (omega (arith, there_below (header_none ∷ layer.headers) tag h))
 
-tag_there : (layer : LayerTree) (tag : ℕ) → In tag (tags_of layer) → is_some (declared layer tag) ≡ true
+tag_there : (layer : LayerTree) (tag : ℕ) → In tag (tags_of layer) → is_some (header_of_tag layer tag) ≡ true
 tag_there layer tag h = below_there (header_none ∷ layer.headers) tag
     (omega (arith, range_in 0 (length layer.headers + 1) tag h))
 
@@ -67,7 +67,7 @@ is_zero n h = eqb-true n 0 h
 -- what can be had is listed
 pub had_in : (kind : Kind) (layer : LayerTree) (tag : ℕ) → can_have kind layer tag ≡ true → In tag (tags_for kind layer)
 had_in kind layer tag h = go (carries kind) h where
-  go : (b : Bool) → (if b then is_some (declared layer tag) else tag == 0) ≡ true →
+  go : (b : Bool) → (if b then is_some (header_of_tag layer tag) else tag == 0) ≡ true →
       In tag (if b then tags_of layer else 0 ∷ [])
   go true k = tag_in layer tag k
   go false k = inl (is_zero tag k)
@@ -75,7 +75,7 @@ had_in kind layer tag h = go (carries kind) h where
 pub in_had : (kind : Kind) (layer : LayerTree) (tag : ℕ) → In tag (tags_for kind layer) → can_have kind layer tag ≡ true
 in_had kind layer tag h = go (carries kind) h where
   go : (b : Bool) → In tag (if b then tags_of layer else 0 ∷ []) →
-      (if b then is_some (declared layer tag) else tag == 0) ≡ true
+      (if b then is_some (header_of_tag layer tag) else tag == 0) ≡ true
   go true k = tag_there layer tag k
   go false (inl e) = rw e refl
   go false (inr k) = absurd k
@@ -83,7 +83,7 @@ in_had kind layer tag h = go (carries kind) h where
 -- tag 0 can always be had
 pub zero_had : (kind : Kind) (layer : LayerTree) → can_have kind layer 0 ≡ true
 zero_had kind layer = go (carries kind) where
-  go : (b : Bool) → (if b then is_some (declared layer 0) else 0 == 0) ≡ true
+  go : (b : Bool) → (if b then is_some (header_of_tag layer 0) else 0 == 0) ≡ true
   go true = refl
   go false = refl
 
@@ -197,14 +197,14 @@ sent_up stack n c kind tag is carried true same (inl e) =
     rw (carried, e) (from_above n.dir n.kind n.tag (and_parts (goes_down n.dir n.kind) (keeps_headers c.message) same).0
     is.tag) where
       carrying : (b : Bool) (layer : LayerTree) (t : ℕ) → b ≡ true →
-          (if b then is_some (declared layer t) else t == 0) ≡ true →
-          is_some (declared layer t) ≡ true
+          (if b then is_some (header_of_tag layer t) else t == 0) ≡ true →
+          is_some (header_of_tag layer t) ≡ true
       carrying true layer t down h = h
       carrying false layer t down h = absurd (cc down)
 
       from_above : (dir : Dir) (k : Kind) (t : ℕ) → goes_down dir k ≡ true →
           can_have k (header_layer stack dir n.at) t ≡ true →
-          is_some (declared (layer_at stack (n.at + 1)) t) ≡ true
+          is_some (header_of_tag (layer_at stack (n.at + 1)) t) ≡ true
       from_above Up k t down h = absurd (cc down)
       from_above Down k t down h = carrying (carries k) (layer_at stack (n.at + 1)) t down h
 

@@ -2,7 +2,7 @@
 use Rattle.std.proofs.Common.{◌≡◌, ℕ, zero, suc, ◌+◌, ◌≤◌, List, [], ◌∷◌, refl, sym, subst, arith}
 use Rattle.std.specs.List.{sum_by}
 use Rattle.layer_mean.specs.Queue.{Task, Player, Line, next_of, run_for}
-use Rattle.weight_laws.specs.Runs.{spent}
+use Rattle.weight_laws.specs.Runs.{total_price}
 
 module _ {W E : Type 0} (places : ℕ) (play : Player W E) where
   pub run_done : (n : ℕ) (w : W) → run_for places play n (record { world = w; tasks = [] }) ≡
@@ -23,7 +23,7 @@ module _ {W E : Type 0} (places : ℕ) (play : Player W E) where
       price w t + sum_by weigh (next_of places play (t ∷ rest) w).tasks ≤ sum_by weigh (t ∷ rest)) where
     pub run_spends : (n : ℕ) (tasks : List (Task E)) (w : W) →
         ((k : ℕ) → Good (run_for places play k (record { world = w; tasks = tasks })).tasks) →
-        spent places play price n w tasks + sum_by weigh
+        total_price places play price n w tasks + sum_by weigh
         (run_for places play n (record { world = w; tasks = tasks })).tasks ≤ sum_by weigh tasks
     run_spends zero tasks w good = omega arith
     run_spends (suc n) [] w good = omega arith

@@ -13,15 +13,16 @@ use Rattle.layer_mean.specs.declared.run.Event.{Event}
 use Rattle.layer_mean.specs.Tree.{LayerTree}
 use Rattle.layer_mean.specs.State.{State}
 use Rattle.layer_mean.specs.Queue.{Task, Line, Work, is_place, taken_turn, next_of, layer_at, state_at, run_for, layers}
-use Rattle.layer_mean.specs.Queue.{run, unstarted, starting}
+use Rattle.layer_mean.specs.Queue.{run, unstarted_work, starting}
 use Rattle.stack_mean.specs.Graph.{Node, tags_for, nodes_of, header_layer, first_on_cycle}
 use Rattle.stack_mean.specs.Acceptance.{cost, weight, own_joins, most_joins, entries, largest_weight, largest_joins}
-use Rattle.stack_mean.specs.Acceptance.{weight_limit, joins_limit, Refusal, without_cycle, accepted}
+use Rattle.stack_mean.specs.Acceptance.{weight_limit, joins_limit, Refusal, without_cycle, acceptance}
 use Rattle.weight_laws.specs.Nodes.{can_have, task_node, IsKnown}
 use Rattle.weight_laws.specs.Orderly.{IsOrderly}
 use Rattle.weight_laws.specs.Made.{visit_joins}
 use Rattle.weight_laws.specs.Visits.{sent_tasks, task_weight, task_joins, IsVisit}
-use Rattle.weight_laws.specs.Runs.{pending_weight, pending_joins, turn_joins, spent, run_joins, IsTurn, TurnsLighten}
+use Rattle.weight_laws.specs.Runs.{pending_weight, pending_joins, turn_joins, total_price, run_joins, IsTurn}
+use Rattle.weight_laws.specs.Runs.{TurnsLighten}
 use Rattle.weight_laws.specs.Runs.{TurnsJoinLess, turns_of, TurnsFit, IsLine, TurnsAndWeight, JoinsAndPending, LinesEnd}
 use Rattle.weight_laws.specs.Runs.{Enters, IsRun, RunsEnd}
 use Rattle.weight_laws.proofs.Members.{In, in_left, in_right, in_map}
@@ -158,7 +159,7 @@ turns_fit stack w t rest left free turn enough room =
 -- turns are what is spent at 1 a turn
 turns_spent : (stack : List LayerTree) (n : ℕ) (tasks : List (Task Event)) (w : Work) →
     turns_of (run_for (length stack) (layers stack) n (record { world = w; tasks = tasks })).world
-    ≡ turns_of w + spent (length stack) (layers stack) one n w tasks
+    ≡ turns_of w + total_price (length stack) (layers stack) one n w tasks
 turns_spent stack zero tasks w = omega arith
 turns_spent stack (suc n) [] w = omega arith
 turns_spent stack (suc n) (t ∷ rest) w =
@@ -166,7 +167,7 @@ turns_spent stack (suc n) (t ∷ rest) w =
     turns_spent stack n r.tasks r.world ∙ omega (arith, one_turn stack t rest w)
 
 module _ (stack : List LayerTree) (r : Line Work Event) (line : IsLine stack r) where
-  weight_spends : (n : ℕ) → spent (length stack) (layers stack) one n r.world r.tasks
+  weight_spends : (n : ℕ) → total_price (length stack) (layers stack) one n r.world r.tasks
       + pending_weight stack (run_for (length stack) (layers stack) n r).tasks ≤ pending_weight stack r.tasks
   weight_spends n = run_spends (length stack) (layers stack) (AllByRecursion (IsKnown stack)) (task_weight stack) one
       (turn_takes stack line.orderly line.no_cycle (λ node. 1) one (λ v x. omega arith)) n r.tasks r.world line.known
@@ -199,7 +200,7 @@ lines_end stack n r line enough =
     (ends stack r line (pending_weight stack r.tasks) (omega arith), stays stack r line n enough)
 
 -- what an accepted stack is
-accepts_parts : (stack : List LayerTree) → accepted stack ≡ Ok stack →
+accepts_parts : (stack : List LayerTree) → acceptance stack ≡ Ok stack →
     (first_on_cycle stack ≡ None) × (largest_weight stack ≤ weight_limit) × (largest_joins stack ≤ joins_limit)
 accepts_parts stack h = go (first_on_cycle stack) refl h where
   judged : (b c : Bool) → (x y : Refusal) → (if b then Err x else if c then Err y else Ok stack) ≡ Ok stack →
@@ -281,9 +282,9 @@ alone f t = omega arith
 
 module _ (stack : List LayerTree) (states : List State) (first : Task Event) (is : IsRun stack states first) where
   start : Line Work Event
-  start = starting (unstarted states) first
+  start = starting (unstarted_work states) first
 
-  line : IsLine stack (starting (unstarted states) first)
+  line : IsLine stack (starting (unstarted_work states) first)
   line = record { orderly = is.orderly; no_cycle = (accepts_parts stack is.accepts).0; known = is.known }
 
   is_entry : In (task_node first) (entries stack)
@@ -300,13 +301,14 @@ module _ (stack : List LayerTree) (states : List State) (first : Task Event) (is
 
   run_is_done : (n : ℕ) → task_weight stack first ≤ n → (run n stack states first).tasks ≡ []
   unfolding run
-  run_is_done n enough = ends stack (starting (unstarted states) first) line n
+  run_is_done n enough = ends stack (starting (unstarted_work states) first) line n
       (omega (arith, alone (task_weight stack) first))
 
   run_is : (n : ℕ) → task_weight stack first ≤ n →
       run n stack states first ≡ run (task_weight stack first) stack states first
   unfolding run
-  run_is n enough = run_stays (length stack) (layers stack) (task_weight stack first) n (first ∷ []) (unstarted states)
+  run_is n enough = run_stays (length stack) (layers stack) (task_weight stack first) n (first ∷ [])
+      (unstarted_work states)
       enough
       (run_is_done (task_weight stack first) (omega arith))
 
@@ -314,14 +316,14 @@ module _ (stack : List LayerTree) (states : List State) (first : Task Event) (is
   unfolding run
   run_turns n = omega (
     arith,
-    turns_and_weight stack n (starting (unstarted states) first) line,
+    turns_and_weight stack n (starting (unstarted_work states) first) line,
     alone (task_weight stack) first,
   )
 
-  run_makes : (n : ℕ) → run_joins stack n (starting (unstarted states) first) ≤ task_joins stack first
+  run_makes : (n : ℕ) → run_joins stack n (starting (unstarted_work states) first) ≤ task_joins stack first
   run_makes n = omega (
     arith,
-    joins_spend stack (starting (unstarted states) first) line n,
+    joins_spend stack (starting (unstarted_work states) first) line n,
     alone (task_joins stack) first,
   )
 

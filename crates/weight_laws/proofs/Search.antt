@@ -11,7 +11,8 @@ use Rattle.std.proofs.lemmas.List.Folds.{list_any-append}
 use Rattle.stack_mean.specs.Graph.{same_node, Arrow, arrows, following, nodes}
 use Rattle.weight_laws.specs.Nodes.{IsNode}
 use Rattle.weight_laws.specs.Tables.{node_number, Vertex, edge_of}
-use Rattle.weight_laws.specs.Search.{Search, is_seen, see, see_targets, see_vertex, see_behind, search_round, searched}
+use Rattle.weight_laws.specs.Search.{Search, is_seen, see, see_targets, see_vertex, see_behind, search_round}
+use Rattle.weight_laws.specs.Search.{search_after}
 use Rattle.weight_laws.specs.Search.{search_from, SearchTellsCycles, SearchSettles}
 use Rattle.weight_laws.proofs.Members.{In, from_flat_map}
 use Rattle.weight_laws.proofs.Reach.{unknown_by, reached_by, unknown_sub}
@@ -20,8 +21,8 @@ use Rattle.weight_laws.proofs.Tables.{numbers_differ}
 use Rattle.weight_laws.proofs.Costs.{sound, itself, cycle_is}
 
 -- rounds can be counted from either end, and a search that saw nothing last is at its end
-first_round : (vertices : List Vertex) (k : ℕ) (s : Search) → searched vertices k (search_round vertices s) ≡
-    searched vertices (suc k) s
+first_round : (vertices : List Vertex) (k : ℕ) (s : Search) → search_after vertices k (search_round vertices s) ≡
+    search_after vertices (suc k) s
 first_round vertices zero s = refl
 first_round vertices (suc k) s = ap (search_round vertices) (first_round vertices k s)
 
@@ -30,7 +31,7 @@ idle vertices s none =
     ap (see_behind vertices (record { seen = s.seen; last = [] })) none ∙
     (λ i. record { seen = s.seen; last = sym none i })
 
-stays : (vertices : List Vertex) (k : ℕ) (s : Search) → s.last ≡ [] → searched vertices k s ≡ s
+stays : (vertices : List Vertex) (k : ℕ) (s : Search) → s.last ≡ [] → search_after vertices k s ≡ s
 stays vertices zero s none = refl
 stays vertices (suc k) s none = ap (search_round vertices) (stays vertices k s none) ∙ idle vertices s none
 
@@ -38,11 +39,11 @@ at_or_before : (k m : ℕ) → k ≤ suc m → (k ≤ m) ⊎ (k ≡ suc m)
 at_or_before k m h = grind arith
 
 pub search_settles : SearchSettles
-search_settles vertices k zero s le none = let same : 0 ≡ k = omega arith in ap (λ n. searched vertices n s) same
+search_settles vertices k zero s le none = let same : 0 ≡ k = omega arith in ap (λ n. search_after vertices n s) same
 search_settles vertices k (suc m) s le none =
     ⊎_elim (λ before. ap (search_round vertices) (search_settles vertices k m s before none) ∙
-    idle vertices (searched vertices k s) none)
-    (λ now. ap (λ n. searched vertices n s) (sym now)) (at_or_before k m le)
+    idle vertices (search_after vertices k s) none)
+    (λ now. ap (λ n. search_after vertices n s) (sym now)) (at_or_before k m le)
 
 swapped : (a b c : Bool) → (a || (b || c)) ≡ (b || (a || c))
 swapped true true c = refl
@@ -75,7 +76,7 @@ module _ {A : Type 0} (same : A → A → Bool) (sound : (a b : A) → same a b 
       ∙ sym (fold-append see s (map number (follow x)) (map number (flat_map follow xs)))
       ∙ ap (fold see s) (sym (map-append number (follow x) (flat_map follow xs)))
 
-  -- the search behind a node that is met for the first time
+  -- the search after a node that is met for the first time
   abbrev marks : Search → A → Search
   marks s x = record { seen = slice_set s.seen (number x) true; last = s.last ++ number x ∷ [] }
 
@@ -150,7 +151,7 @@ module _ {A : Type 0} (same : A → A → Bool) (sound : (a b : A) → same a b 
       (record { room = t.room; flags = t.flags }) refl)
 
   reach_tells : (steps : ℕ) (known new : List A) (s : Search) → ((x : A) → In x new → Is x) → Tells s (known ++ new) →
-      s.last ≡ map number new → Tells (searched vertices steps s) (reached_by same follow steps known new)
+      s.last ≡ map number new → Tells (search_after vertices steps s) (reached_by same follow steps known new)
   reach_tells steps known [] s are t last =
       subst (λ q. Tells q known) (sym (stays vertices steps s last)) (subst (Tells s) (append-nil known) t)
   reach_tells zero known (x ∷ xs) s are t last = t
@@ -171,7 +172,7 @@ module _ {A : Type 0} (same : A → A → Bool) (sound : (a b : A) → same a b 
   }
 
   pub search_tells : (steps : ℕ) (n : A) → Is n →
-      is_seen (searched vertices steps (search_from vertices (number n))) (number n) ≡
+      is_seen (search_after vertices steps (search_from vertices (number n))) (number n) ≡
       list_any (same n) (reached_by same follow steps [] (unknown_by same [] (follow n)))
   search_tells steps n is =
       let start : Search = record { seen = replicate (length vertices) false; last = [] } in

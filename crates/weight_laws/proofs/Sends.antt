@@ -13,8 +13,9 @@ use Rattle.layer_mean.specs.Tree.{EmissionTree, TakenTree, StatementTree, bind, 
 use Rattle.layer_mean.specs.Tree.{branch, each, emit, StatementTrees, none, more, LayerTree}
 use Rattle.layer_mean.specs.State.{State, row_at, has_room, with_row, without_front}
 use Rattle.layer_mean.specs.Value.{Scope, is_true, val}
-use Rattle.layer_mean.specs.Effect.{Outcome, Act, done, after, in_order, turns, with_slot, with_taken, row_of, emitted}
-use Rattle.layer_mean.specs.Effect.{chosen, taking, Decision, usual, unusual, decides, does, acts}
+use Rattle.layer_mean.specs.Effect.{Outcome, Act, done, after, in_order, turns, with_slot, with_taken, row_of}
+use Rattle.layer_mean.specs.Effect.{emitted_event}
+use Rattle.layer_mean.specs.Effect.{chosen_outcome, taking, Decision, usual, unusual, decides, does, acts}
 use Rattle.stack_mean.specs.Emissions.{Repeated, emissions, emissions_in}
 use Rattle.weight_laws.specs.Orderly.{KeepsMessage, IsOrderlyStatement, IsOrderlyBlock}
 
@@ -70,7 +71,8 @@ module _ (layer : LayerTree) (down : Bool) (place : ℕ) (v : Dir × Event → �
     (numbers_too : (k n : ℕ) (l : Scope) → Holds l → Holds (with_slot k n l))
     (taken_too : (t : TakenTree) (row : Row) (l : Scope) → KeepsMessage down t.message → Holds l →
     Holds (with_taken t row l))
-    (sent_too : (e : EmissionTree) (s : State) (l : Scope) → Holds l → v (e.direction, emitted place e s l) ≤ bound e)
+    (sent_too : (e : EmissionTree) (s : State) (l : Scope) → Holds l →
+    v (e.direction, emitted_event place e s l) ≤ bound e)
   where
     -- what is sent comes to no more, and the scope keeps what it holds
     pub record Sends (n : ℕ) (o : Outcome) : Type 0 where
@@ -91,7 +93,7 @@ module _ (layer : LayerTree) (down : Bool) (place : ℕ) (v : Dir × Event → �
     if_sends false n o p one other = other
 
     chosen_sends : (b : Bool) (which : Likely) (m n : ℕ) (o p : Outcome) → Sends m o → Sends n p →
-        Sends (m + n) (chosen b which o p)
+        Sends (m + n) (chosen_outcome b which o p)
     chosen_sends true likely.First m n o p one other = at_most m (m + n) _ (omega arith) (decided m _ o one)
     chosen_sends true likely.Else m n o p one other = at_most m (m + n) _ (omega arith) (decided m _ o one)
     chosen_sends true likely.Two m n o p one other = at_most m (m + n) _ (omega arith) (decided m _ o one)

@@ -11,7 +11,7 @@ use Rattle.layer_ast.specs.declared.tokens.Kind.{Kind}
 use Rattle.layer_ast.specs.declared.tokens.Kind.TheVariants as kind
 use Rattle.layer_ast.specs.contracts.tokens.Kind as kind_row
 use Rattle.layer_mean.specs.Event.{carries}
-use Rattle.layer_mean.specs.Headers.{header_none, declared}
+use Rattle.layer_mean.specs.Headers.{header_none, header_of_tag}
 use Rattle.layer_mean.specs.Tree.{LayerTree, no_layer}
 use Rattle.stack_mean.specs.Graph.{Node, header_layer}
 use Rattle.weight_laws.specs.Nodes.{can_have, IsNode}
@@ -49,7 +49,7 @@ few_in stack Down at h = few_at stack _ h
 
 tag_below : (k : Kind) (layer : LayerTree) (tag : ℕ) → length layer.headers ≤ 7 → can_have k layer tag ≡ true → tag < 8
 tag_below k layer tag few h = go (carries k) h where
-  go : (b : Bool) → (if b then is_some (declared layer tag) else tag == 0) ≡ true → tag < 8
+  go : (b : Bool) → (if b then is_some (header_of_tag layer tag) else tag == 0) ≡ true → tag < 8
   go true e = omega (arith, there_below (header_none ∷ layer.headers) tag e)
   go false e = omega (arith, is_zero tag e)
 

@@ -17,15 +17,16 @@ use Rattle.layer_ast.specs.declared.tokens.Kind.{Kind}
 use Rattle.layer_mean.specs.declared.run.Event.{Event}
 use Rattle.layer_mean.specs.declared.run.Row.{Row}
 use Rattle.layer_mean.specs.Event.{carries, event_of}
-use Rattle.layer_mean.specs.Headers.{declared}
+use Rattle.layer_mean.specs.Headers.{header_of_tag}
 use Rattle.layer_mean.specs.Tree.{Carried, MessageTree, message, nothing, held, cut, tail, join, ContentTree}
 use Rattle.layer_mean.specs.Tree.{EmissionTree, TakenTree, Expected, always, common, rare, HandlerTree, LayerTree}
 use Rattle.layer_mean.specs.State.{State}
 use Rattle.layer_mean.specs.Value.{Scope, val, mval, is_true, message_in}
 use Rattle.layer_mean.specs.Effect.{Outcome, usual, unusual, in_order, acts, with_slot, with_slots, with_message}
-use Rattle.layer_mean.specs.Effect.{with_taken, header_of, sent_as, emitted, decides}
-use Rattle.layer_mean.specs.Visit.{Met, behind, met, is_for, handler_for, with_room, entered, none_header, Visited}
-use Rattle.layer_mean.specs.Visit.{sent_on, unhandled, expecting, handled, step}
+use Rattle.layer_mean.specs.Effect.{with_taken, header_of, sent_as, emitted_event, decides}
+use Rattle.layer_mean.specs.Visit.{Met, behind, met, is_for, handler_for, with_room, entered_scope, none_header}
+use Rattle.layer_mean.specs.Visit.{Visited}
+use Rattle.layer_mean.specs.Visit.{sent_on, unhandled_visit, expecting, handled_visit, step}
 use Rattle.layer_mean.specs.Queue.{Task, beyond, layer_at, tasks_of}
 use Rattle.stack_mean.specs.Emissions.{Repeated, emissions_in}
 use Rattle.stack_mean.specs.Graph.{Node, tags_of, tags_for, header_layer, keeps_headers, goes_down, content_tags}
@@ -107,7 +108,7 @@ met_down None = refl
 met_down (Some c) = refl
 
 entered_holds : (at : ℕ) (dir : Dir) (event : Event) (h : HandlerTree) →
-    Holds (node_of at dir event) (entered h event (met dir event.message))
+    Holds (node_of at dir event) (entered_scope h event (met dir event.message))
 entered_holds at Up event h = λ down. absurd (cc down)
 entered_holds at Down event h = λ down.
     ap (λ m. front_tag (slice_index_or (with_room h.messages (plain []) (option_to_list m)) 0 (plain [])).headers)
@@ -189,7 +190,7 @@ module _ (stack : List LayerTree) (f : Node → ℕ) (n : Node) where
 
   had_somehow : (kind : Kind) (layer : LayerTree) (tag : ℕ) → can_have kind layer tag ≡ true → In tag (tags_of layer)
   had_somehow kind layer tag h = go (carries kind) h where
-    go : (b : Bool) → (if b then is_some (declared layer tag) else tag == 0) ≡ true → In tag (tags_of layer)
+    go : (b : Bool) → (if b then is_some (header_of_tag layer tag) else tag == 0) ≡ true → In tag (tags_of layer)
     go true k = tag_in layer tag k
     go false k = rw (is_zero tag k) (tag_in layer 0 refl)
 
@@ -219,7 +220,7 @@ module _ (stack : List LayerTree) (f : Node → ℕ) (n : Node) where
         go false both had = had_somehow kind (layer_at stack (n.at + 1)) (front_tag (mval c.message s l).headers) had
 
   pub emitted_leads : (place : ℕ) (e : EmissionTree) (s : State) (l : Scope) → Holds n l →
-      counted stack f n.at (e.direction, emitted place e s l) ≤ bound_of stack f n e
+      counted stack f n.at (e.direction, emitted_event place e s l) ≤ bound_of stack f n e
   emitted_leads place e s l holds =
       subst (λ m. guarded stack f m ≤ bound_of stack f n e)
       (sym (made_node (beyond e.direction n.at) e.direction e.kind (map (λ x. val x s l) e.numbers)
@@ -265,7 +266,7 @@ module _ (stack : List LayerTree) (f : Node → ℕ) (at : ℕ) (dir : Dir) (eve
   up_tags m had = had_in event.kind (layer_at stack (at + 1)) (message_tag m) had
 
 passes_down : (stack : List LayerTree) (f : Node → ℕ) (at place : ℕ) (event : Event) (s : State) (m : Option Content) →
-    sum_by (counted stack f at) (unhandled place s Down event (met Down m) (met Down m).message).sent
+    sum_by (counted stack f at) (unhandled_visit place s Down event (met Down m) (met Down m).message).sent
     ≤ behind_arrows f (passing stack (node_of at Down event) Down)
 passes_down stack f at place event s None = passed stack f at Down event Down None (0 ∷ []) (λ had. inl refl)
 passes_down stack f at place event s (Some c) =
@@ -274,7 +275,7 @@ passes_down stack f at place event s (Some c) =
 up_one : (stack : List LayerTree) (f : Node → ℕ) (at place : ℕ) (event : Event) (s : State) (hs : List Header)
     (c : Content) →
     let m : Met = behind (first_of hs) c in
-    sum_by (counted stack f at) (unhandled place s Up event m m.message).sent
+    sum_by (counted stack f at) (unhandled_visit place s Up event m m.message).sent
     ≤ behind_arrows f (passing stack (record { at = at; dir = Up; kind = event.kind; tag = front_tag hs }) Up)
 up_one stack f at place event s [] c =
     passed stack f at Up event Up (Some c) (tags_for event.kind (layer_at stack (at + 1)))
@@ -291,7 +292,7 @@ up_one stack f at place event s (h ∷ hs) c = go (h.tag == 0) where
   go false = omega arith
 
 passes_up : (stack : List LayerTree) (f : Node → ℕ) (at place : ℕ) (event : Event) (s : State) (m : Option Content) →
-    sum_by (counted stack f at) (unhandled place s Up event (met Up m) (met Up m).message).sent
+    sum_by (counted stack f at) (unhandled_visit place s Up event (met Up m) (met Up m).message).sent
     ≤ behind_arrows f (passing stack (record { at = at; dir = Up; kind = event.kind; tag = message_tag m }) Up)
 passes_up stack f at place event s None =
     passed stack f at Up event Up None (tags_for event.kind (layer_at stack (at + 1)))
@@ -300,7 +301,7 @@ passes_up stack f at place event s (Some c) = up_one stack f at place event s c.
 
 passes : (stack : List LayerTree) (f : Node → ℕ) (at place : ℕ) (dir : Dir) (event : Event) (s : State) →
     let m : Met = met dir event.message in
-    sum_by (counted stack f at) (unhandled place s dir event m m.message).sent ≤ behind_arrows f
+    sum_by (counted stack f at) (unhandled_visit place s dir event m m.message).sent ≤ behind_arrows f
     (passing stack (node_of at dir event) dir)
 passes stack f at place Up event s = passes_up stack f at place event s event.message
 passes stack f at place Down event s = passes_down stack f at place event s event.message
@@ -311,13 +312,13 @@ handled_leads : (stack : List LayerTree) (f : Node → ℕ) (at place : ℕ) (di
     (o : Option HandlerTree) →
     ((h : HandlerTree) → o ≡ Some h →
     IsOrderlyHandler layer h × (goes_down h.direction h.kind ≡ goes_down dir event.kind)) →
-    sum_by (counted stack f at) (handled place o s dir event (met dir event.message)).sent
+    sum_by (counted stack f at) (handled_visit place o s dir event (met dir event.message)).sent
     ≤ behind_arrows f (handler_arrows stack (node_of at dir event) o)
 handled_leads stack f at place dir event s layer None here = passes stack f at place dir event s
 handled_leads stack f at place dir event s layer (Some h) here =
     let chosen = here h refl in
     let n : Node = node_of at dir event in
-    let l : Scope = entered h event (met dir event.message) in
+    let l : Scope = entered_scope h event (met dir event.message) in
     let sends = block_sends layer (goes_down dir event.kind) place (counted stack f at) (bound_of stack f n) (Holds n)
     (λ k x m holds. holds) (taken_keeps n) (emitted_leads stack f n place) h.block
     (subst (λ b. IsOrderlyBlock layer b h.block) chosen.1 chosen.0) s l (entered_holds at dir event h) in

@@ -8,7 +8,7 @@ use Rattle.layer_mean.specs.Tree.{StatementTrees, none, more, HandlerTree, Layer
 use Rattle.layer_mean.specs.State.{State, row_at, has_room, without_front}
 use Rattle.layer_mean.specs.Value.{Scope, is_true, val}
 use Rattle.layer_mean.specs.Effect.{Act, turns, with_slot, with_taken, in_order, acts, does}
-use Rattle.layer_mean.specs.Visit.{Met, met, handler_for, entered}
+use Rattle.layer_mean.specs.Visit.{Met, met, handler_for, entered_scope}
 use Rattle.stack_mean.specs.Emissions.{joins_in, joins_in_emission, joins_in_row, joins_expected}
 
 -- How many joins are made in 0, 1 and so on below a number of turns of an act, each of which makes so many at its own
@@ -46,7 +46,7 @@ abbrev mutual
 -- How many a handler makes, with the condition of its common case.
 abbrev pub handler_made : ℕ → Option HandlerTree → State → Event → Met → ℕ
 handler_made place None s event m = 0
-handler_made place (Some h) s event m = joins_expected h.expected + made_in place h.block s (entered h event m)
+handler_made place (Some h) s event m = joins_expected h.expected + made_in place h.block s (entered_scope h event m)
 
 -- How many a visit makes.
 abbrev pub visit_joins : ℕ → LayerTree → State → Dir → Event → ℕ

@@ -7,15 +7,15 @@ use Rattle.layer_ast.specs.declared.tokens.Dir.{Dir}
 use Rattle.layer_ast.specs.declared.tokens.Kind.{Kind}
 use Rattle.layer_mean.specs.declared.run.Event.{Event}
 use Rattle.layer_mean.specs.Event.{carries}
-use Rattle.layer_mean.specs.Headers.{declared}
+use Rattle.layer_mean.specs.Headers.{header_of_tag}
 use Rattle.layer_mean.specs.Tree.{LayerTree}
 use Rattle.layer_mean.specs.Queue.{Task}
 use Rattle.stack_mean.specs.Graph.{Node, header_layer}
 
--- Whether an event of a kind can have a tag in front of a layer: one that the layer declares where the kind carries a
+-- Whether an event of a kind can have a tag before a layer: one that the layer declares where the kind carries a
 -- message, and else 0.
 abbrev pub can_have : Kind → LayerTree → ℕ → Bool
-can_have kind layer tag = if carries kind then is_some (declared layer tag) else tag == 0
+can_have kind layer tag = if carries kind then is_some (header_of_tag layer tag) else tag == 0
 
 -- A node of a stack stands at an edge or between them, and has a tag that the layer above its gap declares.
 pub record IsNode (stack : List LayerTree) (node : Node) : Type 0 where

@@ -5,7 +5,7 @@ use Rattle.layer_ast.specs.declared.tokens.Dir.{Dir}
 use Rattle.layer_ast.specs.declared.tokens.Dir.TheVariants.{Up, Down}
 use Rattle.layer_ast.specs.declared.tokens.Kind.{Kind}
 use Rattle.layer_mean.specs.Event.{carries}
-use Rattle.layer_mean.specs.Headers.{declared}
+use Rattle.layer_mean.specs.Headers.{header_of_tag}
 use Rattle.layer_mean.specs.Tree.{Carried, ContentTree, StatementTree, push, take, branch, each, emit, StatementTrees}
 use Rattle.layer_mean.specs.Tree.{none, more, HandlerTree, LayerTree}
 use Rattle.stack_mean.specs.Graph.{goes_down}
@@ -14,7 +14,7 @@ use Rattle.stack_mean.specs.Graph.{goes_down}
 abbrev pub IsOrderlyContent : LayerTree → Dir → Kind → Option ContentTree → Type 0
 IsOrderlyContent layer dir kind None = Unit {0}
 IsOrderlyContent layer Up kind (Some c) = carries kind ≡ true
-IsOrderlyContent layer Down kind (Some c) = (carries kind ≡ true) × (is_some (declared layer c.tag) ≡ true)
+IsOrderlyContent layer Down kind (Some c) = (carries kind ≡ true) × (is_some (header_of_tag layer c.tag) ≡ true)
 
 -- A taken row's message doesn't come in the place of a message from above.
 abbrev pub KeepsMessage : Bool → Option (ℕ × Carried) → Type 0

@@ -18,7 +18,7 @@ vertex_cost own costs vertex = fold (with_edge costs) (own vertex) vertex.edges
 abbrev pub round : (Vertex → ℕ) → List Vertex → List ℕ → List ℕ
 round own vertices costs = map (vertex_cost own costs) vertices
 
--- The costs behind so many rounds; at first each vertex costs its own.
+-- The costs after so many rounds; at first each vertex costs its own.
 abbrev pub rounds : (Vertex → ℕ) → List Vertex → ℕ → List ℕ
 rounds own vertices zero = map own vertices
 rounds own vertices (suc k) = round own vertices (rounds own vertices k)
@@ -30,7 +30,7 @@ one_task vertex = 1
 abbrev pub joins_of_vertex : Vertex → ℕ
 joins_of_vertex vertex = vertex.joins
 
--- The costs behind so many rounds are those that the definition has in as many steps, held within 32 bits.
+-- The costs after so many rounds are those that the definition has in as many steps, held within 32 bits.
 abbrev pub RoundsAreCosts : Type 0
 RoundsAreCosts = (stack : List LayerTree) (vertices : List Vertex) (own : Vertex → ℕ) (own_cost : Node → ℕ) (k : ℕ)
     (n : Node) →
@@ -42,7 +42,7 @@ RoundsAreCosts = (stack : List LayerTree) (vertices : List Vertex) (own : Vertex
 abbrev pub largest_entry : List LayerTree → List ℕ → ℕ
 largest_entry stack costs = largest (map (λ n. slice_index costs (node_number n)) (entries stack))
 
--- So a stack's weight and its joins stand in the tables behind as many rounds as it has nodes.
+-- So a stack's weight and its joins stand in the tables after as many rounds as it has nodes.
 abbrev pub LargestInRounds : Type 0
 LargestInRounds = (stack : List LayerTree) (vertices : List Vertex) → IsOrderly stack → IsTable stack vertices →
     (largest_entry stack (rounds one_task vertices (length (nodes stack))) ≡ held_at_most (largest_weight stack)) ×

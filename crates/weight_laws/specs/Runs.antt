@@ -9,9 +9,9 @@ use Rattle.layer_mean.specs.declared.run.Event.{Event}
 use Rattle.layer_mean.specs.Tree.{LayerTree}
 use Rattle.layer_mean.specs.State.{State}
 use Rattle.layer_mean.specs.Queue.{Task, Player, Line, Work, is_place, layer_at, state_at, next_of, run_for, layers}
-use Rattle.layer_mean.specs.Queue.{run, unstarted, starting}
+use Rattle.layer_mean.specs.Queue.{run, unstarted_work, starting}
 use Rattle.stack_mean.specs.Graph.{first_on_cycle}
-use Rattle.stack_mean.specs.Acceptance.{weight_limit, joins_limit, accepted}
+use Rattle.stack_mean.specs.Acceptance.{weight_limit, joins_limit, acceptance}
 use Rattle.weight_laws.specs.Nodes.{IsKnown}
 use Rattle.weight_laws.specs.Orderly.{IsOrderly}
 use Rattle.weight_laws.specs.Made.{visit_joins}
@@ -31,17 +31,17 @@ turn_joins stack w t = if is_place (length stack) t.at
     else 0
 
 -- What the tasks that are taken in so many turns cost together, each at its price in the world in which it is taken.
-abbrev pub spent : {W E : Type 0} → ℕ → Player W E → (W → Task E → ℕ) → ℕ → W → List (Task E) → ℕ
-spent places play price zero w tasks = 0
-spent places play price (suc n) w [] = 0
-spent places play price (suc n) w (t ∷ rest) =
-    let r = next_of places play (t ∷ rest) w in price w t + spent places play price n r.world r.tasks
+abbrev pub total_price : {W E : Type 0} → ℕ → Player W E → (W → Task E → ℕ) → ℕ → W → List (Task E) → ℕ
+total_price places play price zero w tasks = 0
+total_price places play price (suc n) w [] = 0
+total_price places play price (suc n) w (t ∷ rest) =
+    let r = next_of places play (t ∷ rest) w in price w t + total_price places play price n r.world r.tasks
 
 -- The joins that are made in so many turns of a stack.
 abbrev pub run_joins : List LayerTree → ℕ → Line Work Event → ℕ
-run_joins stack n r = spent (length stack) (layers stack) (turn_joins stack) n r.world r.tasks
+run_joins stack n r = total_price (length stack) (layers stack) (turn_joins stack) n r.world r.tasks
 
--- Tasks of a line of a stack without cycles, which are known before a turn and behind it.
+-- Tasks of a line of a stack without cycles, which are known before a turn and after it.
 pub record IsTurn (stack : List LayerTree) (w : Work) (t : Task Event) (rest : List (Task Event)) : Type 0 where
   pub orderly : IsOrderly stack
   pub no_cycle : first_on_cycle stack ≡ None
@@ -123,9 +123,9 @@ Enters stack at _ _ = ⊥
 -- A run of an accepted stack from an entry, of which all is known.
 pub record IsRun (stack : List LayerTree) (states : List State) (first : Task Event) : Type 0 where
   pub orderly : IsOrderly stack
-  pub accepts : accepted stack ≡ Ok stack
+  pub accepts : acceptance stack ≡ Ok stack
   pub enters : Enters stack first.at first.dir first.event.kind
-  pub known : StaysKnown stack (starting (unstarted states) first)
+  pub known : StaysKnown stack (starting (unstarted_work states) first)
 
 -- What is so of such a run: it is within the limits; no task is left; any number of turns from its entry's weight on
 -- comes to it; its turns are at most this weight, and so its visits and outputs; its joins are at most its entry's.
@@ -135,7 +135,7 @@ pub record Ends (stack : List LayerTree) (states : List State) (first : Task Eve
   pub done : (run weight_limit stack states first).tasks ≡ []
   pub enough : (n : ℕ) → task_weight stack first ≤ n → run n stack states first ≡ run weight_limit stack states first
   pub turns : turns_of (run weight_limit stack states first).world ≤ task_weight stack first
-  pub made : (n : ℕ) → run_joins stack n (starting (unstarted states) first) ≤ task_joins stack first
+  pub made : (n : ℕ) → run_joins stack n (starting (unstarted_work states) first) ≤ task_joins stack first
 
 abbrev pub RunsEnd : Type 0
 RunsEnd = (stack : List LayerTree) (states : List State) (first : Task Event) → IsRun stack states first →

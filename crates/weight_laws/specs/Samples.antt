@@ -12,7 +12,7 @@ use Rattle.stack_mean.specs.Graph.{arrows, nodes}
 use Rattle.stack_mean.specs.Acceptance.{weight, weight_limit}
 use Rattle.stack_mean.specs.SampleLayers.{counter, joiner, fan, mnak, total, local_copy, bottom, echo, memory, mirror}
 use Rattle.stack_mean.specs.SampleLayers.{late}
-use Rattle.stack_mean.specs.Samples.{ordered}
+use Rattle.stack_mean.specs.Samples.{ordering_stack}
 use Rattle.weight_laws.specs.Nodes.{task_node}
 use Rattle.weight_laws.specs.Orderly.{IsOrderly}
 use Rattle.weight_laws.specs.Costs.{behind_arrows}
@@ -22,7 +22,7 @@ use Rattle.weight_laws.specs.Runs.{turns_of, IsRun}
 use Rattle.weight_laws.specs.Chains.{first_place, HasChain}
 use Rattle.weight_laws.specs.Tables.{HasFewHeaders, node_number, table_of}
 use Rattle.weight_laws.specs.Rounds.{rounds, one_task}
-use Rattle.weight_laws.specs.Search.{is_seen, searched, search_from}
+use Rattle.weight_laws.specs.Search.{is_seen, search_after, search_from}
 
 -- The layers of the samples send what their graphs tell.
 abbrev pub SamplesAreOrderly : Type 0
@@ -51,10 +51,10 @@ CounterRun =
 -- member that isn't the first sends it on for three.
 abbrev pub OrderedRun : Type 0
 OrderedRun =
-    IsRun ordered (fresh_states ordered) (cast_at 3) ×
-    (task_weight ordered (cast_at 3) ≡ 9) ×
-    (behind_arrows (weight ordered) (arrows ordered (task_node (cast_at 3))) ≡ 8) ×
-    (turns_of (run weight_limit ordered (fresh_states ordered) (cast_at 3)).world ≡ 6)
+    IsRun ordering_stack (fresh_states ordering_stack) (cast_at 3) ×
+    (task_weight ordering_stack (cast_at 3) ≡ 9) ×
+    (behind_arrows (weight ordering_stack) (arrows ordering_stack (task_node (cast_at 3))) ≡ 8) ×
+    (turns_of (run weight_limit ordering_stack (fresh_states ordering_stack) (cast_at 3)).world ≡ 6)
 
 -- A visit that joins a byte with itself: three times the bound of a loop of two turns, each with two joins. Its loop
 -- might have had 32 turns.
@@ -70,7 +70,7 @@ JoinerVisit =
 
 -- The packet that a peer makes of a cast is chained for the lowest place.
 abbrev pub ChainedPacket : Type 0
-ChainedPacket = HasChain ordered (first_place Up 1) true (Some (record {
+ChainedPacket = HasChain ordering_stack (first_place Up 1) true (Some (record {
   headers =
       record { layer = 0; tag = 1; fields = 1 ∷ [] } ∷ record { layer = 1; tag = 0; fields = [] } ∷
       record { layer = 2; tag = 1; fields = 0 ∷ 0 ∷ [] } ∷ [];
@@ -83,7 +83,7 @@ abbrev pub seen_again : Kind → Bool
 seen_again kind =
     let stack = echo ∷ echo ∷ [] in
     let number = node_number (record { at = 1; dir = Down; kind = kind; tag = 0 }) in
-    is_seen (searched (table_of stack) (length (nodes stack)) (search_from (table_of stack) number)) number
+    is_seen (search_after (table_of stack) (length (nodes stack)) (search_from (table_of stack) number)) number
 
 abbrev pub EchoesAreSeen : Type 0
 EchoesAreSeen = (seen_again Cast ≡ true) × (seen_again Send ≡ false)

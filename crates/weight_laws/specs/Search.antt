@@ -35,9 +35,9 @@ abbrev pub search_round : List Vertex → Search → Search
 search_round vertices s = see_behind vertices (record { seen = s.seen; last = [] }) s.last
 
 -- A search after so many rounds.
-abbrev pub searched : List Vertex → ℕ → Search → Search
-searched vertices zero s = s
-searched vertices (suc k) s = search_round vertices (searched vertices k s)
+abbrev pub search_after : List Vertex → ℕ → Search → Search
+search_after vertices zero s = s
+search_after vertices (suc k) s = search_round vertices (search_after vertices k s)
 
 -- A search that has seen what follows from a number at once.
 abbrev pub search_from : List Vertex → ℕ → Search
@@ -47,10 +47,10 @@ search_from vertices x = see_vertex vertices (record { seen = replicate (length 
 abbrev pub SearchTellsCycles : Type 0
 SearchTellsCycles = (stack : List LayerTree) (vertices : List Vertex) (n : Node) →
     IsOrderly stack → HasFewHeaders stack → IsTable stack vertices → IsNode stack n →
-    is_seen (searched vertices (length (nodes stack)) (search_from vertices (node_number n))) (node_number n) ≡
+    is_seen (search_after vertices (length (nodes stack)) (search_from vertices (node_number n))) (node_number n) ≡
     is_on_cycle stack n
 
 -- Once nothing was seen last, no further round sees anything.
 abbrev pub SearchSettles : Type 0
-SearchSettles = (vertices : List Vertex) (k m : ℕ) (s : Search) → k ≤ m → (searched vertices k s).last ≡ [] →
-    searched vertices m s ≡ searched vertices k s
+SearchSettles = (vertices : List Vertex) (k m : ℕ) (s : Search) → k ≤ m → (search_after vertices k s).last ≡ [] →
+    search_after vertices m s ≡ search_after vertices k s

@@ -95,7 +95,7 @@ pub fn rounds_are_costs()
     ensures { RoundsAreCosts }
 {}
 
-/// A stack's weight and its joins stand in the tables behind as many rounds as it has nodes.
+/// A stack's weight and its joins stand in the tables after as many rounds as it has nodes.
 pub fn largest_in_rounds()
     ensures { LargestInRounds }
 {}

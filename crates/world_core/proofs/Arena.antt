@@ -1,4 +1,4 @@
--- Parts that lie one behind the other.
+-- Parts that lie one after the other.
 use Rattle.std.proofs.Common.{◌≡◌, ℕ, zero, suc, ◌-◌, ◌<◌, ◌≤◌, List, [], ◌∷◌, ◌++◌, length, get_or, take, drop, Some}
 use Rattle.std.proofs.Common.{None, slice_get, refl, ap, sym, subst, ◌∙◌, arith, length-append}
 use Rattle.std.specs.List.{slice_range}
@@ -13,7 +13,7 @@ pub count_of : (bytes : List ℕ) (from : ℕ) (ends : List ℕ) → length (par
 count_of bytes from [] = refl
 count_of bytes from (end ∷ ends) = ap suc (count_of bytes end ends)
 
--- no part ends behind the bytes
+-- no part ends after the bytes
 pub within : (total from : ℕ) (ends : List ℕ) → EndAt total from ends → from ≤ total
 within total from [] is = omega arith
 within total from (end ∷ ends) is = let more = within total end ends is.1 in let le = is.0 in omega arith
@@ -39,14 +39,14 @@ part_at bytes from (end ∷ ends) zero lt = refl
 part_at bytes from (end ∷ ends) (suc zero) lt = part_at bytes end ends zero (omega arith)
 part_at bytes from (end ∷ ends) (suc (suc k)) lt = part_at bytes end ends (suc k) (omega arith)
 
--- a part that lies in front stays, whatever comes behind
+-- a part that lies in front stays, whatever comes after
 range_stays : (bytes more : List ℕ) (from end : ℕ) → from ≤ end → end ≤ length bytes →
     slice_range (bytes ++ more) from end ≡ slice_range bytes from end
 range_stays bytes more from end le within =
     ap (λ xs. take (end - from) xs) (drop-append-le from bytes more (omega arith)) ∙
     take-append-le (end - from) (drop from bytes) more (omega (arith, length-drop from bytes))
 
--- all bytes behind a place
+-- all bytes after a place
 range_behind : (bytes more : List ℕ) → slice_range (bytes ++ more) (length bytes) (length (bytes ++ more)) ≡ more
 range_behind bytes more =
     ap (λ xs. take (length (bytes ++ more) - length bytes) xs) (drop-append_seam bytes more) ∙
@@ -68,7 +68,7 @@ pub ends_behind : (bytes more : List ℕ) (from : ℕ) (ends : List ℕ) → End
 ends_behind bytes more from [] is = (omega (arith, length-append bytes more), refl)
 ends_behind bytes more from (end ∷ ends) is = (is.0, ends_behind bytes more end ends is.1)
 
--- what is written behind all bytes, with its end behind all ends
+-- what is written after all bytes, with its end after all ends
 pub put_is : (bytes more new : List ℕ) (ends kept : List ℕ) (end : ℕ) (parts : List (List ℕ)) →
     parts_from bytes 0 ends ≡ parts →
     new ≡ bytes ++ more → kept ≡ ends ++ end ∷ [] → end ≡ length new → EndAt (length bytes) 0 ends →

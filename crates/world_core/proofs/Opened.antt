@@ -8,7 +8,7 @@ use Rattle.std.proofs.lemmas.Nat.{mul-le}
 use Rattle.std.specs.List.{range_with_len}
 use Rattle.msg_core.specs.declared.packet.View.{View}
 use Rattle.stack_mean.specs.Acceptance.{rows_of, most_rows}
-use Rattle.run_mean.specs.Member.{opened}
+use Rattle.run_mean.specs.Member.{opened_member}
 use Rattle.run_mean.specs.View.{first_view}
 use Rattle.file_layer.specs.Making.{Making}
 use Rattle.bypass_member.specs.Opening.{IsOpen, Opens, mode_in, plans_in, rows_in, stack_in}
@@ -43,7 +43,7 @@ times_few k l few less = mul-le k l 32 24 few less
 
 -- the members below an id are open
 pub record AreBelow (o : Opening) (n id : ℕ) (before now : Making) (members : List Placed) : Type 0 where
-  pub opened_are : map member_of members ≡ map (opened (stack_in o) (first_view n)) (range_with_len 0 id)
+  pub opened_are : map member_of members ≡ map (opened_member (stack_in o) (first_view n)) (range_with_len 0 id)
   pub seated : map seat_of members ≡ map (seat (mode_in o) (stack_in o) (plans_in o) o.group o.stamp)
       (range_with_len 0 id)
   pub few : 0 < id → rows_of (stack_in o) n ≤ most_rows
@@ -62,8 +62,8 @@ module _ (o : Opening) (n id : ℕ) (view : View) (before now new : Making) (mem
       n ≤ 32 →
       IsOpen o view id now new m → more ≡ members ++ m ∷ [] → AreBelow o n (id + 1) before new more
   open_next m more below first most is put = record {
-    opened_are = told_next member_of (opened (stack_in o) (first_view n)) members more m id below.opened_are
-        (is.member ∙ ap (λ v. opened (stack_in o) v id) first) put;
+    opened_are = told_next member_of (opened_member (stack_in o) (first_view n)) members more m id below.opened_are
+        (is.member ∙ ap (λ v. opened_member (stack_in o) v id) first) put;
     seated = told_next seat_of (seat (mode_in o) (stack_in o) (plans_in o) o.group o.stamp) members more m id
         below.seated
         (λ i. record {

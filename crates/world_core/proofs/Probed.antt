@@ -7,7 +7,7 @@ use Rattle.layer_mean.specs.Tree.{LayerTree}
 use Rattle.stack_mean.specs.Plan.{Plan}
 use Rattle.packet_mean.specs.Spelling.{full_bytes}
 use Rattle.run_mean.specs.Member.{Member, inside, out, Input, Output, Refusal, Step}
-use Rattle.run_mean.specs.World.{World, Happening, only, Did, taken, refused, absent, shown, member_at, stepped}
+use Rattle.run_mean.specs.World.{World, Happening, only, Did, taken, refused, absent, shown, member_at, step_happening}
 use Rattle.miss_mean.specs.Text.{missed_in}
 use Rattle.step_misses.specs.Misses.{miss_meant}
 use Rattle.step_misses.specs.declared.miss.Miss.{Miss}
@@ -100,7 +100,7 @@ module _ (c : Peopled) (mode : Mode) (stack : List LayerTree) (plans : List Plan
   spelled_so w stands = stands.spelled ∙ sym (ap (λ (x : Peopled). x.spelled) is_shown)
 
   left : (miss : Option Miss) → IsNotTaken p input p' outs miss → (w : World) → Stands c w → (h : Happening) →
-      h ≡ stepped c.stack c.plans w id input → IsLeft c h new miss
+      h ≡ step_happening c.stack c.plans w id input → IsLeft c h new miss
   left miss not w stands h is =
       let there = subst (λ (x : Peopled). Stands x w) (sym is_shown) stands in
       let at_id : p ≡ get_or members id p = found ∙ ap (λ k. get_or members k p) is_place in
@@ -114,16 +114,17 @@ module _ (c : Peopled) (mode : Mode) (stack : List LayerTree) (plans : List Plan
       let its : Lacking stack plans (happened w id p.member (step_of p input)).did miss =
       subst (λ (s : Seat). Lacking s.stack s.plans (happened w id p.member (step_of p input)).did miss) sits
       (lacking p input w id miss p.member (step_of p input) refl not.lacks) in
-      let so : Lacking stack plans (stepped stack plans w id input).did miss =
+      let so : Lacking stack plans (step_happening stack plans w id input).did miss =
       subst (λ (h : Happening). Lacking stack plans h.did miss)
       (sym (placed_step mode stack plans w id input p sits_there at)) its in
-      let lacks : Lacking c.stack c.plans (stepped c.stack c.plans w id input).did miss =
-      subst (λ (x : Peopled). Lacking x.stack x.plans (stepped x.stack x.plans w id input).did miss) is_shown so in
+      let lacks : Lacking c.stack c.plans (step_happening c.stack c.plans w id input).did miss =
+      subst (λ (x : Peopled). Lacking x.stack x.plans (step_happening x.stack x.plans w id input).did miss) is_shown so
+      in
       subst (λ (x : Happening). IsLeft c x new miss) (sym is)
       (record { same = same miss not; uncommon = lacks.uncommon; lacked = lacks.lacked })
 
   pub probed_so : (probed : Probed) → ProbesMember p input p' outs probed → (w : World) → Stands c w → (h : Happening) →
-      (map full_bytes w.packets ≡ spelled → h ≡ stepped c.stack c.plans w id input) → IsProbed c h new probed
+      (map full_bytes w.packets ≡ spelled → h ≡ step_happening c.stack c.plans w id input) → IsProbed c h new probed
   probed_so Common is w stands h asks =
       commonly c h new outs 0 0 is.change
       (step_fed c mode stack plans group stamp members spelled is_shown id place p seated is_place lt found more p' outs

@@ -18,11 +18,12 @@ use Rattle.stack_mean.specs.Plan.{Plan}
 use Rattle.packet_mean.specs.Spelling.{full_bytes}
 use Rattle.packet_mean.specs.declared.here.Here.{Here}
 use Rattle.run_mean.specs.Common.{with_plans, plan_behind, short_from}
-use Rattle.run_mean.specs.Member.{Member, inside, out, Input, datagram, is_out, Entered, entered, Output, packet_in}
+use Rattle.run_mean.specs.Member.{Member, inside, out, Input, datagram, is_out, Entered, entered_input, Output}
+use Rattle.run_mean.specs.Member.{packet_in}
 use Rattle.run_mean.specs.Member.{Refusal, Step, step_from}
 use Rattle.run_mean.specs.World.{World, Happening, only, refused, taken, absent, shown, here_of, member_at}
 use Rattle.run_mean.specs.World.{packet_number, world_behind}
-use Rattle.run_mean.specs.World.{stepped, stepped_of, stepped_inside, given}
+use Rattle.run_mean.specs.World.{step_happening, stepped_of, stepped_inside, given_packet}
 use Rattle.view_core.specs.Happenings.{DidIs, IsTaken}
 use Rattle.view_core.specs.declared.step.Change.{Change}
 use Rattle.view_core.specs.declared.step.Did.TheVariants as told
@@ -107,11 +108,12 @@ step_in_seat s view states (Err reason) = Err reason
 
 abbrev step_seated : Seat → Member → Input → Result Step Refusal
 step_seated s out input = Err is_out
-step_seated s (inside view states) input = step_in_seat s view states (entered s.stack s.plans (here_at s view) input)
+step_seated s (inside view states) input =
+    step_in_seat s view states (entered_input s.stack s.plans (here_at s view) input)
 
 same_step : (p : Placed) (m : Member) (input : Input) → step_at p m input ≡ step_seated (seat_of p) m input
 same_step p out input = refl
-same_step p (inside view states) input = go (entered p.stack p.plans (here_in p view) input) where
+same_step p (inside view states) input = go (entered_input p.stack p.plans (here_in p view) input) where
   go : (e : Result Entered Refusal) → step_in p view states e ≡ step_in_seat (seat_of p) view states e
   go (Ok what) = refl
   go (Err reason) = refl
@@ -127,24 +129,25 @@ world_step : (mode : Mode) (stack : List LayerTree) (plans : List Plan) (w : Wor
     stepped_of stack plans w id input m ≡
     happened w id m (step_seated (seat mode stack plans w.group w.stamp id) m input)
 world_step mode stack plans w id input out = refl
-world_step mode stack plans w id input (inside view states) = go (entered stack plans (here_of w view id) input) where
-  go : (e : Result Entered Refusal) →
-      stepped_inside stack w id view states e ≡
-      happened w id (inside view states) (step_in_seat (seat mode stack plans w.group w.stamp id) view states e)
-  go (Ok what) = refl
-  go (Err reason) = refl
+world_step mode stack plans w id input (inside view states) = go (entered_input stack plans (here_of w view id) input)
+  where
+    go : (e : Result Entered Refusal) →
+        stepped_inside stack w id view states e ≡
+        happened w id (inside view states) (step_in_seat (seat mode stack plans w.group w.stamp id) view states e)
+    go (Ok what) = refl
+    go (Err reason) = refl
 
 -- a member in its seat steps as the one of the world does
 pub placed_step : (mode : Mode) (stack : List LayerTree) (plans : List Plan) (w : World) (id : ℕ) (input : Input)
     (p : Placed) →
     seat_of p ≡ seat mode stack plans w.group w.stamp id → member_at w id ≡ p.member →
-    stepped stack plans w id input ≡ happened w id p.member (step_of p input)
+    step_happening stack plans w id input ≡ happened w id p.member (step_of p input)
 placed_step mode stack plans w id input p sits at =
     ap (stepped_of stack plans w id input) at ∙ world_step mode stack plans w id input p.member ∙
     ap (λ s. happened w id p.member (step_seated s p.member input)) (sym sits) ∙
     ap (happened w id p.member) (sym (same_step p p.member input))
 
--- what is told of it, and the world behind it
+-- what is told of it, and the world after it
 record IsBehind (mode : Mode) (stack : List LayerTree) (plans : List Plan) (w : World) (id : ℕ) (h : Happening)
     (m : Member) (outs : List (Output × Option ℕ))
     (before after : ℕ) (st : Stepped) : Type 0 where
@@ -211,7 +214,7 @@ kept_fed : (mode : Mode) (stack : List LayerTree) (plans : List Plan) (group sta
     AreSeated mode stack plans group stamp members → place ≡ id → id < length members → p ≡ get_or members place p →
     Steps p input p' outs before after st → more ≡ spelled ++ spelled_of outs → (w : World) →
     Stands (kept mode stack plans group stamp members spelled) w →
-    IsFed (kept mode stack plans group stamp members spelled) (stepped stack plans w id input)
+    IsFed (kept mode stack plans group stamp members spelled) (step_happening stack plans w id input)
     (kept mode stack plans group stamp (set members place p') more) outs before after (told.Stepped st)
 kept_fed mode stack plans group stamp members spelled more id place p input p' outs before after st seated is_place lt
     found is sent w stands =
@@ -255,22 +258,22 @@ found_number w spelled (suc k) is = sym (slice_get-map full_bytes w.packets k) �
 pub given_is : (stack : List LayerTree) (plans : List Plan) (w : World) (id number : ℕ) (spelled : List (List ℕ))
     (bytes : List ℕ) →
     map full_bytes w.packets ≡ spelled → Some bytes ≡ spelled_number spelled number →
-    given stack plans w id (packet_number w number) ≡ stepped stack plans w id (datagram bytes)
+    given_packet stack plans w id (packet_number w number) ≡ step_happening stack plans w id (datagram bytes)
 given_is stack plans w id number spelled bytes is found =
     go (packet_number w number) (found_number w spelled number is ∙ sym found) where
       go : (o : Option Packet) → option_map full_bytes o ≡ Some bytes →
-          given stack plans w id o ≡ stepped stack plans w id (datagram bytes)
+          given_packet stack plans w id o ≡ step_happening stack plans w id (datagram bytes)
       go None same = absurd (cc same)
       go (Some packet) same =
           let bytes_are : full_bytes packet ≡ bytes = cc same in
-          ap (λ xs. stepped stack plans w id (datagram xs)) bytes_are
+          ap (λ xs. step_happening stack plans w id (datagram xs)) bytes_are
 
 pub absent_is : (stack : List LayerTree) (plans : List Plan) (w : World) (id number : ℕ) (spelled : List (List ℕ)) →
     map full_bytes w.packets ≡ spelled → None ≡ spelled_number spelled number →
-    given stack plans w id (packet_number w number) ≡ only w absent
+    given_packet stack plans w id (packet_number w number) ≡ only w absent
 absent_is stack plans w id number spelled is none =
     go (packet_number w number) (found_number w spelled number is ∙ sym none) where
-      go : (o : Option Packet) → option_map full_bytes o ≡ None → given stack plans w id o ≡ only w absent
+      go : (o : Option Packet) → option_map full_bytes o ≡ None → given_packet stack plans w id o ≡ only w absent
       go None same = refl
       go (Some packet) same = absurd (cc same)
 
@@ -328,13 +331,13 @@ module _ (c : Peopled) (mode : Mode) (stack : List LayerTree) (plans : List Plan
         -- it is fed as whatever happens by that step
         pub step_fed : (input : Input) → Steps p input p' outs before after st → more ≡ spelled ++ spelled_of outs →
             (w : World) → Stands c w →
-            (h : Happening) → (map full_bytes w.packets ≡ spelled → h ≡ stepped c.stack c.plans w id input) →
+            (h : Happening) → (map full_bytes w.packets ≡ spelled → h ≡ step_happening c.stack c.plans w id input) →
             IsFed c h new outs before after (told.Stepped st)
         step_fed input is sent w stands h asks =
             let stands_there = subst (λ x. Stands x w) (sym is_shown) stands in
             subst (λ (x : Happening). IsFed c x new outs before after (told.Stepped st))
             (sym (asks stands_there.spelled))
-            (subst (λ (x : Peopled). IsFed x (stepped x.stack x.plans w id input) new outs before after
+            (subst (λ (x : Peopled). IsFed x (step_happening x.stack x.plans w id input) new outs before after
             (told.Stepped st))
             is_shown
             (kept_fed mode stack plans group stamp members spelled more id place p input p' outs before after st seated

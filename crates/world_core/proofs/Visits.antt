@@ -3,13 +3,13 @@ use Rattle.std.proofs.Common.{◌≡◌, ℕ, zero, suc, ◌+◌, ◌≤◌, Lis
 use Rattle.std.proofs.Common.{Option, refl, arith, zero-add, subst}
 use Rattle.std.specs.Prelude.{cond}
 use Rattle.run_mean.specs.Mode.{Mode, layered, bypass}
-use Rattle.layer_mean.specs.Queue.{Task, Work, advance, is_place, layers, run, run_for, unstarted}
+use Rattle.layer_mean.specs.Queue.{Task, Work, advance, is_place, layers, run, run_for, unstarted_work}
 use Rattle.layer_mean.specs.State.{State}
 use Rattle.layer_mean.specs.Tree.{LayerTree}
 use Rattle.layer_mean.specs.declared.run.Event.{Event}
-use Rattle.run_mean.specs.Member.{Member, inside, out, Input, Entered, entered, Refusal, Step, step_from, Output}
+use Rattle.run_mean.specs.Member.{Member, inside, out, Input, Entered, entered_input, Refusal, Step, step_from, Output}
 use Rattle.run_mean.specs.Common.{is_common}
-use Rattle.run_mean.specs.Report.{counted}
+use Rattle.run_mean.specs.Report.{visit_count}
 use Rattle.stack_mean.specs.Plan.{Plan}
 use Rattle.view_core.specs.declared.step.Stepped.{Stepped}
 use Rattle.view_core.specs.declared.step.Stepped.TheVariants.{Taken, Refused}
@@ -39,12 +39,12 @@ pub run_visits : (most : ℕ) (stack : List LayerTree) (states : List State) (fi
     (run most stack states first).world.visits ≤ most
 unfolding run
 run_visits most stack states first =
-    let few = turns_visit most stack (unstarted states) (first ∷ []) in
+    let few = turns_visit most stack (unstarted_work states) (first ∷ []) in
     rw zero-add at few
 
 -- a step counts for no more visits than it has
 counted_few : (mode : Mode) (stack : List LayerTree) (plans : List Plan) (s : Step) →
-    counted mode stack plans s ≤ s.work.visits
+    visit_count mode stack plans s ≤ s.work.visits
 counted_few layered stack plans s = omega arith
 counted_few bypass stack plans s = go (is_common stack plans s) where
   go : (common : Bool) → cond common 0 s.work.visits ≤ s.work.visits
@@ -54,7 +54,7 @@ counted_few bypass stack plans s = go (is_common stack plans s) where
 -- a step of a member is one run
 taken_visits : (p : Placed) (m : Member) (input : Input) (s : Step) → step_at p m input ≡ Ok s → s.work.visits ≤ 65536
 taken_visits p out input s is = absurd (cc is)
-taken_visits p (inside view states) input s is = go (entered p.stack p.plans (here_in p view) input) is where
+taken_visits p (inside view states) input s is = go (entered_input p.stack p.plans (here_in p view) input) is where
   go : (e : Result Entered Refusal) → step_in p view states e ≡ Ok s → s.work.visits ≤ 65536
   go (Err reason) is = absurd (cc is)
   go (Ok what) is =

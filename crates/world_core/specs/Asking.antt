@@ -2,7 +2,7 @@
 use Rattle.std.specs.Prelude.{◌≡◌, ℕ, List}
 use Rattle.layer_mean.specs.Tree.{LayerTree}
 use Rattle.stack_mean.specs.Plan.{Plan}
-use Rattle.run_mean.specs.World.{World, Happening, only, absent, shown, stepped}
+use Rattle.run_mean.specs.World.{World, Happening, only, absent, shown, step_happening}
 use Rattle.view_core.specs.Steps.{input_meant}
 use Rattle.world_core.specs.declared.asked.Asked.{Asked}
 use Rattle.world_core.specs.declared.asked.Asked.TheVariants.{Step, Absent, Shown}
@@ -14,6 +14,6 @@ IsFor member _ = Unit {0}
 
 -- What happens is that the member steps by the input that it is given; or nothing happens, where it is given none.
 abbrev pub Asks : List LayerTree → List Plan → World → Happening → Asked → Type 0
-Asks stack plans w h (Step id input) = h ≡ stepped stack plans w id (input_meant input)
+Asks stack plans w h (Step id input) = h ≡ step_happening stack plans w id (input_meant input)
 Asks stack plans w h Absent = h ≡ only w absent
 Asks stack plans w h Shown = h ≡ only w shown

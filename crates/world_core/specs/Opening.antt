@@ -4,7 +4,7 @@ use Rattle.std.specs.List.{range_with_len}
 use Rattle.std.specs.declared.alloc.Global.{Global}
 use Rattle.std.specs.declared.vec.Vec.{Vec}
 use Rattle.stack_mean.specs.Acceptance.{rows_of, most_rows}
-use Rattle.run_mean.specs.Member.{opened}
+use Rattle.run_mean.specs.Member.{opened_member}
 use Rattle.run_mean.specs.View.{first_view}
 use Rattle.run_mean.specs.World.{first_world}
 use Rattle.file_layer.specs.Making.{Making}
@@ -31,7 +31,7 @@ pub record IsBegun (o : Opening) (n : ℕ) (before after : Making) (c : Peopled)
 
 -- The members of a group are opened: who they are, and that they sit in order.
 pub record AreOpen (o : Opening) (n : ℕ) (before after : Making) (members : List Placed) : Type 0 where
-  pub opened_are : map member_of members ≡ map (opened (stack_in o) (first_view n)) (range_with_len 0 n)
+  pub opened_are : map member_of members ≡ map (opened_member (stack_in o) (first_view n)) (range_with_len 0 n)
   pub seated : map seat_of members ≡ seats (mode_in o) (stack_in o) (plans_in o) o.group o.stamp n
   pub few : rows_of (stack_in o) n ≤ most_rows
   pub same : after.stack ≡ before.stack

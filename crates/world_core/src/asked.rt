@@ -23,11 +23,11 @@ pub(crate) enum Asked<'a> {
 
 /// A packet that is given to a member comes as a datagram, if there is such a packet.
 #[inline(always)]
-fn given<'a>(packets: &'a Packets, number: u32, id: u8) -> Asked<'a>
+fn given_packet<'a>(packets: &'a Packets, number: u32, id: u8) -> Asked<'a>
     ensures member { IsFor id result }
     ensures asks { (stack : List LayerTree) (plans : List Plan) (w : mean.World) →
         map full_bytes w.packets ≡ packets.now →
-        Asks stack plans w (mean.given stack plans w id (mean.packet_number w number)) result }
+        Asks stack plans w (mean.given_packet stack plans w id (mean.packet_number w number)) result }
 {
     match packets.numbered(number) {
         Some(datagram) => Asked::Step(id, Input::Datagram(datagram)),
@@ -49,7 +49,7 @@ pub(crate) fn input_of<'a>(event: &'a ScriptEvent, packets: &'a Packets) -> Aske
         ScriptEvent::Send(id, to, body) => Asked::Step(*id, Input::Send(*to, body.slice())),
         ScriptEvent::Leave(id) => Asked::Step(*id, Input::Leave),
         ScriptEvent::Tick(id, moment) => Asked::Step(*id, Input::Tick(*moment)),
-        ScriptEvent::Give(number, id) => given(packets, *number, *id),
+        ScriptEvent::Give(number, id) => given_packet(packets, *number, *id),
         ScriptEvent::Raw(id, bytes) => Asked::Step(*id, Input::Datagram(bytes.slice())),
         ScriptEvent::Show(_) => Asked::Shown,
     }

@@ -19,7 +19,7 @@ use step_outputs::{OutputView, Outputs, PacketView};
 /// For how many bytes more room is made at least.
 const LEAST_ROOM: usize = 1_048_576;
 
-/// Every packet ever sent, as its full spelling, in the order of output: the bytes of all, one behind the other, and
+/// Every packet ever sent, as its full spelling, in the order of output: the bytes of all, one after the other, and
 /// where each ends.
 #[derive(Drop)]
 pub struct Packets {
@@ -38,7 +38,7 @@ impl Model for Packets {
     ghost invariant = { λ p. EndAt (length p.bytes.items) 0 p.ends.items };
 }
 
-/// Where a part begins: where the one in front of it ends.
+/// Where a part begins: where the one before it ends.
 fn start(ends: &[usize], index: usize) -> usize
     requires { index ≤ length ends.now }
     ensures { result ≡ start_of 0 ends.now index }
@@ -102,7 +102,7 @@ impl Packets {
         Some(part(&self.bytes, &self.ends, index))
     }
 
-    /// Puts a packet that a member sends behind the others.
+    /// Puts a packet that a member sends after the others.
     #[inline(always)]
     fn put(&mut self, here: &Here, packet: &PacketView<'_>) -> Result<(), Memory>
         ensures { OnOk result (self.new ≡ self.old
@@ -122,7 +122,7 @@ impl Packets {
         Ok(())
     }
 
-    /// Puts an output of a step behind the others if it is a packet.
+    /// Puts an output of a step after the others if it is a packet.
     #[inline(always)]
     fn put_output(&mut self, here: &Here, output: &OutputView<'_>) -> Result<(), Memory>
         ensures { OnOk result (self.new ≡ self.old ++ spelled_of (output_meant here.now output.now ∷ [])) }
@@ -133,7 +133,7 @@ impl Packets {
         }
     }
 
-    /// Puts the packets among the outputs of a step behind the others, in order.
+    /// Puts the packets among the outputs of a step after the others, in order.
     #[inline(always)]
     pub fn keep(&mut self, out: &Outputs) -> Result<(), Memory>
         ensures { OnOk result (self.new ≡ self.old ++ spelled_of out.now.outputs) }

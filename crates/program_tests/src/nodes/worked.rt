@@ -60,7 +60,7 @@ fn left_in_memory(alloc: Global, texts: &[&str], other: &[u8]) -> Result<Left, A
     left_of(alloc, texts, other, &mut links, &mut clock)
 }
 
-/// What stands behind the mark in each line that begins with it, line feeds included; and the other lines.
+/// What stands after the mark in each line that begins with it, line feeds included; and the other lines.
 fn parted(alloc: Global, text: &[u8], mark: &[u8]) -> Result<(Vec<u8>, Vec<u8>), AllocError> {
     let mut behind = Vec::new(alloc);
     let mut others = Vec::new(alloc);
@@ -73,7 +73,7 @@ fn parted(alloc: Global, text: &[u8], mark: &[u8]) -> Result<(Vec<u8>, Vec<u8>),
     Ok((behind, others))
 }
 
-/// What stands behind the mark alone.
+/// What stands after the mark alone.
 fn behind(alloc: Global, text: &[u8], mark: &[u8]) -> Result<Vec<u8>, AllocError> {
     let (behind, _) = parted(alloc, text, mark)?;
     Ok(behind)

@@ -3,7 +3,7 @@ use Rattle.std.specs.Fmt.{decimal}
 use Rattle.event_graph.specs.Answer.{stack_tree}
 use Rattle.job_mean.specs.Job.{check}
 use Rattle.job_ends.specs.Comes.{around}
-use Rattle.job_ends.specs.Shown.{shown}
+use Rattle.job_ends.specs.Shown.{shown_end}
 use Rattle.job_ends.proofs.Comes.{written}
 use Rattle.file_jobs.proofs.Stops.{stops}
 use Rattle.file_jobs.proofs.Texts.{accepted_as}
@@ -26,9 +26,9 @@ returns-in-Ok g c = written (check c.args.file.now)
         written = ap (λ n. (codes "accepted " ++ decimal n ++ codes "\n") ∷ []) c.places_of.ensures ∙ accepted_as _;
       };
     })
-    (shown c.accept.result) c.in-Ok.ensures.read.sound c.accept.ensures
+    (shown_end c.accept.result) c.in-Ok.ensures.read.sound c.accept.ensures
 
 pub returns-in-Err : goal.returns-in-Err
 returns-in-Err g c = stops (check c.args.file.now)
     (around g.S.Shelf g.O.Sink c.args.shelf.now c.fetch_stack.new.shelf c.args.out.now c.args.out.now)
-    (shown c.in-Err.ending) tt c.in-Err.ensures.read refl
+    (shown_end c.in-Err.ending) tt c.in-Err.ensures.read refl

@@ -5,7 +5,7 @@ use Rattle.layer_mean.specs.Effect.{sent_as}
 use Rattle.layer_desk.specs.Laid.{sends}
 use Rattle.layer_mean.specs.Envelope.{event_in}
 use Rattle.layer_desk.specs.Need.{Layout}
-use Rattle.pool_message.specs.Seen.{bodiless, refs, seen}
+use Rattle.pool_message.specs.Seen.{bodiless, refs, content_seen}
 use Rattle.pool_message.specs.Sent.{sent_behind, pool_event}
 use Rattle.pool_message.specs.Tray.{message_at, also_sent}
 use Rattle.file_layer.specs.Ready.{stock_of}
@@ -75,7 +75,7 @@ returns-clause-shown g c =
     }) ≡ without_messages (sends c.args.direction
     (event_in c.args.envelope
     (Some (sent_as c.args.direction c.args.header
-    (get_or (map (seen c.args.pool.now) c.args.desk.now.tray.messages.items) k (plain [])))))
+    (get_or (map (content_seen c.args.pool.now) c.args.desk.now.tray.messages.items) k (plain [])))))
     (laid c.args.pool.now (stock_of c.args.desk.now)))) c.from.ensures
     (last_fits g.K.Start.begun c.args.pool.now (stock_of c.args.desk.now) c.requires.ready.pool c.requires.ready.fits
     c.args.direction c.args.envelope

@@ -2,7 +2,7 @@ use Rattle.std.proofs.Common.{◌≡◌, [], flat_map, fold, map, take}
 use Rattle.layer_ast.specs.View.{handler_tree, layer_tree}
 use Rattle.fault_mean.specs.NameFaults.{handler_name_faults}
 use Rattle.file_names.specs.Found.{Finds}
-use Rattle.file_names.specs.Gathered.{maxima_of, noted}
+use Rattle.file_names.specs.Gathered.{maxima_of, noted_words}
 use Rattle.file_names.proofs.handler.handlers.Given as goal
 
 abbrev pub invariant-loop-h : goal.invariant-loop-h
@@ -10,4 +10,4 @@ invariant-loop-h l =
     Finds l.initial.found
     (flat_map (handler_name_faults (layer_tree l.layer)) (map handler_tree (take l.h-index l.layer.handlers.items)))
     l.found
-    × (l.maxima ≡ fold noted [] (flat_map maxima_of (map handler_tree (take l.h-index l.layer.handlers.items))))
+    × (l.maxima ≡ fold noted_words [] (flat_map maxima_of (map handler_tree (take l.h-index l.layer.handlers.items))))

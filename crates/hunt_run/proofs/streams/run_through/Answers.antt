@@ -1,8 +1,8 @@
 use Rattle.std.proofs.Common.{None, subst}
-use Rattle.outside.specs.StdSink.{gathered}
+use Rattle.outside.specs.StdSink.{gathered_bytes}
 use Rattle.outside.specs.Said.{errors}
 use Rattle.outside.specs.Tells.{tells}
-use Rattle.job_ends.specs.Shown.{Said, shown}
+use Rattle.job_ends.specs.Shown.{Said, shown_end}
 use Rattle.hunt_run.proofs.Through.{delivers_found, delivers_held}
 use Rattle.hunt_run.proofs.streams.run_through.Goals as goal
 
@@ -10,15 +10,16 @@ pub returns-clause-through : goal.returns-clause-through
 returns-clause-through g c =
     let out = c.perform-ending.new.out in
     let first = c.args.err.now in
-    let before = tells (gathered (g.E.Write.contents first.stream) first.done first.held.items) None first.faults in
+    let before = tells (gathered_bytes (g.E.Write.contents first.stream) first.done first.held.items) None first.faults
+    in
     let closes = c.close.ensures in
     record {
-      put = tells (gathered (g.O.Write.contents out.stream) out.done out.held.items) None out.faults;
-      end = shown c.perform-ending.result;
+      put = tells (gathered_bytes (g.O.Write.contents out.stream) out.done out.held.items) None out.faults;
+      end = shown_end c.perform-ending.result;
       came = c.perform-ending.ensures;
       closes = closes;
       runs = λ is. record {
-        end = shown c.perform-ending.result;
+        end = shown_end c.perform-ending.result;
         came = c.perform-ending.ensures;
         said = subst (λ end. Said end (errors before closes.closing c.close.result)) is closes.said;
       };

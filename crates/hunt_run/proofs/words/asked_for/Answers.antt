@@ -16,4 +16,5 @@ returns c = c.request_in.ensures ∙ read_rows command request_in (map string_by
 
 pub returns-in_default : goal.returns-in_default
 returns-in_default c = read_none command request_in (map string_bytes c.args.words.now)
-    (ap (option_map rows_found) (sym c.in_default.is) ∙ c.in_ok-matches.ensures command c.in_ok-command.ensures is_exact)
+    (ap (option_map rows_found) (sym c.in_default.is) ∙ c.in_ok-matches.ensures command c.in_ok-command.ensures
+    is_exact)

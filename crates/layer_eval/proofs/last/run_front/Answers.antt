@@ -1,7 +1,7 @@
 use Rattle.std.proofs.lemmas.Result.{err_from_is_err_and}
 use Rattle.layer_eval.proofs.Acts.{block_step}
 use Rattle.layer_eval.proofs.Needs.{owed_item_spent, owed_item_lacks}
-use Rattle.layer_eval.specs.Owed.{settled}
+use Rattle.layer_eval.specs.Owed.{with_debt_paid}
 use Rattle.layer_eval.proofs.last.run_front.Goals as goal
 
 pub run_owing-requires : goal.run_owing-requires
@@ -21,9 +21,9 @@ pub loop-statement-preserved : goal.loop-statement-preserved
 loop-statement-preserved g c = (
   c.run_owing.ensures.ready,
   block_step c.args.place c.args.statements.now c.loop-statement.statement-index c.statement-item.result
-      (settled c.args.pending.now (g.D.Desk.shown c.args.pool.now c.args.desk.now))
-      (settled c.loop-statement.pending (g.D.Desk.shown c.loop-statement.pool c.loop-statement.desk))
-      (settled c.run_owing.new.pending (g.D.Desk.shown c.run_owing.new.pool c.run_owing.new.desk))
+      (with_debt_paid c.args.pending.now (g.D.Desk.shown c.args.pool.now c.args.desk.now))
+      (with_debt_paid c.loop-statement.pending (g.D.Desk.shown c.loop-statement.pool c.loop-statement.desk))
+      (with_debt_paid c.run_owing.new.pending (g.D.Desk.shown c.run_owing.new.pool c.run_owing.new.desk))
       c.args.predicted.now c.loop-statement.predicted c.run_owing.new.predicted
       c.loop-statement-test.true c.statement-item.is c.loop-statement.invariant.1 c.in_ok-run_owing.ensures.did,
   owed_item_spent g.K.Start.begun.layout c.args.statements.now c.loop-statement.statement-index c.statement-item.result

@@ -1,6 +1,6 @@
 use Rattle.std.proofs.Common.{rules, ◌∙◌}
 use Rattle.event_graph.specs.Answer.{stack_tree}
-use Rattle.job_ends.specs.Shown.{shown}
+use Rattle.job_ends.specs.Shown.{shown_end}
 use Rattle.group_mean.specs.Shown.{shown_mode}
 use Rattle.node_loop.specs.Around.{around}
 use Rattle.node_loop.specs.Serve.{whereabouts}
@@ -31,4 +31,4 @@ returns-in-Ok-open g c = run (stack_tree c.args.stack) c.args.plan.now (words_of
     (whereabouts (around g.O.Sink g.N.Links c.args.out.now c.args.links.now) (g.C.Clock.told c.args.clock.now))
     (whereabouts (around g.O.Sink g.N.Links c.serve-served.new.out c.serve-served.new.links)
     (g.C.Clock.told c.serve-served.new.clock))
-    c.serve-served.result (shown c.ending.result) c.ending.ensures c.serve-served.ensures
+    c.serve-served.result (shown_end c.ending.result) c.ending.ensures c.serve-served.ensures

@@ -3,7 +3,7 @@ use Rattle.event_graph.specs.Answer.{stack_tree}
 use Rattle.layer_ast.specs.View.{file_tree}
 use Rattle.job_mean.specs.Job.{explain}
 use Rattle.job_ends.specs.Comes.{around, Comes}
-use Rattle.job_ends.specs.Shown.{shown}
+use Rattle.job_ends.specs.Shown.{shown_end}
 use Rattle.play_jobs.proofs.Events.{few_read}
 use Rattle.play_jobs.proofs.Plays.{explain_comes}
 use Rattle.file_jobs.proofs.SecondStops.{explain_stops}
@@ -32,6 +32,6 @@ returns-in-Ok-fetch_script g c =
 pub returns-in-Err-fetch_script : goal.returns-in-Err-fetch_script
 returns-in-Err-fetch_script g c = explain_stops c.args.explain.now.file.now c.args.explain.now.script.now
     (around g.S.Shelf g.O.Sink c.args.shelf.now c.fetch_script.new.shelf c.args.out.now c.args.out.now)
-    (g.S.Shelf.faults c.fetch_file.new.shelf) (stack_tree c.in-Ok.found.stack) (shown c.in-Err-fetch_script.ending)
+    (g.S.Shelf.faults c.fetch_file.new.shelf) (stack_tree c.in-Ok.found.stack) (shown_end c.in-Err-fetch_script.ending)
     c.in-Ok.ensures.read.is
     (rw c.in-Ok.ensures.kept at c.in-Err-fetch_script.ensures.read) refl

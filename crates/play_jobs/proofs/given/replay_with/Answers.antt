@@ -1,7 +1,7 @@
 use Rattle.std.proofs.Common.{refl}
 use Rattle.event_graph.specs.Answer.{stack_tree}
 use Rattle.job_ends.specs.Comes.{around}
-use Rattle.job_ends.specs.Shown.{shown}
+use Rattle.job_ends.specs.Shown.{shown_end}
 use Rattle.file_jobs.proofs.SecondStops.{with_stops}
 use Rattle.file_jobs.proofs.Sound.{means_sound}
 use Rattle.play_jobs.proofs.Events.{few_read}
@@ -23,13 +23,14 @@ returns-in-Ok-fetch_script g c =
     (g.S.Shelf.faults c.fetch_script.new.shelf)
     (stack_tree c.in-Ok.stack) c.in-Ok-fetch_script.script c.in-Ok.ensures.read
     (rw c.in-Ok.ensures.kept at c.in-Ok-fetch_script.ensures.read)
-    (shown c.play_traces.result) (rw (c.in-Ok-fetch_script.ensures.kept, c.in-Ok.ensures.kept) at c.play_traces.ensures)
+    (shown_end c.play_traces.result)
+    (rw (c.in-Ok-fetch_script.ensures.kept, c.in-Ok.ensures.kept) at c.play_traces.ensures)
 
 pub returns-in-Err-fetch_script : goal.returns-in-Err-fetch_script
 returns-in-Err-fetch_script g c = with_stops c.args.replay.now.file.now c.args.replay.now.script.now
     c.args.replay.now.traces.now c.args.replay.now.wire
     c.args.replay.now.count
     (around g.S.Shelf g.O.Sink c.args.shelf.now c.fetch_script.new.shelf c.args.out.now c.args.out.now)
-    (g.S.Shelf.faults c.fetch_stack.new.shelf) (stack_tree c.in-Ok.stack) (shown c.in-Err-fetch_script.ending)
+    (g.S.Shelf.faults c.fetch_stack.new.shelf) (stack_tree c.in-Ok.stack) (shown_end c.in-Err-fetch_script.ending)
     c.in-Ok.ensures.read
     (rw c.in-Ok.ensures.kept at c.in-Err-fetch_script.ensures.read) refl

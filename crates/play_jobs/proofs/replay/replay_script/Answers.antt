@@ -2,7 +2,7 @@ use Rattle.std.proofs.Common.{refl, sym, subst}
 use Rattle.event_graph.specs.Answer.{stack_tree}
 use Rattle.job_mean.specs.Job.{replay}
 use Rattle.job_ends.specs.Comes.{around, Comes}
-use Rattle.job_ends.specs.Shown.{shown}
+use Rattle.job_ends.specs.Shown.{shown_end}
 use Rattle.play_jobs.proofs.Events.{few_read}
 use Rattle.play_jobs.proofs.Plays.{replay_comes}
 use Rattle.file_jobs.proofs.SecondStops.{stops}
@@ -29,7 +29,7 @@ pub returns-in-Err-fetch_script : goal.returns-in-Err-fetch_script
 returns-in-Err-fetch_script g c = stops c.args.replay.now.file.now c.args.replay.now.script.now
     (shown_mode c.args.replay.now.mode) c.args.replay.now.wire c.args.replay.now.count
     (around g.S.Shelf g.O.Sink c.args.shelf.now c.fetch_script.new.shelf c.args.out.now c.args.out.now)
-    (g.S.Shelf.faults c.fetch_stack.new.shelf) (stack_tree c.in-Ok.stack) (shown c.in-Err-fetch_script.ending)
+    (g.S.Shelf.faults c.fetch_stack.new.shelf) (stack_tree c.in-Ok.stack) (shown_end c.in-Err-fetch_script.ending)
     c.in-Ok.ensures.read
     (rw c.in-Ok.ensures.kept at c.in-Err-fetch_script.ensures.read) refl
 

@@ -1,4 +1,4 @@
--- `return_block` makes one room of the values and the room behind them, and hands it back with the allocator's token.
+-- `return_block` makes one room of the values and the room after them, and hands it back with the allocator's token.
 -- Assumes `Logic`.
 use mathlib.Core.Path.{◌≡◌, refl, sym, ap, subst, ◌∙◌}
 use Prim.Native.Nat.{ℕ, ◌+◌, ◌-◌, ◌*◌, ◌<◌, ◌^◌}
@@ -111,7 +111,7 @@ return_block_spec 𝓤 𝓛 𝓜 𝓡 wired X W LX LW g d dd met md =
     (λ lives. split ! $ split ! $ move ! (2 ∷ []) $ fsplit3 ! $ fsplit ! $ drop ! $ move ! (2 ∷ []) $ fsplit3 ! $
     keep ! (1 ∷ 2 ∷ 3 ∷ 5 ∷ 6 ∷ []) $ fsplit ! $ drop ! $ move ! (1 ∷ []) $ fsplit ! $ fsplit ! $ keep !
     (3 ∷ 1 ∷ 4 ∷ 5 ∷ 6 ∷ []) $
-    -- [the memory; the token of the block; the allocator behind its `&`; the token of its lifetime; the others]
+    -- [the memory; the token of the block; the allocator after its `&`; the token of its lifetime; the others]
     enter ! 𝓣.C 𝓣.Λ fn vs Post $ alloc_all !
     (λ l. pass_all ! refl
     ((tt, tt), (word-Good [] start.first, ((tt, record { fits = fits }), ((tt, (tt, tt)), ((tt, (tt, tt)), tt))))) $

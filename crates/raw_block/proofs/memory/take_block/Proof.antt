@@ -96,7 +96,7 @@ take_block_spec 𝓤 𝓛 𝓜 𝓡 wired X W LX LW g d dd met md =
     keep ! (3 ∷ 2 ∷ 0 ∷ []) $ heard ! Asked
     (λ asked. heard ! (κs.1.1.0 ⊑ W.lives)
     (λ lives. split ! $ split ! $ move ! (2 ∷ []) $ fsplit ! $ fsplit ! $ drop ! $ keep ! (0 ∷ 2 ∷ 3 ∷ []) $
-    -- [the allocator behind its `&`; the token of its lifetime; the others]
+    -- [the allocator after its `&`; the token of its lifetime; the others]
     let small : n * s < 2 ^ 63 = asked.0 in let bytes : n * s < 2 ^ 64 = omega arith in let al : ℕ = capped (align τ) in
     let T = Takes Z 𝓛 𝓜.mem 𝓡.returns in
     let z : T.Ghost = at_takes Z 𝓛 𝓜.mem 𝓡.returns κ q (rb, ro) h (n * s) al (block_ty E n) in

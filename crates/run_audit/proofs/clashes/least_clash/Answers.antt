@@ -20,8 +20,8 @@ pub loop-index-preserved : goal.loop-index-preserved
 loop-index-preserved c =
     agrees_further (lists_shown c.args.lists) (hash.get same_place_key c.loop-index.agreed)
     (hash.get same_place_key c.insert.new.self) c.args.placed.now c.loop-index.index _ c.place_key-key.result
-    c.seen_at-seen.result c.joined.result c.loop-index-test.true c.loop-index.invariant c.place_key-key.ensures
-    c.seen_at-seen.ensures c.if-disagrees.ensures c.joined.ensures c.in_ok-insert.ensures.updates.0
+    c.seen_at-seen.result c.seen_with.result c.loop-index-test.true c.loop-index.invariant c.place_key-key.ensures
+    c.seen_at-seen.ensures c.if-disagrees.ensures c.seen_with.ensures c.in_ok-insert.ensures.updates.0
 
 pub returns : goal.returns
 returns c = no_clash (lists_shown c.args.lists) (hash.get same_place_key c.loop-index.agreed) c.args.placed.now

@@ -1,10 +1,10 @@
 use Rattle.std.proofs.Common.{◌+◌, take}
 use Rattle.std.specs.Prelude.{nat_eq}
 use Rattle.std.specs.HashMap as hash
-use Rattle.run_audit.specs.Entries.{numbered}
+use Rattle.run_audit.specs.Entries.{numbered_lines}
 use Rattle.run_audit.proofs.Endings.{Leads}
 use Rattle.run_audit.proofs.ended.ended_segments.Given as goal
 
 abbrev pub invariant-loop-index : goal.invariant-loop-index
 invariant-loop-index l = Leads (l.index + 1) l.segments (hash.get nat_eq l.held) l.all.items
-    (take l.index (numbered l.lines))
+    (take l.index (numbered_lines l.lines))

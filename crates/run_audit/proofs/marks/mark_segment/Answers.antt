@@ -1,6 +1,6 @@
 use Rattle.std.proofs.Common.{arith, ap, ◌∙◌, subst}
 use Rattle.std.specs.HashMap as hash
-use Rattle.run_audit.specs.Marks.{marked, same_item_key}
+use Rattle.run_audit.specs.Marks.{mark_with, same_item_key}
 use Rattle.run_audit.proofs.Marking.{IsMarkedBy, all_marked, item_answers, marked_on}
 use Rattle.run_audit.proofs.marks.mark_segment.Goals as goal
 
@@ -9,9 +9,9 @@ loop-delivery-preserved c =
     let f = hash.get same_item_key c.loop-delivery.items in
     marked_on (hash.get same_item_key c.args.items.now) f (hash.get same_item_key c.insert.new.self) c.args.behind
     c.args.one.now c.deref-delivery-items.result.now c.loop-delivery.delivery-index _ c.item_of-item.result
-    c.marked-mark.result (omega arith) (item_answers c.loop-delivery.items) c.loop-delivery.invariant
+    c.mark_with-mark.result (omega arith) (item_answers c.loop-delivery.items) c.loop-delivery.invariant
     c.item_of-item.ensures
-    (c.marked-mark.ensures ∙ ap (λ o. marked o c.args.behind c.args.one.now.member c.args.one.now.line)
+    (c.mark_with-mark.ensures ∙ ap (λ o. mark_with o c.args.behind c.args.one.now.member c.args.one.now.line)
     c.mark_at.ensures)
     c.in_ok-insert.ensures.updates.0
 

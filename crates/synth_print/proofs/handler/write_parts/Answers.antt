@@ -3,7 +3,7 @@ use Rattle.std.proofs.lemmas.Result.{err_from_is_err_and}
 use Rattle.bypass_mean.specs.Lines.{guarded_lines}
 use Rattle.event_graph.specs.Answer.{stack_tree}
 use Rattle.outside.proofs.Turns.{part_of, wrote_as, wrote_both}
-use Rattle.synth_print.specs.Lines.{all_done, ended, handler_in}
+use Rattle.synth_print.specs.Lines.{all_done, ended_lines, handler_in}
 use Rattle.synth_print.specs.Source.{operations_in}
 use Rattle.synth_print.proofs.Loops.{handler_lines}
 use Rattle.synth_print.proofs.handler.write_parts.Goals as goal
@@ -14,7 +14,8 @@ returns-in_err-write_guard g c =
     let s = c.args.source.now in
     let stack = stack_tree c.args.stack.now in
     let handler = handler_in s c.args.values.now c.args.conjuncts.now in
-    rw (p.1, p.2) (part_of _ _ _ (all_done s.noting stack (operations_in s)) (ended (guarded_lines stack handler)) _
+    rw (p.1, p.2) (part_of _ _ _ (all_done s.noting stack (operations_in s)) (ended_lines (guarded_lines stack handler))
+    _
     (sym (handler_lines stack s.noting handler c.requires.spelled)) c.in_err-write_guard.ensures)
 
 pub returns : goal.returns

@@ -4,7 +4,7 @@ use Rattle.bypass_mean.specs.Lines.{ended_line, file_lines}
 use Rattle.event_graph.specs.Answer.{stack_tree}
 use Rattle.outside.proofs.Turns.{part_of, wrote_as, wrote_both}
 use Rattle.stack_shapes.specs.Lists.{plan_tree}
-use Rattle.synth_print.specs.Lines.{ended}
+use Rattle.synth_print.specs.Lines.{ended_lines}
 use Rattle.synth_print.specs.Traces.{all_traces}
 use Rattle.synth_print.proofs.Traced.{all_is}
 use Rattle.synth_print.proofs.traces.write_file.Goals as goal
@@ -17,7 +17,7 @@ returns-in_err-put_line g c =
     let plans = map plan_tree c.args.plans.now in
     rw (p.1, p.2) (part_of _ _ (ended_line (codes "bypasses 1") ∷ [])
     (all_traces stack plans c.args.bypasses.now ++ ended_line (codes "end") ∷ [])
-    (ended (file_lines stack plans (bypasses_tree c.args.bypasses.now))) _
+    (ended_lines (file_lines stack plans (bypasses_tree c.args.bypasses.now))) _
     (sym (all_is stack plans c.args.bypasses.now)) c.in_err-put_line.ensures.wrote)
 
 pub returns : goal.returns

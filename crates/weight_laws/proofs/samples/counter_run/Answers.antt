@@ -1,7 +1,7 @@
 use Rattle.std.proofs.Common.{◌∷◌, [], refl, rules}
 use Rattle.layer_ast.specs.Spelling.{kinds}
 use Rattle.layer_mean.specs.Visit.{step}
-use Rattle.layer_mean.specs.Queue.{run, starting, unstarted}
+use Rattle.layer_mean.specs.Queue.{run, starting, unstarted_work}
 use Rattle.stack_mean.specs.SampleLayers.{counter}
 use Rattle.weight_laws.specs.Samples.{fresh_states, cast_at}
 use Rattle.weight_laws.proofs.Turns.{known_to_the_end}
@@ -14,7 +14,7 @@ returns c = (
     orderly = search rules;
     accepts = refl;
     enters = refl;
-    known = known_to_the_end (counter ∷ []) 3 (starting (unstarted (fresh_states (counter ∷ []))) (cast_at 1))
+    known = known_to_the_end (counter ∷ []) 3 (starting (unstarted_work (fresh_states (counter ∷ []))) (cast_at 1))
         (search rules);
   },
   refl,

@@ -10,7 +10,7 @@ use Rattle.member_reads.specs.Shown.{member_in}
 use Rattle.bypass_member.specs.Judged.{entry_meant}
 use Rattle.bypass_member.specs.Modes.{mode_with}
 use Rattle.bypass_member.specs.Placed.{Placed, here_in, step_of, Takes}
-use Rattle.bypass_member.specs.Placing.{placed}
+use Rattle.bypass_member.specs.Placing.{placed_member}
 use Rattle.bypass_member.specs.Probing.{IsNotTaken}
 use Rattle.bypass_member.specs.Working.{states_in}
 use Rattle.bypass_member.proofs.Placing.{entered_is, entered_same, here_at, refused_in, stands, takes}
@@ -21,12 +21,13 @@ pub returns-in-Err-clause-probed : goal.returns-in-Err-clause-probed
 returns-in-Err-clause-probed c =
     let not = entered_same c.deref.result.now (rc_value c.self.inside.stack) c.deref-2.result.now
     (rc_value c.self.inside.plans) (here_at c.self.inside c.in-Some.view)
-    (here_in (placed c.self.inside) c.in-Some.view) (input_meant c.args.input) (Err (refusal_meant c.in-Err.field-0))
+    (here_in (placed_member c.self.inside) c.in-Some.view) (input_meant c.args.input)
+    (Err (refusal_meant c.in-Err.field-0))
     c.deref.ensures c.deref-2.ensures
     (stands c.self.inside c.in-Some.view c.self.invariant c.in-Some.is) c.in-Err.ensures.judged in
     refused_is_not c.args.self.now (input_meant c.args.input) _ _ (refusal_meant c.in-Err.field-0)
     (subst (λ (p : Placed). step_of p (input_meant c.args.input) ≡ Err (refusal_meant c.in-Err.field-0)) c.self.view_is
-    (refused_in (placed c.self.inside) c.in-Some.view (states_in c.self.inside.works) (input_meant c.args.input)
+    (refused_in (placed_member c.self.inside) c.in-Some.view (states_in c.self.inside.works) (input_meant c.args.input)
     (ap (λ (v : Option View). member_in v (states_in c.self.inside.works)) c.in-Some.is) c.in-Err.field-0 not))
     c.self.view_is
     (ap (λ (o : Gathered). o.outputs) c.clear.ensures)
@@ -44,7 +45,8 @@ returns-in-Made-clause-probed c =
     let enters = entered_same c.deref.result.now (rc_value c.self.inside.stack) c.deref-2.result.now
     (rc_value c.self.inside.plans)
     (here_at c.self.inside c.in-Some.view)
-    (here_in (placed c.self.inside) c.in-Some.view) (input_meant c.args.input) _ c.deref.ensures c.deref-2.ensures here
+    (here_in (placed_member c.self.inside) c.in-Some.view) (input_meant c.args.input) _ c.deref.ensures
+    c.deref-2.ensures here
     c.in-Ok.ensures.judged in
     let new = record c.self.inside {
       view = c.follow.new.view;
@@ -57,15 +59,15 @@ returns-in-Made-clause-probed c =
       change = c.in-Made.change;
       takes =
           subst (λ (p : Placed). Takes p (input_meant c.args.input)
-          (placed new)
+          (placed_member new)
           c.try_common.new.out.outputs 0 0 true c.in-Made.change)
           c.self.view_is
-          (takes (placed c.self.inside) c.in-Some.view (states_in c.self.inside.works) (input_meant c.args.input)
+          (takes (placed_member c.self.inside) c.in-Some.view (states_in c.self.inside.works) (input_meant c.args.input)
           (ap (λ (v : Option View). member_in v (states_in c.self.inside.works)) c.in-Some.is) _
           (entry_meant (here_at c.self.inside c.in-Some.view) c.in-Ok.entry)
           c.self.inside.works c.try_common.new.works c.try_common.new.out 0 0
           (record { common = true; change = c.in-Made.change })
-          (placed new)
+          (placed_member new)
           (ap stack_tree c.deref-3.ensures) (ap plans_tree c.deref-4.ensures) (ap mode_with c.lent.ensures) here refl
           enters c.in-Made.ensures.attempts
           refl refl (ap (λ (v : Option View). member_in v (states_in c.try_common.new.works))
@@ -79,18 +81,21 @@ returns-in-Left-clause-probed c =
     let enters = entered_same c.deref.result.now (rc_value c.self.inside.stack) c.deref-2.result.now
     (rc_value c.self.inside.plans)
     (here_at c.self.inside c.in-Some.view)
-    (here_in (placed c.self.inside) c.in-Some.view) (input_meant c.args.input) _ c.deref.ensures c.deref-2.ensures here
+    (here_in (placed_member c.self.inside) c.in-Some.view) (input_meant c.args.input) _ c.deref.ensures
+    c.deref-2.ensures here
     c.in-Ok.ensures.judged in
     let new = record c.self.inside { works = c.try_common.new.works; scratch = c.try_common.new.scratch } in
-    let not = left (placed c.self.inside) c.in-Some.view (states_in c.self.inside.works) (input_meant c.args.input)
+    let not = left (placed_member c.self.inside) c.in-Some.view (states_in c.self.inside.works)
+    (input_meant c.args.input)
     (ap (λ (v : Option View). member_in v (states_in c.self.inside.works)) c.in-Some.is) _
     (entry_meant (here_at c.self.inside c.in-Some.view) c.in-Ok.entry)
-    c.self.inside.works c.try_common.new.works c.try_common.new.out c.in-Left.miss (placed new)
+    c.self.inside.works c.try_common.new.works c.try_common.new.out c.in-Left.miss (placed_member new)
     (ap stack_tree c.deref-3.ensures)
     (ap plans_tree c.deref-4.ensures) here refl enters refl c.in-Left.ensures.attempts
     (same_placed c.self.inside new refl c.in-Left.ensures.attempts.same) in
-    c.probed_of.ensures.probed c.args.self.now (input_meant c.args.input) (placed new) c.try_common.new.out.outputs
-    (subst (λ (p : Placed). IsNotTaken p (input_meant c.args.input) (placed new) c.try_common.new.out.outputs
+    c.probed_of.ensures.probed c.args.self.now (input_meant c.args.input) (placed_member new)
+    c.try_common.new.out.outputs
+    (subst (λ (p : Placed). IsNotTaken p (input_meant c.args.input) (placed_member new) c.try_common.new.out.outputs
     c.in-Left.miss) c.self.view_is not)
 
 pub returns-in-Left-clause-here : goal.returns-in-Left-clause-here

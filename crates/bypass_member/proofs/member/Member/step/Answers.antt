@@ -10,7 +10,7 @@ use Rattle.member_reads.specs.Shown.{member_in}
 use Rattle.bypass_member.specs.Judged.{entry_meant}
 use Rattle.bypass_member.specs.Modes.{mode_with}
 use Rattle.bypass_member.specs.Placed.{Placed, here_in, step_of, Takes}
-use Rattle.bypass_member.specs.Placing.{placed}
+use Rattle.bypass_member.specs.Placing.{placed_member}
 use Rattle.bypass_member.specs.Working.{states_in}
 use Rattle.bypass_member.proofs.Placing.{ground_is, entered_is, entered_same, here_at, refused_in, stands, takes}
 use Rattle.bypass_member.proofs.member.Member.step.Goals as goal
@@ -19,12 +19,14 @@ pub returns-in-Err-clause-step : goal.returns-in-Err-clause-step
 returns-in-Err-clause-step c =
     let not = entered_same c.deref.result.now (rc_value c.self.inside.stack) c.deref-2.result.now
     (rc_value c.self.inside.plans) (here_at c.self.inside c.in-Some.view)
-    (here_in (placed c.self.inside) c.in-Some.view) (input_meant c.args.input) (Err (refusal_meant c.in-Err.reason))
+    (here_in (placed_member c.self.inside) c.in-Some.view) (input_meant c.args.input)
+    (Err (refusal_meant c.in-Err.reason))
     c.deref.ensures c.deref-2.ensures
     (stands c.self.inside c.in-Some.view c.self.invariant c.in-Some.is) c.in-Err.ensures.judged in record {
       why = subst (λ (p : Placed). step_of p (input_meant c.args.input) ≡ Err (refusal_meant c.in-Err.reason))
           c.self.view_is
-          (refused_in (placed c.self.inside) c.in-Some.view (states_in c.self.inside.works) (input_meant c.args.input)
+          (refused_in (placed_member c.self.inside) c.in-Some.view (states_in c.self.inside.works)
+          (input_meant c.args.input)
           (ap (λ (v : Option View). member_in v (states_in c.self.inside.works)) c.in-Some.is) c.in-Err.reason not);
       same = c.self.view_is;
       none = ap (λ (o : Gathered). o.outputs) c.clear.ensures;
@@ -49,10 +51,11 @@ returns-clause-step c =
     let enters = entered_same c.deref.result.now (rc_value c.self.inside.stack) c.deref-2.result.now
     (rc_value c.self.inside.plans)
     (here_at c.self.inside c.in-Some.view)
-    (here_in (placed c.self.inside) c.in-Some.view) (input_meant c.args.input) _ c.deref.ensures c.deref-2.ensures here
+    (here_in (placed_member c.self.inside) c.in-Some.view) (input_meant c.args.input) _ c.deref.ensures
+    c.deref-2.ensures here
     c.in-Ok.ensures.judged in
     subst (λ (p : Placed). Takes p (input_meant c.args.input)
-    (placed (record c.self.inside {
+    (placed_member (record c.self.inside {
       view = c.follow.new.view;
       rank = c.follow.new.rank;
       works = c.take-common.new.works;
@@ -62,12 +65,12 @@ returns-clause-step c =
     c.take-common.new.out.outputs c.args.visits.now c.take-common.new.visits c.take-common.result.common
     c.take-common.result.change)
     c.self.view_is
-    (takes (placed c.self.inside) c.in-Some.view (states_in c.self.inside.works) (input_meant c.args.input)
+    (takes (placed_member c.self.inside) c.in-Some.view (states_in c.self.inside.works) (input_meant c.args.input)
     (ap (λ (v : Option View). member_in v (states_in c.self.inside.works)) c.in-Some.is) _
     (entry_meant (here_at c.self.inside c.in-Some.view) c.in-Ok.entry)
     c.self.inside.works c.take-common.new.works c.take-common.new.out c.args.visits.now c.take-common.new.visits
     c.take-common.result
-    (placed (record c.self.inside {
+    (placed_member (record c.self.inside {
       view = c.follow.new.view;
       rank = c.follow.new.rank;
       works = c.take-common.new.works;

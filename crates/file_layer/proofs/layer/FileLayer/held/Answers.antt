@@ -3,7 +3,7 @@ use Rattle.std.specs.Rc.{rc_value}
 use Rattle.slot_pool.specs.Times.{times}
 use Rattle.typed_layer.specs.View.{layer_tree}
 use Rattle.cell_store.proofs.Seen as kept_seen
-use Rattle.pool_message.specs.Seen.{seen, refs_if, row_seen}
+use Rattle.pool_message.specs.Seen.{content_seen, refs_if, row_seen}
 use Rattle.file_layer.specs.Layer.{refs_of, state_in, IsInOrder}
 use Rattle.file_layer.specs.OwnCells.{message_if, CanBeOwn}
 use Rattle.file_layer.proofs.OwnCells.{row_among, row_own}
@@ -30,7 +30,7 @@ keep_if_any-requires-clause-room c = record {
 pub returns-in-Some-clause-same : goal.returns-in-Some-clause-same
 unfolding state_in
 returns-in-Some-clause-same c p =
-    ap (option_map (seen p)) c.keep_if_any.ensures.same ∙
+    ap (option_map (content_seen p)) c.keep_if_any.ensures.same ∙
     sym (ap message_if (kept_seen.row_seen (row_seen p) c.args.self.now.desk.cells c.args.cell c.args.index c.args.row ∙
     ap (option_map (row_seen p)) (sym c.row.ensures ∙ ap option_copied c.in-Some.is)))
 

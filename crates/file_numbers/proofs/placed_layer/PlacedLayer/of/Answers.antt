@@ -4,7 +4,7 @@ use Rattle.layer_ast.specs.Tree.{LayerTree}
 use Rattle.layer_ast.specs.View.{declaration_tree, layer_tree}
 use Rattle.fault_mean.specs.Declared.{cells_of, headers_of, is_cell, is_header}
 use Rattle.fault_mean.specs.Scope.{Scope}
-use Rattle.file_numbers.specs.Placed.{HoldDeclarations, placed, words_of}
+use Rattle.file_numbers.specs.Placed.{HoldDeclarations, placement, words_of}
 use Rattle.file_numbers.proofs.placed_layer.PlacedLayer.of.Goals as goal
 
 -- src/place.rt:57:9
@@ -21,6 +21,6 @@ invariant_of-result c =
           ap (λ l. words_of (headers_of l)) same);
       few_cells = subst (λ (l : LayerTree). length (cells_of l) ≤ 16) same c.requires.cells;
       few_headers = subst (λ (l : LayerTree). length (headers_of l) ≤ 7) same c.requires.headers;
-      declarations_hold = subst (λ (l : LayerTree). HoldDeclarations (placed l c.args.given.now c.args.blank)) same
+      declarations_hold = subst (λ (l : LayerTree). HoldDeclarations (placement l c.args.given.now c.args.blank)) same
           c.requires.declarations;
     }

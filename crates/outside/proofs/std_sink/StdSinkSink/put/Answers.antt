@@ -1,6 +1,6 @@
 use Rattle.std.proofs.Common.{arith, take}
 use Rattle.std.proofs.lemmas.Grind.{common_steps}
-use Rattle.outside.specs.StdSink.{gathered}
+use Rattle.outside.specs.StdSink.{gathered_bytes}
 use Rattle.outside.proofs.Gathered.{gathered_past}
 use Rattle.outside.proofs.std_sink.StdSinkSink.put.Goals as goal
 use Rattle.outside.proofs.std_sink.StdSinkSink.put.Goals.{else-not-has_room_for-via-then-not-has_room_for+else-not-hand_on}
@@ -13,7 +13,7 @@ returns-in-Err-clause-put g c =
       | else-not-has_room_for-via-then-not-has_room_for+else-not-hand_on w ↦
           rw w.self-is (
             c.in-Err.field-0,
-            gathered_past (gathered (g.W.Write.contents c.args.self.now.stream) c.args.self.now.done
+            gathered_past (gathered_bytes (g.W.Write.contents c.args.self.now.stream) c.args.self.now.done
                 c.args.self.now.held.items) (g.W.Write.contents w.hand_on.new.self.stream)
                 (g.W.Write.contents c.write_through.new.stream) w.hand_on.new.self.done w.hand_on.new.self.held.items
                 (take c.in-Err.field-0 c.args.bytes.now) w.if-not-hand_on.ensures.kept

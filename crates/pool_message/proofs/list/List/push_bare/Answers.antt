@@ -23,7 +23,7 @@ index_mut-requires c = omega (
   c.self.inside.slots.ok.0,
 )
 
--- the number is put behind the others, and an event without a message stands there
+-- the number is put after the others, and an event without a message stands there
 abbrev Stored : goal.In-Ok → Inside → ℕ → List ℕ → Type 0
 Stored c i k order =
     AreParted i.slots.items (i.order.items ++ k ∷ []) i.free.items

@@ -107,7 +107,7 @@ fill_spec 𝓤 𝓛 𝓜 𝓡 wired X LX =
     (of_opd ! (get ! refl)) refl good $
     assigns_last ! (of_opd ! (get ! refl)) (through ! refl (stop !)) (init ! 0 refl good) $
     exec ! 𝓣.C 𝓣.Λ (env fn.locals l) (after 1 fn.body) (at_ret _ Post) $ sets ! (of_opd ! (unit_lit !)) refl (tt, tt) $
-    -- [the new value's place; the room behind it; the values; the mark; its cell; the open `&mut`, in three parts; the
+    -- [the new value's place; the room after it; the values; the mark; its cell; the open `&mut`, in three parts; the
     -- other token; the value]
     let ys = xs ++ x ∷ [] in let long : length ys ≡ n + 1 = length-append xs (x ∷ []) in let new : (Fr E).Denot =
     record { mark = f.mark; at = f.at; values = ys; room = k - 1 } in

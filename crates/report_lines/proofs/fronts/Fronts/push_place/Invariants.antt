@@ -1,11 +1,12 @@
 use Rattle.std.proofs.Common.{◌≡◌}
 use Rattle.event_graph.specs.Answer.{stack_tree}
-use Rattle.report_lines.specs.Fronts.{AddFronts, tagged}
+use Rattle.report_lines.specs.Fronts.{AddFronts, headers_to_tag}
 use Rattle.report_lines.proofs.fronts.Fronts.push_place.Given as goal
 
 abbrev pub invariant-loop-number : goal.invariant-loop-number
 invariant-loop-number l = record {
-  fronts : AddFronts (stack_tree l.stack) (tagged l.place l.number) l.initial.self.texts l.initial.self.begins.items
+  fronts : AddFronts (stack_tree l.stack) (headers_to_tag l.place l.number) l.initial.self.texts
+      l.initial.self.begins.items
       l.self.texts l.self.begins.items;
   firsts : l.self.firsts.items ≡ l.initial.self.firsts.items;
 }

@@ -1,6 +1,6 @@
 use Rattle.std.proofs.Common.{◌+◌, ◌-◌, ◌∙◌, ap, arith, length}
 use Rattle.event_graph.specs.Answer.{stack_tree}
-use Rattle.report_lines.specs.Fronts.{declared}
+use Rattle.report_lines.specs.Fronts.{declared_headers}
 use Rattle.report_lines.proofs.LaidOut.{first_at, firsts_count, firsts_ordered, number_is, seen}
 use Rattle.report_lines.proofs.named.NamedStack.number_of.Goals as goal
 
@@ -29,10 +29,10 @@ overflow_sub-next c =
     firsts_ordered stack c.args.place c.index-first.result.now c.index-next.result.now
     (c.index-first.ensures ∙ first_at stack (length stack) _ _ _ are c.from.result _
     (omega (arith, c.from.ensures, c.if-place-places.false, c.places.ensures)) ∙
-    ap (λ k. length (declared stack k)) c.from.ensures)
+    ap (λ k. length (declared_headers stack k)) c.from.ensures)
     (c.index-next.ensures ∙ first_at stack (length stack) _ _ _ are (c.from-2.result + 1) _
     (omega (arith, c.from-2.ensures, c.if-place-places.false, c.places.ensures)) ∙
-    ap (λ k. length (declared stack (k + 1))) c.from-2.ensures)
+    ap (λ k. length (declared_headers stack (k + 1))) c.from-2.ensures)
 
 pub returns-then-behind-next : goal.returns-then-behind-next
 returns-then-behind-next c =
@@ -43,8 +43,8 @@ returns-then-behind-next c =
     (omega (arith, c.if-place-places.false, c.places.ensures)) c.if-tag-eq0.false
     (c.index-first.ensures ∙ first_at stack (length stack) _ _ _ are c.from.result _
     (omega (arith, c.from.ensures, c.if-place-places.false, c.places.ensures)) ∙
-    ap (λ k. length (declared stack k)) c.from.ensures)
+    ap (λ k. length (declared_headers stack k)) c.from.ensures)
     (c.index-next.ensures ∙ first_at stack (length stack) _ _ _ are (c.from-2.result + 1) _
     (omega (arith, c.from-2.ensures, c.if-place-places.false, c.places.ensures)) ∙
-    ap (λ k. length (declared stack (k + 1))) c.from-2.ensures)
+    ap (λ k. length (declared_headers stack (k + 1))) c.from-2.ensures)
     (ap (λ tag. tag - 1) c.from-behind.ensures) c.if-behind-next.true

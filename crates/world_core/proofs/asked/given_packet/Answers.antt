@@ -1,5 +1,5 @@
 use Rattle.world_core.proofs.Stepped.{absent_is, given_is}
-use Rattle.world_core.proofs.asked.given.Goals as goal
+use Rattle.world_core.proofs.asked.given_packet.Goals as goal
 
 pub returns-in-Some-clause-asks : goal.returns-in-Some-clause-asks
 returns-in-Some-clause-asks c = λ stack plans w same.

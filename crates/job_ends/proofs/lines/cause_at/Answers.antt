@@ -2,7 +2,7 @@ use Rattle.std.proofs.Common.{◌∙◌, ap, codes, ◌++◌}
 use Rattle.std.proofs.lemmas.Result.{IfOk-weaker}
 use Rattle.std.specs.Fmt.{decimal}
 use Rattle.job_ends.proofs.Texts.{six_joined}
-use Rattle.job_ends.proofs.lines.placed.Goals as goal
+use Rattle.job_ends.proofs.lines.cause_at.Goals as goal
 
 pub returns : goal.returns
 returns c = IfOk-weaker c.format.result _ _ (λ line is. is
