@@ -2,7 +2,7 @@
 """Counts in how many instructions a member reads a datagram of the stack of all library layers.
 
 Run it from any folder: bench/datagrams.py [DATAGRAMS] [PROGRAM]. It takes valgrind. The independent reading writes a cast of 64 bytes among three
-members in full and in short. Each of the two reaches member 1 so many times,
+members in full and in short. Each of the two reaches member 1 n times,
 
     with a broken chain     refused at the last header, or in the last field, when all but the body was read
     as it is                read whole, fitted to its plan, and a repeat, which the second layer drops: two visits
@@ -50,7 +50,7 @@ class Counter:
         self.program, self.folder = program, folder
 
     def count(self, datagram, times):
-        """Instructions, and calls for memory, of a replay in which a datagram comes so many times."""
+        """Instructions, and calls for memory, of a replay in which a datagram comes n times."""
         for name, text in (("stack", STACK), ("script", FIRST + f"raw 1 {datagram.hex()}\n" * times)):
             with open(f"{self.folder}/{name}", "w", encoding="ascii") as file:
                 file.write(text)

@@ -1,7 +1,7 @@
 #!/usr/bin/env python3
 """Times replays of a stack of all library layers among three members, and loads, layer by layer and by bypasses.
 
-Run it from any folder: bench/library.py [CASTS] [PROGRAM]. It makes a script of so many casts of 64 bytes over a lossless network: each packet is
+Run it from any folder: bench/library.py [CASTS] [PROGRAM]. It makes a script of n casts of 64 bytes over a lossless network: each packet is
 given once to each member that it is for, in order, and all clocks tick. It prints the processor time of a replay of half as many casts and of all,
 the least of five runs, and the same of loads of as many events; and the instructions of each, from the program's start to its end, where
 there is valgrind. The program is the one that ./stackc builds.

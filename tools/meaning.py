@@ -82,7 +82,7 @@ def member_told(table, places, given, line):
 
 
 def line_told(line, count):
-    """What is wrong with a line of a file of traces that has so many."""
+    """What is wrong with a line of a file of traces that has n."""
     if line == 1:
         return "a file of traces begins with the line `bypasses 1`"
     if line > count:

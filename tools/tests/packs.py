@@ -60,17 +60,17 @@ def with_change(old, new):
 
 
 def brackets(deep):
-    """A note that no operation names, of a message in so many brackets."""
+    """A note that no operation names, of a message in n brackets."""
     return with_change(SEND, f"note m.0 = {'tail(' * deep}body{',0)' * deep}\n{SEND}")
 
 
 def operations(many):
-    """A case of so many operations: binds that no operation names, and the one that is due."""
+    """A case of n operations: binds that no operation names, and the one that is due."""
     return with_change(SEND, "".join(f"bind t.{k} = peer\n" for k in range(many - 1)) + SEND)
 
 
 def padded(size):
-    """A last line without its end, so long that the file has so many bytes."""
+    """A last line without its end, so long that the file has n bytes."""
     return PACKED + " " * (size - len(PACKED))
 
 

@@ -46,7 +46,7 @@ def executable(path, text):
 
 
 def started_in(path, count):
-    """The processes that a file names, once it names so many."""
+    """The processes that a file names, once it names n."""
     for _ in range(600):
         if os.path.exists(path):
             with open(path, encoding="utf-8") as file:

@@ -1,4 +1,4 @@
--- What a file of traces comes to.
+-- What a file of traces gives.
 use Rattle.std.proofs.Common.{◌≡◌, ℕ, ◌≤◌, List, length, Result, Ok, Err}
 use Rattle.std.specs.Prelude.{IfOk}
 use Rattle.layer_mean.specs.Tree.{LayerTree}

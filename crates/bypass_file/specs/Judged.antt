@@ -1,4 +1,4 @@
--- What a file of traces comes to for a stack.
+-- What a file of traces gives for a stack.
 use Rattle.std.specs.Prelude.{◌≡◌, ℕ, List, Result, Ok, Err}
 use Rattle.layer_mean.specs.Tree.{LayerTree}
 use Rattle.bypass_mean.specs.Bypasses.{Bypasses}

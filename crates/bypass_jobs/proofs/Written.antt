@@ -1,4 +1,4 @@
--- What a job that prints bypasses comes to.
+-- What a job that prints bypasses gives.
 use Rattle.std.proofs.Common.{◌≡◌, refl, List, []}
 use Rattle.clap.specs.Walk.{Text}
 use Rattle.layer_mean.specs.Tree.{LayerTree}

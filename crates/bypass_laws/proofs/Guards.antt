@@ -63,7 +63,7 @@ still_there stack (push p c e numbers message ∷ os) h = (h.0, still_there stac
 still_there stack (take p c e ∷ os) h = (h.0, still_there stack os h.1)
 still_there stack (output dir kind numbers message ∷ os) h = (h.0, still_there stack os h.1)
 
--- where the guard holds, following the trace comes to its end
+-- where the guard holds, following the trace reaches its end
 followed_safe : (stack : List LayerTree) (i : Input) (os : List Operation) (states : List State) (b : Bool) (x : End) →
     (if b then Some x else None) ≡ answer_end (follow i os states) → b ≡ true →
     SafeTrace stack i os (on (before states)) →

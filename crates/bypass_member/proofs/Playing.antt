@@ -198,7 +198,7 @@ pub full_twice : (here : Here) (xs : List (Dir × Event)) →
 full_twice here [] = refl
 full_twice here (x ∷ xs) = ap (λ (os : List (Output × Option ℕ)). full_output here x ∷ os) (full_twice here xs)
 
--- what the run of a step came to
+-- what the run of a step gave
 module _ (stack : List LayerTree) (here : Here) (id : ℕ) (states : List State) (what : Entered) where
   abbrev its : Step
   its = step_from stack here id states what

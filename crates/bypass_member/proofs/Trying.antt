@@ -159,7 +159,7 @@ module _ (case : Case) (g : Ground) (old : Works) (what : Entered) (code : Code)
       EndsAs case (stack_of g) (plans_in g) (step_over g (states_in old) what) e
   ends e is = handled.passes e (ap (λ (j : Input). run_code j code (states_in old)) (sym same) ∙ is)
 
-  -- what it comes to
+  -- what it gives
   made : (v v' : Values) (new : Works) (last : Gathered) → new.tasks ≡ old.tasks → new.outs ≡ old.outs →
       HasPerformed code i old.pool old.layers.items v out new.pool new.layers.items v' last →
       HasPassed case g old what new last

@@ -26,12 +26,12 @@ pub record AreFresh (me count ltime : ℕ) (trees : List LayerTree) (layers : Li
   pub refs : flat_map refs_of layers ≡ []
   pub states : (p : List Held) → map (state_in p) layers ≡ map (λ layer. fresh layer me count ltime) trees
 
--- So many layers more were made.
+-- That many layers more were made.
 pub record Made (count : ℕ) (old new : Making) : Type 0 where
   pub same : new.stack ≡ old.stack
   pub made : new.made ≡ old.made + count
 
--- At most so many were.
+-- At most that many were.
 pub record MadeAtMost (most : ℕ) (old new : Making) : Type 0 where
   pub same : new.stack ≡ old.stack
   pub made : new.made ≤ old.made + most

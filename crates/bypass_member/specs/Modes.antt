@@ -10,7 +10,7 @@ mode_with (Some codes) = bypass
 mode_with None = layered
 
 -- In bypass mode a common step is no event to any layer: each has taken as many as before. After any other step, and
--- after each one that is made layer by layer, they have taken what its run comes to.
+-- after each one that is made layer by layer, they have taken what its run gives.
 abbrev pub IsTakenSo : Mode → (common : Bool) → (old ran new : List ℕ) → Type 0
 IsTakenSo bypass true old ran new = new ≡ old
 IsTakenSo bypass false old ran new = new ≡ ran

@@ -1,4 +1,4 @@
--- What opening a member asks for, and what it comes to.
+-- What opening a member asks for, and what it gives.
 use Rattle.std.specs.Prelude.{◌≡◌, ℕ, ◌+◌, ◌<◌, ◌≤◌, List, length, Option, option_map, Result, Ok, Err}
 use Rattle.std.specs.Rc.{rc_value}
 use Rattle.msg_core.specs.View.{member_count}
@@ -38,7 +38,7 @@ codes_in o = option_map (λ codes. rc_value codes.now) o.codes
 abbrev pub mode_in : Opening → Mode
 mode_in o = mode_with (codes_in o)
 
--- It can be opened by a maker that has made at most so many layers: its stack is the maker's, and typed, and the plans,
+-- It can be opened by a maker that has made at most n layers: its stack is the maker's, and typed, and the plans,
 -- the entries, the numbers of their first plans and the code are the stack's.
 pub record CanOpen (most : ℕ) (maker : Making) (o : Opening) : Type 0 where
   pub same : maker.stack ≡ stack_in o

@@ -1,4 +1,4 @@
--- A member at its place in a group, and what one of its steps comes to.
+-- A member at its place in a group, and what one of its steps gives.
 use Rattle.std.specs.Prelude.{◌≡◌, ℕ, ◌+◌, Bool, List, [], Option, Result, Ok, Err}
 use Rattle.slot_pool.specs.Held.{Held}
 use Rattle.msg_core.specs.declared.packet.View.{View}
@@ -85,9 +85,9 @@ pub record Refuses (old : Placed) (input : Input) (new : Placed) (outs : List (O
   pub visits : after ≡ before
 
 -- An input was taken: the member is after the step, the outputs are those that the step sends in the member's mode,
--- and so many visits more were made as it counts for in it. It is told whether the step was a common one, and where the
+-- and n visits more were made as it counts for in it. It is told whether the step was a common one, and where the
 -- member is now, if it installed something. In bypass mode a common step was no event to any layer; in any other each
--- has taken what the run of the step comes to.
+-- has taken what the run of the step gives.
 pub record Takes (old : Placed) (input : Input) (new : Placed) (outs : List (Output × Option ℕ)) (before after : ℕ)
     (common : Bool)
     (change : Option Change) : Type 0 where
@@ -102,7 +102,7 @@ pub record Takes (old : Placed) (input : Input) (new : Placed) (outs : List (Out
       (taken_at old old.member step.entered) new.taken
   pub place : SamePlace old new
 
--- What a step of a member comes to: its outputs, each with the plan under which it is sent short, if it is, and how
+-- What a step of a member gives: its outputs, each with the plan under which it is sent short, if it is, and how
 -- many visits there were before it and after it.
 abbrev pub Steps : Placed → Input → Placed → List (Output × Option ℕ) → (before after : ℕ) → Stepped → Type 0
 Steps old input new outs before after (Taken common change) = Takes old input new outs before after common change

@@ -1,4 +1,4 @@
--- What it comes to that an input of a member is tried as a common step.
+-- What trying an input of a member as a common step gives.
 use Rattle.std.specs.Prelude.{◌≡◌, ℕ, true, false, List, [], Option, Some, None, option_map, Result, Ok, Err}
 use Rattle.layer_mean.specs.Tree.{LayerTree}
 use Rattle.stack_mean.specs.Plan.{Plan}

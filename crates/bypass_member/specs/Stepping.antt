@@ -70,7 +70,7 @@ abbrev pub in_full : Output → Output × Option ℕ
 in_full o = (o, None)
 
 -- The run of a step was made, and what came out of it is gathered: the member is between two steps, with the states
--- that its layers came to.
+-- that its layers gave.
 pub record HasPlayed (g : Ground) (states : List State) (counts : List ℕ) (what : Entered) (new : Works)
     (out : Gathered) (before after : ℕ)
     (result : Predicted) : Type 0 where

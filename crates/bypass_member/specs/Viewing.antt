@@ -32,7 +32,7 @@ input_at view id = record {
   body = [];
 }
 
--- The view of a member of a first view of so many members has no more, and the states are that member's in it.
+-- The view of a member of a first view of n members has no more, and the states are that member's in it.
 pub record HasMembers (stack : List LayerTree) (most : ℕ) (view : View) (id : ℕ) (states : List State) : Type 0 where
   pub few : member_count view ≤ most
   pub own : AreOf (input_at view id) stack states

@@ -54,7 +54,7 @@ pub record IsQuiet (stack : List LayerTree) (w : Works) : Type 0 where
   pub tasks : w.tasks ≡ buffer [] (largest_weight stack)
   pub outs : w.outs ≡ buffer [] (largest_weight stack)
 
--- A member of a first view of so many members, between two steps: what its layers refer to is all that its pool counts,
+-- A member of a first view of n members, between two steps: what its layers refer to is all that its pool counts,
 -- which has a slot for each row with a message that they may keep, and those that a run asks for.
 pub record IsReady (stack : List LayerTree) (most : ℕ) (w : Works) : Type 0 where
   pub stand : AreStanding stack w

@@ -1,4 +1,4 @@
-//! What a step works over, and what it comes to.
+//! What a step works over, and what it gives.
 
 ghost use Rattle.std.specs.Prelude.{◌≡◌, ◌<◌, Some, option_map};
 ghost use Rattle.std.specs.Rc.{rc_value};

@@ -35,7 +35,7 @@ use step_misses::{Miss, Probed};
 use step_outputs::Outputs;
 use view_core::Change;
 
-/// What it comes to that what entered is tried as a common step: it was made, and where the member is after it, if it
+/// What trying what entered as a common step gives: it was made, and where the member is after it, if it
 /// installed something; or nothing has changed, and what the step lacks, if that is told of it.
 #[derive(Clone, Copy)]
 pub(crate) enum Attempt {

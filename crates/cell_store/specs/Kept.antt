@@ -9,7 +9,7 @@ use Rattle.layer_mean.specs.State.{State, Contents}
 use Rattle.layer_mean.specs.declared.run.Row.{Row}
 
 -- What a cell keeps: the numbers of its shape by their flat index, or the rows of its queue or of each queue of its
--- array, the front first; each of these keeps so many rows.
+-- array, the front first; each of these keeps that many rows.
 pub data KeptCell (R : Type 0) : Type 0 where
   numbers : Shape → List ℕ → KeptCell R
   queues : Shape → (capacity : ℕ) → List (List R) → KeptCell R

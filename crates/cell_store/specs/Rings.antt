@@ -11,11 +11,11 @@ pub record CellQueues (R : Type 0) : Type 0 where
   pub rows : List (List R)
 
 module _ {R : Type 0} where
-  -- The rows of the rings, of which the first so many are shown.
+  -- The rows of the rings, of which the first n are shown.
   abbrev pub shown_rows : ℕ → List (VecDeque R Global) → List (List R)
   shown_rows shown rings = take shown (map deque_items rings)
 
-  -- Rings of a capacity of which the first so many are shown; the others are empty.
+  -- Rings of a capacity of which the first n are shown; the others are empty.
   pub record AreRings (capacity shown : ℕ) (rings : List (VecDeque R Global)) : Type 0 where
     pub few : capacity ≤ 255
     pub shown_there : shown ≤ length rings

@@ -35,7 +35,7 @@ impl<R> Model for Rings<R> {
 }
 
 impl<R> Rings<R> {
-    /// So many empty queues of a capacity.
+    /// That many empty queues of a capacity.
     pub fn of(alloc: Global, count: usize, capacity: u8) -> Result<Rings<R>, AllocError>
         ensures { IfOk result (λ r. r ≡ record { capacity = capacity; most = count; rows = replicate count [] }) }
     {
@@ -157,7 +157,7 @@ impl<R> Rings<R> {
         first_filled(&self.rings, self.shown)
     }
 
-    /// Shows so many of the queues, all of which are empty.
+    /// Shows that many of the queues, all of which are empty.
     pub fn show(&mut self, count: usize)
         requires room { count ≤ self.old.most }
         requires empty { rows_of self.old.rows ≡ [] }
@@ -179,7 +179,7 @@ impl<R> Rings<R> {
     }
 }
 
-/// The first of so many rings that isn't empty.
+/// The first of that many rings that isn't empty.
 fn first_filled<R>(rings: &[VecDeque<R>], shown: usize) -> Option<usize>
     requires { shown ≤ length rings.now }
     ensures some { IfSome result (λ i.

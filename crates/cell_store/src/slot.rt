@@ -51,7 +51,7 @@ impl<R> StoredCell<R> {
         })
     }
 
-    /// Puts the numbers at another place of the block, and shows the empty queues of so many members.
+    /// Puts the numbers at another place of the block, and shows the empty queues of n members.
     fn restart(&mut self, at: usize, count: u32)
         requires few { count ≤ most_members }
         requires room { queues_for count self.old.frame ≤ self.old.rings.most }
@@ -102,7 +102,7 @@ fn capacity_of(form: &Form) -> u8
     }
 }
 
-/// How many numbers or queues a shape has for so many members.
+/// How many numbers or queues a shape has for that many members.
 fn size_of(count: u32, shape: Shape) -> usize
     requires { count ≤ most_members }
     ensures { result ≡ size_of count shape }

@@ -82,7 +82,7 @@ states_set stack states place s h is = record {
       (λ p below. h.states_are p (omega (arith, below, h.count))) is p (omega (arith, below, h.count));
 }
 
--- a task that comes to a place, and what a place sends
+-- a task that arrives at a place, and what a place sends
 
 pub comes : (stack : List LayerTree) (at : ℕ) (dir : Dir) (e : Event) → 1 ≤ at →
     IsEvent (IsFrom stack (task_place dir at)) e →

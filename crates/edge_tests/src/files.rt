@@ -10,7 +10,7 @@ use std::rt::Files;
 use std::test::Fail;
 use std::{fs, io, process};
 
-/// A stream that takes three bytes at most in a call, is interrupted before each, and fails once it took so many. Its
+/// A stream that takes three bytes at most in a call, is interrupted before each, and fails once it took that many. Its
 /// first flush fails.
 #[derive(Drop)]
 struct Slow {
@@ -93,7 +93,7 @@ fn gives<S: Shelf>(alloc: Global, shelf: &mut S, name: &str, bytes: &[u8]) -> bo
     shelf.read(name, &mut into, bytes.len() as u64) == Ok(Got::Whole) && into.as_slice() == bytes
 }
 
-/// Whether a shelf holds more than so many bytes under a name.
+/// Whether a shelf holds more than n bytes under a name.
 fn is_longer<S: Shelf>(alloc: Global, shelf: &mut S, name: &str, most: u64) -> bool {
     let mut into = Vec::new(alloc);
     shelf.read(name, &mut into, most) == Ok(Got::TooLong)
@@ -110,14 +110,14 @@ fn takes<O: Sink>(sink: &mut O, bytes: &[u8]) -> bool {
     sink.put(bytes) == Ok(())
 }
 
-/// Whether the stream of a sink got so many bytes, where its first flush failed.
+/// Whether the stream of a sink got that many bytes, where its first flush failed.
 fn is_whole(sink: &mut StdSink<Slow>, count: usize) -> bool {
     sink.finish() == Err(SinkError::Failed)
         && sink.finish() == Ok(())
         && sink.stream().taken.len() == count
 }
 
-/// Whether a sink takes so many bytes of this value.
+/// Whether a sink takes that many bytes of this value.
 fn takes_so_many<O: Sink>(
     alloc: Global,
     sink: &mut O,

@@ -10,10 +10,10 @@ use thiserror::Error;
 /// Why a stack is not accepted.
 #[derive(Debug, Drop, Error)]
 pub enum StackError {
-    /// An event that comes to a place, counted from 0, and is of a kind can follow from itself.
+    /// An event that arrives at a place, counted from 0, and is of a kind can follow from itself.
     #[error("an event at place {0} can follow from itself")]
     Cycle(u8, Kind),
-    /// So many tasks can follow from an entry, as far as 32 bits hold the number.
+    /// That many tasks can follow from an entry, as far as 32 bits hold the number.
     #[error("{0} tasks can follow from one event")]
     TooMany(u32),
     /// Too many joins can follow from an entry.

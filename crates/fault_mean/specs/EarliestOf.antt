@@ -3,7 +3,7 @@ use Rattle.std.specs.Prelude.{◌≡◌, ℕ, false, List, [], ◌++◌, Contain
 use Rattle.std.specs.List.{AllByRecursion}
 use Rattle.fault_mean.specs.Earliest.{earlier, earliest, precedes}
 
--- Whatever was found before, the first fault of one list and then that of another come to that of both in a row, so a
+-- Whatever was found before, the first fault of one list and then that of another give that of both in a row, so a
 -- file may be judged part by part.
 abbrev pub IsInOrder : {F : Type 0} → (F → List ℕ) → Type 0
 IsInOrder {F} key =

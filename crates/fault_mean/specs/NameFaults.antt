@@ -37,7 +37,7 @@ same_word a b = bytes_eq a.word b.word
 abbrev pub twice_among : List Name → List Name → List NameFault
 twice_among earlier names = map (λ name. twice name.at) (repetitions same_word earlier names)
 
--- Names beyond the first so many.
+-- Names beyond the first n.
 abbrev pub too_many_of : ℕ → List Name → List NameFault
 too_many_of most names = map (λ name. too_many name.at) (drop most names)
 

@@ -2,7 +2,7 @@
 ghost use Rattle.fault_mean.specs.EarliestOf.{IsFirst, IsInOrder, IsThere};
 ghost use Rattle.fault_mean.specs.Faults.{name_key, type_key};
 
-/// What was found before, and then in one list and in another, comes to what is found in both in a row.
+/// What was found before, and then in one list and in another, gives what is found in both in a row.
 pub fn in_order()
     ensures names { IsInOrder name_key }
     ensures types { IsInOrder type_key }

@@ -40,7 +40,7 @@ pub fn lay_out<O: Sink>(alloc: Global, text: &[u8], out: &mut O) -> Result<(), S
     line.finish(out)
 }
 
-/// The first byte of a text and so many after it.
+/// The first byte of a text and that many after it.
 fn front(text: &[u8], more: usize) -> &[u8]
     requires { more < length text.now }
     ensures { result.now ≡ take (suc more) text.now }

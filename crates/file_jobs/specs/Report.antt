@@ -1,4 +1,4 @@
--- What the read of a report comes to.
+-- What the read of a report gives.
 use Rattle.std.specs.Prelude.{◌≡◌, ℕ, List, [], ◌∷◌, Option, Some, IfSome, Result, Ok, Err, if◌then◌else◌}
 use Rattle.std.specs.String.{string_bytes}
 use Rattle.clap.specs.Walk.{Text}
@@ -28,7 +28,7 @@ abbrev pub Judges : Law → List ℕ → Result Output Ending → Type 0
 Judges law text (Ok o) = Finds law text o
 Judges law text (Err ending) = Refused law text (shown_end ending)
 
--- The next read of this name found a report on which the law comes to this output.
+-- The next read of this name found a report on which the law gives this output.
 pub record IsReport (name : Text) (law : Law) (told : Option Shelved) (reads reads_after : ℕ) (o : Output) : Type 0
   where
     pub file : List ℕ

@@ -1,4 +1,4 @@
--- What the read of a second file comes to: a script, or a plan of a node.
+-- What the read of a second file gives: a script, or a plan of a node.
 use Rattle.std.specs.Prelude.{◌≡◌, ℕ, ◌<◌, List, length, Option, Some, IfSome, Result, Ok, Err}
 use Rattle.std.specs.declared.alloc.Global.{Global}
 use Rattle.std.specs.declared.vec.Vec.{Vec}

@@ -1,4 +1,4 @@
--- What the read of a job's stack file comes to.
+-- What the read of a job's stack file gives.
 use Rattle.std.specs.Prelude.{◌≡◌, ℕ, List, Option, Some, None, IfSome, Result, Ok, Err}
 use Rattle.std.specs.declared.alloc.Global.{Global}
 use Rattle.std.specs.declared.vec.Vec.{Vec}

@@ -47,10 +47,10 @@ pub enum FileError {
     /// An initial value that isn't made of what it may be made of.
     #[error("initial {}:{}", .0.line, .0.col)]
     Initial(At),
-    /// An event that comes to a place, counted from 0, and is of a kind can follow from itself.
+    /// An event that arrives at a place, counted from 0, and is of a kind can follow from itself.
     #[error("an event at place {0} can follow from itself")]
     Cycle(u8, Kind),
-    /// So many tasks can follow from one event, as far as 32 bits hold the number.
+    /// That many tasks can follow from one event, as far as 32 bits hold the number.
     #[error("{0} tasks can follow from one event")]
     TooMany(u32),
     /// Too many joins can follow from one event.

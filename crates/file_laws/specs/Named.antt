@@ -58,7 +58,7 @@ pub record NamesItem (layer : LayerTree) (c : ℕ) (i : ExpressionTree) (k : ℕ
   pub below : k < length items.numbers
 
 abbrev mutual
-  -- All that an expression and a message name is there, in a scope with so many numbers.
+  -- All that an expression and a message name is there, in a scope with that many numbers.
   pub Named : LayerTree → ℕ → ExpressionTree → Type 0
   Named layer slots (local k) = k < slots
   Named layer slots (element c i) = NamesNumber layer c i × Named layer slots i

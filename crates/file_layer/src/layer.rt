@@ -39,7 +39,7 @@ impl FileLayer {
 
     /// The layer at a place of the maker's stack before its first event, at the member of rank `me` of `count`. All
     /// memory is taken here. A layer whose rows or hand would be more than a desk may have is answered as want of
-    /// memory; the language's limits never come to it for rows.
+    /// memory; the language's limits never reach it for rows.
     #[tactic(auto, unfolding(crate::specs::Making::making))]
     pub fn fresh(
         alloc: Global,

@@ -141,7 +141,7 @@ pub fn pushed_row(
     })
 }
 
-/// So many slots, from one on.
+/// That many slots, from one on.
 fn slots(alloc: Global, first: u16, count: usize) -> Result<Vec<u8>, AllocError>
     requires { first + count ≤ 256 }
     ensures { IfOk result (λ all. all.items ≡ range_with_len first count) }
@@ -153,7 +153,7 @@ fn slots(alloc: Global, first: u16, count: usize) -> Result<Vec<u8>, AllocError>
     Ok(all)
 }
 
-/// The slots that a taken row fills: so many with numbers from a first one on, and one with a message where it carries
+/// The slots that a taken row fills: n with numbers from a first one on, and one with a message where it carries
 /// one.
 fn taken_row(
     alloc: Global,

@@ -85,7 +85,7 @@ pub record IsBehind (old new : List Lexed) (left next : Left) : Type 0 where
   pub fewer : length next.text.now + length new ≤ length left.text.now + length old
   pub ended : (left_of next).tokens ≡ [] → next.text.now ≡ []
 
--- what cutting comes to: the front of what is left was cut, all of it or its first part, or there is a bad token after
+-- what cutting gives: the front of what is left was cut, all of it or its first part, or there is a bad token after
 -- it
 pub record StopsBefore (old new : List Lexed) (left : Left) (to_end : Bool) (next : Left) : Type 0 where
   pub all : to_end ≡ true → in_front new record { tokens = []; bad_at = None } ≡ in_front old (left_of left)

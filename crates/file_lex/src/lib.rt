@@ -60,7 +60,7 @@ impl<'a> Left<'a> {
     }
 }
 
-/// Where cutting came to an end: before what is left, or at a bad token.
+/// Where cutting ended: before what is left, or at a bad token.
 #[derive(Clone, Copy)]
 enum Stop<'a> {
     Before(Left<'a>),

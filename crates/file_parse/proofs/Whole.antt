@@ -75,7 +75,7 @@ module _ (text : List ℕ) (tokens : List Lexed) (bad_at : Option At)
     pub end_early : bad_at ≡ None → run 100 start tokens ≡ refused 0 → StopsAtEnd text (end_of text)
     end_early good stops = refused_end text (sym same_bad ∙ good) (ap (run 100 start) (sym same_tokens) ∙ stops)
 
-    -- one that is refused earlier stops at the token that so many are left with
+    -- one that is refused earlier stops at the token with which n are left
     pub inside_at : (left number : ℕ) (token : Lexed) → 0 < left → run 100 start tokens ≡ refused left →
         number + left ≡ length tokens → slice_get tokens number ≡ Some token → StopsInside text token.at
     inside_at zero number token some stops count is = absurd (omega (arith, some))
@@ -94,7 +94,7 @@ pub nothing_more : (tokens : List Lexed) (left : ℕ) → left ≤ 0 → run 100
     run 100 start tokens ≡ refused 0
 nothing_more tokens left none is = let zero_left : left ≡ 0 = omega (arith, none) in is ∙ ap refused zero_left
 
--- the token that so many are left with
+-- the token with which n are left
 module _ (text : List ℕ) (tokens : List Lexed) (bad_at : Option At)
     (cuts : record { tokens = tokens; bad_at = bad_at } ≡ text_tokens text)
   where

@@ -31,7 +31,7 @@ pub record Reads {T : Type 0} (print : T → List Printed → List Printed) (exp
   pub goes_on : (stack : List Symbol) → run room (expected ++ stack) tokens ≡ run room stack rest
   pub no_longer : length rest ≤ length tokens
 
--- the machine expects these symbols and refuses with so many tokens left
+-- the machine expects these symbols and refuses with that many tokens left
 pub record Stops (expected : List Symbol) (room : ℕ) (tokens : List Lexed) (n : ℕ) : Type 0 where
   pub stops : (stack : List Symbol) → run room (expected ++ stack) tokens ≡ refused n
 

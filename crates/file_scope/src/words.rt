@@ -122,7 +122,7 @@ impl Words {
         Ok(())
     }
 
-    /// Keeps so many words, the first.
+    /// Keeps the first n words.
     #[tactic(auto, using(crate::proofs::Tables::fewer))]
     pub fn truncate(&mut self, count: usize)
         ensures { self.new ≡ take count self.old }

@@ -12,7 +12,7 @@ use layer_ast::{Arguments, Names};
 #[derive(Clone, Copy)]
 pub enum Count {
     Nothing,
-    /// One, and so many after it.
+    /// One, and that many after it.
     Behind(usize),
 }
 

@@ -19,7 +19,7 @@ use file_expressions::{Cause, NUMBER, Wanted, argument, argument_sort, note_unle
 use file_scope::{Found, Scope, declares_end};
 use layer_ast::{Argument, Arguments, At, Dir, Kind, Pushed, Sort};
 
-/// Whether events of a kind have so many arguments.
+/// Whether events of a kind have that many arguments.
 #[tactic(auto, using(crate::proofs::Counts::trees_count))]
 fn has_arity(kind: Kind, arguments: &Arguments) -> bool
     ensures { result ≡ (length (arguments_in (Some (arguments_tree arguments.now))) == length (arguments_of kind)) }

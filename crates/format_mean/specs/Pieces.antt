@@ -9,7 +9,7 @@ pub record Piece : Type 0 where
   pub feeds : ℕ
   pub spelling : List ℕ
 
--- what a text begins with: a line feed, another blank, or a token or comment with so many bytes after its first
+-- what a text begins with: a line feed, another blank, or a token or comment with that many bytes after its first
 pub data Front : Type 0 where
   feed : Front
   blank : Front
@@ -56,7 +56,7 @@ with_front feed feeds b bs rest = rest (more_feeds feeds) 0
 with_front blank feeds b bs rest = rest feeds 0
 with_front (whole more) feeds b bs rest = record { feeds = feeds; spelling = b ∷ take more bs } ∷ rest 0 more
 
--- the pieces of a text after so many line feeds, whose first bytes still belong to a piece before it
+-- the pieces of a text after that many line feeds, whose first bytes still belong to a piece before it
 abbrev pub pieces_from : (feeds inside : ℕ) → List ℕ → List Piece
 pieces_from feeds inside [] = []
 pieces_from feeds zero (b ∷ bs) = with_front (front b bs) feeds b bs (λ feeds inside. pieces_from feeds inside bs)

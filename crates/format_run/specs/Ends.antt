@@ -1,4 +1,4 @@
--- What a run of the program comes to: what its read found, what was written, why it ended so, and what is said.
+-- What a run of the program gives: what its read found, what was written, why it ended so, and what is said.
 use Rattle.std.specs.Prelude.{◌≡◌, ◌⊎◌, ℕ, ◌<◌, ◌≤◌, nat_eq, nat_lt, if◌then◌else◌, List, [], ◌∷◌, ◌++◌, length, Option}
 use Rattle.std.specs.Prelude.{Some, None, IfSome, IsSomeAnd, Result, Ok, Err, codes}
 use Rattle.std.specs.Fmt.{decimal}

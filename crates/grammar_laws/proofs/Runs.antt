@@ -171,7 +171,7 @@ begun_by (t ∷ tokens) room stack goes =
     begun_step stack t tokens at (room_behind t room) (feed stack t) (back_fed stack (record { token = t; at = at }))
     (begun_by tokens) goes
 
--- the machine goes on after so many tokens, and not after one more
+-- the machine goes on after that many tokens, and not after one more
 pub record StopsBehind (room : ℕ) (stack : List Symbol) (lexed : List Lexed) (left : ℕ) : Type 0 where
   pub number : ℕ
   pub token : Lexed
@@ -185,7 +185,7 @@ pub record StopsPast (room : ℕ) (stack : List Symbol) (lexed : List Lexed) : T
   pub goes : Goes room stack (tokens_in lexed)
   pub short : accepts stack (tokens_in lexed) ≡ false
 
--- what a run says that is refused with so many tokens left
+-- what a run says that is refused with that many tokens left
 abbrev pub StopsWith : ℕ → List Symbol → List Lexed → ℕ → Type 0
 StopsWith room stack lexed zero = StopsPast room stack lexed
 StopsWith room stack lexed (suc left) = StopsBehind room stack lexed (suc left)

@@ -19,7 +19,7 @@ pub record SomeWorld (c : Peopled) : Type 0 where
   pub world : World
   pub stands : Stands c world
 
--- It is where a group of so many members begins.
+-- It is where a group of n members begins.
 pub record IsAtFirst (mode : Mode) (stack : List LayerTree) (plans : List Plan) (group stamp members : ℕ) (c : Peopled)
     (room : ℕ) : Type 0 where
   pub ready : IsReady mode stack plans c room

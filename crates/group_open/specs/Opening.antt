@@ -1,4 +1,4 @@
--- What opening a run comes to.
+-- What opening a run gives.
 use Rattle.std.specs.Prelude.{◌≡◌, ℕ, ◌<◌, List, Option, option_map, Result, Ok, Err}
 use Rattle.std.specs.Rc.{rc_value}
 use Rattle.bypass_codes.specs.Codes.{CodesTree}

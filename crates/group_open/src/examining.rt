@@ -15,7 +15,7 @@ use msg_core::Memory;
 use std::alloc::Global;
 use world_core::Examined;
 
-/// Opens a group of so many members over a stack, which run by its bypasses and are examined by the checks of these.
+/// Opens a group of n members over a stack, which run by its bypasses and are examined by the checks of these.
 pub fn open_examined(
     alloc: Global,
     stack: Stack,

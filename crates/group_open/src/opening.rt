@@ -23,7 +23,7 @@ use std::alloc::Global;
 use trace_core::Bypasses;
 use world_core::World;
 
-/// Opens a group of so many members with what it is made of.
+/// Opens a group of n members with what it is made of.
 pub(crate) fn begin(
     alloc: Global,
     parts: Parts,
@@ -66,7 +66,7 @@ pub(crate) fn begin(
     }
 }
 
-/// Opens a group of so many members over a stack, which run it in a mode.
+/// Opens a group of n members over a stack, which run it in a mode.
 pub fn open(
     alloc: Global,
     mode: Mode,
@@ -85,7 +85,7 @@ pub fn open(
     }
 }
 
-/// Opens a group of so many members over a stack, which run it by bypasses that are given, and are the stack's.
+/// Opens a group of n members over a stack, which run it by bypasses that are given, and are the stack's.
 pub fn open_with(
     alloc: Global,
     bypasses: &Bypasses,

@@ -385,7 +385,7 @@ short_before stack k fields i states enters = record {
   m : Content
   m = content_at i nothing_kept (record { chain = entry_chain 0 stack k.tags (field_atoms 0 fields); core = body })
 
--- each operation that is come to is as it should be, where what is named is there and following is safe
+-- each operation that is reached is as it should be, where what is named is there and following is safe
 pub safe_is_sound : (stack : List LayerTree) (k : Known) (fields : List (Option ℕ)) (operations : List Operation)
     (i : Input) (states : List State) →
     AreThere stack operations → SafeTrace stack i operations (on (before states)) → Enters stack k fields i states →

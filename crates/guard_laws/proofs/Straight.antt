@@ -1084,7 +1084,7 @@ module _ (i : Input) (begin : Trail) where
   writes_all [] t s a = a
   writes_all (o ∷ os) t s a = writes_all os (does i t o) (writes s o) (writes_same t s o a)
 
--- the sheet is begun where the tests have come to
+-- the sheet is begun where the tests stand
 pub begins_written : (g : Guarded) (i : Input) (ss : List State) →
     Written i (begun ss (tested i (code_of g).tests ss)) (before ss) (first_sheet (guarding g))
 begins_written g i ss = let s = (guarded i ss g).stand in record {

@@ -77,7 +77,7 @@ SoundAt sq i t (take p c e) =
     ((j : ℕ) → row_count t.states p c j < 2 ^ 32) × Reads sq i t e
 SoundAt sq i t (output dir kind numbers m) = Unit {0}
 
--- Each operation that is come to.
+-- Each operation that is reached.
 abbrev pub Sound : Squares → Input → List Operation → Followed → Type 0
 Sound sq i [] f = Unit {0}
 Sound sq i (operation ∷ operations) (stopped_at k) = Unit {0}

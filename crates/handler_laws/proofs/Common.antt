@@ -45,7 +45,7 @@ none_from case (d ∷ ds) n = one (went_as case d) (none_from case ds (n + 1)) w
 none_missed : (case : Case) (ds : List Decision) → list_all (went_as case) ds ≡ is_none (first_missed case ds)
 none_missed case ds = none_from case ds 0 ∙ ap is_none (sym (position_from-zero (λ d. not (went_as case d)) ds))
 
--- what a run is to come to tells whether it went as predicted
+-- what a run is to give tells whether it went as predicted
 pub record Came (case : Case) (w : Work) (e : End) : Type 0 where
   pub predicted : is_predicted case w ≡ true
   pub states : e.states ≡ w.states

@@ -1,4 +1,4 @@
--- What an event comes to that happens in a group.
+-- What an event gives that happens in a group.
 use Rattle.std.specs.Prelude.{◌≡◌, ℕ, ◌≤◌, length, Option, Some, None, Result, Ok, Err}
 use Rattle.msg_core.specs.declared.message.Memory.{Memory}
 use Rattle.run_mean.specs.World.{World, happens}

@@ -1,4 +1,4 @@
--- What groups begin with, and what their beginning comes to.
+-- What groups begin with, and what their beginning gives.
 use Rattle.std.specs.Prelude.{◌≡◌, ℕ, ◌*◌, ◌<◌, ◌≤◌, List, length, Result, Ok, Err}
 use Rattle.layer_mean.specs.Tree.{LayerTree}
 use Rattle.stack_mean.specs.Acceptance.{most_rows, rows_of}
@@ -30,7 +30,7 @@ pub record IsGround (stack : List LayerTree) (maker : Making) (plans : List Plan
   pub made : maker.made ≤ begun * 768
   pub few : begun ≤ 1099511627776
 
--- A group is where so many members of a stack begin, and they have room.
+-- A group is where that many members of a stack begin, and they have room.
 pub record HasBegun (stack : List LayerTree) (members : ℕ) (c : Peopled) : Type 0 where
   pub stack_is : c.stack ≡ stack
   pub plans_are : c.plans ≡ plans_of stack

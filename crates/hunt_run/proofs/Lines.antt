@@ -2,7 +2,7 @@
 use Rattle.std.proofs.Common.{◌≡◌, refl, ap, ◌∙◌, ℕ, zero, suc, ◌+◌, List, [], ◌∷◌, drop, slice_index_or}
 use Rattle.std.proofs.lemmas.List.{drop-drop}
 
--- what is first after so many parts stands at their place
+-- what is first after that many parts stands at their place
 pub first_behind : {A : Type 0} (parts : List A) (k : ℕ) (d : A) → slice_index_or (drop k parts) 0 d ≡
     slice_index_or parts k d
 first_behind [] zero d = refl

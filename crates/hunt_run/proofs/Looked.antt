@@ -1,4 +1,4 @@
--- What runs over a stack came to, over the bytes of its file.
+-- What runs over a stack gave, over the bytes of its file.
 use Rattle.std.proofs.Common.{sym, subst, ℕ, List}
 use Rattle.std.specs.Prelude.{Result, Ok, Err}
 use Rattle.layer_mean.specs.Tree.{LayerTree}

@@ -1,4 +1,4 @@
--- What a job comes to, from what was read and written.
+-- What a job gives, from what was read and written.
 use Rattle.std.proofs.Common.{arith, ◌≡◌, refl, sym, subst, ◌∙◌, ap, ℕ, zero, suc, ◌<◌, List, [], ◌∷◌, length}
 use Rattle.std.proofs.Common.{append-nil, Option, Some, None, inr}
 use Rattle.std.specs.Prelude.{IfSome, IsSomeAnd}
@@ -45,7 +45,7 @@ length_zeros : (n : ℕ) → length (zeros n) ≡ n
 length_zeros zero = refl
 length_zeros (suc n) = ap suc (length_zeros n)
 
--- A file of more than so many bytes: the one that was found, where the shelf tells, and else any.
+-- A file of more than n bytes: the one that was found, where the shelf tells, and else any.
 pub longer : (told : Option Shelved) (name : Text) (most : ℕ) →
     IfSome told (λ shelf. IsSomeAnd (found_in shelf name) (λ file. most < length file)) →
     (file : List ℕ) × IfSome told (λ shelf. found_in shelf name ≡ Some file) × (most < length file)

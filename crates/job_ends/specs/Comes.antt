@@ -1,4 +1,4 @@
--- What a job comes to, whichever it is: what its reads found, what was written, and why it ended so.
+-- What a job gives, whichever it is: what its reads found, what was written, and why it ended so.
 use Rattle.std.specs.Prelude.{◌≡◌, ℕ, Bool, List, [], ◌∷◌, Option, Some, None, IfSome, Ok, ◌⊎◌}
 use Rattle.std.specs.List.{concat}
 use Rattle.std.specs.Option.{option_map}

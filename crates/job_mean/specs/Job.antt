@@ -14,7 +14,7 @@ use Rattle.run_mean.specs.Mode.{Mode, layered, bypass}
 -- what the program is to do: judge a file; print its bypasses; write the traces of these as a file; replay a script,
 -- with the packets' bytes or the number of visits if wanted, by the bypasses of the stack or by those whose traces a
 -- file holds; tell why the steps of a script weren't common; replay a script that is made from a seed, with datagrams
--- in it if wanted; run members over a network of which so many receives may fail; judge a law of the group on a report
+-- in it if wanted; run members over a network of which n receives may fail; judge a law of the group on a report
 pub data Job : Type 0 where
   check : (file : Text) → Job
   synth : (file : Text) → Job

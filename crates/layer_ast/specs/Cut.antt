@@ -63,7 +63,7 @@ with_piece (one t behind) at rest =
     let r = rest (is_numeral t) behind in record r { tokens = record { token = t; at = at } ∷ r.tokens }
 with_piece bad at rest = record { tokens = []; bad_at = Some at }
 
--- the tokens from a place on: a piece begins here and after each piece, and so many bytes of a piece are still to come
+-- the tokens from a place on: a piece begins here and after each piece, and n bytes of a piece are still to come
 abbrev pub cut_from : Bool → ℕ → List ℕ → At → Tokens
 cut_from behind_number inside [] at = record { tokens = []; bad_at = None }
 cut_from behind_number zero (b ∷ bs) at =

@@ -96,7 +96,7 @@ abbrev pub header_popped : Laid → Laid
 header_popped p = record p { arrived = option_map popped p.arrived }
 
 -- A block is entered: its scope has the event's numbers, the fields of the popped header and the message that arrived,
--- and after them so many numbers and messages that the block declares.
+-- and after them that many numbers and messages that the block declares.
 abbrev pub enters : Envelope → List ℕ → ℕ → ℕ → Laid → Laid
 enters e fields numbers messages p = record p {
   scope = record {

@@ -187,7 +187,7 @@ pub trait Desk {
         ensures spent { Lifted (free pool.old self.old) (free pool.new self.new) (held_need (carried_tree carried))
             result };
 
-    /// Leaves so many bytes from a place on of the message before the hand, and none of its headers.
+    /// Leaves that many bytes from a place on of the message before the hand, and none of its headers.
     fn cut<K: Start>(&mut self, pool: &Pool, from: u32, count: u32)
         requires { ready K.begun pool.now self.old }
         ensures ready { ready K.begun pool.now self.new }
@@ -334,7 +334,7 @@ pub trait Desk {
         ensures free { free pool.now self.new ≡ free pool.now self.old };
 
     /// Makes the scope in which a block is entered: the event's numbers, the fields of the popped header and the
-    /// message that arrived, and after these so many numbers and messages more, for which there is room. A scope that
+    /// message that arrived, and after these that many numbers and messages more, for which there is room. A scope that
     /// was there is let go.
     fn enter<K: Start>(
         &mut self,

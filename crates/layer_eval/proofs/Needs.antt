@@ -73,7 +73,7 @@ item_within layout (y ∷ xs) (suc i) x within is =
           omega arith;
     }
 
--- the needs of so many turns
+-- the needs of that many turns
 abbrev pub repeated : ℕ → Need → Need
 repeated k n = record n { slots = k * n.slots; places = k * n.places }
 
@@ -111,7 +111,7 @@ turns_lack layout a b b' k slot most below block tree e same less spent is lacks
           omega arith;
     }))
 
--- at most so many turns were spent
+-- at most n turns were spent
 pub turns_spent : (layout : Layout) (a b : Room) (k slot most : ℕ) (below : ExpressionTree) (block : StatementTrees)
     (tree : StatementTree) →
     tree ≡ each slot below most block → k ≤ most → SpentAtMost a b (repeated k (block_need layout block)) →

@@ -42,7 +42,7 @@ all_as case decided = list_all (went_as case) decided
 abbrev pub first_missed : Case → List Decision → Option ℕ
 first_missed case decided = position (λ d. not (went_as case d)) decided
 
--- What a stretch of statements comes to: the state and the scope after it, the events that it sent, in order, and its
+-- What a stretch of statements gives: the state and the scope after it, the events that it sent, in order, and its
 -- decisions in order.
 pub record Outcome : Type 0 where
   pub state : State

@@ -71,7 +71,7 @@ abbrev pub is_done : {E : Type 0} → List (Task E) → Bool
 is_done [] = true
 is_done (t ∷ rest) = false
 
--- At most so many turns of the queue.
+-- At most that many turns of the queue.
 abbrev pub run_for : {W E : Type 0} → ℕ → Player W E → ℕ → Line W E → Line W E
 run_for places play zero r = r
 run_for places play (suc n) r = if is_done r.tasks then r else run_for places play n (next places play r)
@@ -116,7 +116,7 @@ unstarted_work states = record { states = states; outs = []; decided = []; visit
 abbrev pub starting : {W E : Type 0} → W → Task E → Line W E
 starting w first = record { world = w; tasks = first ∷ [] }
 
--- A run: from one task until none is left, in at most so many turns. (The weight of its entry is enough, by
+-- A run: from one task until none is left, in at most n turns. (The weight of its entry is enough, by
 -- acceptance.)
 unfoldable pub run : ℕ → List LayerTree → List State → Task Event → Line Work Event
 run most stack states first = run_for (length stack) (layers stack) most (starting (unstarted_work states) first)

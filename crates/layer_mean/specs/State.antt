@@ -87,7 +87,7 @@ with_row s c i row = with_rows s c i (rows_at s c i ++ row ∷ [])
 abbrev pub without_front : State → ℕ → ℕ → State
 without_front s c i = with_rows s c i (drop 1 (rows_at s c i))
 
--- How many numbers a cell of a shape has in a view of so many members.
+-- How many numbers a cell of a shape has in a view of n members.
 abbrev pub size_of : ℕ → Shape → ℕ
 size_of n One = 1
 size_of n Array = n

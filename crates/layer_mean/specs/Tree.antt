@@ -35,7 +35,7 @@ mutual
     apply : Function → ExpressionTree → ExpressionTree
     pick : (condition first second : ExpressionTree) → ExpressionTree
 
-  -- A message: one of the scope, no bytes, the message of a row, so many bytes of a message from a place on, its bytes
+  -- A message: one of the scope, no bytes, the message of a row, n bytes of a message from a place on, its bytes
   -- from a place on, or a part before a message.
   pub data MessageTree : Type 0 where
     message : ℕ → MessageTree
@@ -95,7 +95,7 @@ pub data Expected : Type 0 where
   rare : Expected
 
 -- What a layer does on one direction, kind and popped tag. Beside the event's numbers, the fields of the popped header
--- and the event's message its scope has so many more numbers and messages, for names that the block declares.
+-- and the event's message its scope has that many more numbers and messages, for names that the block declares.
 pub record HandlerTree : Type 0 where
   pub direction : Dir
   pub kind : Kind

@@ -66,7 +66,7 @@ is_for dir kind tag h = sameb dir_row.the_type h.direction dir && sameb kind_row
 abbrev pub handler_for : LayerTree → Dir → Kind → ℕ → Option HandlerTree
 handler_for layer dir kind tag = find (is_for dir kind tag) layer.handlers
 
--- A list with so many more items after its own.
+-- A list with that many more items after its own.
 abbrev pub with_room : {A : Type 0} → ℕ → A → List A → List A
 with_room zero filler xs = xs
 with_room (suc k) filler xs = with_room k filler (xs ++ filler ∷ [])
@@ -83,7 +83,7 @@ entered_scope h event m = record {
 abbrev pub none_header : ℕ → Header
 none_header place = record { layer = place; tag = 0; fields = [] }
 
--- What a visit comes to: the state after it, what it sent, and its decisions in order.
+-- What a visit gives: the state after it, what it sent, and its decisions in order.
 pub record Visited : Type 0 where
   pub state : State
   pub sent : List (Dir × Event)

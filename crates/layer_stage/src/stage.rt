@@ -97,7 +97,7 @@ pub trait Stage {
     ghost frame: { (p q : List Held) (a b : List ℕ) (s : Self) → Moved p q a b → Covers p (a ++ refs s) → ready p s →
         (ready q s × (state q s ≡ state p s)) };
 
-    /// It has at most so many references.
+    /// It has at most n references.
     ghost few: { (p : List Held) (s : Self) → ready p s → length (refs s) ≤ most_kept };
 
     /// It has no more references than there are rows with messages in its state.

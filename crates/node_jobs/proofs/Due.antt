@@ -135,7 +135,7 @@ module _ (w : Node) (told : Option Shelved) (good : Good w told) (a b : Whereabo
   deaf_unborne (Some n) None faults after rose t bears = t
   deaf_unborne (Some n) (Some n') faults after rose t bears = deaf_not_borne n n' t bears
 
--- what a good node's job came to
+-- what a good node's job gave
 
 data Finished (w : Node) (a : Around) (n : Beyond) (end : Ended) : Type 0 where
   made : end ≡ done → Ran w a n MadeAllTurns → Finished w a n end

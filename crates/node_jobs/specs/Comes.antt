@@ -1,4 +1,4 @@
--- What the job of a node comes to: what its reads found, what was written, handed to the network and heard of it, and
+-- What the job of a node gives: what its reads found, what was written, handed to the network and heard of it, and
 -- why it ended so.
 use Rattle.std.specs.Prelude.{◌≡◌, ◌⊎◌, ℕ, List, Option, Some}
 use Rattle.clap.specs.Walk.{Text}

@@ -1,4 +1,4 @@
--- What a node needs of its plan, and what its run over that comes to.
+-- What a node needs of its plan, and what its run over that gives.
 use Rattle.std.specs.Prelude.{◌≡◌, ◌⊎◌, ℕ, ◌<◌, All, List, length, Some, Result, Ok, Err}
 use Rattle.std.specs.List.{AllByRecursion}
 use Rattle.outside.specs.declared.sink.SinkError.TheVariants as sink

@@ -23,7 +23,7 @@ use outside::{Clock, Links, Shelf, Sink};
 use script_mean::NodePlan;
 use std::alloc::{AllocError, Global};
 
-/// Runs own members of a plan's group over a network, and writes what they do and what it comes to.
+/// Runs own members of a plan's group over a network, and writes what they do and what it gives.
 pub fn run_node<S: Shelf, O: Sink, N: Links, C: Clock>(
     alloc: Global,
     node: &Node<'_>,

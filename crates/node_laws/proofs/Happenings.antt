@@ -1,4 +1,4 @@
--- What holds of each way in which an event may come to an end.
+-- What holds of each way in which an event may end.
 use Rattle.std.proofs.Common.{◌≡◌, ℕ, List, Option, Some, None, refl}
 use Rattle.std.specs.Prelude.{Result, Ok, Err}
 use Rattle.msg_core.specs.declared.packet.Packet.{Packet}

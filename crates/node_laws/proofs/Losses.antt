@@ -84,7 +84,7 @@ by_packet P sends other (timer a) =
 by_packet P sends other (quiet dir event) =
     other _ (record { number = λ k. refl; nobody = λ id. refl; none = refl; bare = λ failed k plan. refl })
 
--- the number after outputs, and after what an event came to
+-- the number after outputs, and after what an event gave
 
 abbrev number_after : ℕ → List (Output × Option ℕ) → ℕ
 number_after k [] = k

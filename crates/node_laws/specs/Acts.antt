@@ -59,7 +59,7 @@ outputs_acts stack plans id k (o ∷ outs) failed =
     output_acts stack plans id k o (take (fan id o.0) failed)
     ++ outputs_acts stack plans id (number_behind k o.0) outs (drop (fan id o.0) failed)
 
--- What an event of a member came to, where members run in a mode.
+-- What an event of a member gave, where members run in a mode.
 abbrev pub did_acts : Mode → List LayerTree → List Plan → World → ScriptEvent → Did → List Bool → List Act
 did_acts mode stack plans w event (taken s) failed =
     outputs_acts stack plans (member_of event) (first_in w) (as_sent mode stack plans s) failed

@@ -36,7 +36,7 @@ EventsKeepWithin = (stack : List LayerTree) (plans : List Plan) (w : World) (eve
 abbrev pub longest_packet : ℕ
 longest_packet = 8619
 
--- A datagram that a member may hand on to a group of so many: it is the sender's own, it goes to one of the group, and
+-- A datagram that a member may hand on to a group of n: it is the sender's own, it goes to one of the group, and
 -- it is short.
 pub record IsSendable (n from : ℕ) (h : Handed) : Type 0 where
   pub own : h.from ≡ from

@@ -1,4 +1,4 @@
--- What an event comes to that a node feeds.
+-- What an event gives that a node feeds.
 use Rattle.std.proofs.Common.{◌≡◌, ℕ, ◌+◌, Bool, List, [], ◌∷◌, ◌++◌, length, map, refl, sym, ap, subst, ◌∙◌}
 use Rattle.std.proofs.Common.{append-nil, Option, Some}
 use Rattle.std.proofs.lemmas.List.{length-map}
@@ -212,7 +212,7 @@ module _ (mode : Mode) (stack : List LayerTree) (plans : List Plan) (w : World) 
       number ≡ first_in w
   first_is c n number at is = is ∙ ap (λ k. k + 1) (sym (ap length at.stands.spelled) ∙ length-map w.packets full_bytes)
 
-  -- The line of an event, and then what it came to.
+  -- The line of an event, and then what it gave.
   pub journal_then : (event : ScriptEvent) (c : Peopled) (outs : List (Output × Option ℕ)) (before after : ℕ)
       (stepped : Stepped) (id first : ℕ)
       (a m b : Around) → Happened mode stack plans w event c outs before after (did.Stepped stepped) →

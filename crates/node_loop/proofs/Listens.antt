@@ -124,11 +124,11 @@ pub listened_some : (peers : List Peer) (ids : List ℕ) (k : ℕ) (a b c : Opti
 listened_some peers ids k a b c so is =
     subst (Tells (ListenedSome peers ids) a) (sym is) (tells_as a b so (λ n n' l. record { some = k; is = l.is }))
 
--- These members listen, each with so many peers.
+-- These members listen, each with that many peers.
 abbrev pub AllListen : (ℕ → Option ℕ) → (peers : ℕ) → List ℕ → Type 0
 AllListen listening peers ids = AllByRecursion (λ id. listening id ≡ Some peers) ids
 
--- So many members listened, and no other call was made.
+-- That many members listened, and no other call was made.
 pub record ListensSo (listening : ℕ → Option ℕ) (peers : List Peer) (faults faults_after sends sends_after : ℕ)
     (told told_after : Option Network) (k : ℕ)
     (ids : List ℕ) : Type 0 where

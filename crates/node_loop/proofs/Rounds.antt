@@ -56,7 +56,7 @@ told_more (Some moments) at after clock moment told is kept =
           ap Some (drop-drop 1 n moments ∙ ap (λ n. drop n moments) (more ∙ sym next));
     }
 
--- What went well, by what it came to as a node's end.
+-- What went well, by what it gave as a node's end.
 pub well : (r : Result (Unit {0}) SinkError) (x : Unit {0}) → cut_short r ≡ Ok x → r ≡ Ok tt
 well (Ok done) x is = refl
 well (Err sink.Failed) x is = absurd (cc is)

@@ -1,4 +1,4 @@
--- What a run comes to: all turns, a member that went deaf, or one that was broken off.
+-- What a run gives: all turns, a member that went deaf, or one that was broken off.
 use Rattle.std.proofs.Common.{◌≡◌, ◌⊎◌, inl, inr, ℕ, zero, suc, ◌+◌, ◌*◌, ◌≤◌, Bool, true, false, List, [], ◌∷◌, ◌++◌}
 use Rattle.std.proofs.Common.{length, map, take, refl, sym, ap, subst, ◌∙◌, append-nil, arith, Option, Some, None}
 use Rattle.std.proofs.lemmas.Bool.{eqb-true}
@@ -75,7 +75,7 @@ pub record Reaches (OverNetwork : Network → Network → Type 0) (a b : Around)
   pub sends : b.sends ≡ a.sends
   pub told : Tells OverNetwork a.told b.told
 
--- A network to which nothing was handed, and of which nothing was heard. So many members were to listen, all of them
+-- A network to which nothing was handed, and of which nothing was heard. That many members were to listen, all of them
 -- where there was a moment.
 pub record IsUntouched (peers : List Peer) (me clock : List ℕ) (n n' : Network) : Type 0 where
   pub count : ℕ

@@ -7,7 +7,7 @@ use Rattle.outside.specs.Tells.{Tells}
 use Rattle.node_loop.specs.declared.error.NodeError.{NodeError}
 use Rattle.node_loop.specs.declared.error.NodeError.TheVariants.{Link, Write, Memory}
 
--- What writing came to, as a node's end.
+-- What writing gave, as a node's end.
 abbrev pub cut_short : Result (Unit {0}) SinkError → Result (Unit {0}) NodeError
 cut_short (Ok wrote) = Ok wrote
 cut_short (Err sink.Failed) = Err Write

@@ -27,7 +27,7 @@ use Rattle.node_loop.specs.declared.desk.NodeDesk.{NodeDesk}
 use Rattle.node_loop.specs.declared.error.NodeError.{NodeError}
 use Rattle.node_loop.specs.declared.error.NodeError.TheVariants.{Link, Write, Memory}
 
--- What a node began with: the mode of its group and its world, of so many members, how many failures it bears, and what
+-- What a node began with: the mode of its group and its world, of n members, how many failures it bears, and what
 -- surrounded it when all its members listened.
 pub record Begun : Type 0 where
   pub mode : Mode
@@ -47,8 +47,8 @@ pub record Now : Type 0 where
 abbrev pub now : Peopled → NodeDesk → Around → Option (List ℕ) → Now
 now group desk around clock = record { group = group; desk = desk; around = around; clock = clock }
 
--- So far a node was told so many moments and answers; it did what they call for, wrote the lines of that and handed on
--- its packets, and what is left to do hangs on what it will be told. So many of the answers are failures.
+-- So far a node was told n moments and answers; it did what they call for, wrote the lines of that and handed on
+-- its packets, and what is left to do hangs on what it will be told. That many of the answers are failures.
 pub record SoFar (stack : List LayerTree) (plans : List Plan) (c : Course) (b : Begun) (moments answers : ℕ)
     (rest : List ℕ → List Heard → List Doing) (borne : ℕ) (at : Now) : Type 0 where
   pub clock : List ℕ
@@ -72,7 +72,7 @@ pub record SoFar (stack : List LayerTree) (plans : List Plan) (c : Course) (b : 
   pub told : Tells (Goes b.mode stack plans b.first done failed) b.around.told at.around.told
   pub clock_told : Told b.clock at.clock clock
 
--- So many moments and answers, of which so many are failures, are those of no more than all turns, and all failures are
+-- That many moments and answers, of which n are failures, are those of no more than all turns, and all failures are
 -- borne.
 pub record Within (c : Course) (b : Begun) (moments answers borne : ℕ) : Type 0 where
   pub turns : moments ≤ c.turns
@@ -110,7 +110,7 @@ abbrev pub Advances : List LayerTree → List Plan → Course → Begun → (mom
 Advances stack plans c b moments answers rest borne at (Ok done) = SoFar stack plans c b moments answers rest borne at
 Advances stack plans c b moments answers rest borne at (Err e) = CutOff stack plans c b e at.around at.clock
 
--- What it comes to that an event is fed which is the next thing to do.
+-- What feeding an event gives which is the next thing to do.
 abbrev pub FedOn : List LayerTree → List Plan → ScriptEvent → Peopled → Peopled → NodeDesk → NodeDesk → Around →
     Around →
     Result (Unit {0}) SinkError → Type 0
@@ -132,14 +132,14 @@ pub record DeafAt (stack : List LayerTree) (plans : List Plan) (c : Course) (b :
   pub before : List Heard
   pub last : so.heard ≡ before ++ failure ∷ []
 
--- Members asked: so many failures were borne yet and so many may be. What is left then hangs on this.
+-- Members asked: that many failures were borne yet and that many may be. What is left then hangs on this.
 pub record Asked (stack : List LayerTree) (plans : List Plan) (c : Course) (b : Begun) (moments answers : ℕ)
     (rest : ℕ → List ℕ → List Heard → List Doing) (left : ℕ) (at : Now) : Type 0 where
   pub borne : ℕ
   pub sum : borne + left ≡ b.patience
   pub so : SoFar stack plans c b moments answers (rest left) borne at
 
--- A node went deaf within so many answers.
+-- A node went deaf within that many answers.
 pub record Deafened (stack : List LayerTree) (plans : List Plan) (c : Course) (b : Begun) (moments least most : ℕ)
     (at : Now) : Type 0 where
   pub answers : ℕ

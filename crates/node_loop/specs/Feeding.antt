@@ -1,4 +1,4 @@
--- What an event comes to that a node feeds.
+-- What an event gives that a node feeds.
 use Rattle.std.specs.Prelude.{◌≡◌, ℕ, ◌+◌, ◌<◌, List, length, Option, Some, Result, Ok, Err}
 use Rattle.std.specs.List.{AllByRecursion}
 use Rattle.outside.specs.declared.sink.SinkError.{SinkError}
@@ -19,7 +19,7 @@ use Rattle.node_loop.specs.Around.{Around}
 use Rattle.node_loop.specs.Passing.{Breaks, PassesAll}
 use Rattle.node_loop.specs.declared.desk.NodeDesk.{NodeDesk}
 
--- A group in this mode stands at a world of so many members, whose packets can be spelled.
+-- A group in this mode stands at a world of n members, whose packets can be spelled.
 pub record Somewhere (mode : Mode) (stack : List LayerTree) (plans : List Plan) (n : ℕ) (c : Peopled) (w : World) : Type
     0 where
   pub mode_is : c.mode ≡ mode
@@ -69,7 +69,7 @@ pub record IsUp (stack : List LayerTree) (plans : List Plan) (c : Peopled) (d : 
   pub rests : Rests mode stack plans members c d world
   pub listen : AllByRecursion (λ id. (id < members) × (listening id ≡ Some members)) ids
 
--- A group that rests in a mode at a world of so many members rests after an event in the same mode at one of as many.
+-- A group that rests in a mode at a world of n members rests after an event in the same mode at one of as many.
 abbrev pub RestsAgain : List LayerTree → List Plan → Peopled → NodeDesk → Peopled → NodeDesk → Type 0
 RestsAgain stack plans c d c' d' = (mode : Mode) (n : ℕ) (w : World) → Rests mode stack plans n c d w →
     (w' : World) × Rests mode stack plans n c' d' w'

@@ -111,7 +111,7 @@ abbrev pub finding_line : Finding → List ℕ
 finding_line Holds = codes "holds\n"
 finding_line (Breach first second) = codes "breach " ++ decimal first ++ codes " " ++ decimal second ++ codes "\n"
 
--- `audit`: the file is a report, and what is written is what a law of the group comes to on it.
+-- `audit`: the file is a report, and what is written is what a law of the group gives on it.
 pub record Audits (file : List ℕ) (law : Law) (out : List ℕ) : Type 0 where
   pub finding : Finding
   pub found : audit_of law file ≡ Ok finding

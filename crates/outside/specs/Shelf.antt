@@ -33,14 +33,14 @@ faults_after_read count (Ok TooLong) = count
 faults_after_read count (Err Failed) = next_count count
 faults_after_read count (Err Memory) = count
 
--- what stands in the buffer after a read: at most so many bytes where the file is whole, and else none
+-- what stands in the buffer after a read: at most n bytes where the file is whole, and else none
 abbrev pub Fills : ℕ → List ℕ → Result Got ShelfError → Type 0
 Fills most into (Ok Whole) = length into ≤ most
 Fills most into (Ok TooLong) = into ≡ []
 Fills most into (Err Failed) = into ≡ []
 Fills most into (Err Memory) = into ≡ []
 
--- which answer a read gives for what it finds: the whole file, a file of more than so many bytes, or no file
+-- which answer a read gives for what it finds: the whole file, a file of more than n bytes, or no file
 abbrev pub Answers : Option (List ℕ) → ℕ → List ℕ → Result Got ShelfError → Type 0
 Answers found most into (Ok Whole) = found ≡ Some into
 Answers found most into (Ok TooLong) = IsSomeAnd found (λ file. most < length file)

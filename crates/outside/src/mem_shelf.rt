@@ -84,7 +84,7 @@ impl Shelf for StillShelf {
     }
 }
 
-// Fills the empty buffer with the file, if it has at most so many bytes.
+// Fills the empty buffer with the file, if it has at most n bytes.
 fn give(file: &[u8], into: &mut Vec<u8>, most: u64) -> Result<Got, ShelfError>
     requires { into.old.items ≡ [] }
     ensures filled { Fills most into.new.items result }

@@ -214,7 +214,7 @@ message_with stack s inner = do
 abbrev pub most_brackets : ℕ
 most_brackets = 200
 
--- How what stands in a bracket is read, after which so many may be opened.
+-- How what stands in a bracket is read, after which that many may be opened.
 abbrev pub inside : List LayerTree → Named → ℕ → Inner
 inside stack s zero = nothing_inside
 inside stack s (suc n) = record {

@@ -67,7 +67,7 @@ heading entry case = codes "entry " ++ entry_name entry ++ codes " case " ++ dec
 abbrev pub most_operations : ℕ
 most_operations = 4096
 
--- Where in a file a line stands: before the first, after it, in a case that may have so many operations more, or
+-- Where in a file a line stands: before the first, after it, in a case that may have that many operations more, or
 -- after `end`; and the cases that are still due.
 pub data Stage : Type 0 where
   opening : (due : List Due) → Stage

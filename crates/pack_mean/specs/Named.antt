@@ -18,7 +18,7 @@ use Rattle.trace_mean.specs.Trace.{nothing, Operation, bind, note, take}
 use Rattle.trace_mean.specs.Fuse.{form_at}
 use Rattle.bypass_mean.specs.Text.{layer_of, sign_text}
 
--- What may be named on a line: so many variable fields, numbers bound before and messages noted before, and of each row
+-- What may be named on a line: n variable fields, numbers bound before and messages noted before, and of each row
 -- taken before what its queue's rows have.
 pub record Named : Type 0 where
   pub fields : ℕ

@@ -20,7 +20,7 @@ abbrev pub cell_items : LayerTree → ℕ → ItemsTree
 cell_items layer c = unwrap_or (items_in (form_at layer c)) no_items
 
 abbrev mutual
-  -- An expression and a message of a layer in which no more than so many brackets are open at once, round and square
+  -- An expression and a message of a layer in which no more than n brackets are open at once, round and square
   -- ones together, whose literals are read, and in which a message that a queue holds is of the kind that its rows
   -- carry.
   pub ExpressionFits : LayerTree → ℕ → ExpressionTree → Type 0
@@ -51,7 +51,7 @@ abbrev mutual
   MessageFits layer (suc n) (join first m) = MessageFits layer n first × MessageFits layer n m
   MessageFits layer _ _ = ⊥
 
--- So many brackets a layer's own expressions may have; what a trace checks has up to four more.
+-- That many brackets a layer's own expressions may have; what a trace checks has up to four more.
 abbrev pub most_nested : ℕ
 most_nested = 196
 

@@ -340,7 +340,7 @@ module _ (stack : List LayerTree) where
   bounds_count next [] = refl
   bounds_count next (x ∷ xs) = ap suc (bounds_count (suc next) xs)
 
-  -- what a visit has come to
+  -- what a visit has reached
   abbrev sent_place : ℕ → Dir → ℕ
   sent_place p Up = p + 1
   sent_place p Down = p

@@ -1,4 +1,4 @@
--- Which states a layer can have at its place, and which events can come to it: what its cells hold is of their forms,
+-- Which states a layer can have at its place, and which events can arrive at it: what its cells hold is of their forms,
 -- messages are chained, and all numbers and bytes are in range.
 use Rattle.std.specs.Prelude.{◌≡◌, ℕ, suc, ◌<◌, ◌≤◌, ◌^◌, Bool, true, false, List, [], length, drop, slice_index_or}
 use Rattle.std.specs.Prelude.{Option, Some, None}
@@ -25,7 +25,7 @@ IsNumber n = n < 2 ^ 32
 abbrev pub Numbers : List ℕ → Type 0
 Numbers ns = AllByRecursion IsNumber ns
 
--- A body: at most so many bytes.
+-- A body: at most n bytes.
 pub record IsBody (body : List ℕ) : Type 0 where
   pub within : length body ≤ longest_body
   pub bytes : AllByRecursion (λ b. b < 256) body
@@ -101,12 +101,12 @@ pub record IsEvent (Chain : List Header → Type 0) (e : Event) : Type 0 where
 abbrev pub IsChainedState : (stack : List LayerTree) (place : ℕ) → State → Type 0
 IsChainedState stack place s = IsState (IsFrom stack (suc place)) (slice_index_or stack place no_layer) s
 
--- The place from which the message of an event comes that comes to a place: going up it has the place's own header, and
+-- The place from which the message of an event comes that arrives at a place: going up it has the place's own header, and
 -- going down it doesn't have it yet.
 abbrev pub from_place : Dir → ℕ → ℕ
 from_place Up place = place
 from_place Down place = suc place
 
--- An event that comes to a place of a stack is chained.
+-- An event that arrives at a place of a stack is chained.
 abbrev pub IsChainedEvent : (stack : List LayerTree) (place : ℕ) → Dir → Event → Type 0
 IsChainedEvent stack place dir e = IsEvent (IsFrom stack (from_place dir place)) e

@@ -43,7 +43,7 @@ abbrev pub number : Reader ℕ
 number (a ∷ b ∷ c ∷ d ∷ behind) = Some (from_be_bytes w32 (a ∷ b ∷ c ∷ d ∷ []), behind)
 number _ = None
 
--- So many numbers.
+-- That many numbers.
 abbrev pub numbers : ℕ → Reader (List ℕ)
 numbers zero = value_reader []
 numbers (suc k) = do
@@ -129,7 +129,7 @@ planned_fields (None ∷ fields) = do
   more ← planned_fields fields
   value_reader (n ∷ more)
 
--- The first so many of a list of numbers, as a reader of that list.
+-- The first n of a list of numbers, as a reader of that list.
 abbrev pub first : ℕ → Reader (List ℕ)
 first k fields = if nat_le k (length fields) then Some (take k fields, drop k fields) else None
 

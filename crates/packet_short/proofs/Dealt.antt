@@ -24,7 +24,7 @@ one_planned : (p : Option ℕ) (ps : List (Option ℕ)) (bytes : List ℕ) →
 one_planned (Some c) ps bytes = refl
 one_planned None ps bytes = refl
 
--- the first of so many fields
+-- the first of that many fields
 abbrev if_some : Bool → List ℕ → List ℕ → Option (List ℕ × List ℕ)
 if_some le own behind = if le then Some (own, behind) else None
 
@@ -80,7 +80,7 @@ in_turn {A = A} r f g bytes = go (r bytes)
     go None = refl
     go (Some (x, rest)) = refl
 
--- what is made of the first so many and of the others
+-- what is made of the first n and of the others
 abbrev after_first : {A : Type 0} → ℕ → (List ℕ → List ℕ → Option A) → List ℕ → Option A
 after_first k f ns = option_and_then (λ q. f q.0 q.1) (first k ns)
 
@@ -94,7 +94,7 @@ after_more : {A : Type 0} (k : ℕ) (f : List ℕ → List ℕ → Option A) (n 
 after_more k f n ns = ap (option_and_then (λ q. f q.0 q.1)) (first_more k n ns) ∙
     map_then (λ q. f q.0 q.1) (more_fields n) (first k ns)
 
--- the first so many fields are read before the others
+-- the first n fields are read before the others
 split : {A : Type 0} (k : ℕ) (ps : List (Option ℕ)) (f : List ℕ → List ℕ → Option A) →
     Same (made (λ ns. option_and_then (λ q. f q.0 q.1) (first k ns)) ps)
     (fields k ps >>= λ (own, rest). made (f own) rest)

@@ -26,7 +26,7 @@ use Rattle.packet_short.specs.Dealing.{field, fields, header, done, dealing}
 use Rattle.packet_short.proofs.Dealt.{dealt_at_once}
 use Rattle.packet_short.proofs.Short.{named_is}
 
--- at most so many bytes are before others
+-- at most n bytes are before others
 record Behind (n : ℕ) (bytes rest : List ℕ) : Type 0 where
   front : List ℕ
   is : bytes ≡ front ++ rest

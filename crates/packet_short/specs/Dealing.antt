@@ -12,7 +12,7 @@ abbrev pub field : Option ℕ → Reader ℕ
 field (Some constant) = value_reader constant
 field None = number
 
--- The first so many planned fields, and what is planned after them.
+-- The first n planned fields, and what is planned after them.
 abbrev pub fields : ℕ → List (Option ℕ) → Reader (List ℕ × List (Option ℕ))
 fields zero planned = value_reader ([], planned)
 fields (suc k) [] = option_reader None

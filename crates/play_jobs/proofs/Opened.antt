@@ -1,4 +1,4 @@
--- What a run over a group that is opened comes to.
+-- What a run over a group that is opened gives.
 use Rattle.std.proofs.Common.{◌≡◌, sym, subst, ℕ, List, inr}
 use Rattle.std.specs.Prelude.{Result, Ok, Err}
 use Rattle.outside.specs.declared.sink.SinkError.{SinkError}

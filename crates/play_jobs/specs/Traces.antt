@@ -1,4 +1,4 @@
--- What the read of a file of traces comes to, and a replay by these.
+-- What the read of a file of traces gives, and a replay by these.
 use Rattle.std.specs.Prelude.{◌≡◌, ◌⊎◌, ℕ, ◌<◌, Bool, List, Option, Some, IfSome, Result, Ok, Err}
 use Rattle.std.specs.List.{concat}
 use Rattle.clap.specs.Walk.{Text}
@@ -73,7 +73,7 @@ FetchesTraces stack name told reads reads_after (Ok b) = AreTraces stack name to
 FetchesTraces stack name told reads reads_after (Err ending) =
     StopsAtTraces stack name told reads reads_after (shown_end ending)
 
--- A script was played over a stack whose members have room, by accepted traces, and what is put out came to something.
+-- A script was played over a stack whose members have room, by accepted traces, and what is put out gave something.
 pub record PlayedSo (Came : Type 0) (stack : List LayerTree) (s : Script) (name : Text) (a : Around) : Type 0 where
   pub room : HasRoom stack s.members
   pub traces : AreTraces stack name a.told a.reads a.reads_after

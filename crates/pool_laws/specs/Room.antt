@@ -18,7 +18,7 @@ use Rattle.pool_laws.specs.Rows.{AreWithin}
 abbrev pub slots_beyond : ℕ
 slots_beyond = 1025
 
--- These are all references of a pool that is made for so many rows, and no more than the rows.
+-- These are all references of a pool that is made for that many rows, and no more than the rows.
 pub record IsPoolFor (rows : ℕ) (p : List Held) (xs : List ℕ) : Type 0 where
   pub exact : Exact p xs
   pub few : length xs ≤ rows
@@ -26,7 +26,7 @@ pub record IsPoolFor (rows : ℕ) (p : List Held) (xs : List ℕ) : Type 0 where
   pub within : rows ≤ most_rows
 
 -- A member's stages are a pool's only users: they are in order in it and have all its references, their states are
--- those of a view of at most so many members, and it is made for as many rows with messages as the stack then keeps.
+-- those of a view of at most n members, and it is made for as many rows with messages as the stack then keeps.
 pub record OwnPool {S : Type 0} (refs : S → List ℕ) (state : List Held → S → State) (Ready : List Held → S → Type 0)
     (stack : List LayerTree) (most : ℕ) (p : List Held) (stages : List S) : Type 0 where
   pub ready : AllByRecursion (Ready p) stages

@@ -10,11 +10,11 @@ use Rattle.stack_mean.specs.Acceptance.{rows_of}
 use Rattle.chain_laws.specs.Runs.{AreChainedStates}
 use Rattle.layer_stage.specs.Kept.{messages_kept}
 
--- States of a member whose view has at most so many members.
+-- States of a member whose view has at most n members.
 pub record AreWithin (most : ℕ) (states : List State) : Type 0 where
   pub within : AllByRecursion (λ s. s.count ≤ most) states
 
--- The layers of a stack keep at most as many rows with messages as the stack says of a view of so many members.
+-- The layers of a stack keep at most as many rows with messages as the stack says of a view of n members.
 abbrev pub StatesKeepRows : Type 0
 StatesKeepRows = (stack : List LayerTree) (states : List State) (most : ℕ) → AreChainedStates stack states →
     AreWithin most states →

@@ -53,7 +53,7 @@ one_meaning text s t a b =
     let file = one_file text a.file b.file a.is_file b.is_file in
     let both : Ok s ≡ Ok t = sym a.accepted ∙ ap judged_stack file ∙ b.accepted in cc
 
--- What a judged file comes to, and that it isn't refused for what lies outside a file.
+-- What a judged file gives, and that it isn't refused for what lies outside a file.
 said_once : (f g : FileTree) (s : List run.LayerTree) (fault : FileFault) → f ≡ g → judged_stack f ≡ Ok s →
     judged_stack g ≡ Err fault → ⊥
 said_once f g s fault same a b = let both : Ok s ≡ Err fault = sym a ∙ ap judged_stack same ∙ b in cc

@@ -84,7 +84,7 @@ fn says_what_failed(rt: HostRuntime) -> Result<(), Fail> {
     Ok(())
 }
 
-/// So many times a byte, of which no more is said.
+/// That many times a byte, of which no more is said.
 fn filled(alloc: Global, byte: u8, count: usize) -> Result<Vec<u8>, AllocError> {
     vec![in alloc; byte; count]
 }
@@ -107,7 +107,7 @@ fn refuses_lines(alloc: Global, count: usize) -> Result<bool, AllocError> {
     )
 }
 
-/// Whether a cast of so many bytes is refused by the member.
+/// Whether a cast of that many bytes is refused by the member.
 fn refuses_body(alloc: Global, count: usize) -> Result<bool, AllocError> {
     let mut script = Vec::from_slice(alloc, b"group 1 stamp 7 members 3\ncast 0 ")?;
     script.extend_from_slice(&filled(alloc, b'6', count.saturating_mul(2))?)?;

@@ -28,7 +28,7 @@ datagrams_from plans id k ((packet p, plan) ∷ sent) =
     record { number = k; member = id; packet = p; bytes = wire plans p plan } ∷ datagrams_from plans id (k + 1) sent
 datagrams_from plans id k (x ∷ sent) = datagrams_from plans id k sent
 
--- Those of what an event came to, of a moment, and of moments, in a mode.
+-- Those of what an event gave, of a moment, and of moments, in a mode.
 abbrev pub did_send : Mode → List LayerTree → List Plan → (id k : ℕ) → Did → List Datagram
 did_send mode stack plans id k (taken s) = datagrams_from plans id k (as_sent mode stack plans s)
 did_send mode stack plans id k _ = []

@@ -15,7 +15,7 @@ use crate::named::NamedStack;
 use msg_core::{Dest, Headers, Memory, Stray, View};
 use view_core::Refusal;
 
-/// How a message came to a member: cast to all, or sent to it.
+/// How a message arrived at a member: cast to all, or sent to it.
 #[derive(Clone, Copy, Debug, PartialEq, Eq)]
 pub enum Delivery {
     Cast,

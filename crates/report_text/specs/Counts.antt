@@ -56,7 +56,7 @@ abbrev pub step_counted : Counts → Stepped → List (Output × Option ℕ) →
 step_counted c (Taken common change) outs = change_counted (fold output_counted c outs) change
 step_counted c (Refused refusal) outs = record c { refused = c.refused + 1 }
 
--- The lines of what an event came to; those of a member that is shown aren't counted.
+-- The lines of what an event gave; those of a member that is shown aren't counted.
 abbrev pub lines_counted : Counts → Did → List (Output × Option ℕ) → Counts
 lines_counted c (did.Stepped stepped) outs = step_counted c stepped outs
 lines_counted c did.Absent outs = record c { absent = c.absent + 1 }

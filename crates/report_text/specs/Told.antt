@@ -1,4 +1,4 @@
--- The lines of what one event came to, from what the code has of it.
+-- The lines of what one event gave, from what the code has of it.
 use Rattle.std.specs.Prelude.{ℕ, Bool, true, false, List, [], ◌∷◌, ◌++◌, map, codes, Option, option_to_list}
 use Rattle.layer_mean.specs.Tree.{LayerTree}
 use Rattle.run_mean.specs.Lines.{view_line, out_line, refused_line, absent_line}
@@ -38,7 +38,7 @@ abbrev pub stepped_lines : List LayerTree → Annex → (id first : ℕ) → Lis
 stepped_lines stack annex id first outs (Taken common change) = taken_lines stack annex id first outs change
 stepped_lines stack annex id first outs (Refused refusal) = refused_line id (refusal_meant refusal) ∷ []
 
--- The lines of an event of a member: what it came to, the outputs of its step with the plans under which packets are
+-- The lines of an event of a member: what it gave, the outputs of its step with the plans under which packets are
 -- sent short, the member that is shown, and the number of the first packet.
 abbrev pub told_lines : List LayerTree → List Plan → (wire : Bool) → ScriptEvent → Did → List (Output × Option ℕ) →
     Member → (first : ℕ) →

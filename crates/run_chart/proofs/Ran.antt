@@ -34,7 +34,7 @@ unfolding zeros
 length_zeros zero = refl
 length_zeros (suc n) = ap suc (length_zeros n)
 
--- a file of more than so many bytes: the one that was found, where the shelf tells, and else any
+-- a file of more than n bytes: the one that was found, where the shelf tells, and else any
 longer : (told : Option Shelved) (name : List ℕ) (most : ℕ) →
     IfSome told (λ shelf. IsSomeAnd (found_in shelf name) (λ file. most < length file)) →
     (file : List ℕ) × IfSome told (λ shelf. found_in shelf name ≡ Some file) × (most < length file)

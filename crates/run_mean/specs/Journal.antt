@@ -42,7 +42,7 @@ pub record Hearing : Type 0 where
 abbrev pub noting : Note → Hearing → Hearing
 noting note h = record h { notes = note ∷ h.notes }
 
--- What members heard, of which so many failures may be borne: a datagram is an event of the member that heard it.
+-- What members heard, of which n failures may be borne: a datagram is an event of the member that heard it.
 abbrev pub hearing : ℕ → List (ℕ × Heard) → Hearing
 hearing patience [] = record { notes = []; patience = Some patience }
 hearing patience ((id, datagram bytes) ∷ rest) = noting (fed (Raw id bytes)) (hearing patience rest)
@@ -130,7 +130,7 @@ node_moment_lines stack plans failed m =
     (with_plans plans None s.outputs))
     m m.happening.did
 
--- What a node writes of its notes, whose events came to these moments: a line for each member that couldn't hear stands
+-- What a node writes of its notes, whose events gave these moments: a line for each member that couldn't hear stands
 -- in its place.
 abbrev pub note_lines : List LayerTree → List Plan → (failed : ℕ → ℕ) → List Note → List Moment → List (List ℕ)
 note_lines stack plans failed (deaf id ∷ notes) run =

@@ -86,7 +86,7 @@ abbrev pub packet_given : ScriptEvent → ℕ
 packet_given (script.Give k id) = k
 packet_given _ = 0
 
--- One event of a run: the world before it, and what it came to.
+-- One event of a run: the world before it, and what it gave.
 pub record Moment : Type 0 where
   pub before : World
   pub event : ScriptEvent
@@ -99,7 +99,7 @@ moments stack plans w (e ∷ events) =
     let h = happens stack plans w e in record { before = w; event = e; happening = h } ∷
     moments stack plans h.world events
 
--- The lines of what an event of a member came to, those of a step's outputs being told.
+-- The lines of what an event of a member gave, those of a step's outputs being told.
 abbrev pub lines_of : List LayerTree → (Step → List (List ℕ)) → Moment → Did → List (List ℕ)
 lines_of stack of_step m (taken s) = of_step s ++ map (installed_line (member_of m.event)) (option_to_list s.installs)
 lines_of stack of_step m (refused refusal) = refused_line (member_of m.event) refusal ∷ []

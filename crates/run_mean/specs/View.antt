@@ -5,7 +5,7 @@ use Rattle.std.specs.Int.{bit_at}
 use Rattle.msg_core.specs.View.{ids}
 use Rattle.msg_core.specs.declared.packet.View.{View}
 
--- The first view of a group of so many members: all of them.
+-- The first view of a group of n members: all of them.
 abbrev pub first_view : ℕ → View
 first_view n = record { ltime = 0; mask = 2 ^ n - 1 }
 

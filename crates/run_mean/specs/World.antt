@@ -1,4 +1,4 @@
--- A group and every packet ever sent in it, and what one event of a script comes to. A lost packet is one that is never
+-- A group and every packet ever sent in it, and what one event of a script gives. A lost packet is one that is never
 -- given.
 use Rattle.std.specs.Prelude.{ℕ, zero, suc, List, [], ◌++◌, map, slice_get, slice_index_or, slice_set, Option, Some}
 use Rattle.std.specs.Prelude.{None, Result, Ok, Err}
@@ -43,7 +43,7 @@ abbrev pub packet_number : World → ℕ → Option Packet
 packet_number w zero = None
 packet_number w (suc k) = slice_get w.packets k
 
--- What an event came to: a step that was taken, a refusal, a packet that there isn't, or a member that is shown.
+-- What an event gave: a step that was taken, a refusal, a packet that there isn't, or a member that is shown.
 pub data Did : Type 0 where
   taken : Step → Did
   refused : Refusal → Did
@@ -90,7 +90,7 @@ abbrev pub given_packet : List LayerTree → List Plan → World → ℕ → Opt
 given_packet stack plans w id None = only w absent
 given_packet stack plans w id (Some p) = step_happening stack plans w id (datagram (full_bytes p))
 
--- What an event of a script comes to in a world.
+-- What an event of a script gives in a world.
 unfoldable pub happens : List LayerTree → List Plan → World → ScriptEvent → Happening
 happens stack plans w (script.Cast id body) = step_happening stack plans w id (cast body)
 happens stack plans w (script.Send id to body) = step_happening stack plans w id (send to body)

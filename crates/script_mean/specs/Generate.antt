@@ -55,7 +55,7 @@ a_cast number member = do
   body ← a_body number
   made (Cast member body)
 
--- a send to any of so many members
+-- a send to any of n members
 abbrev pub a_send : ℕ → ℕ → ℕ → Drawn ScriptEvent
 a_send members number member = do
   rank ← a_draw members
@@ -71,7 +71,7 @@ a_give member cursors = do
     slice_set cursors member (next_cursors way (slice_index cursors member)).1,
   )
 
--- so many numbers below a bound
+-- that many numbers below a bound
 abbrev pub draws : ℕ → ℕ → Drawn (List ℕ)
 draws zero bound = made []
 draws (suc k) bound = do
@@ -80,7 +80,7 @@ draws (suc k) bound = do
   made (first ∷ more)
 
 -- the bytes in front of a datagram's headers: a full form where the drawn number is even and else a short one, group
--- and stamp 1, the first view of so many members, a sender, and that it is for all
+-- and stamp 1, the first view of n members, a sender, and that it is for all
 abbrev pub a_preamble : ℕ → ℕ → ℕ → List ℕ
 a_preamble form members sender =
     (if form == 0 then 229 else 230) ∷ to_be_bytes w32 1 ++ to_be_bytes w32 1 ++ to_be_bytes w32 0
@@ -136,12 +136,12 @@ with_event events drawn = record { seed = drawn.1; cursors = drawn.0.1; events =
 abbrev pub after_event : Bool → ℕ → ℕ → Generator → Generator
 after_event raw members number g = with_event g.events (an_event raw members number g.cursors g.seed)
 
--- so many events of so many members
+-- that many events of n members
 abbrev pub generator_after : ℕ → ℕ → Bool → ℕ → Generator
 generator_after seed members raw zero = record { seed = seed; cursors = replicate members 0; events = [] }
 generator_after seed members raw (suc number) = after_event raw members number (generator_after seed members raw number)
 
--- the script of so many events of so many members that is made from a seed, with datagrams or without; group and stamp
+-- the script of that many events of n members that is made from a seed, with datagrams or without; group and stamp
 -- are 1
 abbrev pub generate : ℕ → ℕ → ℕ → Bool → Script
 generate seed events members raw =

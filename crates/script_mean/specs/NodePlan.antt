@@ -16,7 +16,7 @@ peers_of member (line ∷ lines) = do
   peers ← peers_of (member + 1) lines
   Ok (peer ∷ peers)
 
--- the peers, if there is one for each of so many members; else the line after the last is at fault
+-- the peers, if there is one for each of n members; else the line after the last is at fault
 abbrev pub for_each : ℕ → ℕ → List Peer → Result (List Peer) ScriptFault
 for_each members behind peers = if nat_lt (length peers) members then Err (bad_line behind) else Ok peers
 

@@ -14,7 +14,7 @@ use Rattle.script_text.specs.declared.error.ScriptError.{ScriptError}
 use Rattle.script_text.specs.declared.error.ScriptError.TheVariants.{TooLong, BadLine, NoMember, Memory}
 use Rattle.script_text.proofs.Faults.{front_more, with_front}
 
--- the peers of so many members that are read so far, and the lines after theirs
+-- the peers of n members that are read so far, and the lines after theirs
 pub record PeersSoFar (members done : ℕ) (lines left : List (ℕ × List ℕ)) (peers : List Peer) : Type 0 where
   pub spelled : with_front peers (peers_of done (take (members - done) left)) ≡ peers_of 0 (take members lines)
   pub behind : left ≡ drop done lines

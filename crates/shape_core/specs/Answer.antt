@@ -41,7 +41,7 @@ abbrev pub HeadersAre : Result (Option (List drawn.DrawnHeader)) no_shape.NoShap
 HeadersAre drawn (Ok headers) = drawn ≡ Ok (option_map headers_tree headers)
 HeadersAre drawn (Err e) = FailsFor drawn e
 
--- A walk comes to what the code's walk holds after it.
+-- A walk gives what the code's walk holds after it.
 abbrev pub Walks : Result Walking Stop → Walk → Result Unit NoShape → Type 0
 Walks r w (Ok done) = r ≡ Ok (walking w)
 Walks r w (Err e) = StopsFor r w.forks e
@@ -59,7 +59,7 @@ held_shape s = record s { length = held_at_most s.length }
 abbrev pub held_answer : Result mean.Shape no_shape.NoShape → Result mean.Shape no_shape.NoShape
 held_answer drawn = drawn_from (λ s. Ok (held_shape s)) drawn
 
--- The shape that a run comes to, or the reason for which it stops.
+-- The shape that a run gives, or the reason for which it stops.
 abbrev pub drawn_of : Result Sketching Stop → Result mean.Shape no_shape.NoShape
 drawn_of (Ok s) = Ok (record { visits = s.visits; outs = s.outs; length = s.length })
 drawn_of (Err stop) = Err stop.reason

@@ -1,4 +1,4 @@
--- A walk along the predicted way of a handler: the steps in order, with what they come to so far. It says what a drawn
+-- A walk along the predicted way of a handler: the steps in order, with what they give so far. It says what a drawn
 -- visit says, and beside it what is counted and whether a condition with two predicted ways was met, also where it
 -- stops.
 use Rattle.std.specs.Prelude.{ℕ, ◌+◌, Bool, true, List, [], ◌∷◌, ◌++◌, length, map, Option, Some, Result, Ok, Err}
@@ -16,7 +16,7 @@ use Rattle.shape_core.specs.declared.walk.Visit.{Visit}
 use Rattle.shape_core.specs.declared.walk.Walk as code
 use Rattle.shape_core.specs.Trees.{headers_tree, message_from, task_tree}
 
--- What a walk has come to: the messages of its scope, the tasks of what it sent, how much it counts for together with
+-- What a walk has reached: the messages of its scope, the tasks of what it sent, how much it counts for together with
 -- what was before, and whether a condition with two predicted ways was met.
 pub record Walking : Type 0 where
   pub scope : List DrawnMessage

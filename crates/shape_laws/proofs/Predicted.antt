@@ -186,7 +186,7 @@ mutual
       _ first
       (block_goes case place rest (after o (does place x)) pre h)
 
--- what a handler's way comes to, where it has one
+-- what a handler's way gives, where it has one
 abbrev pub Went : ℕ → Option (List Step) → State → Scope → Outcome → Type 0
 Went place None s l o = ⊥
 Went place (Some steps) s l o = walk place steps (start [] s l) ≡ Some (here [] o)

@@ -43,7 +43,7 @@ walk_step place (send e) h =
     Some (record h { sent = h.sent ++ (e.direction, emitted_event place e h.state h.scope) ∷ [] })
 walk_step place loop h = None
 
--- What is done from where a walk came to.
+-- What is done from where a walk stands.
 abbrev pub onward : (Here → Option Here) → Option Here → Option Here
 onward go None = None
 onward go (Some h) = go h

@@ -10,7 +10,7 @@ use raw_block::Block;
 use std::alloc::{AllocError, Global};
 use std::marker::Model;
 
-/// At most so many places. Memory is taken for all at once, and that of a place is first touched when the place is
+/// At most that many places. Memory is taken for all at once, and that of a place is first touched when the place is
 /// first used, or, where it is for a long body, when that place or one after it has one.
 #[derive(Drop)]
 pub struct Row {
@@ -32,7 +32,7 @@ impl Model for Row {
 }
 
 impl Row {
-    /// No place yet, of so many.
+    /// No place yet, of that many.
     pub(crate) fn of_places(alloc: Global, places: u32) -> Result<Row, AllocError>
         ensures { IfOk result (λ r. r ≡ run [] places) }
     {

@@ -42,7 +42,7 @@ impl SlotRecord {
         self.bytes[..body.len()].copy_from_slice(body);
     }
 
-    /// From now on the place's one reference is to a body of so many bytes that lies elsewhere.
+    /// From now on the place's one reference is to a body of that many bytes that lies elsewhere.
     pub(crate) fn hold_elsewhere(&mut self, len: u32)
         ensures { self.new ≡ record self.old { count = 1; len = len } }
     {

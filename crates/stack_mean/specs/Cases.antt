@@ -49,7 +49,7 @@ rarely = bare_layer (codes "rarely")
 abbrev pub AllCounts : Type 0
 AllCounts = (largest_weight (rarely ∷ []) ≡ 9) × (largest_joins (rarely ∷ rarely ∷ []) ≡ 2)
 
--- Fields that are written with numbers alone are constant, others vary, even where they come to one number.
+-- Fields that are written with numbers alone are constant, others vary, even where they give one number.
 abbrev pub constant_fields : List ExpressionTree
 constant_fields =
     binary Add (binary Multiply (number 2) (number 3)) (apply Bit (number 3)) ∷

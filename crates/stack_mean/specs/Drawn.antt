@@ -58,7 +58,7 @@ drawn_message scope (cut m from length) = chained []
 drawn_message scope (tail m from) = drawn_message scope m
 drawn_message scope (join p m) = drawn_message scope m
 
--- What a visit has come to: the messages of its scope, and what it has sent.
+-- What a visit has reached: the messages of its scope, and what it has sent.
 pub record Drawing : Type 0 where
   pub scope : List DrawnMessage
   pub sent : List (Dir × DrawnEvent)

@@ -76,7 +76,7 @@ abbrev pub emission_tags : List LayerTree → Node → EmissionTree → Option C
 emission_tags stack node e None = 0 ∷ []
 emission_tags stack node e (Some c) = content_tags stack node e.direction c
 
--- An arrow of the graph: one of these nodes follows, so many times at most.
+-- An arrow of the graph: one of these nodes follows, that many times at most.
 pub record Arrow : Type 0 where
   pub times : ℕ
   pub targets : List Node
@@ -129,7 +129,7 @@ abbrev pub unknown_of : List Node → List Node → List Node
 unknown_of known [] = []
 unknown_of known (x ∷ xs) = if list_any (same_node x) known then unknown_of known xs else x ∷ unknown_of (x ∷ known) xs
 
--- The nodes to which arrows lead: those that are known, the new ones, and in so many steps all that follow from these.
+-- The nodes to which arrows lead: those that are known, the new ones, and in n steps all that follow from these.
 abbrev pub reached_nodes : ℕ → List LayerTree → List Node → List Node → List Node
 reached_nodes steps stack known [] = known
 reached_nodes zero stack known new = known ++ new

@@ -1,4 +1,4 @@
--- What one event came to.
+-- What one event gave.
 use Rattle.std.proofs.Common.{◌≡◌, ℕ, ◌+◌, add-zero, Bool, List, length, refl, sym, ap, subst, ◌∙◌}
 use Rattle.std.proofs.lemmas.List.{length-map}
 use Rattle.std.specs.Prelude.{Result, Ok, Err, slice_index_or, Option, Some, None}

@@ -1,4 +1,4 @@
--- How a run begins, and what it has come to where no task is left.
+-- How a run begins, and what it has reached where no task is left.
 use Rattle.std.proofs.Common.{◌≡◌, ℕ, zero, suc, ◌+◌, ◌≤◌, List, [], ◌∷◌, ◌++◌, Option, Some, None, Ok, length, refl}
 use Rattle.std.proofs.Common.{sym, ap, ◌∙◌, subst, append-nil, arith}
 use Rattle.slot_pool.specs.Held.{Held, spare}
@@ -165,7 +165,7 @@ module _ (stack : List LayerTree) (typed : TypedStack stack) (accepts : acceptan
       times-append i (event_refs first.event) [],
     )
 
--- What a run has come to, where no task is left.
+-- What a run has reached, where no task is left.
 pub record Ended (b : Begun) (p : List Held) (n : Now) : Type 0 where
   pub line : Line Work Event
   pub is : run weight_limit b.stack b.states b.first ≡ line

@@ -72,7 +72,7 @@ module _ (stack : List LayerTree) (typed : TypedStack stack) (off : first_on_cyc
       (record { world = (layers stack).output t.dir t.event w; tasks = rest }))
       edge
 
-  -- the run comes to the same end
+  -- the run reaches the same end
   module _ (end : Line Work Event) (left : ℕ)
       (comes : run_for (length stack) (layers stack) left (record { world = w; tasks = t ∷ rest }) ≡ end)
       (enough : pending_weight stack (t ∷ rest) ≤ left) where

@@ -70,8 +70,8 @@ pub record BeginsWell (b : Begun) : Type 0 where
   pub joins : task_joins b.stack b.first ≤ spare b.pool
   pub counts : CountsWithin most_at_first b.pool
 
--- The run goes on: in a pool, what it shows is a line of the definition's queue, from which the run that began comes to
--- its end, and its visits to what the layers have taken then; and the pending weights and join counts are left of those
+-- The run goes on: in a pool, what it shows is a line of the definition's queue, from which the run that began reaches
+-- its end, and its visits what the layers have taken then; and the pending weights and join counts are left of those
 -- of the first task.
 pub record Going (b : Begun) (p : List Held) (n : Now) : Type 0 where
   pub world : Work

@@ -13,7 +13,7 @@ abbrev pub place_visited : {E : Type 0} → ℕ → List (Task E) → List ℕ
 place_visited places [] = []
 place_visited places (t ∷ rest) = if is_place places t.at then t.at ∷ [] else []
 
--- The places that at most so many turns of the queue visit, in order.
+-- The places that at most n turns of the queue visit, in order.
 abbrev pub visited_for : {W E : Type 0} → ℕ → Player W E → ℕ → Line W E → List ℕ
 visited_for places play zero r = []
 visited_for places play (suc n) r = if is_done r.tasks then [] else place_visited places r.tasks ++
@@ -27,7 +27,7 @@ counted_at counts at = slice_set counts (at - 1) (one_more (slice_index_or count
 abbrev pub counted_on : List ℕ → List ℕ → List ℕ
 counted_on visited counts = fold counted_at counts visited
 
--- What was taken, after at most so many turns from one task.
+-- What was taken, after at most n turns from one task.
 unfoldable pub taken_within : ℕ → List LayerTree → List State → Task Event → List ℕ → List ℕ
 taken_within most stack states first counts =
     counted_on (visited_for (length stack) (layers stack) most (starting (unstarted_work states) first)) counts

@@ -257,7 +257,7 @@ fn library_layers_are_accepted(rt: HostRuntime) -> Result<(), Fail> {
     Ok(())
 }
 
-/// A text of so many lines, each with two digits in it, after a first line and before a last one.
+/// A text of that many lines, each with two digits in it, after a first line and before a last one.
 fn lines(alloc: Global, parts: [&[u8]; 4], count: u8) -> Result<Vec<u8>, AllocError> {
     let [first, front, back, last] = parts;
     let mut text = Vec::new(alloc);
@@ -274,7 +274,7 @@ fn lines(alloc: Global, parts: [&[u8]; 4], count: u8) -> Result<Vec<u8>, AllocEr
     Ok(text)
 }
 
-/// A layer of so many handlers, a line each, of which no two are of one event.
+/// A layer of that many handlers, a line each, of which no two are of one event.
 fn handlers(alloc: Global, count: usize) -> Result<Vec<u8>, AllocError> {
     let kinds: [&[u8]; 10] = [
         b"Timer", b"Suspect", b"Elect", b"Block", b"BlockOk", b"Flushed", b"View", b"Leave",

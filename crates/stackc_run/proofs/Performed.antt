@@ -1,4 +1,4 @@
--- What `run` does, from what its job came to and what was said of that.
+-- What `run` does, from what its job gave and what was said of that.
 use Rattle.std.proofs.Common.{◌≡◌, ◌∙◌, refl, ap, inl, ℕ, List, Option, Some, None}
 use Rattle.clap.specs.Walk.{Text}
 use Rattle.outside.specs.Links.{Network}

@@ -1,4 +1,4 @@
--- What the words' job came to, whichever it is, and what was said of that.
+-- What the words' job gave, whichever it is, and what was said of that.
 use Rattle.std.specs.Prelude.{List, Option, Some, None}
 use Rattle.clap.specs.Walk.{Text}
 use Rattle.job_mean.specs.Job.{Job, check, synth, pack, replay, replay_with, explain, load, node, audit, job_of_words}

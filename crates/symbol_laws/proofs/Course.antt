@@ -112,7 +112,7 @@ acts i y (output dir kind numbers message) = record y {
   outs = y.outs ++ (dir, event_of kind (map (worth i y.past) numbers) (option_map (sent_of i y.past) message)) ∷ [];
 }
 
--- what acts come to
+-- what acts give
 abbrev pub answer : Input → List Act → Course → Answer
 answer i [] y = reached y.states y.outs
 answer i (check e ∷ xs) y = if is_true (worth i y.past e) then answer i xs (acts i y (check e)) else stopped y.checks

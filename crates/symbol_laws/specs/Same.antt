@@ -1,4 +1,4 @@
--- What following a trace comes to is told by its symbolic list.
+-- What following a trace gives is told by its symbolic list.
 use Rattle.std.specs.Prelude.{◌≡◌, List}
 use Rattle.layer_mean.specs.State.{State}
 use Rattle.trace_mean.specs.Trace.{Operation}

@@ -8,7 +8,7 @@ ghost use Rattle.symbol_laws.specs.Replaced.{ReplacedAreOfStack};
 ghost use Rattle.symbol_laws.specs.Safe.{SameActsAreSafe};
 ghost use Rattle.symbol_laws.specs.Same.{SameActsFollowAlike};
 
-/// Traces with one symbolic list come to the same, on all states and inputs.
+/// Traces with one symbolic list give the same, on all states and inputs.
 pub fn same_acts_follow_alike()
     ensures { SameActsFollowAlike }
 {}

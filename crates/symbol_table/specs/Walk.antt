@@ -50,7 +50,7 @@ pub record KnowsAs (fs : List Form) (w : Walk) (v : Values) : Type 0 where
 abbrev pub Knows : List Form → Walk → Type 0
 Knows fs w = KnowsAs fs w (known_to w)
 
--- So many values were made.
+-- That many values were made.
 pub record AllMade (old new : List Form) (xs : List Meant) (many : ℕ) (ks : List ℕ) : Type 0 where
   pub grows : Grown old new
   pub stand : AllZip (Stands (meanings new)) ks xs

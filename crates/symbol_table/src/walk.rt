@@ -3,7 +3,7 @@
 use crate::counts::Counts;
 use trace_core::Trace;
 
-/// A trace after so many operations: the values of what was bound and noted, how many rows were taken, and how often
+/// A trace after that many operations: the values of what was bound and noted, how many rows were taken, and how often
 /// cells were written.
 #[derive(Drop)]
 pub(crate) struct Walk<'a> {

@@ -20,7 +20,7 @@ use trace_words::LineError;
 /// The most bytes of a file of traces.
 pub const LONGEST_FILE: usize = 33_554_432;
 
-/// What a line of a number came to.
+/// What a line of a number gave.
 fn told(read: Result<(), LineError>, number: u32) -> Result<(), ReadError>
     ensures { Tells read number result }
 {

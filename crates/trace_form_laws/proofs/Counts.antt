@@ -84,7 +84,7 @@ binds_add p l (e ∷ es) =
     (an_other (bind (traced_number p l e)) refl refl refl)
     (binds_add p l es)
 
--- what was made since, with so many events sent
+-- what was made since, with that many events sent
 pub record Few (before z : Made) (sent : ℕ) : Type 0 where
   pub notes : trace_notes z.operations + trace_length before.operations ≤ trace_notes before.operations + trace_length
       z.operations + sent
@@ -223,7 +223,7 @@ sent_length at (x ∷ xs) = ap suc (sent_length at xs)
 
 module _ (case : Case) (stack : List LayerTree) (orderly : IsOrderly stack) (off : first_on_cycle stack ≡ None)
     (most : ℕ) where
-  -- how far a trace has come in so many turns
+  -- how far a trace has come in that many turns
   record Good (turns : ℕ) (f : Fused) (pending : List (Task TracedEvent)) : Type 0 where
     notes : trace_notes f.made.operations + 1 ≤ trace_length f.made.operations + f.visits + length pending
     visits : f.visits ≤ visits_limit
@@ -284,7 +284,7 @@ module _ (case : Case) (stack : List LayerTree) (orderly : IsOrderly stack) (off
         fit = k.fit;
       })
 
-  -- the queue comes to its end
+  -- the queue reaches its end
   ended : (f : Fused) (pending : List (Task TracedEvent)) (turns : ℕ) → most ≤ weight_limit →
       (is_done pending ≡ false → turns ≡ weight_limit) →
       Good turns f pending →

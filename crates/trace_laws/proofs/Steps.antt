@@ -275,7 +275,7 @@ queues_worth i k ss (Some (tree.numbers shape initial)) = refl
 queues_worth i k ss None = refl
 
 module _ (i : Input) (f : Start) (base : List State) (layer : LayerTree) (p : ℕ) (inside : p < length base) where
-  -- a trail stands after what was made in a visit, where a walk has come to
+  -- a trail stands after what was made in a visit, where a walk stands
   pub record Stands (y : Tracing) (t : Trail) (h : Here) : Type 0 where
     pub is_on : Goes f.stack i y.made.operations f.followed (on t)
     pub states : t.states ≡ slice_set base p h.state

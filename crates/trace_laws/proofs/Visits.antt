@@ -150,7 +150,7 @@ met_same i u dir (Some c) None same = absurd (cc same)
 abbrev pub Worth : Input → Kept → TracedEvent → Event → Type 0
 Worth i k d e = (u : Kept) → Later k u → shown_at i u d ≡ shown e
 
--- a visit came to an end
+-- a visit ended
 pub record Ended (i : Input) (f : Start) (base : List State) (p : ℕ) (t : Trail) (d : TracedVisit) (s : State)
     (sent : List (Dir × Event))
     (n : ℕ) : Type 0 where

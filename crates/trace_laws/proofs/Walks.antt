@@ -22,7 +22,7 @@ use Rattle.layer_mean.specs.Way.{Step, test, fork, put, get, way, ways, expected
 use Rattle.shape_laws.specs.Walk.{Here, walk_step, took}
 use Rattle.shape_laws.proofs.Predicted.{here, start}
 
--- how many decisions were as predicted: all of them, or so many before the first that wasn't
+-- how many decisions were as predicted: all of them, or that many before the first that wasn't
 pub data Tally : Type 0 where
   all_of : ℕ → Tally
   missed_at : ℕ → Tally
@@ -35,7 +35,7 @@ abbrev pub tally : Case → List Decision → ℕ → Tally
 tally case [] n = all_of n
 tally case (d ∷ ds) n = counted (tally case ds) (went_as case d) n
 
--- a walk goes somewhere, with so many decisions, or stops
+-- a walk goes somewhere, with that many decisions, or stops
 pub data Walked : Type 0 where
   went : ℕ → Here → Walked
   missed : ℕ → Walked
@@ -234,7 +234,7 @@ mutual
         twice (went m h) = sym (walk_both place (way case x) (ways case rest) m h)
         twice (missed m) = refl
 
--- what a handler's way comes to, where it has one
+-- what a handler's way gives, where it has one
 abbrev pub Went : Case → ℕ → Option (List Step) → State → Scope → Outcome → ℕ → Type 0
 Went case place None s l o n = Unit {0}
 Went case place (Some steps) s l o n = told (tally case o.decided n) (here [] o) ≡ walk place steps n (start [] s l)

@@ -7,7 +7,7 @@ ghost use Rattle.trace_laws.specs.Members.{RunsKeepMembers};
 ghost use Rattle.trace_laws.specs.Right.{TracesAreRight};
 ghost use Rattle.trace_laws.specs.Shapes.{OutputsAreTold, TracesStandForShapes};
 
-/// The trace of an entry of typed layers, from chained states, comes to what the run of its entry comes to, and is safe
+/// The trace of an entry of typed layers, from chained states, gives what the run of its entry gives, and is safe
 /// as far as it is followed.
 pub fn traces_are_right()
     ensures { TracesAreRight }

@@ -37,7 +37,7 @@ fn with_field(fields: Atoms, field: Atom) -> Result<Atoms, AllocError>
     Ok(fields)
 }
 
-/// So many fields more, each after a comma.
+/// That many fields more, each after a comma.
 #[tactic(auto, using(crate::proofs::Fields::no_fields, crate::proofs::Fields::field_more, crate::proofs::Fields::no_comma, crate::proofs::Fields::no_field))]
 fn more_fields(
     text: &mut Text<'_>,
@@ -58,7 +58,7 @@ fn more_fields(
     more_fields(text, scope, _place, most - 1, fields)
 }
 
-/// So many fields, with commas between.
+/// That many fields, with commas between.
 #[tactic(auto, using(crate::proofs::Fields::fields_after, crate::proofs::Fields::no_first))]
 fn fields(text: &mut Text<'_>, scope: &Scope<'_>, place: u8, count: u8) -> Result<Atoms, LineError>
     ensures { TakesAs (map atom_tree) (reader.each_of (operation.an_atom (named_in scope.now))

@@ -50,7 +50,7 @@ fn with_number(numbers: Atoms, atom: Atom) -> Atoms
     numbers
 }
 
-/// After these numbers so many at most, and a message.
+/// After these numbers that many at most, and a message.
 #[tactic(auto, using(crate::proofs::Sending::ends_sent, crate::proofs::Sending::more_sent, crate::proofs::Sending::no_more_sent, crate::proofs::Sending::no_sent))]
 fn sent_within(
     text: &mut Text<'_>,

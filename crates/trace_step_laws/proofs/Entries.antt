@@ -1,5 +1,5 @@
--- What enters a member begins with the task of its entry; and so a step comes to what following the entry's trace comes
--- to.
+-- What enters a member begins with the task of its entry; and so a step gives what following the entry's trace
+-- gives.
 use Rattle.std.proofs.Common.{◌≡◌, ℕ, zero, suc, Bool, true, false, ◌&&◌, List, [], ◌∷◌, ◌++◌, map, length, take, drop}
 use Rattle.std.proofs.Common.{Option, Some, None, MatchBool, refl, sym, ap, ◌∙◌, subst, arith}
 use Rattle.std.specs.Prelude.{◌==◌, slice_get, get_or, option_map, bytes_eq}

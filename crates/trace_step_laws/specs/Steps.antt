@@ -1,4 +1,4 @@
--- What following a trace comes to for the steps of a member.
+-- What following a trace gives for the steps of a member.
 use Rattle.std.specs.Prelude.{◌≡◌, ℕ, List, [], slice_get, Option, Some, Ok}
 use Rattle.std.specs.Option.{option_map_or, option_and_then}
 use Rattle.msg_core.specs.View.{member_count}
@@ -51,7 +51,7 @@ EntriesBegin = (stack : List LayerTree) (plans : List Plan) (here : Here) (what 
     let fields = entry_fields plans what in
     entry_task stack k fields (input_of here fields what) ≡ first_task stack here.rank what
 
--- So a step of a member comes to what following the trace of its entry comes to, in each case that is made; and as far
+-- So a step of a member gives what following the trace of its entry gives, in each case that is made; and as far
 -- as it is followed, it is safe.
 pub record StepIsFollowed (case : Case) (stack : List LayerTree) (plans : List Plan) (here : Here) (id : ℕ)
     (states : List State)

@@ -1,4 +1,4 @@
-//! That the steps of a member come to what following the traces of their entries comes to: the contracts of functions
+//! That the steps of a member give what following the traces of their entries does: the contracts of functions
 //! that do nothing.
 #![tactic(auto)]
 
@@ -9,7 +9,7 @@ pub fn entries_begin()
     ensures { EntriesBegin }
 {}
 
-/// A step comes to what following its entry's trace comes to, and safely.
+/// A step gives what following its entry's trace gives, and safely.
 pub fn steps_follow_traces()
     ensures { StepsFollowTraces }
 {}

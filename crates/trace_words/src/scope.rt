@@ -3,7 +3,7 @@
 use crate::spot::Spot;
 use event_graph::Stack;
 
-/// Cells and headers of a stack, so many variable fields, numbers bound before and messages noted before, and rows that
+/// Cells and headers of a stack, n variable fields, numbers bound before and messages noted before, and rows that
 /// were taken from queues.
 #[derive(Clone, Copy)]
 pub struct Scope<'a> {

@@ -30,7 +30,7 @@ pub struct Cell {
 pub enum Form {
     /// Numbers of a shape, which are all this at first.
     Numbers { shape: Shape, initial: Expression },
-    /// A queue of so many rows.
+    /// A queue of that many rows.
     Queue { capacity: u8, items: Items },
     /// Such a queue for each member of the view.
     Queues { capacity: u8, items: Items },
@@ -77,7 +77,7 @@ pub struct HeaderForm {
 }
 
 /// What a layer does on an event of one direction, kind and popped header. Its scope has the event's numbers, the
-/// header's fields and the event's message, and after these so many more numbers and messages, which its block
+/// header's fields and the event's message, and after these that many more numbers and messages, which its block
 /// declares.
 #[derive(Drop)]
 pub struct Handler {
@@ -318,7 +318,7 @@ pub enum MessageExpression {
         row: Box<Expression>,
         carried: Carried,
     },
-    /// So many bytes of a message from a place on.
+    /// That many bytes of a message from a place on.
     Cut {
         message: Box<MessageExpression>,
         from: Box<Expression>,

@@ -1,4 +1,4 @@
--- What an event of a script came to in a mode, and how it is told.
+-- What an event of a script gave in a mode, and how it is told.
 use Rattle.std.specs.Prelude.{◌≡◌, ℕ, ◌+◌, Bool, List, [], Option}
 use Rattle.run_mean.specs.Mode.{Mode}
 use Rattle.layer_mean.specs.Tree.{LayerTree}
@@ -38,7 +38,7 @@ pub record IsRefused (r : member.Refusal) (outs : List (Output × Option ℕ)) (
     pub cause_is : r ≡ refusal_meant told
     pub quiet : IsQuiet outs before after
 
--- What an event came to in a mode is told so: by an answer, by outputs, and by the number of visits before it and
+-- What an event gave in a mode is told so: by an answer, by outputs, and by the number of visits before it and
 -- after it.
 abbrev pub DidIs : Mode → List LayerTree → List Plan → world.Did → List (Output × Option ℕ) → ℕ → ℕ → Did → Type 0
 DidIs mode stack plans (world.taken s) outs before after (Stepped (Taken common change)) =

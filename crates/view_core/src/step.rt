@@ -27,7 +27,7 @@ pub enum Change {
     Out,
 }
 
-/// What a member's step came to.
+/// What a member's step gave.
 #[derive(Clone, Copy, Debug, PartialEq, Eq)]
 pub enum Stepped {
     /// The input was taken.
@@ -41,7 +41,7 @@ pub enum Stepped {
     Refused(Refusal),
 }
 
-/// What an event of a script came to.
+/// What an event of a script gave.
 #[derive(Clone, Copy, Debug, PartialEq, Eq)]
 pub enum Did {
     /// A member stepped.

@@ -1,4 +1,4 @@
--- A queue whose turns take from what is pending comes to its end.
+-- A queue whose turns take from what is pending reaches its end.
 use Rattle.std.proofs.Common.{◌≡◌, ℕ, zero, suc, ◌+◌, ◌≤◌, List, [], ◌∷◌, refl, sym, subst, arith}
 use Rattle.std.specs.List.{sum_by}
 use Rattle.layer_mean.specs.Queue.{Task, Player, Line, next_of, run_for}
@@ -47,7 +47,7 @@ module _ {W E : Type 0} (places : ℕ) (play : Player W E) where
         run_ends some n r.tasks r.world (λ k. subst (λ q. Good q.tasks) (first_turn k (t ∷ rest) w) (good (suc k)))
         (omega (arith, falls t rest w (good zero) (good (suc zero)), some w t))
 
-  -- a run that has come to its end stays as it is
+  -- a run that has reached its end stays as it is
   pub run_stays : (n m : ℕ) (tasks : List (Task E)) (w : W) → n ≤ m →
       (run_for places play n (record { world = w; tasks = tasks })).tasks ≡ [] →
       run_for places play m (record { world = w; tasks = tasks }) ≡

@@ -1,4 +1,4 @@
--- What statements send comes to no more than their emissions, each as often as it is done at most.
+-- What statements send adds up to no more than their emissions, each as often as it is done at most.
 use Rattle.std.proofs.Common.{◌≡◌, ℕ, zero, suc, ◌+◌, ◌*◌, ◌≤◌, Bool, true, false, ◌++◌, min, Option, Some, None, subst}
 use Rattle.std.proofs.Common.{◌∙◌, mul-le-mul_right, arith}
 use Rattle.std.specs.Prelude.{if◌then◌else◌}
@@ -20,7 +20,7 @@ use Rattle.stack_mean.specs.Emissions.{Repeated, emissions, emissions_in}
 use Rattle.weight_laws.specs.Orderly.{KeepsMessage, IsOrderlyStatement, IsOrderlyBlock}
 
 abbrev mutual
-  -- what a statement sends at most, where each emission comes to so much
+  -- what a statement sends at most, where each emission costs so much
   pub total : (EmissionTree → ℕ) → StatementTree → ℕ
   total bound (push c i capacity row otherwise) = total_in bound otherwise
   total bound (take c i taken block otherwise) = total_in bound block + total_in bound otherwise
@@ -74,7 +74,7 @@ module _ (layer : LayerTree) (down : Bool) (place : ℕ) (v : Dir × Event → �
     (sent_too : (e : EmissionTree) (s : State) (l : Scope) → Holds l →
     v (e.direction, emitted_event place e s l) ≤ bound e)
   where
-    -- what is sent comes to no more, and the scope keeps what it holds
+    -- what is sent adds up to no more, and the scope keeps what it holds
     pub record Sends (n : ℕ) (o : Outcome) : Type 0 where
       pub sent : sum_by v o.sent ≤ n
       pub scope : Holds o.scope

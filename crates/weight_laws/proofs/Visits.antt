@@ -1,4 +1,4 @@
--- What a visit sends comes to no more than the arrows of its node.
+-- What a visit sends adds up to no more than the arrows of its node.
 use Rattle.std.proofs.Common.{◌≡◌, ℕ, zero, suc, ◌+◌, ◌-◌, ◌*◌, ◌≤◌, max, Bool, true, false, ◌&&◌, ◌==◌, List, [], ◌∷◌}
 use Rattle.std.proofs.Common.{◌++◌, map, length, Option, Some, None, is_some, option_map, option_to_list, slice_index}
 use Rattle.std.proofs.Common.{slice_index_or, slice_set, refl, sym, ap, ◌∙◌, subst, le_trans, inl, inr, arith}
@@ -163,7 +163,7 @@ guard_cases : (b : Bool) (n m : ℕ) → (b ≡ true → n ≤ m) → (if b then
 guard_cases true n m h = h refl
 guard_cases false n m h = omega arith
 
--- the most that an emission comes to
+-- the most that an emission adds up to
 abbrev bound_of : List LayerTree → (Node → ℕ) → Node → EmissionTree → ℕ
 bound_of stack f n e = largest (map f (arrow_to 1 n e.direction e.kind (emission_tags stack n e e.content)).targets)
 

@@ -7,7 +7,7 @@ use Rattle.stack_mean.specs.Acceptance.{largest, cost}
 use Rattle.weight_laws.specs.Nodes.{IsNode}
 use Rattle.weight_laws.specs.Orderly.{IsOrderly}
 
--- What some arrows cost, where each node costs so much: so many times as each stands for the largest cost of its
+-- What some arrows cost, where each node costs so much: that many times as each stands for the largest cost of its
 -- targets.
 abbrev pub behind_arrows : (Node → ℕ) → List Arrow → ℕ
 behind_arrows f = sum_by (λ arrow. arrow.times * largest (map f arrow.targets))

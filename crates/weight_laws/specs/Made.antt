@@ -11,7 +11,7 @@ use Rattle.layer_mean.specs.Effect.{Act, turns, with_slot, with_taken, in_order,
 use Rattle.layer_mean.specs.Visit.{Met, met, handler_for, entered_scope}
 use Rattle.stack_mean.specs.Emissions.{joins_in, joins_in_emission, joins_in_row, joins_expected}
 
--- How many joins are made in 0, 1 and so on below a number of turns of an act, each of which makes so many at its own
+-- How many joins are made in 0, 1 and so on below a number of turns of an act, each of which makes that many at its own
 -- state and scope.
 abbrev pub made_in_turns : ℕ → ℕ → Act → (State → Scope → ℕ) → State → Scope → ℕ
 made_in_turns zero slot act made s l = 0

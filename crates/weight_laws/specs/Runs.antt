@@ -30,14 +30,14 @@ turn_joins stack w t = if is_place (length stack) t.at
     then visit_joins (t.at - 1) (layer_at stack t.at) (state_at w t.at) t.dir t.event
     else 0
 
--- What the tasks that are taken in so many turns cost together, each at its price in the world in which it is taken.
+-- What the tasks that are taken in that many turns cost together, each at its price in the world in which it is taken.
 abbrev pub total_price : {W E : Type 0} → ℕ → Player W E → (W → Task E → ℕ) → ℕ → W → List (Task E) → ℕ
 total_price places play price zero w tasks = 0
 total_price places play price (suc n) w [] = 0
 total_price places play price (suc n) w (t ∷ rest) =
     let r = next_of places play (t ∷ rest) w in price w t + total_price places play price n r.world r.tasks
 
--- The joins that are made in so many turns of a stack.
+-- The joins that are made in that many turns of a stack.
 abbrev pub run_joins : List LayerTree → ℕ → Line Work Event → ℕ
 run_joins stack n r = total_price (length stack) (layers stack) (turn_joins stack) n r.world r.tasks
 
@@ -65,7 +65,7 @@ TurnsJoinLess = (stack : List LayerTree) (w : Work) (t : Task Event) (rest : Lis
 abbrev pub turns_of : Work → ℕ
 turns_of w = w.visits + length w.outs
 
--- One turn of a loop that has this much weight left and so many free slots: there is room for what the visit sends, for
+-- One turn of a loop that has this much weight left and n free slots: there is room for what the visit sends, for
 -- the tasks that are then pending and for an output; the joins that it makes find a slot each; and what is left is
 -- enough for the rest.
 pub record TurnFits (stack : List LayerTree) (w : Work) (t : Task Event) (rest : List (Task Event)) (left free : ℕ) :
@@ -104,7 +104,7 @@ JoinsAndPending = (stack : List LayerTree) (n : ℕ) (r : Line Work Event) → I
     run_joins stack n r + pending_joins stack (run_for (length stack) (layers stack) n r).tasks ≤ pending_joins stack
     r.tasks
 
--- In as many turns as its weight a line comes to its end: no task is left, and more turns change nothing.
+-- In as many turns as its weight a line reaches its end: no task is left, and more turns change nothing.
 abbrev pub LinesEnd : Type 0
 LinesEnd = (stack : List LayerTree) (n : ℕ) (r : Line Work Event) → IsLine stack r → pending_weight stack r.tasks ≤ n →
     let q = run_for (length stack) (layers stack) (pending_weight stack r.tasks) r in
@@ -128,7 +128,7 @@ pub record IsRun (stack : List LayerTree) (states : List State) (first : Task Ev
   pub known : StaysKnown stack (starting (unstarted_work states) first)
 
 -- What is so of such a run: it is within the limits; no task is left; any number of turns from its entry's weight on
--- comes to it; its turns are at most this weight, and so its visits and outputs; its joins are at most its entry's.
+-- gives that; its turns are at most this weight, and so its visits and outputs; its joins are at most its entry's.
 pub record Ends (stack : List LayerTree) (states : List State) (first : Task Event) : Type 0 where
   pub weight : task_weight stack first ≤ weight_limit
   pub joins : task_joins stack first ≤ joins_limit

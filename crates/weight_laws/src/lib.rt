@@ -18,7 +18,7 @@ pub fn costs_follow_arrows()
     ensures { CostsFollowArrows }
 {}
 
-/// However nodes are rated, what a visit sends comes to no more than the arrows of its node allow.
+/// However nodes are rated, what a visit sends adds up to no more than the arrows of its node allow.
 pub fn sends_follow_arrows()
     ensures { SendsFollowArrows }
 {}
@@ -59,7 +59,7 @@ pub fn joins_and_pending()
     ensures { JoinsAndPending }
 {}
 
-/// A line comes to its end in as many turns as its weight, and more turns change nothing.
+/// A line reaches its end in as many turns as its weight, and more turns change nothing.
 pub fn lines_end()
     ensures { LinesEnd }
 {}

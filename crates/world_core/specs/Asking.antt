@@ -1,4 +1,4 @@
--- What an event comes to in a world, by what it gives.
+-- What becomes of an event in a world, by what it gives.
 use Rattle.std.specs.Prelude.{◌≡◌, ℕ, List}
 use Rattle.layer_mean.specs.Tree.{LayerTree}
 use Rattle.stack_mean.specs.Plan.{Plan}

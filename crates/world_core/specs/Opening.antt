@@ -1,4 +1,4 @@
--- What opening a group comes to.
+-- What opening a group gives.
 use Rattle.std.specs.Prelude.{◌≡◌, ℕ, ◌+◌, ◌*◌, ◌<◌, ◌≤◌, List, map, length, Result, Ok, Err}
 use Rattle.std.specs.List.{range_with_len}
 use Rattle.std.specs.declared.alloc.Global.{Global}
@@ -17,7 +17,7 @@ use Rattle.bypass_member.specs.declared.opening.Opening.{Opening}
 use Rattle.world_core.specs.Seats.{member_of, seat_of, seats}
 use Rattle.group_feed.specs.Standing.{Peopled, Stands}
 
--- So many members are in the first view, in the mode of the opening, and no packet was sent; as many layers were made
+-- That many members are in the first view, in the mode of the opening, and no packet was sent; as many layers were made
 -- as they have.
 pub record IsBegun (o : Opening) (n : ℕ) (before after : Making) (c : Peopled) : Type 0 where
   pub world : Stands c (first_world (stack_in o) o.group o.stamp n)

@@ -29,7 +29,7 @@ abbrev pub seat : Mode → List LayerTree → List Plan → ℕ → ℕ → ℕ 
 seat mode stack plans group stamp id =
     record { mode = mode; stack = stack; plans = plans; group = group; stamp = stamp; id = id }
 
--- The seats of so many members of a group.
+-- The seats of n members of a group.
 abbrev pub seats : Mode → List LayerTree → List Plan → ℕ → ℕ → ℕ → List Seat
 seats mode stack plans group stamp n = map (seat mode stack plans group stamp) (range_with_len 0 n)
 

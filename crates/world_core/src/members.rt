@@ -12,7 +12,7 @@ use file_layer::Maker;
 use msg_core::View;
 use std::alloc::Global;
 
-/// The first view of a group of so many members: all of them.
+/// The first view of a group of n members: all of them.
 fn first_view(n: u8) -> View
     requires { n ≤ most_members }
     ensures { result ≡ views.first_view n }
