@@ -17,27 +17,49 @@ use msg_core::Fields;
 use std::alloc::AllocError;
 use trace_core::{Atoms, Chained, Operation};
 
+/// A cell of a layer with the node of an index: one of its numbers, or a queue.
+#[derive(Clone, Copy)]
+struct Spot {
+    place: u8,
+    cell: u8,
+    index: u32,
+}
+
+/// A number of a square cell, at the nodes of its indexes.
+#[derive(Clone, Copy)]
+struct Square {
+    place: u8,
+    cell: u8,
+    row: u32,
+    column: u32,
+}
+
+/// Where an event goes, and of which kind it is.
+#[derive(Clone, Copy)]
+struct Way {
+    dir: Dir,
+    kind: Kind,
+}
+
 /// Sets a number of a cell.
 fn set_act(
     table: &mut Table,
     walk: &Walk<'_>,
-    place: u8,
-    cell: u8,
-    index: u32,
+    spot: Spot,
     item: u32,
 ) -> Result<Option<ActForm>, AllocError>
     requires there { IsPart (terms walk.now.trace.now.nodes) (chains walk.now.trace.now.links)
-        (operations.Set place cell index item) }
+        (operations.Set spot.place spot.cell spot.index item) }
     requires knows { Knows table.old walk.now }
     ensures { MakesAct table.old table.new (act_of (known_to walk.now)
         (operation_in (terms walk.now.trace.now.nodes) (chains walk.now.trace.now.links)
-        (operations.Set place cell index item))) result }
+        (operations.Set spot.place spot.cell spot.index item))) result }
 {
-    let index = number(table, walk, index)?;
+    let index = number(table, walk, spot.index)?;
     let value = number(table, walk, item)?;
     Ok(Some(ActForm::Set {
-        place,
-        cell,
+        place: spot.place,
+        cell: spot.cell,
         index,
         value,
     }))
@@ -47,25 +69,22 @@ fn set_act(
 fn square_act(
     table: &mut Table,
     walk: &Walk<'_>,
-    place: u8,
-    cell: u8,
-    row: u32,
-    column: u32,
+    square: Square,
     item: u32,
 ) -> Result<Option<ActForm>, AllocError>
     requires there { IsPart (terms walk.now.trace.now.nodes) (chains walk.now.trace.now.links)
-        (operations.SetSquare place cell row column item) }
+        (operations.SetSquare square.place square.cell square.row square.column item) }
     requires knows { Knows table.old walk.now }
     ensures { MakesAct table.old table.new (act_of (known_to walk.now)
         (operation_in (terms walk.now.trace.now.nodes) (chains walk.now.trace.now.links)
-        (operations.SetSquare place cell row column item))) result }
+        (operations.SetSquare square.place square.cell square.row square.column item))) result }
 {
-    let row = number(table, walk, row)?;
-    let column = number(table, walk, column)?;
+    let row = number(table, walk, square.row)?;
+    let column = number(table, walk, square.column)?;
     let value = number(table, walk, item)?;
     Ok(Some(ActForm::SetSquare {
-        place,
-        cell,
+        place: square.place,
+        cell: square.cell,
         row,
         column,
         value,
@@ -77,26 +96,24 @@ fn square_act(
 fn push_act(
     table: &mut Table,
     walk: &Walk<'_>,
-    place: u8,
-    cell: u8,
-    index: u32,
+    queue: Spot,
     nodes: &Fields,
     sent: Option<Chained>,
 ) -> Result<Option<ActForm>, AllocError>
     requires there { IsPart (terms walk.now.trace.now.nodes) (chains walk.now.trace.now.links)
-        (operations.Push place cell index nodes.now sent) }
+        (operations.Push queue.place queue.cell queue.index nodes.now sent) }
     requires knows { Knows table.old walk.now }
     ensures { MakesAct table.old table.new (act_of (known_to walk.now)
         (operation_in (terms walk.now.trace.now.nodes) (chains walk.now.trace.now.links)
-        (operations.Push place cell index nodes.now sent))) result }
+        (operations.Push queue.place queue.cell queue.index nodes.now sent))) result }
 {
-    let index = number(table, walk, index)?;
+    let index = number(table, walk, queue.index)?;
     let values = numbers(table, walk, nodes)?;
     let numbers = row(table, &values)?;
     let message = sending(table, walk, sent)?;
     Ok(Some(ActForm::Push {
-        place,
-        cell,
+        place: queue.place,
+        cell: queue.cell,
         index,
         numbers,
         message,
@@ -108,8 +125,7 @@ fn push_act(
 fn output_act(
     table: &mut Table,
     walk: &Walk<'_>,
-    dir: Dir,
-    kind: Kind,
+    way: Way,
     atoms: &Atoms,
     sent: Option<Chained>,
 ) -> Result<Option<ActForm>, AllocError>
@@ -117,20 +133,51 @@ fn output_act(
     requires knows { Knows table.old walk.now }
     ensures { MakesAct table.old table.new (act_of (known_to walk.now)
         (operation_in (terms walk.now.trace.now.nodes) (chains walk.now.trace.now.links)
-        (operations.Output dir kind atoms.now sent))) result }
+        (operations.Output way.dir way.kind atoms.now sent))) result }
 {
     let numbers = atom_row(table, walk, atoms)?;
     let message = sending(table, walk, sent)?;
     Ok(Some(ActForm::Output {
-        dir,
-        kind,
+        dir: way.dir,
+        kind: way.kind,
         numbers,
         message,
     }))
 }
 
+/// Asks whether a number isn't 0.
+#[tactic(auto, using(crate::proofs::Acting::check_made))]
+fn check_act(table: &mut Table, walk: &Walk<'_>, node: u32) -> Result<Option<ActForm>, AllocError>
+    requires there { IsPart (terms walk.now.trace.now.nodes) (chains walk.now.trace.now.links) (operations.Check node) }
+    requires knows { Knows table.old walk.now }
+    ensures { MakesAct table.old table.new (act_of (known_to walk.now)
+        (operation_in (terms walk.now.trace.now.nodes) (chains walk.now.trace.now.links) (operations.Check node)))
+        result }
+{
+    let condition = number(table, walk, node)?;
+    Ok(Some(ActForm::Check(condition)))
+}
+
+/// Takes a row from the front of a queue.
+#[tactic(auto, using(crate::proofs::Acting::take_made))]
+fn got_act(table: &mut Table, walk: &Walk<'_>, queue: Spot) -> Result<Option<ActForm>, AllocError>
+    requires there { IsPart (terms walk.now.trace.now.nodes) (chains walk.now.trace.now.links)
+        (operations.Take queue.place queue.cell queue.index) }
+    requires knows { Knows table.old walk.now }
+    ensures { MakesAct table.old table.new (act_of (known_to walk.now)
+        (operation_in (terms walk.now.trace.now.nodes) (chains walk.now.trace.now.links)
+        (operations.Take queue.place queue.cell queue.index))) result }
+{
+    let index = number(table, walk, queue.index)?;
+    Ok(Some(ActForm::Take {
+        place: queue.place,
+        cell: queue.cell,
+        index,
+    }))
+}
+
 /// What an operation does, if it doesn't bind or note.
-#[tactic(auto, using(crate::proofs::Acting::no_act, crate::proofs::Acting::check_made, crate::proofs::Acting::take_made))]
+#[tactic(auto, using(crate::proofs::Acting::no_act))]
 pub(crate) fn act(
     table: &mut Table,
     walk: &Walk<'_>,
@@ -141,22 +188,16 @@ pub(crate) fn act(
     ensures { MakesAct table.old table.new (act_of (known_to walk.now)
         (operation_in (terms walk.now.trace.now.nodes) (chains walk.now.trace.now.links) operation.now)) result }
 {
-    match operation {
+    match *operation {
         Operation::Bind(_) => Ok(None),
         Operation::Note(_) => Ok(None),
-        Operation::Check(node) => {
-            let condition = number(table, walk, *node)?;
-            Ok(Some(ActForm::Check(condition)))
-        }
+        Operation::Check(node) => check_act(table, walk, node),
         Operation::Set {
             place,
             cell,
             index,
             value,
-        } => {
-            let made = set_act(table, walk, *place, *cell, *index, *value)?;
-            Ok(made)
-        }
+        } => set_act(table, walk, Spot { place, cell, index }, value),
         Operation::SetSquare {
             place,
             cell,
@@ -164,8 +205,13 @@ pub(crate) fn act(
             column,
             value,
         } => {
-            let made = square_act(table, walk, *place, *cell, *row, *column, *value)?;
-            Ok(made)
+            let square = Square {
+                place,
+                cell,
+                row,
+                column,
+            };
+            square_act(table, walk, square, value)
         }
         Operation::Push {
             place,
@@ -173,26 +219,13 @@ pub(crate) fn act(
             index,
             numbers,
             message,
-        } => {
-            let made = push_act(table, walk, *place, *cell, *index, numbers, *message)?;
-            Ok(made)
-        }
-        Operation::Take { place, cell, index } => {
-            let index = number(table, walk, *index)?;
-            Ok(Some(ActForm::Take {
-                place: *place,
-                cell: *cell,
-                index,
-            }))
-        }
+        } => push_act(table, walk, Spot { place, cell, index }, &numbers, message),
+        Operation::Take { place, cell, index } => got_act(table, walk, Spot { place, cell, index }),
         Operation::Output {
             dir,
             kind,
             numbers,
             message,
-        } => {
-            let made = output_act(table, walk, *dir, *kind, numbers, *message)?;
-            Ok(made)
-        }
+        } => output_act(table, walk, Way { dir, kind }, &numbers, message),
     }
 }

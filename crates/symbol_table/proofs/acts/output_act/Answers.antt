@@ -6,4 +6,4 @@ pub sending-requires-clause-knows : goal.sending-requires-clause-knows
 sending-requires-clause-knows c = knows_grown c.in_ok-numbers.ensures.grows c.requires.knows
 
 pub returns : goal.returns
-returns c = output_made c.args.dir c.args.kind c.in_ok-numbers.ensures c.in_ok-message.ensures
+returns c = output_made c.args.way.dir c.args.way.kind c.in_ok-numbers.ensures c.in_ok-message.ensures

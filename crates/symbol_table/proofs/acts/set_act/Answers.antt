@@ -6,4 +6,4 @@ pub number-requires-2-clause-knows : goal.number-requires-2-clause-knows
 number-requires-2-clause-knows c = knows_grown c.in_ok-index.ensures.grows c.requires.knows
 
 pub returns : goal.returns
-returns c = set_made c.args.place c.args.cell c.in_ok-index.ensures c.in_ok-value.ensures
+returns c = set_made c.args.spot.place c.args.spot.cell c.in_ok-index.ensures c.in_ok-value.ensures
