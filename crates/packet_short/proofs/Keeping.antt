@@ -1,11 +1,14 @@
 -- The variable fields are kept while it is found whether headers are as a plan says.
 use Rattle.std.proofs.Common.{◌≡◌, ℕ, zero, suc, ◌+◌, ◌<◌, ◌≤◌, Bool, true, false, List, [], ◌∷◌, ◌++◌, Option, Some}
-use Rattle.std.proofs.Common.{sym, ap, ◌∙◌, subst, arith, length, drop, get_or}
+use Rattle.std.proofs.Common.{sym, ap, ◌∙◌, subst, arith, length, drop, get_or, add-one, map, take, take-suc}
 use Rattle.std.specs.Prelude.{flat_map, slice_get}
 use Rattle.std.specs.List.{AllByRecursion}
+use Rattle.std.proofs.lemmas.List.{map-append}
 use Rattle.msg_core.specs.declared.message.Header.{Header}
 use Rattle.packet_mean.specs.Plan.{variable}
 use Rattle.stack_mean.specs.Plan.{Plan}
+use Rattle.stack_shapes.specs.Lists.{plan_tree}
+use Rattle.stack_shapes.specs.declared.types.Plan as code
 use Rattle.packet_short.specs.Keeping.{HasAtMost, KeepsIf, kept_by}
 use Rattle.packet_short.specs.Shortened.{KeepsVariable}
 use Rattle.packet_short.proofs.Alike.{left_at}
@@ -65,3 +68,31 @@ room_first most [] plan all is = absurd (cc is)
 room_first most (p ∷ ps) plan all is =
     let same : p ≡ plan = cc is in
     subst (λ (q : Plan). length q.fields ≤ most) same all.0
+
+-- plans have that many fields at most, one by one
+all_so : (most next : ℕ) → most ≤ next → (plans : List Plan) → AllByRecursion (HasAtMost most) plans →
+    AllByRecursion (HasAtMost next) plans
+all_so most next larger [] all = tt
+all_so most next larger (p ∷ ps) all = (omega (arith, all.0, larger), all_so most next larger ps all.1)
+
+all_and : (most : ℕ) (plans : List Plan) (plan : Plan) → AllByRecursion (HasAtMost most) plans →
+    length plan.fields ≤ most → AllByRecursion (HasAtMost most) (plans ++ plan ∷ [])
+all_and most [] plan all few = (few, tt)
+all_and most (p ∷ ps) plan all few = (all.0, all_and most ps plan all.1 few)
+
+one_more : (plans : List code.Plan) (i : ℕ) (plan : code.Plan) → i < length plans → plan ≡ get_or plans i plan →
+    map plan_tree (take (i + 1) plans) ≡ map plan_tree (take i plans) ++ plan_tree plan ∷ []
+one_more plans i plan within is =
+    ap (λ (n : ℕ). map plan_tree (take n plans)) (add-one i)
+    ∙ ap (map plan_tree) (take-suc plans i plan within ∙ ap (λ (p : code.Plan). take i plans ++ p ∷ []) (sym is))
+    ∙ map-append plan_tree (take i plans) (plan ∷ [])
+
+pub fields_step : (plans : List code.Plan) (i : ℕ) (plan : code.Plan) (most next : ℕ) → i < length plans →
+    plan ≡ get_or plans i plan →
+    AllByRecursion (HasAtMost most) (map plan_tree (take i plans)) → most ≤ next →
+    length (plan_tree plan).fields ≤ next →
+    AllByRecursion (HasAtMost next) (map plan_tree (take (i + 1) plans))
+fields_step plans i plan most next within is so_far larger fits =
+    subst (λ (all : List Plan). AllByRecursion (HasAtMost next) all) (sym (one_more plans i plan within is))
+    (all_and next (map plan_tree (take i plans)) (plan_tree plan)
+    (all_so most next larger (map plan_tree (take i plans)) so_far) fits)

@@ -6,4 +6,6 @@ pub mod Took
 pub mod Alike
 pub mod Least
 pub mod Keeping
+pub mod Laid
+pub mod Filled
 pub mod Variable

@@ -13,6 +13,7 @@ plan_named plans dest = do
   option_reader (plan_for plans dest k)
 
 -- The headers that are read and the bytes after them, or the cause for which they aren't.
-abbrev pub Contains : Result (List Header × List ℕ) Stray → Result (Unit {0}) Stray → List Header → List ℕ → Type 0
+abbrev pub Contains : {A : Type 0} → Result (List Header × List ℕ) Stray → Result A Stray → List Header → List ℕ →
+    Type 0
 Contains is_read (Ok _) headers behind = is_read ≡ Ok (headers, behind)
 Contains is_read (Err cause) headers behind = is_read ≡ Err cause

@@ -3,4 +3,6 @@ pub mod Contents
 pub mod Dealing
 pub mod Fits
 pub mod Keeping
+pub mod Laid
+pub mod Layouts
 pub mod Shortened

@@ -2,14 +2,27 @@
 
 ghost use Rattle.std.specs.Prelude.{◌≡◌, ◌+◌, ◌≤◌, ◌∷◌, ◌++◌, [], IfSome, length, flat_map, option_map, vec_len};
 ghost use Rattle.std.specs.Prelude.{vec_capacity};
+ghost use Rattle.std.specs.List.{AllByRecursion};
 ghost use Rattle.packet_mean.specs.Plan.{variable};
+ghost use Rattle.stack_shapes.specs.Trees.{plans_tree};
 ghost use Rattle.packet_short.specs.Fits.{alike, behind};
-ghost use Rattle.packet_short.specs.Keeping.{KeepsIf};
+ghost use Rattle.packet_short.specs.Keeping.{HasAtMost, KeepsIf};
 ghost use Rattle.packet_short.specs.Shortened.{KeepsVariable};
 
 use crate::agreement::agrees;
 use msg_core::{Fields, Header, Headers};
-use stack_shapes::Plan;
+use stack_shapes::{Plan, Plans};
+
+/// The most fields that a plan has.
+pub fn most_fields(plans: &Plans) -> usize
+    ensures { AllByRecursion (HasAtMost result) (plans_tree plans.now) }
+{
+    let mut most = 0;
+    for plan in plans.slice() {
+        most = most.max(plan.fields.len());
+    }
+    most
+}
 
 /// Puts a number after others, unless it is planned as a constant.
 fn keep_variable(planned: Option<u32>, number: u32, into: &mut Vec<u32>)

@@ -34,7 +34,7 @@ pub fn kind_of(dest: Dest) -> Kind
 }
 
 /// The print of packets of a kind with the tags of these headers.
-fn print_of(kind: Kind, headers: &Headers) -> Print
+pub(crate) fn print_of(kind: Kind, headers: &Headers) -> Print
     ensures { result.byte ≡ prints.print_of kind (map (λ h. h.tag) headers.now) }
 {
     let mut print = Print::of(kind);

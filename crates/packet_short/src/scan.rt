@@ -1,12 +1,17 @@
 //! Datagrams of both forms, without memory.
 
-ghost use Rattle.std.specs.Prelude.{◌≤◌, IfOk, length};
+ghost use Rattle.std.specs.Prelude.{◌≡◌, ◌≤◌, IfOk, length, vec_capacity};
+ghost use Rattle.std.specs.List.{AllByRecursion};
 ghost use Rattle.event_graph.specs.Answer.{stack_tree};
 ghost use Rattle.packet_full.specs.Scanned.{Scans};
+ghost use Rattle.packet_mean.specs.Plan.{kind_of};
 ghost use Rattle.packet_mean.specs.Received.{received};
 ghost use Rattle.stack_shapes.specs.Trees.{plans_tree};
+ghost use Rattle.packet_short.specs.Keeping.{HasAtMost};
+ghost use Rattle.packet_short.specs.Layouts.{AreLaidOut, IsReadAs, Reads};
 
-use crate::contents::contents;
+use crate::contents::{contents, known_contents};
+use crate::known::Known;
 use event_graph::Stack;
 use msg_core::Stray;
 use packet_full::{Opened, Scan, close, open};
@@ -37,4 +42,40 @@ pub fn scan_packet(
         Err(cause) => return Err(cause),
     }
     close(bytes, &front, &cursor, scan)
+}
+
+/// The same, by plans that are laid out. Of a short datagram it is told too which is the least plan that its packet
+/// fits, if that is known, and then a vector has the fields that this plan leaves variable, in place of what it held;
+/// else what it has is of no use. It takes no memory: there is to be room for the fields of each plan.
+pub fn scan_known(
+    known: &Known<'_>,
+    here: &Here,
+    bytes: &[u8],
+    scan: &mut Scan,
+    fields: &mut Vec<u32>,
+) -> Result<Option<u8>, Stray>
+    requires laid { AreLaidOut (stack_tree known.now.stack.now) (plans_tree known.now.plans.now)
+        known.now.layouts.now }
+    requires room { AllByRecursion (HasAtMost (vec_capacity fields.old)) (plans_tree known.now.plans.now) }
+    ensures read { Reads here.now bytes.now
+        (received (stack_tree known.now.stack.now) (plans_tree known.now.plans.now) here.now bytes.now)
+        result scan.new }
+    ensures within { IfOk result (λ _. scan.new.body ≤ length bytes.now) }
+    ensures known { IfOk result (λ number. IsReadAs (plans_tree known.now.plans.now) number
+        (kind_of scan.new.dest) scan.new.headers fields.new.items) }
+    ensures capacity { vec_capacity fields.new ≡ vec_capacity fields.old }
+{
+    known.stack.is_within_limits();
+    let Opened { front, mut cursor } = match open(here, bytes) {
+        Ok(opened) => opened,
+        Err(cause) => return Err(cause),
+    };
+    let number = match known_contents(known, &front, &mut cursor, &mut scan.headers, fields) {
+        Ok(number) => number,
+        Err(cause) => return Err(cause),
+    };
+    match close(bytes, &front, &cursor, scan) {
+        Ok(()) => Ok(number),
+        Err(cause) => Err(cause),
+    }
 }

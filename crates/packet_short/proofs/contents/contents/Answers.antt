@@ -22,18 +22,18 @@ pub returns-in_default-named : goal.returns-in_default-named
 returns-in_default-named c =
     no_plan (stack_tree c.args.stack.now) (plans_tree c.args.plans.now) (preamble_tree c.args.front.now)
     (left c.args.cursor.now)
-    (no_full _ c.if-front.false) c.in_default-named.ensures
+    (no_full _ c.if-front.false) c.in_default-named.ensures.plan
 
 pub returns-in_default-chain : goal.returns-in_default-chain
 returns-in_default-chain c =
     not_dealt (stack_tree c.args.stack.now) (plans_tree c.args.plans.now) (preamble_tree c.args.front.now)
     (left c.args.cursor.now) _ _
-    (no_full _ c.if-front.false) c.in-Some-named.ensures
+    (no_full _ c.if-front.false) c.in-Some-named.ensures.plan
     (rw (← c.of-planned.ensures.tags, ← c.of-planned.ensures.fields) c.in_default-chain.ensures.read)
 
 pub returns : goal.returns
 returns c =
     dealt_contents (stack_tree c.args.stack.now) (plans_tree c.args.plans.now) (preamble_tree c.args.front.now)
     (left c.args.cursor.now) _ _ _ _
-    (no_full _ c.if-front.false) c.in-Some-named.ensures
+    (no_full _ c.if-front.false) c.in-Some-named.ensures.plan
     (rw (← c.of-planned.ensures.tags, ← c.of-planned.ensures.fields) c.in-Some-chain.ensures.read)

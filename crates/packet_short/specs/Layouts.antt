@@ -1,0 +1,73 @@
+-- What it says of a stack and its plans that these are laid out.
+use Rattle.std.specs.Prelude.{◌≡◌, ℕ, true, List, [], map, flat_map, length, slice_get, position, Option, Some}
+use Rattle.std.specs.Prelude.{None, Result, Ok, Err}
+use Rattle.layer_ast.specs.declared.tokens.Kind.{Kind}
+use Rattle.layer_mean.specs.Tree.{LayerTree}
+use Rattle.msg_core.specs.declared.message.Header.{Header}
+use Rattle.msg_core.specs.declared.packet.Dest.{Dest}
+use Rattle.msg_core.specs.declared.packet.Packet.{Packet}
+use Rattle.msg_core.specs.declared.packet.Stray.{Stray}
+use Rattle.packet_full.specs.Scanned.{packet_scanned}
+use Rattle.packet_full.specs.declared.scan.Scan.{Scan}
+use Rattle.packet_mean.specs.Plan.{kind_of}
+use Rattle.packet_mean.specs.declared.here.Here.{Here}
+use Rattle.stack_mean.specs.Plan.{Plan}
+use Rattle.stack_shapes.specs.Prints.{IsNext, plan_print, print_of}
+use Rattle.packet_short.specs.Contents.{plan_named}
+use Rattle.packet_short.specs.Dealing.{dealing}
+use Rattle.packet_short.specs.Fits.{fits_headers}
+use Rattle.packet_short.specs.Keeping.{kept_by}
+use Rattle.packet_short.specs.Laid.{LooseTree, filled, with_variable, HasRoom}
+use Rattle.packet_short.specs.declared.layout.Loose.{Loose}
+use Rattle.packet_short.specs.declared.layout.Layout.{Layout}
+use Rattle.packet_short.specs.declared.layouts.Layouts.{Layouts}
+
+-- The loose headers of a layout.
+abbrev pub loose_tree : Loose → LooseTree
+loose_tree l = record { place = l.place; tag = l.tag; own = l.own.items }
+
+abbrev pub looses : Layout → List LooseTree
+looses layout = map loose_tree layout.loose.items
+
+-- The plan of a number is the first of the print of packets of a kind with the tags of these headers.
+abbrev pub IsFirst : List Plan → Kind → List Header → (k : ℕ) → Type 0
+IsFirst plans kind headers k = IsNext plans (print_of kind (map (λ h. h.tag) headers)) 0 (Some k)
+
+-- The plan of a number is laid out: to fill in its headers is to read the headers that the plan says, one after the
+-- other, whatever the bytes are. Where it is told to be the least, no plan before it has its print.
+pub record IsLaidOut (stack : List LayerTree) (plans : List Plan) (k : ℕ) (layout : Layout) : Type 0 where
+  pub plan : Plan
+  pub listed : slice_get plans k ≡ Some plan
+  pub reads : (bytes : List ℕ) → filled (looses layout) layout.headers [] bytes ≡
+      with_variable plan.fields (dealing stack 0 plan.tags plan.fields bytes)
+  pub room : HasRoom (length plan.fields) (length layout.headers) (looses layout)
+  pub least : layout.is_least ≡ true → IsNext plans (plan_print plan) 0 (Some k)
+
+-- So is each plan of which there is a layout.
+abbrev pub AreLaidOut : List LayerTree → List Plan → Layouts → Type 0
+AreLaidOut stack plans layouts = (k : ℕ) (layout : Layout) → slice_get layouts.list.items k ≡ Some (Some layout) →
+    IsLaidOut stack plans k layout
+
+-- What is known of headers of a packet of a kind after they were read: the number of the least plan that they fit, or
+-- nothing.
+abbrev pub IsLeastFor : List Plan → Option ℕ → Kind → List Header → Type 0
+IsLeastFor plans None kind headers = Unit {0}
+IsLeastFor plans (Some k) kind headers = Some k ≡ position (fits_headers kind headers) plans
+
+-- The same; and of their fields those are kept then that this plan leaves variable.
+abbrev pub IsReadAs : List Plan → Option ℕ → Kind → List Header → (kept : List ℕ) → Type 0
+IsReadAs plans None kind headers kept = Unit {0}
+IsReadAs plans (Some k) kind headers kept =
+    IsLeastFor plans (Some k) kind headers × (kept ≡ kept_by plans (Some k) (flat_map (λ h. h.fields) headers))
+
+-- The plan whose number is read is one of the destination's kind, and it is laid out.
+pub record IsNamed (stack : List LayerTree) (plans : List Plan) (dest : Dest) (k : ℕ) (layout : Layout)
+    (bytes behind : List ℕ) : Type 0 where
+  pub laid : IsLaidOut stack plans k layout
+  pub named : plan_named plans dest bytes ≡ Some (laid.plan, behind)
+  pub kind : laid.plan.kind ≡ kind_of dest
+
+-- What reading into a scan answers: the packet that it tells of is the one that is received, or the cause is.
+abbrev pub Reads : Here → List ℕ → Result Packet Stray → Result (Option ℕ) Stray → Scan → Type 0
+Reads here bytes is_received (Ok number) scan = is_received ≡ Ok (packet_scanned here bytes scan)
+Reads here bytes is_received (Err cause) scan = is_received ≡ Err cause
