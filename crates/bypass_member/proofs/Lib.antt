@@ -2,6 +2,7 @@ pub mod Pools
 pub mod Standing
 pub mod Gathering
 pub mod Resetting
+pub mod Restarting
 pub mod Running
 pub mod Entering
 pub mod Members

@@ -1,6 +1,7 @@
 -- Steps of a placed member, taken or refused.
 use Rattle.std.proofs.Common.{◌≡◌, ◌∙◌, ℕ, ◌+◌, ◌<◌, Bool, List, Option, Some, Result, Ok, Err, sym, ap, subst}
 use Rattle.std.specs.Prelude.{◌^◌}
+use Rattle.std.specs.List.{AllByRecursion}
 use Rattle.std.specs.Rc.{rc_value}
 use Rattle.msg_core.specs.View.{member_count, most_members}
 use Rattle.layer_mean.specs.Tree.{LayerTree}
@@ -16,7 +17,10 @@ use Rattle.member_laws.specs.Members.{IsView, IsInput, IsEntered, IsChainedMembe
 use Rattle.member_laws.proofs.Members.{opened_is_chained}
 use Rattle.member_laws.proofs.Numbered.{inputs_are_in_range}
 use Rattle.file_layer.specs.Making.{Making}
-use Rattle.bypass_member.specs.Judged.{entry_meant}
+use Rattle.packet_short.specs.Keeping.{HasAtMost}
+use Rattle.packet_short.specs.Layouts.{AreLaidOut}
+use Rattle.packet_short.specs.declared.layouts.Layouts.{Layouts}
+use Rattle.bypass_member.specs.Judged.{entry_meant, IsKnown}
 use Rattle.bypass_member.specs.Making.{IsOpening}
 use Rattle.bypass_codes.specs.Codes.{CodesTree}
 use Rattle.bypass_member.specs.Modes.{IsTakenSo}
@@ -201,3 +205,20 @@ pub entered_same : (stack stack' : Stack) (plans plans' : Plans) (here here' : H
     entered_input (stack_tree stack') (plans_tree plans') here' input ≡ r
 entered_same stack stack' plans plans' here here' input r at with there is =
     (λ i. entered_input (stack_tree (sym at i)) (plans_tree (sym with i)) (sym there i) input) ∙ is
+
+-- plans are laid out, and there is room for their fields, where they are equal to those for which this is so
+pub laid_for : (stack stack' : Stack) (plans plans' : Plans) (layouts : Layouts) → stack ≡ stack' → plans ≡ plans' →
+    AreLaidOut (stack_tree stack') (plans_tree plans') layouts →
+    AreLaidOut (stack_tree stack) (plans_tree plans) layouts
+laid_for stack stack' plans plans' layouts at with is =
+    subst (λ (s : Stack). AreLaidOut (stack_tree s) (plans_tree plans) layouts) (sym at)
+    (subst (λ (p : Plans). AreLaidOut (stack_tree stack') (plans_tree p) layouts) (sym with) is)
+
+pub room_for : (most : ℕ) (plans plans' : Plans) → plans ≡ plans' →
+    AllByRecursion (HasAtMost most) (plans_tree plans') → AllByRecursion (HasAtMost most) (plans_tree plans)
+room_for most plans plans' with is = subst (λ (p : Plans). AllByRecursion (HasAtMost most) (plans_tree p)) (sym with) is
+
+-- so is what reading told of a packet
+pub known_for : (plans plans' : Plans) (kept : List ℕ) (entry : Entry) → plans ≡ plans' →
+    IsKnown (plans_tree plans) kept entry → IsKnown (plans_tree plans') kept entry
+known_for plans plans' kept entry with is = subst (λ (p : Plans). IsKnown (plans_tree p) kept entry) with is

@@ -80,7 +80,7 @@ body_fits stack here (Cast body) is = is.within
 body_fits stack here (Send to body) is = is.1.within
 body_fits stack here Leave is = omega arith
 body_fits stack here (Tick moment) is = omega arith
-body_fits stack here (Packet scan bytes) is = is.chained.body
+body_fits stack here (Packet scan bytes known) is = is.chained.body
 
 -- a run may begin with each first task
 enters_stack : (stack : List LayerTree) (me : ℕ) (what : Entered) →

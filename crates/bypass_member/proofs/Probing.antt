@@ -129,4 +129,4 @@ body_short stack here (Cast body) is = is.within
 body_short stack here (Send to body) is = is.1.within
 body_short stack here Leave is = omega arith
 body_short stack here (Tick moment) is = omega arith
-body_short stack here (Packet scan bytes) is = is.chained.body
+body_short stack here (Packet scan bytes known) is = is.chained.body

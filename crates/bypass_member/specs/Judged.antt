@@ -2,6 +2,9 @@
 use Rattle.std.specs.Prelude.{◌≡◌, ℕ, ◌≤◌, List, [], drop, length, Result, Ok, Err}
 use Rattle.packet_mean.specs.declared.here.Here.{Here}
 use Rattle.packet_full.specs.Scanned.{packet_scanned}
+use Rattle.packet_mean.specs.Plan.{kind_of}
+use Rattle.packet_short.specs.Layouts.{IsLeastFor, IsReadAs}
+use Rattle.stack_mean.specs.Plan.{Plan}
 use Rattle.run_mean.specs.Member as member
 use Rattle.run_mean.specs.Member.{Entered, app_cast, app_send, app_leave, clock_tick, from_peer}
 use Rattle.view_core.specs.Refusals.{refusal_meant}
@@ -14,7 +17,7 @@ entry_meant here (Cast body) = app_cast body.now
 entry_meant here (Send to body) = app_send to body.now
 entry_meant here Leave = app_leave
 entry_meant here (Tick moment) = clock_tick moment
-entry_meant here (Packet scan bytes) = from_peer (packet_scanned here bytes.now scan.now)
+entry_meant here (Packet scan bytes known) = from_peer (packet_scanned here bytes.now scan.now)
 
 -- What is judged is what enters, or the reason for which nothing does.
 abbrev pub Judges : Here → Result Entered member.Refusal → Result Entry Refusal → Type 0
@@ -27,8 +30,18 @@ body_of (Cast body) = body.now
 body_of (Send to body) = body.now
 body_of Leave = []
 body_of (Tick moment) = []
-body_of (Packet scan bytes) = drop scan.now.body bytes.now
+body_of (Packet scan bytes known) = drop scan.now.body bytes.now
 
 abbrev pub LiesWithin : Entry → Type 0
-LiesWithin (Packet scan bytes) = scan.now.body ≤ length bytes.now
+LiesWithin (Packet scan bytes known) = scan.now.body ≤ length bytes.now
 LiesWithin _ = Unit {0}
+
+-- What reading told of a packet's plan holds, and these are the fields that the plan leaves variable.
+abbrev pub IsKnown : List Plan → (kept : List ℕ) → Entry → Type 0
+IsKnown plans kept (Packet scan bytes known) = IsReadAs plans known (kind_of scan.now.dest) scan.now.headers kept
+IsKnown plans kept _ = Unit {0}
+
+-- What it told of the plan alone.
+abbrev pub IsPlanned : List Plan → Entry → Type 0
+IsPlanned plans (Packet scan bytes known) = IsLeastFor plans known (kind_of scan.now.dest) scan.now.headers
+IsPlanned plans _ = Unit {0}

@@ -8,6 +8,7 @@ pub mod Working
 pub mod Viewing
 pub mod Gathering
 pub mod Resetting
+pub mod Restarting
 pub mod Behind
 pub mod Stepping
 pub mod Trying

@@ -5,6 +5,7 @@ use Rattle.std.specs.declared.alloc.AllocError.{AllocError}
 use Rattle.std.specs.declared.alloc.Global.{Global}
 use Rattle.std.specs.declared.vec.Vec.{Vec}
 use Rattle.slot_pool.specs.Held.{Held}
+use Rattle.msg_core.specs.declared.message.Memory.{Memory}
 use Rattle.msg_core.specs.View.{member_count}
 use Rattle.msg_core.specs.declared.packet.View.{View}
 use Rattle.layer_mean.specs.Tree.{LayerTree}
@@ -57,7 +58,6 @@ abbrev pub OpensWorks : (stack : List LayerTree) (view : View) (id : ℕ) (old n
 OpensWorks stack view id old new (Ok w) = IsOpening stack view id old new w
 OpensWorks stack view id old new (Err e) = MadeAtMost (length stack) old new
 
-abbrev pub OpensKit : (stack : List LayerTree) (view : View) (id : ℕ) (old new : Making) → Result Kit AllocError →
-    Type 0
+abbrev pub OpensKit : (stack : List LayerTree) (view : View) (id : ℕ) (old new : Making) → Result Kit Memory → Type 0
 OpensKit stack view id old new (Ok kit) = IsOpening stack view id old new kit.works
 OpensKit stack view id old new (Err e) = MadeAtMost (length stack) old new

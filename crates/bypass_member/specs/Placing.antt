@@ -10,6 +10,7 @@ use Rattle.stack_shapes.specs.Trees.{plans_tree}
 use Rattle.stack_shapes.specs.Starts.{starts_of, starts_tree}
 use Rattle.stack_shapes.specs.Shapes.{short_shapes}
 use Rattle.member_reads.specs.Shown.{member_in}
+use Rattle.packet_short.specs.Layouts.{AreLaidOut}
 use Rattle.bypass_codes.specs.Codes.{CodesTree}
 use Rattle.bypass_member.specs.Behind.{rank_of}
 use Rattle.bypass_member.specs.Modes.{mode_with}
@@ -44,8 +45,8 @@ IsRankIn None id r = Unit {0}
 IsRankIn (Some view) id r = (r ≡ rank_of view id) × (r < most_members)
 
 -- Its stack is typed, the plans, the entries, the numbers of their first plans and the code are the stack's, its rank
--- is that in its view, its bare headers are none, and it is between two steps, in a view with chained states that are
--- its own, or in none.
+-- is that in its view, its bare headers are none, its plans are laid out, and it is between two steps, in a view with
+-- chained states that are its own, or in none.
 pub record IsMember (m : Inside) : Type 0 where
   pub typed : TypedStack (stack_tree (rc_value m.stack))
   pub plans_are : plans_tree (rc_value m.plans) ≡ plans_of (stack_tree (rc_value m.stack))
@@ -56,4 +57,5 @@ pub record IsMember (m : Inside) : Type 0 where
   pub bare : m.bare ≡ []
   pub ready : IsReady (stack_tree (rc_value m.stack)) m.most m.works
   pub spare : IsSpare (codes_kept m) (plans_tree (rc_value m.plans)) m.scratch
+  pub laid : AreLaidOut (stack_tree (rc_value m.stack)) (plans_tree (rc_value m.plans)) m.layouts
   pub at : IsAt (stack_tree (rc_value m.stack)) m.most m.id m.view (states_in m.works)

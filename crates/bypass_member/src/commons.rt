@@ -1,6 +1,6 @@
 //! Common steps, by the code of their bypasses.
 
-ghost use Rattle.std.specs.Prelude.{◌≡◌, ◌≤◌, List, vec_capacity};
+ghost use Rattle.std.specs.Prelude.{◌≡◌, ℕ, ◌≤◌, List, flat_map, vec_capacity};
 ghost use Rattle.std.specs.List.{AllByRecursion};
 ghost use Rattle.member_laws.specs.Members.{IsEntered};
 ghost use Rattle.msg_core.specs.View.{most_members};
@@ -13,8 +13,11 @@ ghost use Rattle.stack_shapes.specs.Trees.{plans_tree};
 ghost use Rattle.trace_reads.specs.Registers.{input_of};
 ghost use Rattle.bypass_codes.specs.Room.{ServesAll};
 ghost use Rattle.handler_laws.specs.Handled.{step_input};
-ghost use Rattle.bypass_member.specs.Judged.{body_of, entry_meant, LiesWithin};
-ghost use Rattle.packet_short.specs.Keeping.{HasAtMost};
+ghost use Rattle.bypass_member.specs.Judged.{body_of, entry_meant, IsKnown, LiesWithin};
+ghost use Rattle.packet_full.specs.Scanned.{packet_scanned};
+ghost use Rattle.packet_mean.specs.Plan.{kind_of, least_fit};
+ghost use Rattle.packet_short.specs.Keeping.{HasAtMost, kept_by};
+ghost use Rattle.packet_short.specs.Layouts.{IsReadAs};
 ghost use Rattle.bypass_member.specs.Serving.{IsSpare};
 ghost use Rattle.bypass_member.specs.Stepping.{codes_in, plans_in, stack_of, IsGround};
 ghost use Rattle.bypass_member.specs.Trying.{fields_given, AreGiven, Handles, IsBegun, IsTried, MakesCommon, Tries};
@@ -28,7 +31,7 @@ use crate::works::Works;
 use bypass_codes::Codes;
 use handler_laws::steps_are_handled;
 use layer_mean::Case;
-use packet_full::member_count;
+use packet_full::{Scan, member_count};
 use packet_mean::Here;
 use packet_short::fits_with_fields;
 use stack_shapes::{EntryOf, Plans};
@@ -44,23 +47,52 @@ pub(crate) struct Tried<'c, 'g> {
     pub(crate) given: Given<'g>,
 }
 
+/// The number of the least plan that a packet fits of which a scan tells, and the fields that this leaves variable are
+/// kept; where reading told it, they are.
+fn keep_packet(plans: &Plans, scan: &Scan, known: Option<u8>, fields: &mut Vec<u32>) -> Option<u8>
+    requires room { AllByRecursion (HasAtMost (vec_capacity fields.old)) (plans_tree plans.now) }
+    requires known { IsReadAs (plans_tree plans.now) known (kind_of scan.now.dest) scan.now.headers fields.old.items }
+    ensures fits { (here : stands.Here) (bytes : List ℕ) →
+        result ≡ least_fit (plans_tree plans.now) (packet_scanned here bytes scan.now) }
+    ensures fields { fields.new.items ≡
+        kept_by (plans_tree plans.now) result (flat_map (λ h. h.fields) scan.now.headers) }
+    ensures capacity { vec_capacity fields.new ≡ vec_capacity fields.old }
+{
+    match known {
+        Some(number) => Some(number),
+        None => fits_with_fields(plans, scan, fields),
+    }
+}
+
 /// The entry by which it is told whether a step is common. The fields of a packet that its plan leaves variable are
 /// kept; others than packets have none.
 #[inline(always)]
 pub(crate) fn keep_entry(plans: &Plans, entry: &Entry<'_>, fields: &mut Vec<u32>) -> EntryOf
     requires room { AllByRecursion (HasAtMost (vec_capacity fields.old)) (plans_tree plans.now) }
+    requires known { IsKnown (plans_tree plans.now) fields.old.items entry.now }
     ensures what { (here : stands.Here) → result ≡ entry_for (plans_tree plans.now) (entry_meant here entry.now) }
     ensures fields { (here : stands.Here) →
         fields.new.items ≡ fields_given (plans_tree plans.now) (entry_meant here entry.now) }
     ensures capacity { vec_capacity fields.new ≡ vec_capacity fields.old }
 {
-    fields.clear();
     match entry {
-        Entry::Cast(_) => EntryOf::Cast,
-        Entry::Send(_, _) => EntryOf::Send,
-        Entry::Leave => EntryOf::None,
-        Entry::Tick(_) => EntryOf::None,
-        Entry::Packet(scan, _) => match fits_with_fields(plans, scan, fields) {
+        Entry::Cast(_) => {
+            fields.clear();
+            EntryOf::Cast
+        }
+        Entry::Send(_, _) => {
+            fields.clear();
+            EntryOf::Send
+        }
+        Entry::Leave => {
+            fields.clear();
+            EntryOf::None
+        }
+        Entry::Tick(_) => {
+            fields.clear();
+            EntryOf::None
+        }
+        Entry::Packet(scan, _, known) => match keep_packet(plans, scan, *known, fields) {
             Some(number) => EntryOf::Plan(number),
             None => EntryOf::None,
         },
@@ -72,6 +104,7 @@ pub(crate) fn keep_entry(plans: &Plans, entry: &Entry<'_>, fields: &mut Vec<u32>
 #[inline(always)]
 pub(crate) fn entry_in(ground: &Ground<'_>, entry: &Entry<'_>, fields: &mut Vec<u32>) -> EntryOf
     requires room { AllByRecursion (HasAtMost (vec_capacity fields.old)) (plans_in ground.now) }
+    requires known { IsKnown (plans_in ground.now) fields.old.items entry.now }
     ensures what { (here : stands.Here) → result ≡ entry_for (plans_in ground.now) (entry_meant here entry.now) }
     ensures fields { AreGiven ground.now entry.now fields.new.items }
     ensures capacity { vec_capacity fields.new ≡ vec_capacity fields.old }
@@ -91,7 +124,7 @@ fn peer_of(here: &Here, entry: &Entry<'_>) -> u32
         Entry::Send(to, _) => *to,
         Entry::Leave => 0,
         Entry::Tick(_) => 0,
-        Entry::Packet(scan, _) => u32::from(scan.sender),
+        Entry::Packet(scan, _, _) => u32::from(scan.sender),
     }
 }
 
@@ -105,7 +138,7 @@ fn body_in<'a>(entry: &'a Entry<'_>) -> &'a [u8]
         Entry::Send(_, body) => body,
         Entry::Leave => &[],
         Entry::Tick(_) => &[],
-        Entry::Packet(scan, bytes) => &bytes[scan.body as usize..],
+        Entry::Packet(scan, bytes, _) => &bytes[scan.body as usize..],
     }
 }
 

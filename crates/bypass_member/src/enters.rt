@@ -79,7 +79,7 @@ pub(crate) fn enter(
         }
         Entry::Leave => tasks.push_bare(leaving(stack)),
         Entry::Tick(moment) => tasks.push_bare(ticking(moment)),
-        Entry::Packet(scan, bytes) => enter_packet(scan, bytes, tasks, pool),
+        Entry::Packet(scan, bytes, _) => enter_packet(scan, bytes, tasks, pool),
     }
 }
 

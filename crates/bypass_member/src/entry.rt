@@ -1,24 +1,27 @@
 //! What a member's input enters as.
 
-ghost use Rattle.std.specs.Prelude.{◌≡◌, ◌≤◌, nat_lt, length, IfOk};
+ghost use Rattle.std.specs.Prelude.{◌≡◌, ℕ, ◌≤◌, nat_lt, List, length, IfOk, vec_capacity};
+ghost use Rattle.std.specs.List.{AllByRecursion};
 ghost use Rattle.event_graph.specs.Answer.{stack_tree};
 ghost use Rattle.stack_shapes.specs.Entries.{entry_for};
 ghost use Rattle.member_laws.specs.Members.{IsInput};
 ghost use Rattle.msg_core.specs.Parts.{longest_body};
-ghost use Rattle.packet_full.specs.Scanned.{Scans};
+ghost use Rattle.packet_full.specs.Scanned.{packet_scanned};
+ghost use Rattle.packet_mean.specs.Plan.{kind_of, least_fit};
 ghost use Rattle.packet_mean.specs.Received.{received};
 ghost use Rattle.packet_mean.specs.Spelling.{AreBytes};
 ghost use Rattle.packet_mean.specs.declared.here.Here.{Here};
 ghost use Rattle.stack_shapes.specs.Trees.{plans_tree};
+ghost use Rattle.packet_short.specs.Keeping.{HasAtMost};
+ghost use Rattle.packet_short.specs.Layouts.{AreLaidOut, IsLeastFor, IsReadAs, Reads};
 ghost use Rattle.run_mean.specs.Member.{entered_input};
 ghost use Rattle.view_core.specs.Steps.{input_meant};
-ghost use Rattle.bypass_member.specs.Judged.{entry_meant, Judges, LiesWithin};
+ghost use Rattle.bypass_member.specs.Judged.{entry_meant, IsKnown, IsPlanned, Judges, LiesWithin};
 
-use event_graph::Stack;
 use msg_core::{LONGEST_BODY, Stray};
 use packet_full::Scan;
 use packet_mean::Here;
-use packet_short::{fits_scan, scan_packet};
+use packet_short::{Known, fits_scan, scan_known};
 use stack_shapes::{EntryOf, Plans};
 use view_core::{Input, Refusal};
 
@@ -29,8 +32,9 @@ pub(crate) enum Entry<'b> {
     Send(u32, &'b [u8]),
     Leave,
     Tick(u32),
-    /// What a datagram says, and the datagram, in which its body lies.
-    Packet(&'b Scan, &'b [u8]),
+    /// What a datagram says, the datagram, in which its body lies, and the number of the least plan that its packet
+    /// fits, if reading it told that.
+    Packet(&'b Scan, &'b [u8], Option<u8>),
 }
 
 /// Whether a body has more bytes than one may have.
@@ -43,33 +47,46 @@ fn is_too_big(body: &[u8]) -> bool
 
 /// Reads what a datagram says to a member into `scan`, or tells the first cause for which it is refused.
 fn read(
-    stack: &Stack,
-    plans: &Plans,
+    known: &Known<'_>,
     here: &Here,
     bytes: &[u8],
     scan: &mut Scan,
-) -> Result<(), Stray>
-    ensures read { Scans here.now bytes.now (received (stack_tree stack.now) (plans_tree plans.now) here.now bytes.now)
+    fields: &mut Vec<u32>,
+) -> Result<Option<u8>, Stray>
+    requires laid { AreLaidOut (stack_tree known.now.stack.now) (plans_tree known.now.plans.now)
+        known.now.layouts.now }
+    requires room { AllByRecursion (HasAtMost (vec_capacity fields.old)) (plans_tree known.now.plans.now) }
+    ensures read { Reads here.now bytes.now
+        (received (stack_tree known.now.stack.now) (plans_tree known.now.plans.now) here.now bytes.now)
         result scan.new }
     ensures within { IfOk result (λ _. scan.new.body ≤ length bytes.now) }
+    ensures known { IfOk result (λ number. IsReadAs (plans_tree known.now.plans.now) number
+        (kind_of scan.new.dest) scan.new.headers fields.new.items) }
+    ensures capacity { vec_capacity fields.new ≡ vec_capacity fields.old }
     ensures bytes { AreBytes bytes.now }
 {
-    scan_packet(stack, plans, here, bytes, scan)
+    scan_known(known, here, bytes, scan, fields)
 }
 
-/// What a member in a view makes of an input, or why it refuses it. A datagram is read into `scan`.
+/// What a member in a view makes of an input, or why it refuses it. A datagram is read into `scan`; where that tells
+/// the least plan that its packet fits, the fields that this leaves variable are kept.
 #[inline(always)]
 pub(crate) fn judge<'b>(
-    stack: &Stack,
-    plans: &Plans,
+    known: &Known<'_>,
     here: &Here,
     input: Input<'b>,
     scan: &'b mut Scan,
+    fields: &mut Vec<u32>,
 ) -> Result<Entry<'b>, Refusal>
-    ensures judged { Judges here.now
-        (entered_input (stack_tree stack.now) (plans_tree plans.now) here.now (input_meant input.entry)) result }
+    requires laid { AreLaidOut (stack_tree known.now.stack.now) (plans_tree known.now.plans.now)
+        known.now.layouts.now }
+    requires room { AllByRecursion (HasAtMost (vec_capacity fields.old)) (plans_tree known.now.plans.now) }
+    ensures judged { Judges here.now (entered_input (stack_tree known.now.stack.now)
+        (plans_tree known.now.plans.now) here.now (input_meant input.entry)) result }
     ensures lies { IfOk result LiesWithin }
+    ensures known { IfOk result (IsKnown (plans_tree known.now.plans.now) fields.new.items) }
     ensures input { IsInput (input_meant input.entry) }
+    ensures capacity { vec_capacity fields.new ≡ vec_capacity fields.old }
 {
     match input {
         Input::Cast(body) => {
@@ -86,16 +103,29 @@ pub(crate) fn judge<'b>(
         }
         Input::Leave => Ok(Entry::Leave),
         Input::Tick(moment) => Ok(Entry::Tick(moment)),
-        Input::Datagram(bytes) => match read(stack, plans, here, bytes, scan) {
-            Ok(()) => Ok(Entry::Packet(scan, bytes)),
+        Input::Datagram(bytes) => match read(known, here, bytes, scan, fields) {
+            Ok(number) => Ok(Entry::Packet(scan, bytes, number)),
             Err(cause) => Err(Refusal::Stray(cause)),
         },
+    }
+}
+
+/// The number of the least plan that a packet fits of which a scan tells, if it isn't known, is found.
+fn least_of(plans: &Plans, scan: &Scan, known: Option<u8>) -> Option<u8>
+    requires { IsLeastFor (plans_tree plans.now) known (kind_of scan.now.dest) scan.now.headers }
+    ensures { (here : Here) (bytes : List ℕ) →
+        result ≡ least_fit (plans_tree plans.now) (packet_scanned here bytes scan.now) }
+{
+    match known {
+        Some(number) => Some(number),
+        None => fits_scan(plans, scan),
     }
 }
 
 /// The entry by which it is told whether a step is common.
 #[inline(always)]
 pub(crate) fn entry_of(plans: &Plans, entry: &Entry<'_>) -> EntryOf
+    requires known { IsPlanned (plans_tree plans.now) entry.now }
     ensures { (here : Here) → result ≡ entry_for (plans_tree plans.now) (entry_meant here entry.now) }
 {
     match entry {
@@ -103,7 +133,7 @@ pub(crate) fn entry_of(plans: &Plans, entry: &Entry<'_>) -> EntryOf
         Entry::Send(_, _) => EntryOf::Send,
         Entry::Leave => EntryOf::None,
         Entry::Tick(_) => EntryOf::None,
-        Entry::Packet(scan, _) => match fits_scan(plans, scan) {
+        Entry::Packet(scan, _, known) => match least_of(plans, scan, *known) {
             Some(number) => EntryOf::Plan(number),
             None => EntryOf::None,
         },

@@ -3,6 +3,7 @@
 ghost use Rattle.std.specs.Prelude.{◌≡◌};
 ghost use Rattle.bypass_member.specs.declared.error.OpenError.TheVariants as open_error;
 
+use msg_core::Memory;
 use std::alloc::AllocError;
 use thiserror::Error;
 
@@ -14,6 +15,14 @@ pub enum OpenError {
     TooLarge,
     #[error("no memory")]
     Memory,
+}
+
+impl From<Memory> for OpenError {
+    ghost from_gives = { λ _ e. e ≡ open_error.Memory };
+
+    fn from(_: Memory) -> OpenError {
+        OpenError::Memory
+    }
 }
 
 impl From<AllocError> for OpenError {

@@ -12,6 +12,7 @@ mod member;
 mod opening;
 mod opens;
 mod probes;
+mod restarts;
 mod runs;
 mod scratch;
 mod steps;

@@ -6,6 +6,7 @@ use crate::ground::{Ground, Took, follow, lent, rank_in};
 use crate::opening::Opening;
 use crate::opens::{Kit, close_works, open_kit};
 use crate::probes::{Attempt, probed_of, try_common};
+use crate::restarts::restart_works;
 use crate::scratch::{Scratch, close_scratch, share};
 use crate::steps::take;
 use crate::works::Works;
@@ -16,6 +17,7 @@ use member_reads::Shown;
 use msg_core::{Headers, View};
 use packet_full::{Scan, member_count};
 use packet_mean::Here;
+use packet_short::{Known, Layouts};
 use stack_checks::StackChecks;
 use stack_shapes::{EntryShapes, PlanStarts, Plans};
 use std::alloc::Global;
@@ -47,6 +49,8 @@ pub struct Member {
     rank: u8,
     /// What the last datagram said.
     scan: Scan,
+    /// Its plans, laid out where it runs by code.
+    layouts: Layouts,
     /// No headers.
     bare: Headers,
     works: Works,
@@ -85,6 +89,7 @@ impl Member {
     ghost use Rattle.bypass_member.specs.Opening.{CanOpen, Opens};
     ghost use Rattle.bypass_member.specs.Placed.{Steps, StandsAt};
     ghost use Rattle.bypass_member.specs.Probing.{ProbesMember, StandsWhere};
+    ghost use Rattle.bypass_member.specs.Restarting.{Restarts};
 
     /// The member of a group that has this id, in its first view, its layers made by the maker of the group's stack. It
     /// runs by the code of the stack's bypasses, if the opening has it. All memory is taken here. Err where its layers
@@ -110,7 +115,11 @@ impl Member {
         let entries = opening.entries.clone()?;
         let codes = share(opening.codes)?;
         let kit = open_kit(alloc, maker, opening, view, id, rows)?;
-        let Kit { works, scratch } = kit;
+        let Kit {
+            works,
+            scratch,
+            layouts,
+        } = kit;
         Ok(Member {
             stack,
             plans,
@@ -124,6 +133,7 @@ impl Member {
             view: Some(view),
             rank: rank_in(view, id),
             scan: Scan::none(),
+            layouts,
             bare: Headers::none(),
             works,
             scratch,
@@ -150,7 +160,18 @@ impl Member {
             view,
             rank: self.rank,
         };
-        let entry = match judge(&self.stack, &self.plans, &here, input, &mut self.scan) {
+        let known = Known {
+            stack: &self.stack,
+            plans: &self.plans,
+            layouts: &self.layouts,
+        };
+        let entry = match judge(
+            &known,
+            &here,
+            input,
+            &mut self.scan,
+            &mut self.scratch.fields,
+        ) {
             Ok(entry) => entry,
             Err(reason) => return Stepped::Refused(reason),
         };
@@ -201,7 +222,18 @@ impl Member {
             view,
             rank: self.rank,
         };
-        let entry = match judge(&self.stack, &self.plans, &here, input, &mut self.scan) {
+        let known = Known {
+            stack: &self.stack,
+            plans: &self.plans,
+            layouts: &self.layouts,
+        };
+        let entry = match judge(
+            &known,
+            &here,
+            input,
+            &mut self.scan,
+            &mut self.scratch.fields,
+        ) {
             Ok(entry) => entry,
             Err(_) => return Probed::Other,
         };
@@ -232,6 +264,19 @@ impl Member {
         }
     }
 
+    /// Begins again in a view of no more members than its first one had, in the memory that it has, and answers whether
+    /// it did. Where it didn't, since it isn't in that view or has come into one of fewer members, nothing has changed.
+    pub fn restart(&mut self, view: View) -> bool
+        ensures { Restarts view self.old self.new result }
+    {
+        if restart_works(&mut self.works, &self.stack, self.most, view, self.id) {
+            self.view = Some(view);
+            self.rank = rank_in(view, self.id);
+            return true;
+        }
+        false
+    }
+
     /// Where it is, and what its layers keep.
     pub fn shown(&self) -> Shown<'_>
         ensures { result ≡ self.now.member }
@@ -254,6 +299,7 @@ impl Member {
             view: _,
             rank: _,
             scan: _,
+            layouts: _,
             bare: _,
             works,
             scratch,

@@ -8,6 +8,7 @@ ghost use Rattle.event_graph.specs.Answer.{stack_tree};
 ghost use Rattle.file_layer.specs.Layer.{refs_of, IsInOrder};
 ghost use Rattle.file_layer.specs.Making.{making};
 ghost use Rattle.msg_core.specs.View as members;
+ghost use Rattle.packet_short.specs.Layouts.{AreLaidOut};
 ghost use Rattle.slot_pool.specs.References.{Covers};
 ghost use Rattle.stack_mean.specs.Acceptance.{largest_weight, rows_of, most_rows};
 ghost use Rattle.bypass_member.specs.Making.{MakesAll, OpensKit, OpensWorks};
@@ -20,8 +21,9 @@ use crate::scratch::{Scratch, close_scratch, open_scratch};
 use crate::works::Works;
 use event_graph::Stack;
 use file_layer::{FileLayer, Maker};
-use msg_core::View;
+use msg_core::{Memory, View};
 use packet_full::member_count;
+use packet_short::Layouts;
 use pool_message::Events;
 use slot_pool::Pool;
 use stack_queue::{Tasks, events_for};
@@ -152,10 +154,21 @@ pub(crate) fn open_works(
     }
 }
 
-/// What a member works with, and what runs of its code keep.
+/// What a member works with, what runs of its code keep, and its plans, laid out where it runs by code.
 pub(crate) struct Kit {
     pub(crate) works: Works,
     pub(crate) scratch: Scratch,
+    pub(crate) layouts: Layouts,
+}
+
+/// The plans of a group that is to be opened, laid out where its members run by code.
+fn lay_out(alloc: Global, opening: Opening<'_>) -> Result<Layouts, Memory>
+    ensures { IfOk result (AreLaidOut (stack_in opening.entry) (plans_in opening.entry)) }
+{
+    match opening.codes {
+        Some(_) => Layouts::of(alloc, opening.stack, opening.plans),
+        None => Ok(Layouts::none(alloc)),
+    }
 }
 
 /// All that a member of a view works with.
@@ -166,20 +179,26 @@ pub(crate) fn open_kit(
     view: View,
     id: u8,
     rows: u32,
-) -> Result<Kit, AllocError>
+) -> Result<Kit, Memory>
     requires opening { CanOpen (2 ^ 62) (making maker.old) opening }
     requires member { is_some (members.rank view id) ≡ true }
     requires rows { rows ≡ rows_of (stack_in opening) (members.member_count view) }
     requires few { rows ≤ most_rows }
     ensures works { OpensKit (stack_in opening.entry) view id (making maker.old) (making maker.new) result }
     ensures spare { IfOk result (λ kit. IsSpare (codes_in opening.entry) (plans_in opening.entry) kit.scratch) }
+    ensures laid { IfOk result (λ kit. AreLaidOut (stack_in opening.entry) (plans_in opening.entry) kit.layouts) }
 {
+    let layouts = lay_out(alloc, opening)?;
     let scratch = open_scratch(alloc, opening.codes, opening.plans)?;
     match open_works(alloc, maker, opening.stack, view, id, rows) {
-        Ok(works) => Ok(Kit { works, scratch }),
-        Err(error) => {
+        Ok(works) => Ok(Kit {
+            works,
+            scratch,
+            layouts,
+        }),
+        Err(_) => {
             close_scratch(scratch);
-            Err(error)
+            Err(Memory)
         }
     }
 }

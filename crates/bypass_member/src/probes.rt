@@ -12,7 +12,7 @@ ghost use Rattle.stack_mean.specs.Acceptance.{largest_weight};
 ghost use Rattle.stack_mean.specs.Plan as mean;
 ghost use Rattle.stack_shapes.specs.Entries.{entry_for};
 ghost use Rattle.bypass_member.specs.Attempting.{Attempts};
-ghost use Rattle.bypass_member.specs.Judged.{entry_meant, LiesWithin};
+ghost use Rattle.bypass_member.specs.Judged.{entry_meant, IsKnown, LiesWithin};
 ghost use Rattle.bypass_member.specs.Placed.{Placed};
 ghost use Rattle.bypass_member.specs.Probing.{IsNotTaken, Lacks, ProbesMember, StandsWhere};
 ghost use Rattle.bypass_member.specs.Serving.{IsSpare};
@@ -53,7 +53,7 @@ fn is_told(entry: &Entry<'_>) -> bool
         Entry::Send(_, _) => true,
         Entry::Leave => false,
         Entry::Tick(_) => false,
-        Entry::Packet(_, _) => true,
+        Entry::Packet(_, _, _) => true,
     }
 }
 
@@ -110,6 +110,7 @@ pub(crate) fn try_common(
         (states_in works.old) }
     requires entered { IsEntered (stack_of ground.now) (entry_meant ground.now.here.now entry.now) }
     requires lies { LiesWithin entry.now }
+    requires known { IsKnown (plans_in ground.now) scratch.old.fields.items entry.now }
     requires out { out.old.places ≡ largest_weight (stack_of ground.now) }
     ensures attempts { Attempts ground.now works.old (entry_meant ground.now.here.now entry.now) works.new out.new
         result }

@@ -1,14 +1,13 @@
 //! What runs of code keep, made and ended.
 
 ghost use Rattle.std.specs.Prelude.{◌≡◌, IfOk, option_map};
-ghost use Rattle.std.specs.List.{AllByRecursion};
 ghost use Rattle.std.specs.Rc.{rc_value};
 ghost use Rattle.stack_shapes.specs.Trees.{plans_tree};
 ghost use Rattle.trace_reads.specs.Registers.{IsEmpty};
-ghost use Rattle.packet_short.specs.Keeping.{HasAtMost};
 ghost use Rattle.bypass_member.specs.Serving.{IsSpare, Serves};
 
 use bypass_codes::Codes;
+use packet_short::most_fields;
 use stack_shapes::Plans;
 use std::alloc::{AllocError, Global};
 use std::rc::Rc;
@@ -19,17 +18,6 @@ use trace_reads::{Needs, Values};
 pub struct Scratch {
     pub(crate) values: Values,
     pub(crate) fields: Vec<u32>,
-}
-
-/// The most fields that a plan has.
-fn most_fields(plans: &Plans) -> usize
-    ensures { AllByRecursion (HasAtMost result) (plans_tree plans.now) }
-{
-    let mut most = 0;
-    for plan in plans.slice() {
-        most = most.max(plan.fields.len());
-    }
-    most
 }
 
 /// What runs of these codes keep at most; where there are none, nothing.

@@ -7,7 +7,7 @@ ghost use Rattle.run_mean.specs.Common.{first_plan, with_plans};
 ghost use Rattle.run_mean.specs.Member.{Entered, Output};
 ghost use Rattle.stack_mean.specs.Acceptance.{largest_weight};
 ghost use Rattle.stack_shapes.specs.Entries.{entry_for};
-ghost use Rattle.bypass_member.specs.Judged.{entry_meant, LiesWithin};
+ghost use Rattle.bypass_member.specs.Judged.{entry_meant, IsKnown, LiesWithin};
 ghost use Rattle.bypass_member.specs.Serving.{IsSpare};
 ghost use Rattle.bypass_member.specs.Stepping.{codes_in, in_full, plans_in, stack_of, IsGround, HasGone, HasPlayed};
 ghost use Rattle.bypass_member.specs.Stepping.{HasTaken};
@@ -132,6 +132,7 @@ fn make(
         (states_in works.old) }
     requires entered { IsEntered (stack_of ground.now) (entry_meant ground.now.here.now entry) }
     requires lies { LiesWithin entry }
+    requires known { IsKnown (plans_in ground.now) scratch.old.fields.items entry }
     requires out { out.old.places ≡ largest_weight (stack_of ground.now) }
     requires visits { visits.old ≤ 2 ^ 63 }
     ensures gone { HasGone ground.now works.old (entry_meant ground.now.here.now entry.entry) works.new out.new
@@ -165,6 +166,7 @@ pub(crate) fn take(
         (states_in works.old) }
     requires entered { IsEntered (stack_of ground.now) (entry_meant ground.now.here.now entry) }
     requires lies { LiesWithin entry }
+    requires known { IsKnown (plans_in ground.now) scratch.old.fields.items entry }
     requires out { out.old.places ≡ largest_weight (stack_of ground.now) }
     requires visits { visits.old ≤ 2 ^ 63 }
     ensures taken { HasTaken ground.now works.old (entry_meant ground.now.here.now entry.entry) works.new out.new

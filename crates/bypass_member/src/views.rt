@@ -19,7 +19,13 @@ use step_outputs::Outputs;
 use view_core::{Change, next_view, rank};
 
 /// Begins again with each layer, at the member of rank `me` of `count`, of whom there are no more than there were.
-fn reset_all(layers: &mut Vec<FileLayer>, pool: &mut Pool, me: u32, count: u32, ltime: u32)
+pub(crate) fn reset_all(
+    layers: &mut Vec<FileLayer>,
+    pool: &mut Pool,
+    me: u32,
+    count: u32,
+    ltime: u32,
+)
     requires order { AllByRecursion (IsInOrder pool.old) layers.old.items }
     requires covers { Covers pool.old (flat_map refs_of layers.old.items) }
     requires member { me < count }

@@ -9,7 +9,7 @@ use Rattle.bypass_member.specs.Opening.{codes_in}
 use Rattle.bypass_member.specs.Serving.{AreCodes}
 use Rattle.bypass_member.specs.Viewing.{IsIn}
 use Rattle.bypass_member.specs.Working.{states_in, IsReady}
-use Rattle.bypass_member.proofs.Placing.{opened_member, spare_for}
+use Rattle.bypass_member.proofs.Placing.{laid_for, opened_member, spare_for}
 use Rattle.bypass_member.proofs.member.Member.begin.Goals as goal
 
 pub invariant_of-result : goal.invariant_of-result
@@ -37,6 +37,8 @@ invariant_of-result c =
       spare = spare_for (codes_in c.args.opening) (option_map rc_value c.in_ok-codes.codes)
           (rc_value c.args.opening.plans.now) (rc_value c.in_ok-plans.plans) c.in_ok-kit.kit.scratch
           (sym codes) (sym plans) c.in_ok-kit.ensures.spare;
+      laid = laid_for (rc_value c.in_ok-stack.stack) (rc_value c.args.opening.stack.now) (rc_value c.in_ok-plans.plans)
+          (rc_value c.args.opening.plans.now) c.in_ok-kit.kit.layouts same plans c.in_ok-kit.ensures.laid;
       at = subst (λ (s : Stack). IsIn (stack_tree s) c.member_count-most.result c.args.view c.args.id
           (states_in c.in_ok-kit.kit.works)) (sym same)
           both.1;

@@ -1,0 +1,35 @@
+use Rattle.std.proofs.Common.{◌≡◌, ◌∙◌, ◌≤◌, List, Some, map, refl, sym, ap, subst, arith}
+use Rattle.std.specs.List.{AllByRecursion}
+use Rattle.msg_core.specs.View.{rank}
+use Rattle.layer_mean.specs.State.{State}
+use Rattle.event_graph.specs.Answer.{stack_tree}
+use Rattle.file_layer.specs.Layer.{state_in}
+use Rattle.file_layer.specs.declared.layer.FileLayer.{FileLayer}
+use Rattle.bypass_member.proofs.Restarting.{anew_in}
+use Rattle.bypass_member.proofs.Viewing.{rank_below}
+use Rattle.bypass_member.proofs.restarts.restart_works.Goals as goal
+
+pub reset_all-requires-clause-member : goal.reset_all-requires-clause-member
+reset_all-requires-clause-member c =
+    let at : rank c.args.view c.args.id ≡ Some c.in-Some.me = sym c.rank.ensures ∙ c.in-Some.is in
+    omega (
+      arith,
+      rank_below c.args.view c.args.id c.in-Some.me at,
+      c.from-then-are_among.ensures,
+      c.member_count-count.ensures.count,
+    )
+
+pub reset_all-requires-clause-room : goal.reset_all-requires-clause-room
+reset_all-requires-clause-room c =
+    subst (λ (layers : List FileLayer).
+    AllByRecursion (λ (s : State). c.member_count-count.result ≤ s.count) (map (state_in c.args.works.now.pool) layers))
+    c.as_slice.ensures.value
+    (c.if-are_among.ensures.counts c.args.works.now.pool)
+
+pub returns-then-are_among : goal.returns-then-are_among
+returns-then-are_among c =
+    let at : rank c.args.view c.args.id ≡ Some c.from-then-are_among.result = sym c.rank.ensures ∙ c.in-Some.is ∙
+    ap Some (sym c.from-then-are_among.ensures) in
+    anew_in (stack_tree c.args._stack.now) c.args.most c.args.view c.args.id c.from-then-are_among.result
+    c.member_count-count.result c.args.works.now
+    _ at c.member_count-count.ensures.count (omega arith) c.requires c.reset_all.ensures refl refl
