@@ -1,7 +1,6 @@
 -- What an event gives that a node feeds.
 use Rattle.std.proofs.Common.{◌≡◌, ℕ, ◌+◌, Bool, List, [], ◌∷◌, ◌++◌, length, map, refl, sym, ap, subst, ◌∙◌}
 use Rattle.std.proofs.Common.{append-nil, Option, Some}
-use Rattle.std.proofs.lemmas.List.{length-map}
 use Rattle.std.specs.List.{AllByRecursion, flat_map}
 use Rattle.std.specs.Prelude.{IsSomeAnd, Result, Ok, Err, option_to_list}
 use Rattle.outside.specs.declared.sink.SinkError.{SinkError}
@@ -13,7 +12,6 @@ use Rattle.member_laws.specs.Members.{IsChainedWorld, IsGivenEvent}
 use Rattle.member_laws.proofs.Members.{events_keep_chains}
 use Rattle.packet_laws.specs.Lengths.{IsWithinLimits}
 use Rattle.packet_laws.specs.Strays.{AreNumbered}
-use Rattle.packet_mean.specs.Spelling.{full_bytes}
 use Rattle.script_mean.specs.Event.{member_of}
 use Rattle.script_mean.specs.declared.event.ScriptEvent.{ScriptEvent}
 use Rattle.script_mean.specs.declared.event.ScriptEvent.TheVariants as script
@@ -36,6 +34,7 @@ use Rattle.report_text.specs.Told.{change_lines}
 use Rattle.report_text.proofs.Moments.{changes_told}
 use Rattle.group_feed.specs.Feeding.{IsFed}
 use Rattle.group_feed.specs.Standing.{Peopled, Stands, Stays}
+use Rattle.group_feed.proofs.Standing.{count_packets}
 use Rattle.node_laws.specs.Acts.{Act, puts, did_acts, event_acts, outputs_acts}
 use Rattle.node_laws.specs.Groups.{AreWithin, IsSendable}
 use Rattle.node_laws.specs.Losses.{first_in, journal_line}
@@ -210,7 +209,7 @@ module _ (mode : Mode) (stack : List LayerTree) (plans : List Plan) (w : World) 
   -- The number of the next packet, where a group stands.
   pub first_is : (c : Peopled) (n number : ℕ) → Somewhere mode stack plans n c w → number ≡ length c.spelled + 1 →
       number ≡ first_in w
-  first_is c n number at is = is ∙ ap (λ k. k + 1) (sym (ap length at.stands.spelled) ∙ length-map w.packets full_bytes)
+  first_is c n number at is = is ∙ ap (λ k. k + 1) (count_packets c w at.stands)
 
   -- The line of an event, and then what it gave.
   pub journal_then : (event : ScriptEvent) (c : Peopled) (outs : List (Output × Option ℕ)) (before after : ℕ)

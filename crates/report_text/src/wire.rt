@@ -1,53 +1,15 @@
 //! Packets as they are sent.
 
-ghost use Rattle.std.specs.Prelude.{◌≡◌, ◌+◌, ◌≤◌, ◌++◌, Some, OnOk, vec_len, vec_capacity};
+ghost use Rattle.std.specs.Prelude.{◌≡◌, OnOk};
 ghost use Rattle.packet_full.specs.Sent.{sent_packet};
-ghost use Rattle.packet_short.specs.Shortened.{short_room};
 ghost use Rattle.run_mean.specs.Common.{wire};
 ghost use Rattle.stack_shapes.specs.Trees.{plans_tree};
 
 use msg_core::Memory;
-use packet_full::put_full_of;
 use packet_mean::Here;
-use packet_short::{put_short, short_room_of};
+use packet_wire::{put_wire, wire_room_of};
 use stack_shapes::Plans;
 use step_outputs::PacketView;
-
-/// Puts a packet under the plan of a number: short where there is such a plan, and else in full.
-fn put_under(plans: &Plans, number: u8, here: &Here, packet: &PacketView<'_>, into: &mut Vec<u8>)
-    requires { vec_len into.old + short_room
-        (sent_packet here.now packet.now.dest packet.now.headers.now packet.now.body.now) ≤ vec_capacity into.old }
-    ensures { into.new.items ≡ into.old.items
-        ++ wire (plans_tree plans.now) (sent_packet here.now packet.now.dest packet.now.headers.now packet.now.body.now)
-        (Some number) }
-{
-    match plans.get(number) {
-        Some(plan) => put_short(
-            plan,
-            number,
-            here,
-            packet.dest,
-            packet.headers,
-            packet.body,
-            into,
-        ),
-        None => put_full_of(here, packet.dest, packet.headers, packet.body, into),
-    }
-}
-
-/// Puts a packet as it is sent.
-fn put_packet(plans: &Plans, here: &Here, packet: &PacketView<'_>, into: &mut Vec<u8>)
-    requires { vec_len into.old + short_room
-        (sent_packet here.now packet.now.dest packet.now.headers.now packet.now.body.now) ≤ vec_capacity into.old }
-    ensures { into.new.items ≡ into.old.items
-        ++ wire (plans_tree plans.now) (sent_packet here.now packet.now.dest packet.now.headers.now packet.now.body.now)
-        packet.now.plan }
-{
-    match packet.plan {
-        Some(number) => put_under(plans, number, here, packet, into),
-        None => put_full_of(here, packet.dest, packet.headers, packet.body, into),
-    }
-}
 
 /// Spells a packet as it is sent, in place of what a vector holds: short under its plan, where it has one and there is
 /// such a plan, and else in full.
@@ -62,7 +24,7 @@ pub fn spell(
         packet.now.plan) }
 {
     bytes.clear();
-    bytes.reserve(short_room_of(packet.headers, packet.body))?;
-    put_packet(plans, here, packet, bytes);
+    bytes.reserve(wire_room_of(packet))?;
+    put_wire(plans, here, packet, bytes);
     Ok(())
 }

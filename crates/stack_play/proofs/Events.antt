@@ -1,6 +1,5 @@
 -- What one event gave.
 use Rattle.std.proofs.Common.{◌≡◌, ℕ, ◌+◌, add-zero, Bool, List, length, refl, sym, ap, subst, ◌∙◌}
-use Rattle.std.proofs.lemmas.List.{length-map}
 use Rattle.std.specs.Prelude.{Result, Ok, Err, slice_index_or, Option, Some, None}
 use Rattle.outside.specs.declared.sink.SinkError.{SinkError}
 use Rattle.run_mean.specs.Mode.{Mode}
@@ -29,6 +28,7 @@ use Rattle.report_text.proofs.Moments.{told_is_moment}
 use Rattle.group_feed.specs.Feeding.{IsFed}
 use Rattle.group_feed.specs.Showing.{shown_in}
 use Rattle.group_feed.specs.Standing.{Peopled, Stands}
+use Rattle.group_feed.proofs.Standing.{count_packets}
 use Rattle.stack_play.specs.Turns.{Playing, moment_at, TellsEvent}
 
 -- An event happened: the world after it, and what is told of it.
@@ -127,7 +127,7 @@ module _ (mode : Mode) (stack : List LayerTree) (plans : List Plan) (wire : Bool
       go r (wrote_as a b (told_lines stack plans wire event did outs (shown_in new.group (member_of event)) first)
       (moment_lines stack plans (mode_if wire mode) (moment_at stack plans w event)) r same wrote) where
         numbered : first ≡ length w.packets + 1
-        numbered = number ∙ ap (λ n. n + 1) (sym (ap length stands.spelled) ∙ length-map w.packets full_bytes)
+        numbered = number ∙ ap (λ n. n + 1) (count_packets old.group w stands)
 
         same : told_lines stack plans wire event did outs (shown_in new.group (member_of event)) first
             ≡ moment_lines stack plans (mode_if wire mode) (moment_at stack plans w event)

@@ -12,6 +12,7 @@ use Rattle.bypass_member.specs.Opening.{mode_in, plans_in, stack_in}
 use Rattle.bypass_member.specs.Placed.{Placed}
 use Rattle.bypass_member.specs.declared.opening.Opening.{Opening}
 use Rattle.world_core.proofs.Stepped.{are_seated, count_seats, kept}
+use Rattle.group_feed.specs.Standing.{SpellPackets}
 use Rattle.world_core.specs.Opening.{AreOpen, IsBegun}
 use Rattle.world_core.specs.Seats.{member_of, mode_when, AreSeated}
 
@@ -38,7 +39,12 @@ module _ (o : Opening) (n : ℕ) (before after : Making) (members : List Placed)
       plans ≡ plans_in o →
       spelled ≡ [] → IsBegun o n before after (kept mode stack plans o.group o.stamp members spelled)
   begun spelled open_are same_mode same_stack same_plans none = record {
-    world = record { group = refl; stamp = refl; members = sym open_are.opened_are; spelled = sym none };
+    world = record {
+      group = refl;
+      stamp = refl;
+      members = sym open_are.opened_are;
+      spelled = subst (λ xs. SpellPackets stack plans xs []) (sym none) tt;
+    };
     mode_is = same_mode;
     stack_is = same_stack;
     plans_are = same_plans;

@@ -4,6 +4,7 @@ pub mod FirstView
 pub mod Gives
 pub mod Opened
 pub mod Probed
+pub mod Restarting
 pub mod Spelled
 pub mod Stepped
 pub mod Visits

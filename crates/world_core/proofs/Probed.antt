@@ -2,10 +2,10 @@
 use Rattle.std.proofs.Common.{◌≡◌, ℕ, ◌<◌, true, List, ◌++◌, map, length, get_or, set, Option, Some, None, option_map}
 use Rattle.std.proofs.Common.{Result, Ok, Err, slice_index_or, refl, ap, sym, subst, ◌∙◌}
 use Rattle.std.proofs.lemmas.List.{append-nil, get_or-map, set-get_or}
+use Rattle.std.specs.Prelude.{◌^◌}
 use Rattle.run_mean.specs.Mode.{Mode}
 use Rattle.layer_mean.specs.Tree.{LayerTree}
 use Rattle.stack_mean.specs.Plan.{Plan}
-use Rattle.packet_mean.specs.Spelling.{full_bytes}
 use Rattle.run_mean.specs.Member.{Member, inside, out, Input, Output, Refusal, Step}
 use Rattle.run_mean.specs.World.{World, Happening, only, Did, taken, refused, absent, shown, member_at, step_happening}
 use Rattle.miss_mean.specs.Text.{missed_in}
@@ -21,9 +21,11 @@ use Rattle.bypass_member.specs.Placed.{Placed, step_at, step_of}
 use Rattle.bypass_member.specs.Probing.{InputLacks, IsNotTaken, ProbesMember}
 use Rattle.group_feed.specs.Feeding.{IsFed}
 use Rattle.group_feed.specs.Probing.{IsCommonly, IsLeft, IsProbed, IsUncommon}
-use Rattle.group_feed.specs.Standing.{Peopled, Stands, spelled_of}
+use Rattle.group_feed.specs.Standing.{Peopled, SpellPackets, Stands, spelled_of}
+use Rattle.world_core.specs.Given.{IsGiven}
 use Rattle.world_core.specs.Seats.{Seat, member_of, seat_of, seat, AreSeated}
-use Rattle.world_core.proofs.Stepped.{happened, kept, placed_step, same_seat, seat_at, seated_after, step_fed, within}
+use Rattle.world_core.proofs.Stepped.{happened, kept, placed_step, same_seat, seat_at, seated_after, spell_there}
+use Rattle.world_core.proofs.Stepped.{step_fed, within}
 
 -- its seat stays
 probed_seat : (p : Placed) (input : Input) (p' : Placed) (outs : List (Output × Option ℕ)) (probed : Probed) →
@@ -82,7 +84,8 @@ module _ (c : Peopled) (mode : Mode) (stack : List LayerTree) (plans : List Plan
     (seated : AreSeated mode stack plans group stamp members) (is_place : place ≡ id) (lt : id < length c.members)
     (found : p ≡ get_or members place p)
     (input : Input) (p' : Placed) (outs : List (Output × Option ℕ)) (more : List (List ℕ))
-    (sent : more ≡ spelled ++ spelled_of outs) where
+    (small : group < 2 ^ 32) (few : stamp < 2 ^ 32) (given : IsGiven p input)
+    (sent : more ≡ spelled ++ spelled_of plans outs) where
   abbrev new : Peopled
   new = kept mode stack plans group stamp (set members place p') more
 
@@ -94,10 +97,10 @@ module _ (c : Peopled) (mode : Mode) (stack : List LayerTree) (plans : List Plan
   same miss not =
       (λ i. kept mode stack plans group stamp
       ((ap (λ x. set members place x) (not.same ∙ found) ∙ set-get_or members place p) i)
-      ((sent ∙ ap (λ os. spelled ++ spelled_of os) not.none ∙ append-nil spelled) i)) ∙ is_shown
+      ((sent ∙ ap (λ os. spelled ++ spelled_of plans os) not.none ∙ append-nil spelled) i)) ∙ is_shown
 
-  spelled_so : (w : World) → Stands c w → map full_bytes w.packets ≡ spelled
-  spelled_so w stands = stands.spelled ∙ sym (ap (λ (x : Peopled). x.spelled) is_shown)
+  spelled_so : (w : World) → Stands c w → SpellPackets c.stack c.plans spelled w.packets
+  spelled_so w stands = spell_there c mode stack plans group stamp members spelled is_shown w stands
 
   left : (miss : Option Miss) → IsNotTaken p input p' outs miss → (w : World) → Stands c w → (h : Happening) →
       h ≡ step_happening c.stack c.plans w id input → IsLeft c h new miss
@@ -124,11 +127,12 @@ module _ (c : Peopled) (mode : Mode) (stack : List LayerTree) (plans : List Plan
       (record { same = same miss not; uncommon = lacks.uncommon; lacked = lacks.lacked })
 
   pub probed_so : (probed : Probed) → ProbesMember p input p' outs probed → (w : World) → Stands c w → (h : Happening) →
-      (map full_bytes w.packets ≡ spelled → h ≡ step_happening c.stack c.plans w id input) → IsProbed c h new probed
+      (SpellPackets c.stack c.plans spelled w.packets → h ≡ step_happening c.stack c.plans w id input) →
+      IsProbed c h new probed
   probed_so Common is w stands h asks =
       commonly c h new outs 0 0 is.change
       (step_fed c mode stack plans group stamp members spelled is_shown id place p seated is_place lt found more p' outs
       0 0 (Taken true is.change)
-      input is.takes sent w stands h asks)
+      input small few given is.takes sent w stands h asks)
   probed_so Other is w stands h asks = left None is w stands h (asks (spelled_so w stands))
   probed_so (Missed miss) is w stands h asks = left (Some miss) is w stands h (asks (spelled_so w stands))

@@ -1,12 +1,12 @@
 -- A step of a member, and what happens by it in a world where the group stands.
 use Rattle.std.proofs.Common.{◌≡◌, Bool, ℕ, zero, suc, ◌<◌, List, [], ◌∷◌, ◌++◌, map, length, get_or, set, Option, Some}
-use Rattle.std.proofs.Common.{None, option_map, Result, Ok, Err, slice_get, slice_index_or, slice_set, refl, ap, sym}
+use Rattle.std.proofs.Common.{None, Result, Ok, Err, slice_index_or, slice_set, refl, ap, sym}
 use Rattle.std.proofs.Common.{subst, ◌∙◌, zero-add}
 use Rattle.std.proofs.Math.Seq.{map-set_same}
-use Rattle.std.proofs.lemmas.List.{append-nil, get_or-map, map-append, map-set, set-get_or, length-map, length-set}
+use Rattle.std.proofs.lemmas.List.{append-nil, get_or-map, map-set, set-get_or, length-map, length-set}
 use Rattle.std.proofs.lemmas.List.FromFn.{get_or-map-range_with_len, length-map-range_with_len}
-use Rattle.std.proofs.lemmas.Option.{slice_get-map}
-use Rattle.std.specs.List.{filter_map}
+use Rattle.std.specs.List.{AllByRecursion, filter_map}
+use Rattle.std.specs.Prelude.{◌^◌}
 use Rattle.std.specs.Option.{option_map_or}
 use Rattle.msg_core.specs.View.{rank}
 use Rattle.msg_core.specs.declared.packet.Packet.{Packet}
@@ -15,10 +15,14 @@ use Rattle.run_mean.specs.Mode.{Mode}
 use Rattle.layer_mean.specs.State.{State}
 use Rattle.layer_mean.specs.Tree.{LayerTree}
 use Rattle.stack_mean.specs.Plan.{Plan}
-use Rattle.packet_mean.specs.Spelling.{full_bytes}
+use Rattle.packet_mean.specs.Received.{received}
+use Rattle.packet_mean.specs.Spelling.{full_bytes, SpellsPacket}
 use Rattle.packet_mean.specs.declared.here.Here.{Here}
+use Rattle.packet_laws.proofs.Once.{one_full_spelling}
+use Rattle.packet_laws.proofs.Strays.{received_as_meant}
+use Rattle.member_laws.specs.Steps.{WireIsSpelled}
 use Rattle.run_mean.specs.Common.{with_plans, plan_behind, short_from}
-use Rattle.run_mean.specs.Member.{Member, inside, out, Input, datagram, is_out, Entered, entered_input, Output}
+use Rattle.run_mean.specs.Member.{Member, inside, out, Input, datagram, is_out, Entered, entered_input, from_datagram, Output}
 use Rattle.run_mean.specs.Member.{packet_in}
 use Rattle.run_mean.specs.Member.{Refusal, Step, step_from}
 use Rattle.run_mean.specs.World.{World, Happening, only, refused, taken, absent, shown, here_of, member_at}
@@ -31,8 +35,10 @@ use Rattle.view_core.specs.declared.step.Stepped.{Stepped}
 use Rattle.view_core.specs.declared.step.Stepped.TheVariants.{Taken, Refused}
 use Rattle.bypass_member.specs.Placed.{Placed, Steps, here_in, step_at, step_in, step_of, member_after}
 use Rattle.group_feed.specs.Feeding.{IsFed}
+use Rattle.world_core.specs.Given.{IsGiven}
+use Rattle.world_core.proofs.Spelled.{SpellsIf, sent_spell, spell_both, spells_at, steps_spell}
 use Rattle.world_core.specs.Seats.{Seat, member_of, seat_of, seat, seats, AreSeated}
-use Rattle.group_feed.specs.Standing.{Peopled, Stands, Stays, spelled_number, spelled_of}
+use Rattle.group_feed.specs.Standing.{Peopled, SpellPackets, Stands, Stays, spelled_number, spelled_of}
 
 -- outputs without their plans
 without_plans : (plans : List Plan) (next : Option ℕ) (outputs : List Output) →
@@ -212,12 +218,13 @@ kept_fed : (mode : Mode) (stack : List LayerTree) (plans : List Plan) (group sta
     (id place : ℕ) (p : Placed) (input : Input) (p' : Placed) (outs : List (Output × Option ℕ)) (before after : ℕ)
     (st : Stepped) →
     AreSeated mode stack plans group stamp members → place ≡ id → id < length members → p ≡ get_or members place p →
-    Steps p input p' outs before after st → more ≡ spelled ++ spelled_of outs → (w : World) →
+    group < 2 ^ 32 → stamp < 2 ^ 32 → IsGiven p input →
+    Steps p input p' outs before after st → more ≡ spelled ++ spelled_of plans outs → (w : World) →
     Stands (kept mode stack plans group stamp members spelled) w →
     IsFed (kept mode stack plans group stamp members spelled) (step_happening stack plans w id input)
     (kept mode stack plans group stamp (set members place p') more) outs before after (told.Stepped st)
 kept_fed mode stack plans group stamp members spelled more id place p input p' outs before after st seated is_place lt
-    found is sent w stands =
+    found small few given is sent w stands =
     let at_id : p ≡ get_or members id p = found ∙ ap (λ k. get_or members k p) is_place in
     let sits : seat_of p ≡ seat mode stack plans group stamp id =
     seat_at mode stack plans group stamp members id p seated lt at_id in
@@ -230,6 +237,10 @@ kept_fed mode stack plans group stamp members spelled more id place p input p' o
     let behind : IsBehind mode stack plans w id h p'.member outs before after st =
     subst (λ (s : Seat). IsBehind s.mode s.stack s.plans w id h p'.member outs before after st) sits
     (step_behind w id p input p' outs before after st is at) in
+    let spelled_are : AllByRecursion (WireIsSpelled stack plans) outs =
+    subst (λ (s : Seat). AllByRecursion (WireIsSpelled s.stack s.plans) outs) sits
+    (steps_spell p input given (subst (λ (s : Seat). s.group < 2 ^ 32) (sym sits) small)
+    (subst (λ (s : Seat). s.stamp < 2 ^ 32) (sym sits) few) p' outs before after st is) in
     let old = kept mode stack plans group stamp members spelled in
     let new = kept mode stack plans group stamp (set members place p') more in
     let fed : IsFed old h new outs before after (told.Stepped st) =
@@ -240,42 +251,61 @@ kept_fed mode stack plans group stamp members spelled more id place p input p' o
         members = behind.members ∙ ap (λ ms. slice_set ms id p'.member) stands.members ∙
             sym (map-set member_of members id p') ∙
             ap (λ k. map member_of (set members k p')) (sym is_place);
-        spelled = ap (map full_bytes) behind.packets ∙
-            map-append full_bytes w.packets (filter_map packet_in (map (λ o. o.0) outs)) ∙
-            ap (λ xs. xs ++ spelled_of outs) stands.spelled ∙ sym sent;
+        spelled = subst (λ xs. SpellPackets stack plans xs h.world.packets) (sym sent)
+            (subst (SpellPackets stack plans (spelled ++ spelled_of plans outs)) (sym behind.packets)
+            (spell_both stack plans spelled (spelled_of plans outs) w.packets
+            (filter_map packet_in (map (λ o. o.0) outs)) stands.spelled (sent_spell stack plans outs spelled_are)));
       };
       told = behind.is_told;
     } in
     subst (λ x. IsFed old x new outs before after (told.Stepped st))
     (sym (placed_step mode stack plans w id input p sits_there at)) fed
 
+-- the form in which a packet is given plays no part
+received_same : (stack : List LayerTree) (plans : List Plan) (here : Here) (bytes : List ℕ) (p : Packet) →
+    SpellsPacket stack plans bytes p → received stack plans here (full_bytes p) ≡ received stack plans here bytes
+received_same stack plans here bytes p spells =
+    received_as_meant stack plans here (full_bytes p) p (one_full_spelling stack plans p spells.spellable).0 ∙
+    sym (received_as_meant stack plans here bytes p spells)
+
+given_same : (stack : List LayerTree) (plans : List Plan) (w : World) (id : ℕ) (bytes : List ℕ) (p : Packet)
+    (m : Member) → SpellsPacket stack plans bytes p →
+    stepped_of stack plans w id (datagram (full_bytes p)) m ≡ stepped_of stack plans w id (datagram bytes) m
+given_same stack plans w id bytes p out spells = refl
+given_same stack plans w id bytes p (inside view states) spells =
+    ap (λ r. stepped_inside stack w id view states (from_datagram r))
+    (received_same stack plans (here_of w view id) bytes p spells)
+
 -- a packet that is given, or that there isn't
-found_number : (w : World) (spelled : List (List ℕ)) (number : ℕ) → map full_bytes w.packets ≡ spelled →
-    option_map full_bytes (packet_number w number) ≡ spelled_number spelled number
-found_number w spelled zero is = refl
-found_number w spelled (suc k) is = sym (slice_get-map full_bytes w.packets k) ∙ ap (λ xs. slice_get xs k) is
+found_number : (stack : List LayerTree) (plans : List Plan) (w : World) (spelled : List (List ℕ)) (number : ℕ) →
+    SpellPackets stack plans spelled w.packets →
+    SpellsIf stack plans (spelled_number spelled number) (packet_number w number)
+found_number stack plans w spelled zero are = tt
+found_number stack plans w spelled (suc k) are = spells_at stack plans spelled w.packets k are
 
 pub given_is : (stack : List LayerTree) (plans : List Plan) (w : World) (id number : ℕ) (spelled : List (List ℕ))
     (bytes : List ℕ) →
-    map full_bytes w.packets ≡ spelled → Some bytes ≡ spelled_number spelled number →
+    SpellPackets stack plans spelled w.packets → Some bytes ≡ spelled_number spelled number →
     given_packet stack plans w id (packet_number w number) ≡ step_happening stack plans w id (datagram bytes)
-given_is stack plans w id number spelled bytes is found =
-    go (packet_number w number) (found_number w spelled number is ∙ sym found) where
-      go : (o : Option Packet) → option_map full_bytes o ≡ Some bytes →
+given_is stack plans w id number spelled bytes are found =
+    go (packet_number w number)
+    (subst (λ (o : Option (List ℕ)). SpellsIf stack plans o (packet_number w number)) (sym found)
+    (found_number stack plans w spelled number are)) where
+      go : (o : Option Packet) → SpellsIf stack plans (Some bytes) o →
           given_packet stack plans w id o ≡ step_happening stack plans w id (datagram bytes)
-      go None same = absurd (cc same)
-      go (Some packet) same =
-          let bytes_are : full_bytes packet ≡ bytes = cc same in
-          ap (λ xs. step_happening stack plans w id (datagram xs)) bytes_are
+      go None spells = absurd spells
+      go (Some packet) spells = given_same stack plans w id bytes packet (member_at w id) spells
 
 pub absent_is : (stack : List LayerTree) (plans : List Plan) (w : World) (id number : ℕ) (spelled : List (List ℕ)) →
-    map full_bytes w.packets ≡ spelled → None ≡ spelled_number spelled number →
+    SpellPackets stack plans spelled w.packets → None ≡ spelled_number spelled number →
     given_packet stack plans w id (packet_number w number) ≡ only w absent
-absent_is stack plans w id number spelled is none =
-    go (packet_number w number) (found_number w spelled number is ∙ sym none) where
-      go : (o : Option Packet) → option_map full_bytes o ≡ None → given_packet stack plans w id o ≡ only w absent
-      go None same = refl
-      go (Some packet) same = absurd (cc same)
+absent_is stack plans w id number spelled are none =
+    go (packet_number w number)
+    (subst (λ (o : Option (List ℕ)). SpellsIf stack plans o (packet_number w number)) (sym none)
+    (found_number stack plans w spelled number are)) where
+      go : (o : Option Packet) → SpellsIf stack plans None o → given_packet stack plans w id o ≡ only w absent
+      go None spells = refl
+      go (Some packet) spells = absurd spells
 
 -- where no input is given, nothing happens
 pub absent_fed : (c : Peopled) (w : World) (h : Happening) (outs : List (Output × Option ℕ)) (visits : ℕ) → outs ≡ [] →
@@ -305,6 +335,11 @@ module _ (c : Peopled) (mode : Mode) (stack : List LayerTree) (plans : List Plan
         ap (λ x. length x.members) is_shown;
   }
 
+  -- its datagrams spell the packets of a world where it stands
+  pub spell_there : (w : World) → Stands c w → SpellPackets c.stack c.plans spelled w.packets
+  spell_there w stands = subst (λ xs. SpellPackets c.stack c.plans xs w.packets)
+      (sym (ap (λ (x : Peopled). x.spelled) is_shown)) stands.spelled
+
   module _ (id place : ℕ) (p : Placed) (seated : AreSeated mode stack plans group stamp members) (is_place : place ≡ id)
       (lt : id < length c.members)
       (found : p ≡ get_or members place p) where
@@ -329,17 +364,19 @@ module _ (c : Peopled) (mode : Mode) (stack : List LayerTree) (plans : List Plan
         new = kept mode stack plans group stamp (set members place p') more
 
         -- it is fed as whatever happens by that step
-        pub step_fed : (input : Input) → Steps p input p' outs before after st → more ≡ spelled ++ spelled_of outs →
+        pub step_fed : (input : Input) → group < 2 ^ 32 → stamp < 2 ^ 32 → IsGiven p input →
+            Steps p input p' outs before after st → more ≡ spelled ++ spelled_of plans outs →
             (w : World) → Stands c w →
-            (h : Happening) → (map full_bytes w.packets ≡ spelled → h ≡ step_happening c.stack c.plans w id input) →
+            (h : Happening) →
+            (SpellPackets c.stack c.plans spelled w.packets → h ≡ step_happening c.stack c.plans w id input) →
             IsFed c h new outs before after (told.Stepped st)
-        step_fed input is sent w stands h asks =
+        step_fed input small few given is sent w stands h asks =
             let stands_there = subst (λ x. Stands x w) (sym is_shown) stands in
             subst (λ (x : Happening). IsFed c x new outs before after (told.Stepped st))
-            (sym (asks stands_there.spelled))
+            (sym (asks (spell_there w stands)))
             (subst (λ (x : Peopled). IsFed x (step_happening x.stack x.plans w id input) new outs before after
             (told.Stepped st))
             is_shown
             (kept_fed mode stack plans group stamp members spelled more id place p input p' outs before after st seated
-            is_place within found is sent
+            is_place within found small few given is sent
             w stands_there))

@@ -1,8 +1,8 @@
 //! What the events of a script give to members.
 
-ghost use Rattle.std.specs.Prelude.{◌≡◌, List, map};
+ghost use Rattle.std.specs.Prelude.{◌≡◌, List};
+ghost use Rattle.group_feed.specs.Standing.{SpellPackets};
 ghost use Rattle.layer_mean.specs.Tree.{LayerTree};
-ghost use Rattle.packet_mean.specs.Spelling.{full_bytes};
 ghost use Rattle.run_mean.specs.World as mean;
 ghost use Rattle.script_mean.specs.Event.{member_of};
 ghost use Rattle.stack_mean.specs.Plan.{Plan};
@@ -21,12 +21,12 @@ pub(crate) enum Asked<'a> {
     Shown,
 }
 
-/// A packet that is given to a member comes as a datagram, if there is such a packet.
+/// A packet that is given to a member comes as the datagram in which it was sent, if there is such a packet.
 #[inline(always)]
 fn given_packet<'a>(packets: &'a Packets, number: u32, id: u8) -> Asked<'a>
     ensures member { IsFor id result }
     ensures asks { (stack : List LayerTree) (plans : List Plan) (w : mean.World) →
-        map full_bytes w.packets ≡ packets.now →
+        SpellPackets stack plans packets.now w.packets →
         Asks stack plans w (mean.given_packet stack plans w id (mean.packet_number w number)) result }
 {
     match packets.numbered(number) {
@@ -41,7 +41,7 @@ fn given_packet<'a>(packets: &'a Packets, number: u32, id: u8) -> Asked<'a>
 pub(crate) fn input_of<'a>(event: &'a ScriptEvent, packets: &'a Packets) -> Asked<'a>
     ensures member { IsFor (member_of event.now) result }
     ensures asks { (stack : List LayerTree) (plans : List Plan) (w : mean.World) →
-        map full_bytes w.packets ≡ packets.now →
+        SpellPackets stack plans packets.now w.packets →
         Asks stack plans w (mean.happens stack plans w event.now) result }
 {
     match event {

@@ -3,6 +3,7 @@
 
 mod asked;
 mod examined;
+mod given;
 mod laws;
 mod members;
 mod packets;

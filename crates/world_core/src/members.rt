@@ -5,11 +5,12 @@ ghost use Rattle.file_layer.specs.Making.{making};
 ghost use Rattle.run_mean.specs.View as views;
 ghost use Rattle.bypass_member.specs.Opening.{CanOpen};
 ghost use Rattle.world_core.specs.Opening.{OpensAll};
+ghost use Rattle.world_core.specs.Restarting.{RestartsAll};
 ghost use Rattle.msg_core.specs.View.{most_members};
 
 use bypass_member::{Member, OpenError, Opening};
 use file_layer::Maker;
-use msg_core::View;
+use msg_core::{MOST_MEMBERS, View};
 use std::alloc::Global;
 
 /// The first view of a group of n members: all of them.
@@ -50,6 +51,25 @@ pub fn open_all(
         }
     }
     Ok(members)
+}
+
+/// Lets members begin again in the first view of as many, and answers whether all did. Where one doesn't, those before
+/// it have.
+pub fn restart_all(members: &mut Vec<Member>) -> bool
+    ensures { RestartsAll members.old.items members.new.items result }
+{
+    let count = members.len();
+    if count > usize::from(MOST_MEMBERS) {
+        return false;
+    }
+    let view = first_view(count as u8);
+    for id in 0..count {
+        let member = &mut members[id];
+        if !member.restart(view) {
+            return false;
+        }
+    }
+    true
 }
 
 /// Lets members go.

@@ -4,14 +4,16 @@ ghost use Rattle.std.specs.Prelude.{◌≡◌, ◌+◌, ◌^◌, ◌<◌, ◌≤
 ghost use Rattle.std.specs.Prelude.{vec_capacity};
 ghost use Rattle.std.specs.Option.{option_map};
 ghost use Rattle.packet_full.specs.Sent.{sent_packet};
-ghost use Rattle.packet_mean.specs.Spelling.{full_bytes};
+ghost use Rattle.run_mean.specs.Common.{wire};
+ghost use Rattle.stack_shapes.specs.Trees.{plans_tree};
 ghost use Rattle.step_outputs.specs.Views.{output_meant};
 ghost use Rattle.world_core.specs.Parts.{parts_from, start_of, EndAt};
 ghost use Rattle.group_feed.specs.Standing.{spelled_number, spelled_of};
 
 use msg_core::Memory;
-use packet_full::{put_full_of, room_of};
 use packet_mean::Here;
+use packet_wire::{put_wire, wire_room_of};
+use stack_shapes::Plans;
 use std::alloc::Global;
 use std::marker::Model;
 use step_outputs::{OutputView, Outputs, PacketView};
@@ -19,8 +21,8 @@ use step_outputs::{OutputView, Outputs, PacketView};
 /// For how many bytes more room is made at least.
 const LEAST_ROOM: usize = 1_048_576;
 
-/// Every packet ever sent, as its full spelling, in the order of output: the bytes of all, one after the other, and
-/// where each ends.
+/// Every packet ever sent, as the datagram in which it was sent, in the order of output: the bytes of all, one after the
+/// other, and where each ends.
 #[derive(Drop)]
 pub struct Packets {
     bytes: Vec<u8>,
@@ -80,6 +82,14 @@ impl Packets {
         }
     }
 
+    /// Forgets all.
+    pub(crate) fn clear(&mut self)
+        ensures { self.new ≡ [] }
+    {
+        self.bytes.clear();
+        self.ends.clear();
+    }
+
     /// How many there are.
     pub fn len(&self) -> usize
         ensures count { result ≡ length self.now }
@@ -88,7 +98,7 @@ impl Packets {
         self.ends.len()
     }
 
-    /// The packet of a number, the first being 1, if there is one.
+    /// The datagram of a packet's number, the first being 1, if there is one.
     pub fn numbered(&self, number: u32) -> Option<&[u8]>
         ensures { option_map (λ bytes. bytes.now) result ≡ spelled_number self.now number }
     {
@@ -102,21 +112,15 @@ impl Packets {
         Some(part(&self.bytes, &self.ends, index))
     }
 
-    /// Puts a packet that a member sends after the others.
+    /// Puts a packet that a member sends after the others, as it is sent.
     #[inline(always)]
-    fn put(&mut self, here: &Here, packet: &PacketView<'_>) -> Result<(), Memory>
-        ensures { OnOk result (self.new ≡ self.old
-            ++ full_bytes (sent_packet here.now packet.now.dest packet.now.headers.now packet.now.body.now) ∷ []) }
+    fn put(&mut self, plans: &Plans, here: &Here, packet: &PacketView<'_>) -> Result<(), Memory>
+        ensures { OnOk result (self.new ≡ self.old ++ wire (plans_tree plans.now)
+            (sent_packet here.now packet.now.dest packet.now.headers.now packet.now.body.now) packet.now.plan ∷ []) }
     {
         self.ends.reserve(1)?;
-        make_room(&mut self.bytes, room_of(packet.headers, packet.body))?;
-        put_full_of(
-            here,
-            packet.dest,
-            packet.headers,
-            packet.body,
-            &mut self.bytes,
-        );
+        make_room(&mut self.bytes, wire_room_of(packet))?;
+        put_wire(plans, here, packet, &mut self.bytes);
         let end = self.bytes.len();
         self.ends.push_reserved(end);
         Ok(())
@@ -124,23 +128,29 @@ impl Packets {
 
     /// Puts an output of a step after the others if it is a packet.
     #[inline(always)]
-    fn put_output(&mut self, here: &Here, output: &OutputView<'_>) -> Result<(), Memory>
-        ensures { OnOk result (self.new ≡ self.old ++ spelled_of (output_meant here.now output.now ∷ [])) }
+    fn put_output(
+        &mut self,
+        plans: &Plans,
+        here: &Here,
+        output: &OutputView<'_>,
+    ) -> Result<(), Memory>
+        ensures { OnOk result (self.new ≡ self.old ++
+            spelled_of (plans_tree plans.now) (output_meant here.now output.now ∷ [])) }
     {
         match output {
-            OutputView::Packet(packet) => self.put(here, packet),
+            OutputView::Packet(packet) => self.put(plans, here, packet),
             _ => Ok(()),
         }
     }
 
-    /// Puts the packets among the outputs of a step after the others, in order.
+    /// Puts the packets among the outputs of a step after the others, in order and as they are sent.
     #[inline(always)]
-    pub fn keep(&mut self, out: &Outputs) -> Result<(), Memory>
-        ensures { OnOk result (self.new ≡ self.old ++ spelled_of out.now.outputs) }
+    pub fn keep(&mut self, plans: &Plans, out: &Outputs) -> Result<(), Memory>
+        ensures { OnOk result (self.new ≡ self.old ++ spelled_of (plans_tree plans.now) out.now.outputs) }
     {
         let here = out.here();
         for k in 0..out.len() {
-            self.put_output(&here, &out.at(k))?;
+            self.put_output(plans, &here, &out.at(k))?;
         }
         Ok(())
     }

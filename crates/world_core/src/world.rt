@@ -12,13 +12,15 @@ ghost use Rattle.run_mean.specs.Mode.{bypass};
 ghost use Rattle.script_mean.specs.Event.{member_of};
 ghost use Rattle.world_core.specs.Examining.{IsExamined};
 ghost use Rattle.world_core.specs.Opening.{Begins};
+ghost use Rattle.world_core.specs.Restarting.{Restarts};
 ghost use Rattle.world_core.specs.Seats.{shown_or_out};
 ghost use Rattle.group_feed.specs.Showing.{shown_in};
 ghost use Rattle.group_feed.specs.Standing.{Stands, Stays};
 ghost use Rattle.msg_core.specs.View.{most_members};
 
 use crate::asked::{Asked, input_of};
-use crate::members::{close_all, open_all};
+use crate::given::{probe_member, step_member};
+use crate::members::{close_all, open_all, restart_all};
 use crate::packets::Packets;
 use bypass_member::{Member, OpenError, Opening};
 use event_graph::Stack;
@@ -145,8 +147,8 @@ impl World {
                 return Ok(Did::Shown);
             }
         };
-        let stepped = self.members[usize::from(id)].step(input, out, visits);
-        match self.packets.keep(out) {
+        let stepped = step_member(&mut self.members[usize::from(id)], input, out, visits);
+        match self.packets.keep(&self.plans, out) {
             Ok(()) => Ok(Did::Stepped(stepped)),
             Err(Memory) => Err(Memory),
         }
@@ -174,8 +176,8 @@ impl World {
             Asked::Absent => return Ok(Probed::Other),
             Asked::Shown => return Ok(Probed::Other),
         };
-        let probed = self.members[usize::from(id)].probe(checks, input, out);
-        match self.packets.keep(out) {
+        let probed = probe_member(&mut self.members[usize::from(id)], checks, input, out);
+        match self.packets.keep(&self.plans, out) {
             Ok(()) => Ok(probed),
             Err(Memory) => Err(Memory),
         }
@@ -189,6 +191,19 @@ impl World {
             Some(member) => Some(member.shown()),
             None => None,
         }
+    }
+
+    /// Begins again, in the memory that it has, and answers whether it did: all its members are in the first view, and
+    /// no packet was sent. Where a member doesn't begin again it answers so, and may only be let go.
+    pub fn restart(&mut self) -> bool
+        ensures again { Restarts self.old self.new result }
+        ensures stays { Stays self.old self.new }
+    {
+        if restart_all(&mut self.members) {
+            self.packets.clear();
+            return true;
+        }
+        false
     }
 
     /// Lets the members go.
