@@ -4,6 +4,7 @@ ghost use Rattle.std.specs.Prelude.{◌≡◌, ◌+◌, ◌≤◌, ◌^◌, leng
 ghost use Rattle.stack_mean.specs.Acceptance.{largest_weight};
 ghost use Rattle.run_mean.specs.World as mean;
 ghost use Rattle.group_feed.specs.Standing.{Stands, Stays};
+ghost use Rattle.world_core.specs.Restarting.{Restarts};
 ghost use Rattle.hunt_ground.specs.Feeding.{Feeds};
 
 use group_feed::Feed;
@@ -67,6 +68,22 @@ impl Group {
             Ok(did) => Ok(Some(did)),
             Err(Memory) => Err(Memory),
         }
+    }
+
+    /// How many members it has.
+    pub fn members(&self) -> u8
+        ensures { result ≡ length self.now.members }
+    {
+        self.members
+    }
+
+    /// Begins again, in the memory that it has, and answers whether it did. Where it didn't, it may only be let go.
+    pub fn restart(&mut self) -> bool
+        ensures again { Restarts self.old self.new result }
+        ensures stays { Stays self.old self.new }
+    {
+        self.outputs.clear();
+        self.world.restart()
     }
 
     /// The outputs of the last step.

@@ -65,7 +65,7 @@ fn look_over<C: Clock + Drop, N: Write + Drop>(
     match Search::of(alloc, stack, aim) {
         Ok(mut search) => {
             let made = all_runs(alloc, request, file, &mut search, watch);
-            drop(search);
+            search.close();
             made
         }
         Err(_) => Err(Ending::Memory),

@@ -27,13 +27,14 @@ pub struct Aim {
     pub events: u32,
 }
 
-/// A search over a stack, with what groups begin with, and what is noted of a run.
-#[derive(Drop)]
+/// A search over a stack, with what groups begin with, what is noted of a run, and the group of the last run, in whose
+/// memory the next one begins, if that has as many members. It can't be let go: it is closed.
 pub struct Search {
     alloc: Global,
     aim: Aim,
     ground: Ground,
     ledger: Ledger,
+    spare: Option<Group>,
 }
 
 impl Search {
@@ -45,6 +46,7 @@ impl Search {
             aim,
             ground: Ground::of(alloc, stack)?,
             ledger: Ledger::new(alloc),
+            spare: None,
         })
     }
 
@@ -83,13 +85,34 @@ impl Search {
         self.is_broken(schedule.members)
     }
 
-    /// Begins a group of this many members, or of as many as there may be.
+    /// Begins a group of this many members, or of as many as there may be, in the memory of the last one where that can
+    /// begin again.
     fn open(&mut self, members: u8) -> Result<Group, SearchError> {
         let members = members.clamp(1, MOST_MEMBERS);
+        if let Some(group) = renewed(self.spare.take(), members) {
+            return Ok(group);
+        }
         match self.ground.begin(self.alloc, members) {
             Ok(group) => Ok(group),
             Err(error) => Err(unopened(error)),
         }
+    }
+
+    /// Keeps a group in whose memory the next one may begin.
+    fn put_by(&mut self, group: Group) {
+        close(self.spare.replace(group));
+    }
+
+    /// Lets it go.
+    pub fn close(self) {
+        let Search {
+            alloc: _,
+            aim: _,
+            ground: _,
+            ledger: _,
+            spare,
+        } = self;
+        close(spare);
     }
 
     /// Makes the run of a number, whose steps are drawn as it goes on.
@@ -108,7 +131,7 @@ impl Search {
             events,
             &mut steps,
         );
-        group.close();
+        self.put_by(group);
         made?;
         Ok(Schedule {
             members,
@@ -128,7 +151,7 @@ impl Search {
             &mut group,
             &schedule.steps[..count],
         );
-        group.close();
+        self.put_by(group);
         played
     }
 
@@ -144,9 +167,26 @@ impl Search {
             schedule.steps.as_slice(),
             &mut text,
         );
-        group.close();
+        self.put_by(group);
         written?;
         Ok(text.into_bytes())
+    }
+}
+
+/// A group that begins again, if there is one of this many members, and it does.
+fn renewed(group: Option<Group>, members: u8) -> Option<Group> {
+    let mut group = group?;
+    if group.members() == members && group.restart() {
+        return Some(group);
+    }
+    group.close();
+    None
+}
+
+/// Lets a group go, if there is one.
+fn close(group: Option<Group>) {
+    if let Some(group) = group {
+        group.close();
     }
 }
 
