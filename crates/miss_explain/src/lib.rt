@@ -13,6 +13,6 @@ mod spot;
 mod statements;
 mod texts;
 
-pub use miss::write_miss;
+pub use miss::{Step, write_miss};
 pub use script::explain;
 pub use texts::Texts;

@@ -22,6 +22,13 @@ use report_lines::Line;
 use stack_shapes::EntryOf;
 use step_misses::{Lack, Miss};
 
+/// A step of a member at an event of a script, which is told by its number.
+#[derive(Clone, Copy)]
+pub struct Step {
+    pub event: u64,
+    pub member: u8,
+}
+
 /// `miss I M E `
 fn push_front(line: &mut Line, event: u64, member: u8, entry: EntryOf) -> Result<(), Memory>
     ensures { OnOk result (line.new ≡ line.old ++ front_text event member (entry_meant entry)) }
@@ -60,20 +67,14 @@ fn push_second(
 }
 
 /// Builds the line of a step of a member at an event that wasn't common.
-fn build_miss(
-    line: &mut Line,
-    texts: Texts<'_>,
-    event: u64,
-    member: u8,
-    miss: &Miss,
-) -> Result<(), Memory>
+fn build_miss(line: &mut Line, texts: Texts<'_>, step: Step, miss: &Miss) -> Result<(), Memory>
     requires entries { texts.entries.now ≡ short_shapes (stack_tree texts.stack.now) (plans_tree texts.plans.now) }
     requires told { IsTold (stack_tree texts.stack.now) (plans_tree texts.plans.now) (miss_meant miss.now) }
     ensures { OnOk result
         (line.new ≡ line.old ++ miss_line (file_tree texts.entry.file.now) (stack_tree texts.entry.stack.now)
-        (plans_tree texts.entry.plans.now) event member (miss_meant miss.now)) }
+        (plans_tree texts.entry.plans.now) step.event step.member (miss_meant miss.now)) }
 {
-    push_front(line, event, member, miss.entry)?;
+    push_front(line, step.event, step.member, miss.entry)?;
     push_lack(line, texts, Case::First, miss.entry, miss.first)?;
     push_second(line, texts, miss.entry, miss.second)?;
     line.text(b"\n")
@@ -84,18 +85,17 @@ fn build_miss(
 pub fn write_miss<O: Sink>(
     line: &mut Line,
     texts: Texts<'_>,
-    event: u64,
-    member: u8,
+    step: Step,
     miss: &Miss,
     out: &mut O,
 ) -> Result<(), SinkError>
     requires entries { texts.entries.now ≡ short_shapes (stack_tree texts.stack.now) (plans_tree texts.plans.now) }
     requires told { IsTold (stack_tree texts.stack.now) (plans_tree texts.plans.now) (miss_meant miss.now) }
     ensures { Wrote (miss_line (file_tree texts.entry.file.now) (stack_tree texts.entry.stack.now)
-        (plans_tree texts.entry.plans.now) event member
+        (plans_tree texts.entry.plans.now) step.event step.member
         (miss_meant miss.now) ∷ []) (tells_of O.Sink out.old) (tells_of O.Sink out.new) result }
 {
     line.clear();
-    build_miss(line, texts, event, member, miss)?;
+    build_miss(line, texts, step, miss)?;
     put_line(line.slice(), out)
 }

@@ -18,7 +18,7 @@ ghost use Rattle.stack_shapes.specs.Trees.{plans_tree};
 ghost use Rattle.miss_explain.specs.Explaining.{Explains, FedOn, Follows, IsAtFirst, IsReady, Keeps, MayBeTold};
 ghost use Rattle.miss_explain.specs.Explaining.{SomeWorld, probed_lines, script_misses};
 
-use crate::miss::write_miss;
+use crate::miss::{Step, write_miss};
 use crate::texts::Texts;
 use group_feed::Probe;
 use msg_core::Memory;
@@ -68,21 +68,20 @@ fn feed_uncommon<P: Probe>(
 fn write_probed<O: Sink>(
     line: &mut Line,
     texts: Texts<'_>,
-    number: u64,
-    member: u8,
+    step: Step,
     probed: Probed,
     out: &mut O,
 ) -> Result<(), SinkError>
     requires entries { texts.entries.now ≡ short_shapes (stack_tree texts.stack.now) (plans_tree texts.plans.now) }
     requires told { MayBeTold (stack_tree texts.stack.now) (plans_tree texts.plans.now) probed }
     ensures { Wrote (probed_lines (file_tree texts.entry.file.now) (stack_tree texts.entry.stack.now)
-        (plans_tree texts.entry.plans.now) number member probed)
+        (plans_tree texts.entry.plans.now) step.event step.member probed)
         (tells_of O.Sink out.old) (tells_of O.Sink out.new) result }
 {
     match probed {
         Probed::Common => Ok(()),
         Probed::Other => Ok(()),
-        Probed::Missed(miss) => write_miss(line, texts, number, member, &miss, out),
+        Probed::Missed(miss) => write_miss(line, texts, step, &miss, out),
     }
 }
 
@@ -110,7 +109,11 @@ fn explain_event<P: Probe, O: Sink>(
 {
     match probe.probe(event, outputs) {
         Ok(probed) => {
-            write_probed(line, texts, number, member_of(event), probed, out)?;
+            let step = Step {
+                event: number,
+                member: member_of(event),
+            };
+            write_probed(line, texts, step, probed, out)?;
             match feed_uncommon(probe, probed, event, outputs) {
                 Ok(()) => Ok(()),
                 Err(Memory) => Err(SinkError::Memory),

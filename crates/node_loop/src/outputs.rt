@@ -16,7 +16,7 @@ use crate::source::Source;
 use crate::tools::Tools;
 use outside::{Links, Sink, SinkError};
 use packet_mean::Here;
-use report_text::{number_behind, put_output, write_change, write_refusal};
+use report_text::{Issuer, number_behind, put_output, write_change, write_refusal};
 use step_outputs::{OutputView, Outputs};
 use view_core::{Change, Stepped};
 
@@ -36,15 +36,12 @@ fn pass_output<O: Sink, N: Links>(
         (around O.Sink N.Links out.old links.old) (around O.Sink N.Links out.new links.new) result }
     ensures listening { (m : ℕ) → N.listening links.new m ≡ N.listening links.old m }
 {
-    put_output(
-        &mut tools.pen,
-        source.stack,
+    let issuer = Issuer {
         here,
-        source.id,
-        source.number,
-        output,
-        out,
-    )?;
+        id: source.id,
+        number: source.number,
+    };
+    put_output(&mut tools.pen, source.stack, issuer, output, out)?;
     match output {
         OutputView::Packet(packet) => { hand_on(tools, source, here, packet, out, links) }
         _ => Ok(()),

@@ -19,12 +19,14 @@ use report_lines::{
 };
 use typed_layer::TypedLayer;
 
-/// A cell of queues: the only one, or an array.
+/// A cell of queues, the only one or an array: where it is, and what its line is told by.
 #[derive(Clone, Copy)]
 pub(crate) struct Queues<'a> {
+    pub(crate) stack: &'a NamedStack,
     pub(crate) layer: &'a TypedLayer,
     pub(crate) name: &'a Word,
     pub(crate) is_array: bool,
+    pub(crate) spot: Spot,
 }
 
 /// Appends the numbers of a cell, with spaces between.
@@ -88,20 +90,20 @@ fn push_row(line: &mut Line, stack: &NamedStack, row: &RowView<'_>) -> Result<()
 /// Appends row number `k` of a queue, after what separates it from the one before.
 fn push_row_at<S: Shows>(
     line: &mut Line,
-    stack: &NamedStack,
     group: &S,
-    spot: Spot,
+    queues: Queues<'_>,
     queue: u32,
     k: u32,
 ) -> Result<(), Memory>
-    requires { k < length (rows_at (state_at (S.group group.now) spot.id spot.place) spot.cell queue) }
+    requires { k < length (rows_at (state_at (S.group group.now) queues.spot.id queues.spot.place) queues.spot.cell queue) }
     ensures { OnOk result (line.new ≡ line.old ++ lead (codes " ") k
-        ++ row_text (stack_tree stack.now)
-        (slice_index_or (rows_at (state_at (S.group group.now) spot.id spot.place) spot.cell queue) k no_row)) }
+        ++ row_text (stack_tree queues.entry.stack.now)
+        (slice_index_or (rows_at (state_at (S.group group.now) queues.entry.spot.id queues.entry.spot.place)
+        queues.entry.spot.cell queue) k no_row)) }
 {
     push_lead(line, b" ", k)?;
-    match group.row(spot, queue, k) {
-        Some(row) => push_row(line, stack, &row),
+    match group.row(queues.spot, queue, k) {
+        Some(row) => push_row(line, queues.stack, &row),
         None => unreachable!(),
     }
 }
@@ -109,21 +111,20 @@ fn push_row_at<S: Shows>(
 /// Appends the rows of a queue from the front, with spaces between, or `-` for none.
 fn push_rows<S: Shows>(
     line: &mut Line,
-    stack: &NamedStack,
     group: &S,
-    spot: Spot,
+    queues: Queues<'_>,
     queue: u32,
 ) -> Result<(), Memory>
     ensures { OnOk result (line.new ≡ line.old
-        ++ rows_text (stack_tree stack.now)
-        (rows_at (state_at (S.group group.now) spot.id spot.place) spot.cell queue)) }
+        ++ rows_text (stack_tree queues.entry.stack.now)
+        (rows_at (state_at (S.group group.now) queues.entry.spot.id queues.entry.spot.place) queues.entry.spot.cell queue)) }
 {
-    let count = group.rows(spot, queue);
+    let count = group.rows(queues.spot, queue);
     if count == 0 {
         return line.text(b"-");
     }
     for k in 0..count {
-        push_row_at(line, stack, group, spot, queue, k)?;
+        push_row_at(line, group, queues, queue, k)?;
     }
     Ok(())
 }
@@ -142,38 +143,40 @@ fn push_queue_index(line: &mut Line, is_array: bool, queue: u32) -> Result<(), M
 /// Appends the parts of the line of a queue.
 fn push_queue<S: Shows>(
     line: &mut Line,
-    stack: &NamedStack,
     group: &S,
     queues: Queues<'_>,
-    spot: Spot,
     queue: u32,
 ) -> Result<(), Memory>
     ensures { OnOk result (line.new ≡ line.old
-        ++ (cell_front spot.id spot.place (layer_tree queues.entry.layer.now).name queues.entry.name.now ++
-        index_if queues.entry.is_array queue
-        ++ codes " " ++ rows_text (stack_tree stack.now) (rows_at (state_at (S.group group.now) spot.id spot.place) spot.cell queue) ++ codes "\n")) }
+        ++ (cell_front queues.entry.spot.id queues.entry.spot.place (layer_tree queues.entry.layer.now).name
+        queues.entry.name.now ++ index_if queues.entry.is_array queue
+        ++ codes " " ++ rows_text (stack_tree queues.entry.stack.now)
+        (rows_at (state_at (S.group group.now) queues.entry.spot.id queues.entry.spot.place) queues.entry.spot.cell queue)
+        ++ codes "\n")) }
 {
     let layer = queues.layer.name.bytes();
+    let spot = queues.spot;
     push_cell(line, spot.id, spot.place, layer, queues.name.bytes())?;
     push_queue_index(line, queues.is_array, queue)?;
     line.text(b" ")?;
-    push_rows(line, stack, group, spot, queue)?;
+    push_rows(line, group, queues, queue)?;
     line.text(b"\n")
 }
 
 /// Builds the line of a queue: the only one of a cell, or one of its array.
 pub(crate) fn build_queue<S: Shows>(
     line: &mut Line,
-    stack: &NamedStack,
     group: &S,
     queues: Queues<'_>,
-    spot: Spot,
     queue: u32,
 ) -> Result<(), Memory>
     ensures { OnOk result (line.new ≡ line.old
-        ++ queue_line (stack_tree stack.now) spot.id spot.place (layer_tree queues.entry.layer.now)
-        queues.entry.is_array queues.entry.name.now
-        (queue, rows_at (state_at (S.group group.now) spot.id spot.place) spot.cell queue)) }
+        ++ queue_line (stack_tree queues.entry.stack.now) queues.entry.spot.id queues.entry.spot.place
+        (layer_tree queues.entry.layer.now) queues.entry.is_array queues.entry.name.now (
+          queue,
+          rows_at (state_at (S.group group.now) queues.entry.spot.id queues.entry.spot.place)
+              queues.entry.spot.cell queue,
+        )) }
 {
-    push_queue(line, stack, group, queues, spot, queue)
+    push_queue(line, group, queues, queue)
 }

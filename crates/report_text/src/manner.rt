@@ -1,5 +1,6 @@
 //! How lines are written, and what of.
 
+use packet_mean::Here;
 use report_lines::NamedStack;
 use script_mean::ScriptEvent;
 use stack_shapes::Plans;
@@ -30,4 +31,12 @@ pub(crate) struct Issue<'a> {
     pub id: u8,
     pub first: u64,
     pub outputs: &'a Outputs,
+}
+
+/// The member that an output comes out of: what is around it, its number, and that of the next packet.
+#[derive(Clone, Copy)]
+pub struct Issuer<'a> {
+    pub here: &'a Here,
+    pub id: u8,
+    pub number: u64,
 }

@@ -13,7 +13,7 @@ ghost use Rattle.stack_shapes.specs.Trees.{plans_tree};
 ghost use Rattle.report_text.specs.Numbered.{line_if};
 ghost use Rattle.report_text.specs.Told.{annex_of};
 
-use crate::manner::{Issue, Manner};
+use crate::manner::{Issue, Issuer, Manner};
 use crate::pen::Pen;
 use crate::wire::spell;
 use msg_core::Memory;
@@ -30,27 +30,30 @@ use step_outputs::{OutputView, PacketView};
 fn build_output(
     line: &mut Line,
     stack: &NamedStack,
-    _here: &Here,
-    id: u8,
-    number: u64,
+    issuer: Issuer<'_>,
     output: &OutputView<'_>,
 ) -> Result<bool, Memory>
     requires { line.old ≡ [] }
     ensures { IfOk result
         (λ has. line_if has line.new ≡
-        output_lines (stack_tree stack.now) id number (output_meant _here.now output.now).0) }
+        output_lines (stack_tree stack.now) issuer.entry.id issuer.entry.number
+        (output_meant issuer.entry.here.now output.now).0) }
 {
     match output {
-        OutputView::Cast(peer, body) => deliver_line(line, id, Delivery::Cast, *peer, body)?,
-        OutputView::Send(peer, body) => deliver_line(line, id, Delivery::Send, *peer, body)?,
-        OutputView::Block(a) => block_line(line, id, *a)?,
-        OutputView::Announce(ranks) => announce_line(line, id, *ranks)?,
-        OutputView::Timer(moment) => timer_line(line, id, *moment)?,
+        OutputView::Cast(peer, body) => {
+            deliver_line(line, issuer.id, Delivery::Cast, *peer, body)?
+        }
+        OutputView::Send(peer, body) => {
+            deliver_line(line, issuer.id, Delivery::Send, *peer, body)?
+        }
+        OutputView::Block(a) => block_line(line, issuer.id, *a)?,
+        OutputView::Announce(ranks) => announce_line(line, issuer.id, *ranks)?,
+        OutputView::Timer(moment) => timer_line(line, issuer.id, *moment)?,
         OutputView::Packet(packet) => packet_line(
             line,
             stack,
-            number,
-            id,
+            issuer.number,
+            issuer.id,
             packet.dest,
             packet.headers,
             packet.body,
@@ -61,21 +64,20 @@ fn build_output(
     Ok(true)
 }
 
-/// Puts the line of an output, if it has one. A packet's line has this number.
+/// Puts the line of an output, if it has one. A packet's line has the issuer's number.
 pub fn put_output<O: Sink>(
     pen: &mut Pen,
     stack: &NamedStack,
-    here: &Here,
-    id: u8,
-    number: u64,
+    issuer: Issuer<'_>,
     output: &OutputView<'_>,
     out: &mut O,
 ) -> Result<(), SinkError>
-    ensures { Wrote (output_lines (stack_tree stack.now) id number (output_meant here.now output.now).0)
+    ensures { Wrote (output_lines (stack_tree stack.now) issuer.entry.id issuer.entry.number
+        (output_meant issuer.entry.here.now output.now).0)
         (tells_of O.Sink out.old) (tells_of O.Sink out.new) result }
 {
     pen.line.clear();
-    if build_output(&mut pen.line, stack, here, id, number, output)? {
+    if build_output(&mut pen.line, stack, issuer, output)? {
         put_line(pen.line.slice(), out)
     } else {
         Ok(())
@@ -87,35 +89,35 @@ fn build_wire(
     line: &mut Line,
     bytes: &mut Vec<u8>,
     plans: &Plans,
-    here: &Here,
-    number: u64,
+    issuer: Issuer<'_>,
     packet: &PacketView<'_>,
 ) -> Result<(), Memory>
-    ensures { OnOk result (line.new ≡ line.old ++ report.wire_line number
-        (wire (plans_tree plans.now) (sent_packet here.now packet.now.dest packet.now.headers.now packet.now.body.now)
+    ensures { OnOk result (line.new ≡ line.old ++ report.wire_line issuer.entry.number
+        (wire (plans_tree plans.now)
+        (sent_packet issuer.entry.here.now packet.now.dest packet.now.headers.now packet.now.body.now)
         packet.now.plan)) }
 {
-    spell(bytes, plans, here, packet)?;
-    wire_line(line, number, bytes.as_slice())
+    spell(bytes, plans, issuer.here, packet)?;
+    wire_line(line, issuer.number, bytes.as_slice())
 }
 
 /// Puts the line of an output's bytes, if it is a packet.
 fn put_wire<O: Sink>(
     pen: &mut Pen,
     plans: &Plans,
-    here: &Here,
-    number: u64,
+    issuer: Issuer<'_>,
     output: &OutputView<'_>,
     out: &mut O,
 ) -> Result<(), SinkError>
-    ensures { Wrote (wire_annex (plans_tree plans.now) number (output_meant here.now output.now))
+    ensures { Wrote (wire_annex (plans_tree plans.now) issuer.entry.number
+        (output_meant issuer.entry.here.now output.now))
         (tells_of O.Sink out.old) (tells_of O.Sink out.new) result }
 {
     let OutputView::Packet(packet) = output else {
         return Ok(())
     };
     pen.line.clear();
-    build_wire(&mut pen.line, &mut pen.bytes, plans, here, number, packet)?;
+    build_wire(&mut pen.line, &mut pen.bytes, plans, issuer, packet)?;
     put_line(pen.line.slice(), out)
 }
 
@@ -123,19 +125,19 @@ fn put_wire<O: Sink>(
 fn write_output<O: Sink>(
     pen: &mut Pen,
     manner: Manner<'_>,
-    here: &Here,
-    id: u8,
-    number: u64,
+    issuer: Issuer<'_>,
     output: &OutputView<'_>,
     out: &mut O,
 ) -> Result<(), SinkError>
-    ensures { Wrote (output_lines (stack_tree manner.entry.stack.now) id number (output_meant here.now output.now).0
-        ++ annex_of manner.entry.wire (plans_tree manner.entry.plans.now) number (output_meant here.now output.now))
+    ensures { Wrote (output_lines (stack_tree manner.entry.stack.now) issuer.entry.id issuer.entry.number
+        (output_meant issuer.entry.here.now output.now).0
+        ++ annex_of manner.entry.wire (plans_tree manner.entry.plans.now) issuer.entry.number
+        (output_meant issuer.entry.here.now output.now))
         (tells_of O.Sink out.old) (tells_of O.Sink out.new) result }
 {
-    put_output(pen, manner.stack, here, id, number, output, out)?;
+    put_output(pen, manner.stack, issuer, output, out)?;
     if manner.wire {
-        put_wire(pen, manner.plans, here, number, output, out)
+        put_wire(pen, manner.plans, issuer, output, out)
     } else {
         Ok(())
     }
@@ -170,7 +172,12 @@ pub(crate) fn write_outputs<O: Sink>(
     let mut number = issue.first;
     for k in 0..issue.outputs.len() {
         let output = issue.outputs.at(k);
-        write_output(pen, manner, &here, issue.id, number, &output, out)?;
+        let issuer = Issuer {
+            here: &here,
+            id: issue.id,
+            number,
+        };
+        write_output(pen, manner, issuer, &output, out)?;
         number = number_behind(&here, number, &output);
     }
     Ok(())

@@ -23,60 +23,82 @@ use typed_layer::{Cell, Form, TypedLayer};
 /// The most cells of a layer that numbers of eight bits name.
 const NUMBERED_CELLS: usize = 256;
 
+/// A layer of a member that is shown: where it is, and the stack by which its headers are named.
+#[derive(Clone, Copy)]
+struct ShownLayer<'a> {
+    stack: &'a NamedStack,
+    layer: &'a TypedLayer,
+    id: u8,
+    place: u8,
+}
+
+/// A cell of a layer of a member that is shown: where it is, and the stack by which its headers are named.
+#[derive(Clone, Copy)]
+struct ShownCell<'a> {
+    stack: &'a NamedStack,
+    layer: &'a TypedLayer,
+    cell: &'a Cell,
+    spot: Spot,
+}
+
 /// Puts the line of a cell of numbers.
 fn write_numbers<S: Shows, O: Sink>(
     pen: &mut Pen,
     group: &S,
-    layer: &TypedLayer,
-    name: &Word,
-    spot: Spot,
+    shown: ShownCell<'_>,
     out: &mut O,
 ) -> Result<(), SinkError>
-    ensures { Wrote (numbers_lines spot.id spot.place (layer_tree layer.now) name.now
-        (cell_at (state_at (S.group group.now) spot.id spot.place) spot.cell))
+    ensures { Wrote (numbers_lines shown.entry.spot.id shown.entry.spot.place (layer_tree shown.entry.layer.now)
+        shown.entry.cell.now.name
+        (cell_at (state_at (S.group group.now) shown.entry.spot.id shown.entry.spot.place) shown.entry.spot.cell))
         (tells_of O.Sink out.old) (tells_of O.Sink out.new) result }
 {
     pen.line.clear();
-    build_numbers(&mut pen.line, group, layer, name, spot)?;
+    build_numbers(
+        &mut pen.line,
+        group,
+        shown.layer,
+        &shown.cell.name,
+        shown.spot,
+    )?;
     put_line(pen.line.slice(), out)
 }
 
 /// Puts the line of a queue.
 fn write_queue<S: Shows, O: Sink>(
     pen: &mut Pen,
-    stack: &NamedStack,
     group: &S,
     queues: Queues<'_>,
-    spot: Spot,
     queue: u32,
     out: &mut O,
 ) -> Result<(), SinkError>
-    ensures { Wrote (one_queue (stack_tree stack.now) spot.id spot.place (layer_tree queues.entry.layer.now)
-        queues.entry.is_array queues.entry.name.now
-        (queue, rows_at (state_at (S.group group.now) spot.id spot.place) spot.cell queue))
+    ensures { Wrote (one_queue (stack_tree queues.entry.stack.now) queues.entry.spot.id queues.entry.spot.place
+        (layer_tree queues.entry.layer.now) queues.entry.is_array queues.entry.name.now (
+          queue,
+          rows_at (state_at (S.group group.now) queues.entry.spot.id queues.entry.spot.place)
+              queues.entry.spot.cell queue,
+        ))
         (tells_of O.Sink out.old) (tells_of O.Sink out.new) result }
 {
     pen.line.clear();
-    build_queue(&mut pen.line, stack, group, queues, spot, queue)?;
+    build_queue(&mut pen.line, group, queues, queue)?;
     put_line(pen.line.slice(), out)
 }
 
 /// Puts the lines of the queues of a cell.
 fn write_queues<S: Shows, O: Sink>(
     pen: &mut Pen,
-    stack: &NamedStack,
     group: &S,
     queues: Queues<'_>,
-    spot: Spot,
     out: &mut O,
 ) -> Result<(), SinkError>
-    ensures { Wrote (queue_lines (stack_tree stack.now) spot.id spot.place (layer_tree queues.entry.layer.now)
-        queues.entry.is_array
-        queues.entry.name.now (cell_at (state_at (S.group group.now) spot.id spot.place) spot.cell))
+    ensures { Wrote (queue_lines (stack_tree queues.entry.stack.now) queues.entry.spot.id queues.entry.spot.place
+        (layer_tree queues.entry.layer.now) queues.entry.is_array queues.entry.name.now
+        (cell_at (state_at (S.group group.now) queues.entry.spot.id queues.entry.spot.place) queues.entry.spot.cell))
         (tells_of O.Sink out.old) (tells_of O.Sink out.new) result }
 {
-    for queue in 0..group.queues_count(spot) {
-        write_queue(pen, stack, group, queues, spot, queue, out)?;
+    for queue in 0..group.queues_count(queues.spot) {
+        write_queue(pen, group, queues, queue, out)?;
     }
     Ok(())
 }
@@ -84,43 +106,46 @@ fn write_queues<S: Shows, O: Sink>(
 /// Puts the lines of a cell.
 fn write_cell<S: Shows, O: Sink>(
     pen: &mut Pen,
-    stack: &NamedStack,
     group: &S,
-    layer: &TypedLayer,
-    cell: &Cell,
-    spot: Spot,
+    shown: ShownCell<'_>,
     out: &mut O,
 ) -> Result<(), SinkError>
-    ensures { Wrote (whole.cell_lines (stack_tree stack.now) spot.id spot.place (layer_tree layer.now)
-        (state_at (S.group group.now) spot.id spot.place) (spot.cell, cell_tree cell.now))
+    ensures { Wrote (whole.cell_lines (stack_tree shown.entry.stack.now) shown.entry.spot.id shown.entry.spot.place
+        (layer_tree shown.entry.layer.now)
+        (state_at (S.group group.now) shown.entry.spot.id shown.entry.spot.place)
+        (shown.entry.spot.cell, cell_tree shown.entry.cell.now))
         (tells_of O.Sink out.old) (tells_of O.Sink out.new) result }
 {
-    match &cell.form {
+    match &shown.cell.form {
         Form::Numbers {
             shape: _,
             initial: _,
-        } => { write_numbers(pen, group, layer, &cell.name, spot, out) }
+        } => { write_numbers(pen, group, shown, out) }
         Form::Queue {
             capacity: _,
             items: _,
         } => {
             let queues = Queues {
-                layer,
-                name: &cell.name,
+                stack: shown.stack,
+                layer: shown.layer,
+                name: &shown.cell.name,
                 is_array: false,
+                spot: shown.spot,
             };
-            write_queues(pen, stack, group, queues, spot, out)
+            write_queues(pen, group, queues, out)
         }
         Form::Queues {
             capacity: _,
             items: _,
         } => {
             let queues = Queues {
-                layer,
-                name: &cell.name,
+                stack: shown.stack,
+                layer: shown.layer,
+                name: &shown.cell.name,
                 is_array: true,
+                spot: shown.spot,
             };
-            write_queues(pen, stack, group, queues, spot, out)
+            write_queues(pen, group, queues, out)
         }
     }
 }
@@ -129,26 +154,32 @@ fn write_cell<S: Shows, O: Sink>(
 /// than 256 cells, which no file declares, is answered as want of memory is.
 fn write_layer<S: Shows, O: Sink>(
     pen: &mut Pen,
-    stack: &NamedStack,
     group: &S,
-    layer: &TypedLayer,
-    id: u8,
-    place: u8,
+    shown: ShownLayer<'_>,
     out: &mut O,
 ) -> Result<(), SinkError>
-    ensures { Wrote (cells_shown (stack_tree stack.now) id place (layer_tree layer.now)
-        (state_at (S.group group.now) id place))
+    ensures { Wrote (cells_shown (stack_tree shown.entry.stack.now) shown.entry.id shown.entry.place
+        (layer_tree shown.entry.layer.now)
+        (state_at (S.group group.now) shown.entry.id shown.entry.place))
         (tells_of O.Sink out.old) (tells_of O.Sink out.new) result }
 {
-    let count = layer.cells.len();
+    let count = shown.layer.cells.len();
     if count > NUMBERED_CELLS {
         return Err(SinkError::Memory);
     }
     for number in 0..count {
-        let cell = number as u8;
-        let spot = Spot { id, place, cell };
-        let item = &layer.cells[number];
-        write_cell(pen, stack, group, layer, item, spot, out)?;
+        let item = &shown.layer.cells[number];
+        let cell = ShownCell {
+            stack: shown.stack,
+            layer: shown.layer,
+            cell: item,
+            spot: Spot {
+                id: shown.id,
+                place: shown.place,
+                cell: number as u8,
+            },
+        };
+        write_cell(pen, group, cell, out)?;
     }
     Ok(())
 }
@@ -165,7 +196,13 @@ fn write_layers<S: Shows, O: Sink>(
         (tells_of O.Sink out.old) (tells_of O.Sink out.new) result }
 {
     for place in 0..stack.places() {
-        write_layer(pen, stack, group, stack.layer(place), id, place, out)?;
+        let shown = ShownLayer {
+            stack,
+            layer: stack.layer(place),
+            id,
+            place,
+        };
+        write_layer(pen, group, shown, out)?;
     }
     Ok(())
 }

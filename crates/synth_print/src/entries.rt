@@ -13,13 +13,13 @@ ghost use Rattle.trace_core.specs.Bypasses.{first_tree, made_tree, second_tree};
 ghost use Rattle.trace_core.specs.Trees.{guarded_tree};
 
 use crate::handler::write_handler;
-use crate::name::Name;
+use crate::name::{Case, Name};
+use crate::pen::Pen;
 use event_graph::Stack;
 use msg_core::Memory;
 use outside::{Sink, SinkError, put_line};
 use report_lines::Line;
 use shape_core::Absent;
-use std::alloc::Global;
 use trace_core::{Cases, Guarded, Made};
 
 /// How an entry is called.
@@ -123,46 +123,42 @@ fn write_heading<O: Sink>(
 
 /// Puts the lines of a case with a trace.
 fn write_fused<O: Sink>(
-    alloc: Global,
-    line: &mut Line,
+    pen: &mut Pen,
     stack: &Stack,
-    name: Name,
-    second: bool,
+    case: Case,
     guarded: &Guarded,
     out: &mut O,
 ) -> Result<(), SinkError>
-    ensures { Wrote (ended_line (heading name second ++ codes " fused") ∷ ended_lines (guarded_lines (stack_tree stack.now) (guarded_tree guarded.now)))
+    ensures { Wrote (ended_line (heading case.name case.second ++ codes " fused") ∷
+        ended_lines (guarded_lines (stack_tree stack.now) (guarded_tree guarded.now)))
         (tells_of O.Sink out.old) (tells_of O.Sink out.new) result }
 {
-    write_heading(line, name, second, out)?;
-    write_handler(alloc, line, stack, guarded, out)
+    write_heading(&mut pen.line, case.name, case.second, out)?;
+    write_handler(pen, stack, guarded, out)
 }
 
 /// Puts the lines of what is made of an entry in a case.
 fn write_made<O: Sink>(
-    alloc: Global,
-    line: &mut Line,
+    pen: &mut Pen,
     stack: &Stack,
-    name: Name,
-    second: bool,
+    case: Case,
     made: &Made,
     out: &mut O,
 ) -> Result<(), SinkError>
-    ensures { Wrote (ended_lines (made_lines (stack_tree stack.now) (heading name second) (made_tree made.now)))
+    ensures { Wrote (ended_lines (made_lines (stack_tree stack.now) (heading case.name case.second) (made_tree made.now)))
         (tells_of O.Sink out.old) (tells_of O.Sink out.new) result }
 {
     match made {
-        Made::Fused(bypass) => {
-            write_fused(alloc, line, stack, name, second, &bypass.guarded, out)
+        Made::Fused(bypass) => write_fused(pen, stack, case, &bypass.guarded, out),
+        Made::Absent(reason) => {
+            write_absent(&mut pen.line, case.name, case.second, *reason, out)
         }
-        Made::Absent(reason) => write_absent(line, name, second, *reason, out),
     }
 }
 
 /// Puts the lines of what is made of an entry in its second case, if there is one.
 fn write_second<O: Sink>(
-    alloc: Global,
-    line: &mut Line,
+    pen: &mut Pen,
     stack: &Stack,
     name: Name,
     made: &Option<Made>,
@@ -172,15 +168,17 @@ fn write_second<O: Sink>(
         (tells_of O.Sink out.old) (tells_of O.Sink out.new) result }
 {
     match made {
-        Some(made) => write_made(alloc, line, stack, name, true, made, out),
+        Some(made) => {
+            let second = Case { name, second: true };
+            write_made(pen, stack, second, made, out)
+        }
         None => Ok(()),
     }
 }
 
 /// Puts the lines of what is made of an entry: in its first case, and in its second where there is one.
 pub(crate) fn write_cases<O: Sink>(
-    alloc: Global,
-    line: &mut Line,
+    pen: &mut Pen,
     stack: &Stack,
     name: Name,
     cases: &Cases,
@@ -189,6 +187,10 @@ pub(crate) fn write_cases<O: Sink>(
     ensures { Wrote (case_lines (stack_tree stack.now) name (first_tree cases.now) (second_tree cases.now))
         (tells_of O.Sink out.old) (tells_of O.Sink out.new) result }
 {
-    write_made(alloc, line, stack, name, false, &cases.first, out)?;
-    write_second(alloc, line, stack, name, &cases.second, out)
+    let first = Case {
+        name,
+        second: false,
+    };
+    write_made(pen, stack, first, &cases.first, out)?;
+    write_second(pen, stack, name, &cases.second, out)
 }

@@ -20,14 +20,14 @@ ghost use Rattle.trace_core.specs.View.{number_in, terms};
 
 use crate::done::{build_operation, nothing};
 use crate::numbers::push_number;
+use crate::pen::Pen;
 use crate::scope::Scope;
-use crate::source::{Nodes, Source};
+use crate::source::{Nodes, Source, Stacked};
 use crate::written::Written;
 use event_graph::Stack;
 use msg_core::Memory;
 use outside::{Sink, SinkError, put_line};
 use report_lines::Line;
-use std::alloc::Global;
 use trace_core::{Guarded, Operation, Trace};
 
 /// Builds the line of an entry value, before which nothing was written.
@@ -133,54 +133,62 @@ fn write_conjuncts<O: Sink>(
     Ok(())
 }
 
+/// The entry values and the conjuncts of a guarded handler, by their nodes.
+#[derive(Clone, Copy)]
+struct Guard<'a> {
+    values: &'a [u32],
+    conjuncts: &'a [u32],
+}
+
 /// Puts the lines of the entry values and of the conjuncts, before which nothing was written.
 #[tactic(auto, using(crate::proofs::Notes::whole_nothing))]
 fn write_guard<O: Sink>(
     line: &mut Line,
-    stack: &Stack,
+    stacked: Stacked<'_>,
     written: &Written,
-    source: &Source<'_>,
-    values: &[u32],
-    conjuncts: &[u32],
+    guard: Guard<'_>,
     out: &mut O,
 ) -> Result<(), SinkError>
-    requires { written_of stack.now source.now written.now ≡ nothing_written }
-    ensures { Wrote (flat_map (value_turn (stack_tree stack.now)) (enumerate_from 0 (numbers_of source.now values.now))
-        ++ flat_map (conjunct_turn (stack_tree stack.now)) (enumerate_from 0 (numbers_of source.now conjuncts.now)))
+    requires { written_of stacked.stack.now stacked.source.now written.now ≡ nothing_written }
+    ensures { Wrote (flat_map (value_turn (stack_tree stacked.entry.stack.now))
+        (enumerate_from 0 (numbers_of stacked.entry.source.now guard.entry.values.now))
+        ++ flat_map (conjunct_turn (stack_tree stacked.entry.stack.now))
+        (enumerate_from 0 (numbers_of stacked.entry.source.now guard.entry.conjuncts.now)))
         (tells_of O.Sink out.old) (tells_of O.Sink out.new) result }
 {
     let scope = Scope {
-        stack,
+        stack: stacked.stack,
         written,
-        source,
+        source: stacked.source,
         rows: written.rows.len(),
         notes: written.notes.len(),
     };
-    write_values(line, &scope, values, out)?;
-    write_conjuncts(line, &scope, conjuncts, out)
+    write_values(line, &scope, guard.values, out)?;
+    write_conjuncts(line, &scope, guard.conjuncts, out)
 }
 
 /// Puts the line of an operation, if it has one.
 fn write_operation<O: Sink>(
     line: &mut Line,
-    stack: &Stack,
+    stacked: Stacked<'_>,
     written: &mut Written,
-    source: &Source<'_>,
     operation: Operation,
     out: &mut O,
 ) -> Result<(), SinkError>
     requires few { written.old.binds + 1 < 2 ^ 64 }
-    requires parts { IsPart (terms (nodes_in source.now.nodes)) (chains source.now.links.now) operation }
+    requires parts { IsPart (terms (nodes_in stacked.source.now.nodes)) (chains stacked.source.now.links.now) operation }
     ensures wrote { Wrote
-        (done_lines source.now.noting (stack_tree stack.now) (written_of stack.now source.now written.old)
-        (operation_of source.now operation)) (tells_of O.Sink out.old) (tells_of O.Sink out.new) result }
-    ensures written { OnOk result (written_of stack.now source.now written.new
-        ≡ follows source.now.noting (stack_tree stack.now) (written_of stack.now source.now written.old)
-        (operation_of source.now operation)) }
+        (done_lines stacked.entry.source.now.noting (stack_tree stacked.entry.stack.now)
+        (written_of stacked.entry.stack.now stacked.entry.source.now written.old)
+        (operation_of stacked.entry.source.now operation)) (tells_of O.Sink out.old) (tells_of O.Sink out.new) result }
+    ensures written { OnOk result (written_of stacked.entry.stack.now stacked.entry.source.now written.new
+        ≡ follows stacked.entry.source.now.noting (stack_tree stacked.entry.stack.now)
+        (written_of stacked.entry.stack.now stacked.entry.source.now written.old)
+        (operation_of stacked.entry.source.now operation)) }
     ensures few { OnOk result (written.new.binds ≤ written.old.binds + 1) }
 {
     line.clear();
-    if build_operation(line, stack, written, source, operation)? {
+    if build_operation(line, stacked.stack, written, stacked.source, operation)? {
         put_line(line.slice(), out)
     } else {
         Ok(())
@@ -201,48 +209,46 @@ fn operation_at(source: &Source<'_>, k: usize) -> Operation
 /// Puts the lines of the operations, given what may be named before the first.
 fn write_operations<O: Sink>(
     line: &mut Line,
-    stack: &Stack,
+    stacked: Stacked<'_>,
     written: &mut Written,
-    source: &Source<'_>,
     out: &mut O,
 ) -> Result<(), SinkError>
-    requires nothing { written_of stack.now source.now written.old ≡ nothing_written }
-    requires parts { are_parts (nodes_in source.now.nodes) source.now.links.now source.now.operations.now ≡ true }
-    ensures { Wrote (all_done source.now.noting (stack_tree stack.now) (operations_in source.now))
+    requires nothing { written_of stacked.stack.now stacked.source.now written.old ≡ nothing_written }
+    requires parts { are_parts (nodes_in stacked.source.now.nodes) stacked.source.now.links.now
+        stacked.source.now.operations.now ≡ true }
+    ensures { Wrote (all_done stacked.entry.source.now.noting (stack_tree stacked.entry.stack.now)
+        (operations_in stacked.entry.source.now))
         (tells_of O.Sink out.old) (tells_of O.Sink out.new) result }
 {
-    for k in 0..source.operations.len() {
-        let operation = operation_at(source, k);
-        write_operation(line, stack, written, source, operation, out)?;
+    for k in 0..stacked.source.operations.len() {
+        let operation = operation_at(stacked.source, k);
+        write_operation(line, stacked, written, operation, out)?;
     }
     Ok(())
 }
 
 /// Puts the lines of entry values, conjuncts and operations.
 fn write_parts<O: Sink>(
-    alloc: Global,
-    line: &mut Line,
-    stack: &Stack,
-    source: &Source<'_>,
-    values: &[u32],
-    conjuncts: &[u32],
+    pen: &mut Pen,
+    stacked: Stacked<'_>,
+    guard: Guard<'_>,
     out: &mut O,
 ) -> Result<(), SinkError>
-    requires parts { are_parts (nodes_in source.now.nodes) source.now.links.now source.now.operations.now ≡ true }
-    requires spelled { source.now.noting ≡ false }
-    ensures { Wrote (ended_lines
-        (guarded_lines (stack_tree stack.now) (handler_in source.now values.now conjuncts.now)))
+    requires parts { are_parts (nodes_in stacked.source.now.nodes) stacked.source.now.links.now
+        stacked.source.now.operations.now ≡ true }
+    requires spelled { stacked.source.now.noting ≡ false }
+    ensures { Wrote (ended_lines (guarded_lines (stack_tree stacked.entry.stack.now)
+        (handler_in stacked.entry.source.now guard.entry.values.now guard.entry.conjuncts.now)))
         (tells_of O.Sink out.old) (tells_of O.Sink out.new) result }
 {
-    let mut written = nothing(alloc, stack, source);
-    write_guard(line, stack, &written, source, values, conjuncts, out)?;
-    write_operations(line, stack, &mut written, source, out)
+    let mut written = nothing(pen.alloc, stacked.stack, stacked.source);
+    write_guard(&mut pen.line, stacked, &written, guard, out)?;
+    write_operations(&mut pen.line, stacked, &mut written, out)
 }
 
 /// Puts the lines of a guarded handler: its entry values, its conjuncts, and its operations.
 pub(crate) fn write_handler<O: Sink>(
-    alloc: Global,
-    line: &mut Line,
+    pen: &mut Pen,
     stack: &Stack,
     guarded: &Guarded,
     out: &mut O,
@@ -256,32 +262,33 @@ pub(crate) fn write_handler<O: Sink>(
         operations: guarded.operations.as_slice(),
         noting: false,
     };
-    let values = guarded.values.as_slice();
-    let conjuncts = guarded.conjuncts.as_slice();
-    write_parts(alloc, line, stack, &source, values, conjuncts, out)
+    let stacked = Stacked {
+        stack,
+        source: &source,
+    };
+    let guard = Guard {
+        values: guarded.values.as_slice(),
+        conjuncts: guarded.conjuncts.as_slice(),
+    };
+    write_parts(pen, stacked, guard, out)
 }
 
 /// Puts the lines of operations whose notes have lines of their own.
-fn write_noting<O: Sink>(
-    alloc: Global,
-    line: &mut Line,
-    stack: &Stack,
-    source: &Source<'_>,
-    out: &mut O,
-) -> Result<(), SinkError>
-    requires parts { are_parts (nodes_in source.now.nodes) source.now.links.now source.now.operations.now ≡ true }
-    requires noting { source.now.noting ≡ true }
-    ensures { Wrote (ended_lines (operation_lines true (stack_tree stack.now) (operations_in source.now)))
+fn write_noting<O: Sink>(pen: &mut Pen, stacked: Stacked<'_>, out: &mut O) -> Result<(), SinkError>
+    requires parts { are_parts (nodes_in stacked.source.now.nodes) stacked.source.now.links.now
+        stacked.source.now.operations.now ≡ true }
+    requires noting { stacked.source.now.noting ≡ true }
+    ensures { Wrote (ended_lines (operation_lines true (stack_tree stacked.entry.stack.now)
+        (operations_in stacked.entry.source.now)))
         (tells_of O.Sink out.old) (tells_of O.Sink out.new) result }
 {
-    let mut written = nothing(alloc, stack, source);
-    write_operations(line, stack, &mut written, source, out)
+    let mut written = nothing(pen.alloc, stacked.stack, stacked.source);
+    write_operations(&mut pen.line, stacked, &mut written, out)
 }
 
 /// Puts the lines of a trace.
 pub(crate) fn write_trace<O: Sink>(
-    alloc: Global,
-    line: &mut Line,
+    pen: &mut Pen,
     stack: &Stack,
     trace: &Trace,
     out: &mut O,
@@ -295,5 +302,9 @@ pub(crate) fn write_trace<O: Sink>(
         operations: trace.operations.as_slice(),
         noting: true,
     };
-    write_noting(alloc, line, stack, &source, out)
+    let stacked = Stacked {
+        stack,
+        source: &source,
+    };
+    write_noting(pen, stacked, out)
 }

@@ -12,6 +12,7 @@ mod name;
 mod numbers;
 mod operations;
 mod part;
+mod pen;
 mod plans;
 mod print;
 mod scope;

@@ -1,4 +1,4 @@
-//! How entries are called.
+//! How entries and their cases are called.
 
 /// An entry: the application's own cast or send, or the packets of a plan by its number.
 #[derive(Clone, Copy)]
@@ -6,4 +6,11 @@ pub(crate) enum Name {
     Cast,
     Send,
     Plan(u64),
+}
+
+/// An entry in its first or its second case.
+#[derive(Clone, Copy)]
+pub(crate) struct Case {
+    pub name: Name,
+    pub second: bool,
 }

@@ -16,10 +16,10 @@ ghost use Rattle.trace_mean.specs.Fuse.{form_at};
 use crate::atoms::{push_atom, push_numbered};
 use crate::cells::{is_alone, push_called, push_cell_name};
 use crate::part::Part;
-use crate::scope::Scope;
+use crate::scope::{Below, Scope};
 use crate::source::Nodes;
 use crate::words::{function_opening, operator_between};
-use crate::written::{Note, Spot};
+use crate::written::{Indexes, Note, Spot};
 use msg_core::Memory;
 use report_lines::Line;
 use trace_core::{Atom, Core, Node};
@@ -58,6 +58,10 @@ fn note_at(scope: &Scope<'_>, number: u32) -> Option<Note>
 pub(crate) fn push_number(line: &mut Line, scope: &Scope<'_>, number: u32) -> Result<(), Memory>
     ensures { OnOk result (line.new ≡ line.old ++ number_at scope.now number) }
 {
+    let below = Below {
+        scope: &*scope,
+        number,
+    };
     match node_at(&scope.source.nodes, number) {
         Node::Atom(atom) => push_atom(line, scope, atom),
         Node::Me => line.text(b"me"),
@@ -69,11 +73,10 @@ pub(crate) fn push_number(line: &mut Line, scope: &Scope<'_>, number: u32) -> Re
             cell,
             row,
             column,
-        } => push_square(line, scope, number, Spot { place, cell }, row, column),
+        } => push_square(line, below, Spot { place, cell }, Indexes { row, column }),
         Node::Rows { place, cell, index } => push_parts(
             line,
-            scope,
-            number,
+            below,
             b"len(",
             b"",
             &[Part::Cell(Spot { place, cell }, index)],
@@ -84,31 +87,27 @@ pub(crate) fn push_number(line: &mut Line, scope: &Scope<'_>, number: u32) -> Re
             index,
             row,
             number: item,
-        } => push_item(line, scope, number, Spot { place, cell }, index, row, item),
-        Node::Size(message) => push_parts(
+        } => push_item(
             line,
-            scope,
-            number,
-            b"size(",
-            b"",
-            &[Part::Message(message)],
+            below,
+            Spot { place, cell },
+            RowItem { index, row, item },
         ),
+        Node::Size(message) => push_parts(line, below, b"size(", b"", &[Part::Message(message)]),
         Node::Binary {
             operator,
             left,
             right,
         } => push_parts(
             line,
-            scope,
-            number,
+            below,
             b"(",
             operator_between(operator),
             &[Part::Number(left), Part::Number(right)],
         ),
         Node::Apply { function, operand } => push_parts(
             line,
-            scope,
-            number,
+            below,
             function_opening(function),
             b"",
             &[Part::Number(operand)],
@@ -119,8 +118,7 @@ pub(crate) fn push_number(line: &mut Line, scope: &Scope<'_>, number: u32) -> Re
             second,
         } => push_parts(
             line,
-            scope,
-            number,
+            below,
             b"pick(",
             b",",
             &[
@@ -133,13 +131,17 @@ pub(crate) fn push_number(line: &mut Line, scope: &Scope<'_>, number: u32) -> Re
     }
 }
 
-/// A message.
+/// The message of a number.
 #[cycle(texts)]
 #[tactic(auto, using(crate::proofs::Read::message_read))]
-pub(crate) fn push_message(line: &mut Line, scope: &Scope<'_>, message: u32) -> Result<(), Memory>
-    ensures { OnOk result (line.new ≡ line.old ++ message_at scope.now message) }
+pub(crate) fn push_message(line: &mut Line, scope: &Scope<'_>, number: u32) -> Result<(), Memory>
+    ensures { OnOk result (line.new ≡ line.old ++ message_at scope.now number) }
 {
-    match node_at(&scope.source.nodes, message) {
+    let below = Below {
+        scope: &*scope,
+        number,
+    };
+    match node_at(&scope.source.nodes, number) {
         Node::Core(core) => push_core(line, scope, core),
         Node::Held {
             place,
@@ -149,8 +151,7 @@ pub(crate) fn push_message(line: &mut Line, scope: &Scope<'_>, message: u32) -> 
             load: _,
         } => push_parts(
             line,
-            scope,
-            message,
+            below,
             b"held(",
             b",",
             &[Part::Cell(Spot { place, cell }, index), Part::Number(row)],
@@ -161,8 +162,7 @@ pub(crate) fn push_message(line: &mut Line, scope: &Scope<'_>, message: u32) -> 
             length,
         } => push_parts(
             line,
-            scope,
-            message,
+            below,
             b"cut(",
             b",",
             &[
@@ -176,16 +176,14 @@ pub(crate) fn push_message(line: &mut Line, scope: &Scope<'_>, message: u32) -> 
             from,
         } => push_parts(
             line,
-            scope,
-            message,
+            below,
             b"tail(",
             b",",
             &[Part::Message(whole), Part::Number(from)],
         ),
         Node::Join { first, second } => push_parts(
             line,
-            scope,
-            message,
+            below,
             b"join(",
             b",",
             &[Part::Message(first), Part::Message(second)],
@@ -243,25 +241,25 @@ fn push_part(line: &mut Line, scope: &Scope<'_>, part: Part) -> Result<(), Memor
     }
 }
 
-/// Parts, after what opens them and with something between, whose nodes are below a number.
+/// Parts, after what opens them and with something between.
 #[cycle(texts)]
 fn push_parts(
     line: &mut Line,
-    scope: &Scope<'_>,
-    above: u32,
+    below: Below<'_>,
     opening: &[u8],
     between: &[u8],
     parts: &[Part],
 ) -> Result<(), Memory>
-    requires { AreBelow above parts.now }
-    ensures { OnOk result (line.new ≡ line.old ++ parts_text scope.now opening.now between.now parts.now) }
+    requires { AreBelow below.number parts.now }
+    ensures { OnOk result (line.new ≡ line.old ++
+        parts_text below.entry.scope.now opening.now between.now parts.now) }
 {
     match parts {
         [] => line.text(b")"),
         [part, rest @ ..] => {
             line.text(opening)?;
-            push_part(line, scope, *part)?;
-            push_parts(line, scope, above, between, between, rest)
+            push_part(line, below.scope, *part)?;
+            push_parts(line, below, between, between, rest)
         }
     }
 }
@@ -293,42 +291,43 @@ pub(crate) fn push_cell(
     push_indexed(line, scope, index)
 }
 
-/// A number of a square cell, whose indexes are below a number.
+/// A number of a square cell.
 #[cycle(texts)]
 fn push_square(
     line: &mut Line,
-    scope: &Scope<'_>,
-    above: u32,
+    below: Below<'_>,
     spot: Spot,
-    row: u32,
-    column: u32,
+    indexes: Indexes,
 ) -> Result<(), Memory>
-    requires { (row < above) × (column < above) }
-    ensures { OnOk result (line.new ≡ line.old ++ cell_name (layers_in scope.now) spot.place spot.cell
-        ++ bracketed_index (number_at scope.now row) ++ bracketed_index (number_at scope.now column)) }
+    requires { (indexes.row < below.number) × (indexes.column < below.number) }
+    ensures { OnOk result (line.new ≡ line.old ++ cell_name (layers_in below.entry.scope.now) spot.place spot.cell
+        ++ bracketed_index (number_at below.entry.scope.now indexes.row)
+        ++ bracketed_index (number_at below.entry.scope.now indexes.column)) }
 {
-    push_cell_name(line, scope.stack, spot.place, spot.cell)?;
-    push_indexed(line, scope, row)?;
-    push_indexed(line, scope, column)
+    push_cell_name(line, below.scope.stack, spot.place, spot.cell)?;
+    push_indexed(line, below.scope, indexes.row)?;
+    push_indexed(line, below.scope, indexes.column)
 }
 
-/// A number of a row of a queue, whose indexes are below a number.
-#[cycle(texts)]
-fn push_item(
-    line: &mut Line,
-    scope: &Scope<'_>,
-    above: u32,
-    spot: Spot,
+/// A number of a row of a queue: the nodes of the queue's index and of how many rows are before it, and which it is.
+#[derive(Clone, Copy)]
+struct RowItem {
     index: u32,
     row: u32,
     item: u8,
-) -> Result<(), Memory>
-    requires { (index < above) × (row < above) }
-    ensures { OnOk result (line.new ≡ line.old ++ codes "at" ++ bracketed_list (cell_at scope.now spot index ∷ number_at scope.now row ∷ []) ++ codes "."
-        ++ slice_index_or (numbers_called (form_at (layer_of (layers_in scope.now) spot.place) spot.cell)) item []) }
+}
+
+/// A number of a row of a queue.
+#[cycle(texts)]
+fn push_item(line: &mut Line, below: Below<'_>, spot: Spot, item: RowItem) -> Result<(), Memory>
+    requires { (item.index < below.number) × (item.row < below.number) }
+    ensures { OnOk result (line.new ≡ line.old ++ codes "at" ++ bracketed_list (cell_at below.entry.scope.now spot item.index
+        ∷ number_at below.entry.scope.now item.row ∷ []) ++ codes "."
+        ++ slice_index_or (numbers_called (form_at (layer_of (layers_in below.entry.scope.now) spot.place) spot.cell))
+        item.item []) }
 {
-    let parts = [Part::Cell(spot, index), Part::Number(row)];
-    push_parts(line, scope, above, b"at(", b",", &parts)?;
+    let parts = [Part::Cell(spot, item.index), Part::Number(item.row)];
+    push_parts(line, below, b"at(", b",", &parts)?;
     line.text(b".")?;
-    push_called(line, scope.stack, spot.place, spot.cell, item)
+    push_called(line, below.scope.stack, spot.place, spot.cell, item.item)
 }

@@ -16,7 +16,7 @@ use crate::headers::{push_atoms, push_behind, push_chained};
 use crate::numbers::{push_cell, push_core, push_indexed, push_number};
 use crate::scope::Scope;
 use crate::words::{direction_text, kind_text};
-use crate::written::Spot;
+use crate::written::{Indexes, Spot};
 use layer_ast::{Dir, Kind};
 use msg_core::{Fields, Memory};
 use report_lines::{Line, push_lead};
@@ -195,19 +195,13 @@ fn push_set(
 }
 
 /// A number of a square cell.
-fn push_pair(
-    line: &mut Line,
-    scope: &Scope<'_>,
-    spot: Spot,
-    row: u32,
-    column: u32,
-) -> Result<(), Memory>
+fn push_pair(line: &mut Line, scope: &Scope<'_>, spot: Spot, indexes: Indexes) -> Result<(), Memory>
     ensures { OnOk result (line.new ≡ line.old ++ cell_name (layers_in scope.now) spot.place spot.cell
-        ++ bracketed_index (number_at scope.now row) ++ bracketed_index (number_at scope.now column)) }
+        ++ bracketed_index (number_at scope.now indexes.row) ++ bracketed_index (number_at scope.now indexes.column)) }
 {
     push_cell_name(line, scope.stack, spot.place, spot.cell)?;
-    push_indexed(line, scope, row)?;
-    push_indexed(line, scope, column)
+    push_indexed(line, scope, indexes.row)?;
+    push_indexed(line, scope, indexes.column)
 }
 
 /// The operation that sets a number of a square cell.
@@ -215,16 +209,22 @@ fn push_set_square(
     line: &mut Line,
     scope: &Scope<'_>,
     spot: Spot,
-    row: u32,
-    column: u32,
+    indexes: Indexes,
     value: u32,
 ) -> Result<(), Memory>
-    ensures { OnOk result
-        (line.new ≡ line.old ++ operation_text scope.now (operations.SetSquare spot.place spot.cell row column value)) }
+    ensures { OnOk result (line.new ≡ line.old ++
+        operation_text scope.now (operations.SetSquare spot.place spot.cell indexes.row indexes.column value)) }
 {
     line.text(b"set ")?;
-    push_pair(line, scope, spot, row, column)?;
+    push_pair(line, scope, spot, indexes)?;
     push_assigned(line, scope, value)
+}
+
+/// A row that is pushed: the nodes of its numbers, and its message, if it has one.
+#[derive(Clone, Copy)]
+struct PushedRow {
+    numbers: Fields,
+    message: Option<Chained>,
 }
 
 /// The operation that pushes a row.
@@ -233,18 +233,17 @@ fn push_push(
     scope: &Scope<'_>,
     spot: Spot,
     index: u32,
-    numbers: &Fields,
-    message: Option<Chained>,
+    row: PushedRow,
 ) -> Result<(), Memory>
-    requires { HasChain (chains_in scope.now) message }
+    requires { HasChain (chains_in scope.now) row.message }
     ensures { OnOk result
         (line.new ≡ line.old ++
-        operation_text scope.now (operations.Push spot.place spot.cell index numbers.now message)) }
+        operation_text scope.now (operations.Push spot.place spot.cell index row.numbers row.message)) }
 {
     line.text(b"push ")?;
     push_cell(line, scope, spot, index)?;
     line.text(b" ")?;
-    push_row(line, scope, numbers, message)
+    push_row(line, scope, &row.numbers, row.message)
 }
 
 /// How many taken rows may be named.
@@ -266,23 +265,29 @@ fn push_take(line: &mut Line, scope: &Scope<'_>, spot: Spot, index: u32) -> Resu
     line.number(rows_of(scope))
 }
 
+/// Where an event goes, and of which kind it is.
+#[derive(Clone, Copy)]
+struct Way {
+    dir: Dir,
+    kind: Kind,
+}
+
 /// The operation that sends an event.
 fn push_output(
     line: &mut Line,
     scope: &Scope<'_>,
-    dir: Dir,
-    kind: Kind,
+    way: Way,
     numbers: &Atoms,
     message: Option<Chained>,
 ) -> Result<(), Memory>
     requires { HasChain (chains_in scope.now) message }
     ensures { OnOk result
-        (line.new ≡ line.old ++ operation_text scope.now (operations.Output dir kind numbers.now message)) }
+        (line.new ≡ line.old ++ operation_text scope.now (operations.Output way.dir way.kind numbers.now message)) }
 {
     line.text(b"out ")?;
-    line.text(direction_text(dir))?;
+    line.text(direction_text(way.dir))?;
     line.text(b" ")?;
-    line.text(kind_text(kind))?;
+    line.text(kind_text(way.kind))?;
     push_arguments(line, scope, numbers, message)?;
     push_output_headers(line, scope, message)
 }
@@ -306,14 +311,26 @@ fn push_change(line: &mut Line, scope: &Scope<'_>, operation: Operation) -> Resu
             row,
             column,
             value,
-        } => push_set_square(line, scope, Spot { place, cell }, row, column, value),
+        } => push_set_square(
+            line,
+            scope,
+            Spot { place, cell },
+            Indexes { row, column },
+            value,
+        ),
         Operation::Push {
             place,
             cell,
             index,
             numbers,
             message,
-        } => push_push(line, scope, Spot { place, cell }, index, &numbers, message),
+        } => push_push(
+            line,
+            scope,
+            Spot { place, cell },
+            index,
+            PushedRow { numbers, message },
+        ),
         _ => unreachable!(),
     }
 }
@@ -342,7 +359,7 @@ pub(crate) fn push_operation(
             kind,
             numbers,
             message,
-        } => push_output(line, scope, dir, kind, &numbers, message),
+        } => push_output(line, scope, Way { dir, kind }, &numbers, message),
         _ => push_change(line, scope, operation),
     }
 }

@@ -15,6 +15,7 @@ ghost use Rattle.trace_core.specs.Bypasses.{bypasses_tree, first_tree, second_tr
 use crate::counts::Counts;
 use crate::entries::write_cases;
 use crate::name::Name;
+use crate::pen::Pen;
 use crate::plans::build_plan;
 use event_graph::Stack;
 use msg_core::Memory;
@@ -42,8 +43,7 @@ fn write_plan<O: Sink>(
 
 /// Puts the lines of what is made of an entry, if there is any.
 fn write_found<O: Sink>(
-    alloc: Global,
-    line: &mut Line,
+    pen: &mut Pen,
     stack: &Stack,
     name: Name,
     cases: Option<&Cases>,
@@ -53,7 +53,7 @@ fn write_found<O: Sink>(
         (tells_of O.Sink out.old) (tells_of O.Sink out.new) result }
 {
     match cases {
-        Some(cases) => write_cases(alloc, line, stack, name, cases, out),
+        Some(cases) => write_cases(pen, stack, name, cases, out),
         None => Ok(()),
     }
 }
@@ -65,22 +65,28 @@ pub(crate) fn cases_at(bypasses: &Bypasses, number: usize) -> Option<&Cases>
     bypasses.plans.get(number)
 }
 
+/// A plan with its number.
+#[derive(Clone, Copy)]
+struct NumberedPlan<'a> {
+    number: usize,
+    plan: &'a Plan,
+}
+
 /// Puts the line of a plan, and the lines of its entry.
 fn write_turn<O: Sink>(
-    alloc: Global,
-    line: &mut Line,
+    pen: &mut Pen,
     stack: &Stack,
-    plan: &Plan,
+    numbered: NumberedPlan<'_>,
     bypasses: &Bypasses,
-    number: usize,
     out: &mut O,
 ) -> Result<(), SinkError>
-    ensures { Wrote (plan_turn (stack_tree stack.now) (bypasses_tree bypasses.now) (number, plan_tree plan.now))
+    ensures { Wrote (plan_turn (stack_tree stack.now) (bypasses_tree bypasses.now) (numbered.entry.number, plan_tree numbered.entry.plan.now))
         (tells_of O.Sink out.old) (tells_of O.Sink out.new) result }
 {
-    write_plan(line, stack, number as u64, plan, out)?;
-    let name = Name::Plan(number as u64);
-    write_found(alloc, line, stack, name, cases_at(bypasses, number), out)
+    let number = numbered.number as u64;
+    write_plan(&mut pen.line, stack, number, numbered.plan, out)?;
+    let name = Name::Plan(number);
+    write_found(pen, stack, name, cases_at(bypasses, numbered.number), out)
 }
 
 /// The plan of a number.
@@ -93,8 +99,7 @@ fn plan_at(plans: &[Plan], number: usize) -> &Plan
 
 /// Puts the lines of the plans, each before its entry.
 fn write_plans<O: Sink>(
-    alloc: Global,
-    line: &mut Line,
+    pen: &mut Pen,
     stack: &Stack,
     plans: &[Plan],
     bypasses: &Bypasses,
@@ -106,7 +111,7 @@ fn write_plans<O: Sink>(
 {
     for k in 0..plans.len() {
         let plan = plan_at(plans, k);
-        write_turn(alloc, line, stack, plan, bypasses, k, out)?;
+        write_turn(pen, stack, NumberedPlan { number: k, plan }, bypasses, out)?;
     }
     Ok(())
 }
@@ -142,8 +147,7 @@ fn write_end<O: Sink>(line: &mut Line, bypasses: &Bypasses, out: &mut O) -> Resu
 
 /// Puts the lines of the application's own entries.
 fn write_own<O: Sink>(
-    alloc: Global,
-    line: &mut Line,
+    pen: &mut Pen,
     stack: &Stack,
     bypasses: &Bypasses,
     out: &mut O,
@@ -153,14 +157,13 @@ fn write_own<O: Sink>(
         ++ case_lines (stack_tree stack.now) names.Send (first_tree bypasses.now.send) (second_tree bypasses.now.send))
         (tells_of O.Sink out.old) (tells_of O.Sink out.new) result }
 {
-    write_cases(alloc, line, stack, Name::Cast, &bypasses.cast, out)?;
-    write_cases(alloc, line, stack, Name::Send, &bypasses.send, out)
+    write_cases(pen, stack, Name::Cast, &bypasses.cast, out)?;
+    write_cases(pen, stack, Name::Send, &bypasses.send, out)
 }
 
 /// Puts the lines of all entries.
 fn write_entries<O: Sink>(
-    alloc: Global,
-    line: &mut Line,
+    pen: &mut Pen,
     stack: &Stack,
     plans: &[Plan],
     bypasses: &Bypasses,
@@ -173,14 +176,13 @@ fn write_entries<O: Sink>(
         (enumerate_from 0 (map plan_tree plans.now)))
         (tells_of O.Sink out.old) (tells_of O.Sink out.new) result }
 {
-    write_own(alloc, line, stack, bypasses, out)?;
-    write_plans(alloc, line, stack, plans, bypasses, out)
+    write_own(pen, stack, bypasses, out)?;
+    write_plans(pen, stack, plans, bypasses, out)
 }
 
 /// Puts all lines.
 fn write_all<O: Sink>(
-    alloc: Global,
-    line: &mut Line,
+    pen: &mut Pen,
     stack: &Stack,
     plans: &[Plan],
     bypasses: &Bypasses,
@@ -189,8 +191,8 @@ fn write_all<O: Sink>(
     ensures { Wrote (printed_lines (stack_tree stack.now) (map plan_tree plans.now) (bypasses_tree bypasses.now))
         (tells_of O.Sink out.old) (tells_of O.Sink out.new) result }
 {
-    write_entries(alloc, line, stack, plans, bypasses, out)?;
-    write_end(line, bypasses, out)
+    write_entries(pen, stack, plans, bypasses, out)?;
+    write_end(&mut pen.line, bypasses, out)
 }
 
 /// Puts the text of a stack's bypasses, a line a put: each entry with what is made of it, each plan before its entry,
@@ -205,6 +207,6 @@ pub fn print_bypasses<O: Sink>(
     ensures { Wrote (printed_lines (stack_tree stack.now) (plans_tree plans.now) (bypasses_tree bypasses.now))
         (tells_of O.Sink out.old) (tells_of O.Sink out.new) result }
 {
-    let mut line = Line::new(alloc);
-    write_all(alloc, &mut line, stack, plans.slice(), bypasses, out)
+    let mut pen = Pen::new(alloc);
+    write_all(&mut pen, stack, plans.slice(), bypasses, out)
 }

@@ -14,3 +14,10 @@ pub(crate) struct Scope<'a> {
     pub rows: usize,
     pub notes: usize,
 }
+
+/// What is told of nodes below a number, and the scope that they are told in.
+#[derive(Clone, Copy)]
+pub(crate) struct Below<'a> {
+    pub scope: &'a Scope<'a>,
+    pub number: u32,
+}

@@ -6,6 +6,7 @@ ghost use Rattle.synth_print.specs.Source.{nodes_in};
 ghost use Rattle.trace_core.specs.Arena.{IsBelow};
 ghost use Rattle.trace_core.specs.View.{term_of, terms};
 
+use event_graph::Stack;
 use trace_core::{Arena, Links, Node, Operation, Shared};
 
 /// The nodes of a trace, or those of a guarded handler.
@@ -47,4 +48,11 @@ pub(crate) struct Source<'a> {
     pub links: &'a Links,
     pub operations: &'a [Operation],
     pub noting: bool,
+}
+
+/// Operations, with the stack that they are of.
+#[derive(Clone, Copy)]
+pub(crate) struct Stacked<'a> {
+    pub stack: &'a Stack,
+    pub source: &'a Source<'a>,
 }

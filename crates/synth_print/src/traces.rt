@@ -19,7 +19,8 @@ ghost use Rattle.trace_core.specs.Trees.{trace_tree};
 
 use crate::entries::push_name;
 use crate::handler::write_trace;
-use crate::name::Name;
+use crate::name::{Case, Name};
+use crate::pen::Pen;
 use crate::print::cases_at;
 use event_graph::Stack;
 use msg_core::Memory;
@@ -59,45 +60,40 @@ fn write_heading<O: Sink>(
 
 /// Puts the trace of a case of an entry after its heading.
 fn write_headed<O: Sink>(
-    alloc: Global,
-    line: &mut Line,
+    pen: &mut Pen,
     stack: &Stack,
-    name: Name,
-    second: bool,
+    case: Case,
     trace: &Trace,
     out: &mut O,
 ) -> Result<(), SinkError>
-    ensures { Wrote (ended_line (trace_heading name second) ∷
+    ensures { Wrote (ended_line (trace_heading case.name case.second) ∷
         ended_lines (operation_lines true (stack_tree stack.now) (trace_tree trace.now)))
         (tells_of O.Sink out.old) (tells_of O.Sink out.new) result }
 {
-    write_heading(line, name, second, out)?;
-    write_trace(alloc, line, stack, trace, out)
+    write_heading(&mut pen.line, case.name, case.second, out)?;
+    write_trace(pen, stack, trace, out)
 }
 
 /// Puts the trace of an entry in a case, if there is one.
 fn write_made<O: Sink>(
-    alloc: Global,
-    line: &mut Line,
+    pen: &mut Pen,
     stack: &Stack,
-    name: Name,
-    second: bool,
+    case: Case,
     made: &Made,
     out: &mut O,
 ) -> Result<(), SinkError>
-    ensures { Wrote (ended_lines (trace_lines (stack_tree stack.now) (trace_heading name second) (made_tree made.now)))
+    ensures { Wrote (ended_lines (trace_lines (stack_tree stack.now) (trace_heading case.name case.second) (made_tree made.now)))
         (tells_of O.Sink out.old) (tells_of O.Sink out.new) result }
 {
     match made {
-        Made::Fused(bypass) => write_headed(alloc, line, stack, name, second, &bypass.trace, out),
+        Made::Fused(bypass) => write_headed(pen, stack, case, &bypass.trace, out),
         Made::Absent(_) => Ok(()),
     }
 }
 
 /// Puts the trace of an entry in its second case, if there is one.
 fn write_second<O: Sink>(
-    alloc: Global,
-    line: &mut Line,
+    pen: &mut Pen,
     stack: &Stack,
     name: Name,
     made: &Option<Made>,
@@ -107,15 +103,17 @@ fn write_second<O: Sink>(
         (tells_of O.Sink out.old) (tells_of O.Sink out.new) result }
 {
     match made {
-        Some(made) => write_made(alloc, line, stack, name, true, made, out),
+        Some(made) => {
+            let second = Case { name, second: true };
+            write_made(pen, stack, second, made, out)
+        }
         None => Ok(()),
     }
 }
 
 /// Puts the traces of an entry: in its first case, and in its second.
 fn write_cases<O: Sink>(
-    alloc: Global,
-    line: &mut Line,
+    pen: &mut Pen,
     stack: &Stack,
     name: Name,
     cases: &Cases,
@@ -124,14 +122,17 @@ fn write_cases<O: Sink>(
     ensures { Wrote (case_traces (stack_tree stack.now) name (first_tree cases.now) (second_tree cases.now))
         (tells_of O.Sink out.old) (tells_of O.Sink out.new) result }
 {
-    write_made(alloc, line, stack, name, false, &cases.first, out)?;
-    write_second(alloc, line, stack, name, &cases.second, out)
+    let first = Case {
+        name,
+        second: false,
+    };
+    write_made(pen, stack, first, &cases.first, out)?;
+    write_second(pen, stack, name, &cases.second, out)
 }
 
 /// Puts the traces of an entry, if anything is made of it.
 fn write_found<O: Sink>(
-    alloc: Global,
-    line: &mut Line,
+    pen: &mut Pen,
     stack: &Stack,
     name: Name,
     cases: Option<&Cases>,
@@ -141,15 +142,14 @@ fn write_found<O: Sink>(
         (tells_of O.Sink out.old) (tells_of O.Sink out.new) result }
 {
     match cases {
-        Some(cases) => write_cases(alloc, line, stack, name, cases, out),
+        Some(cases) => write_cases(pen, stack, name, cases, out),
         None => Ok(()),
     }
 }
 
 /// Puts the traces of the entry of a plan.
 fn write_planned<O: Sink>(
-    alloc: Global,
-    line: &mut Line,
+    pen: &mut Pen,
     stack: &Stack,
     bypasses: &Bypasses,
     number: usize,
@@ -159,13 +159,12 @@ fn write_planned<O: Sink>(
         (tells_of O.Sink out.old) (tells_of O.Sink out.new) result }
 {
     let name = Name::Plan(number as u64);
-    write_found(alloc, line, stack, name, cases_at(bypasses, number), out)
+    write_found(pen, stack, name, cases_at(bypasses, number), out)
 }
 
 /// Puts the traces of the entries of plans.
 fn write_plans<O: Sink>(
-    alloc: Global,
-    line: &mut Line,
+    pen: &mut Pen,
     stack: &Stack,
     plans: &[Plan],
     bypasses: &Bypasses,
@@ -176,15 +175,14 @@ fn write_plans<O: Sink>(
         (tells_of O.Sink out.old) (tells_of O.Sink out.new) result }
 {
     for k in 0..plans.len() {
-        write_planned(alloc, line, stack, bypasses, k, out)?;
+        write_planned(pen, stack, bypasses, k, out)?;
     }
     Ok(())
 }
 
 /// Puts the traces of the application's own entries.
 fn write_own<O: Sink>(
-    alloc: Global,
-    line: &mut Line,
+    pen: &mut Pen,
     stack: &Stack,
     bypasses: &Bypasses,
     out: &mut O,
@@ -194,14 +192,13 @@ fn write_own<O: Sink>(
         ++ case_traces (stack_tree stack.now) names.Send (first_tree bypasses.now.send) (second_tree bypasses.now.send))
         (tells_of O.Sink out.old) (tells_of O.Sink out.new) result }
 {
-    write_cases(alloc, line, stack, Name::Cast, &bypasses.cast, out)?;
-    write_cases(alloc, line, stack, Name::Send, &bypasses.send, out)
+    write_cases(pen, stack, Name::Cast, &bypasses.cast, out)?;
+    write_cases(pen, stack, Name::Send, &bypasses.send, out)
 }
 
 /// Puts the traces of all entries.
 fn write_entries<O: Sink>(
-    alloc: Global,
-    line: &mut Line,
+    pen: &mut Pen,
     stack: &Stack,
     plans: &[Plan],
     bypasses: &Bypasses,
@@ -210,8 +207,8 @@ fn write_entries<O: Sink>(
     ensures { Wrote (all_traces (stack_tree stack.now) (map plan_tree plans.now) bypasses.now)
         (tells_of O.Sink out.old) (tells_of O.Sink out.new) result }
 {
-    write_own(alloc, line, stack, bypasses, out)?;
-    write_plans(alloc, line, stack, plans, bypasses, out)
+    write_own(pen, stack, bypasses, out)?;
+    write_plans(pen, stack, plans, bypasses, out)
 }
 
 /// Puts the traces of all entries, and the last line.
@@ -226,8 +223,8 @@ fn write_rest<O: Sink>(
         ended_line (codes "end") ∷ [])
         (tells_of O.Sink out.old) (tells_of O.Sink out.new) result }
 {
-    let mut line = Line::new(alloc);
-    write_entries(alloc, &mut line, stack, plans, bypasses, out)?;
+    let mut pen = Pen::new(alloc);
+    write_entries(&mut pen, stack, plans, bypasses, out)?;
     put_line(b"end\n", out)
 }
 

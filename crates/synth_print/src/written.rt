@@ -10,6 +10,13 @@ pub(crate) struct Spot {
     pub cell: u8,
 }
 
+/// The nodes of the indexes of a number of a square cell.
+#[derive(Clone, Copy)]
+pub(crate) struct Indexes {
+    pub row: u32,
+    pub column: u32,
+}
+
 /// How a noted message is told: by the number of its note; or written out, from its node and from how many rows were
 /// taken before it, since it names these and the messages noted before it.
 #[derive(Clone, Copy)]

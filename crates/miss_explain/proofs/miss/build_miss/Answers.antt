@@ -11,8 +11,8 @@ pub returns : goal.returns
 returns c =
     let texts = c.args.texts in
     subst (λ (words : List ℕ). OnOk c.text.result (c.text.new.self ≡ words))
-    (line_is (file_tree texts.file.now) (stack_tree texts.stack.now) (plans_tree texts.plans.now) c.args.event
-    c.args.member (miss_meant c.args.miss.now)
+    (line_is (file_tree texts.file.now) (stack_tree texts.stack.now) (plans_tree texts.plans.now) c.args.step.event
+    c.args.step.member (miss_meant c.args.miss.now)
     c.args.line.now c.push_front.new.line c.push_lack.new.line c.push_second.new.line
     c.in_ok-push_front.ensures c.in_ok-push_lack.ensures c.in_ok-push_second.ensures)
     c.text.ensures

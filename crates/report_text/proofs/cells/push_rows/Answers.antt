@@ -9,7 +9,7 @@ use Rattle.report_text.proofs.cells.push_rows.Goals as goal
 
 pub loop-k-preserved : goal.loop-k-preserved
 loop-k-preserved g c =
-    let s = state_at (g.S.Feed.group c.args.group.now) c.args.spot.id c.args.spot.place in
-    line_next (row_text (stack_tree c.args.stack.now)) (codes " ")
-    (rows_at s c.args.spot.cell c.args.queue) c.loop-k.k no_row _ _ _
+    let s = state_at (g.S.Feed.group c.args.group.now) c.args.queues.spot.id c.args.queues.spot.place in
+    line_next (row_text (stack_tree c.args.queues.stack.now)) (codes " ")
+    (rows_at s c.args.queues.spot.cell c.args.queue) c.loop-k.k no_row _ _ _
     c.loop-k.invariant c.in_ok-push_row_at.ensures (omega (arith, c.loop-k-test.true, c.rows-count.ensures))

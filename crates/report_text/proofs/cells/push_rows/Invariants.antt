@@ -9,5 +9,5 @@ use Rattle.report_text.proofs.cells.push_rows.Given as goal
 abbrev pub invariant-loop-k : goal.invariant-loop-k
 invariant-loop-k g l =
     l.line ≡ l.initial.line
-    ++ join_by (row_text (stack_tree l.stack)) (codes " ")
-    (take l.k (rows_at (state_at (g.S.Feed.group l.group) l.spot.id l.spot.place) l.spot.cell l.queue))
+    ++ join_by (row_text (stack_tree l.queues.stack.now)) (codes " ")
+    (take l.k (rows_at (state_at (g.S.Feed.group l.group) l.queues.spot.id l.queues.spot.place) l.queues.spot.cell l.queue))

@@ -9,33 +9,33 @@ use Rattle.report_text.proofs.state.write_cell.Goals as goal
 
 pub returns-in-Numbers : goal.returns-in-Numbers
 returns-in-Numbers g c =
-    let s = state_at (g.S.Feed.group c.args.group.now) c.args.spot.id c.args.spot.place in
+    let s = state_at (g.S.Feed.group c.args.group.now) c.args.shown.spot.id c.args.shown.spot.place in
     wrote_as _ _ _ _ _
-    (ap (λ form. cell_lines (stack_tree c.args.stack.now) c.args.spot.id c.args.spot.place (layer_tree c.args.layer.now)
+    (ap (λ form. cell_lines (stack_tree c.args.shown.stack.now) c.args.shown.spot.id c.args.shown.spot.place (layer_tree c.args.shown.layer.now)
     s
-    (c.args.spot.cell, record { name = c.args.cell.now.name; form = form_tree form })) (sym c.in-Numbers.is))
+    (c.args.shown.spot.cell, record { name = c.args.shown.cell.now.name; form = form_tree form })) (sym c.in-Numbers.is))
     c.write_numbers.ensures
 
 pub returns-in-Queue : goal.returns-in-Queue
 returns-in-Queue g c =
-    let s = state_at (g.S.Feed.group c.args.group.now) c.args.spot.id c.args.spot.place in
+    let s = state_at (g.S.Feed.group c.args.group.now) c.args.shown.spot.id c.args.shown.spot.place in
     wrote_as _ _ _ _ _
-    (queue_cell (stack_tree c.args.stack.now) c.args.spot.id c.args.spot.place (layer_tree c.args.layer.now) s
-    c.args.spot.cell c.args.cell.now.name
+    (queue_cell (stack_tree c.args.shown.stack.now) c.args.shown.spot.id c.args.shown.spot.place (layer_tree c.args.shown.layer.now) s
+    c.args.shown.spot.cell c.args.shown.cell.now.name
     c.in-Queue.capacity (items_tree c.in-Queue.items)
-    ∙ ap (λ form. cell_lines (stack_tree c.args.stack.now) c.args.spot.id c.args.spot.place
-    (layer_tree c.args.layer.now) s
-    (c.args.spot.cell, record { name = c.args.cell.now.name; form = form_tree form })) (sym c.in-Queue.is))
+    ∙ ap (λ form. cell_lines (stack_tree c.args.shown.stack.now) c.args.shown.spot.id c.args.shown.spot.place
+    (layer_tree c.args.shown.layer.now) s
+    (c.args.shown.spot.cell, record { name = c.args.shown.cell.now.name; form = form_tree form })) (sym c.in-Queue.is))
     c.write_queues.ensures
 
 pub returns-in-Queues : goal.returns-in-Queues
 returns-in-Queues g c =
-    let s = state_at (g.S.Feed.group c.args.group.now) c.args.spot.id c.args.spot.place in
+    let s = state_at (g.S.Feed.group c.args.group.now) c.args.shown.spot.id c.args.shown.spot.place in
     wrote_as _ _ _ _ _
-    (queues_cell (stack_tree c.args.stack.now) c.args.spot.id c.args.spot.place (layer_tree c.args.layer.now) s
-    c.args.spot.cell c.args.cell.now.name
+    (queues_cell (stack_tree c.args.shown.stack.now) c.args.shown.spot.id c.args.shown.spot.place (layer_tree c.args.shown.layer.now) s
+    c.args.shown.spot.cell c.args.shown.cell.now.name
     c.in-Queues.capacity (items_tree c.in-Queues.items)
-    ∙ ap (λ form. cell_lines (stack_tree c.args.stack.now) c.args.spot.id c.args.spot.place
-    (layer_tree c.args.layer.now) s
-    (c.args.spot.cell, record { name = c.args.cell.now.name; form = form_tree form })) (sym c.in-Queues.is))
+    ∙ ap (λ form. cell_lines (stack_tree c.args.shown.stack.now) c.args.shown.spot.id c.args.shown.spot.place
+    (layer_tree c.args.shown.layer.now) s
+    (c.args.shown.spot.cell, record { name = c.args.shown.cell.now.name; form = form_tree form })) (sym c.in-Queues.is))
     c.write_queues-in-Queues.ensures

@@ -12,6 +12,6 @@ abbrev pub invariant-loop-number : goal.invariant-loop-number
 invariant-loop-number g l = Gains
     (tells_of g.O.Sink l.initial.out)
     (tells_of g.O.Sink l.out)
-    (flat_map (cell_lines (stack_tree l.stack) l.id l.place (layer_tree l.layer)
-    (state_at (g.S.Feed.group l.group) l.id l.place))
-    (take l.number (enumerate_from 0 (layer_tree l.layer).cells)))
+    (flat_map (cell_lines (stack_tree l.shown.stack.now) l.shown.id l.shown.place (layer_tree l.shown.layer.now)
+    (state_at (g.S.Feed.group l.group) l.shown.id l.shown.place))
+    (take l.number (enumerate_from 0 (layer_tree l.shown.layer.now).cells)))

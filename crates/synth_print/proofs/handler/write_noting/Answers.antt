@@ -6,6 +6,6 @@ use Rattle.synth_print.proofs.handler.write_noting.Goals as goal
 
 pub returns : goal.returns
 returns g c =
-    wrote_as _ _ _ _ _ (trace_lines (stack_tree c.args.stack.now) c.args.source.now.noting
-    (operations_in c.args.source.now) c.requires.noting)
+    wrote_as _ _ _ _ _ (trace_lines (stack_tree c.args.stacked.stack.now) c.args.stacked.source.now.noting
+    (operations_in c.args.stacked.source.now) c.requires.noting)
     c.write_operations.ensures

@@ -13,8 +13,8 @@ use Rattle.trace_core.specs.View.{terms}
 
 pub loop-k-preserved : goal.loop-k-preserved
 loop-k-preserved g c =
-    let s = c.args.source.now in
-    let stack = stack_tree c.args.stack.now in
+    let s = c.args.stacked.source.now in
+    let stack = stack_tree c.args.stacked.stack.now in
     let ts = terms (nodes_in s.nodes) in
     let cs = chains s.links.now in
     let o = operation_in ts cs c.operation_at-operation.result in
@@ -23,13 +23,13 @@ loop-k-preserved g c =
           (omega (arith, c.loop-k-test.true, length-map s.operations.now (operation_in ts cs)))
           (operation_at ts cs s.operations.now c.loop-k.k c.operation_at-operation.result o
           c.operation_at-operation.ensures.is)
-          (written_of c.args.stack.now s c.loop-k.written) c.loop-k.invariant.written
+          (written_of c.args.stacked.stack.now s c.loop-k.written) c.loop-k.invariant.written
           _ _ _ c.loop-k.invariant.gained c.in_ok-write_operation.ensures.wrote;
       written = written_next s.noting stack (operations_in s) c.loop-k.k o o
           (omega (arith, c.loop-k-test.true, length-map s.operations.now (operation_in ts cs)))
           (operation_at ts cs s.operations.now c.loop-k.k c.operation_at-operation.result o
           c.operation_at-operation.ensures.is)
-          (written_of c.args.stack.now s c.loop-k.written) c.loop-k.invariant.written
+          (written_of c.args.stacked.stack.now s c.loop-k.written) c.loop-k.invariant.written
           _ c.in_ok-write_operation.ensures.written;
       few = omega (arith, c.in_ok-write_operation.ensures.few, c.loop-k.invariant.few);
     }
@@ -37,21 +37,21 @@ loop-k-preserved g c =
 pub returns-in_err-write_operation : goal.returns-in_err-write_operation
 returns-in_err-write_operation g c =
     let p = err_from_is_err_and c.from_residual.result c.from_residual.ensures.1 in
-    let s = c.args.source.now in
+    let s = c.args.stacked.source.now in
     let ts = terms (nodes_in s.nodes) in
     let cs = chains s.links.now in
     let o = operation_in ts cs c.operation_at-operation.result in
-    rw (p.1, p.2) (operations_cut s.noting (stack_tree c.args.stack.now) (operations_in s) c.loop-k.k o o
+    rw (p.1, p.2) (operations_cut s.noting (stack_tree c.args.stacked.stack.now) (operations_in s) c.loop-k.k o o
     (omega (arith, c.loop-k-test.true, length-map s.operations.now (operation_in ts cs)))
     (operation_at ts cs s.operations.now c.loop-k.k c.operation_at-operation.result o
     c.operation_at-operation.ensures.is)
-    (written_of c.args.stack.now s c.loop-k.written) c.loop-k.invariant.written
+    (written_of c.args.stacked.stack.now s c.loop-k.written) c.loop-k.invariant.written
     _ _ _ _ c.loop-k.invariant.gained c.in_err-write_operation.ensures.wrote)
 
 pub returns : goal.returns
 returns g c =
-    let s = c.args.source.now in
-    operations_done s.noting (stack_tree c.args.stack.now) (operations_in s) c.loop-k.k _ _ c.loop-k.invariant.gained
+    let s = c.args.stacked.source.now in
+    operations_done s.noting (stack_tree c.args.stacked.stack.now) (operations_in s) c.loop-k.k _ _ c.loop-k.invariant.gained
     (omega (
       arith,
       c.loop-k-test.false,

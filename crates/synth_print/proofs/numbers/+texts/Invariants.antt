@@ -14,7 +14,7 @@ abbrev pub decreases-push_number : goal.decreases-push_number
 decreases-push_number l = rank l.scope l.number 4
 
 abbrev pub decreases-push_message : goal.decreases-push_message
-decreases-push_message l = rank l.scope l.message 4
+decreases-push_message l = rank l.scope l.number 4
 
 abbrev pub decreases-push_core : goal.decreases-push_core
 decreases-push_core l = rank l.scope 0 1
@@ -26,7 +26,7 @@ abbrev pub decreases-push_part : goal.decreases-push_part
 decreases-push_part l = rank l.scope (part_node l.part) 7
 
 abbrev pub decreases-push_parts : goal.decreases-push_parts
-decreases-push_parts l = rank l.scope l.above (length l.parts.now)
+decreases-push_parts l = rank l.below.scope l.below.number (length l.parts.now)
 
 abbrev pub decreases-push_indexed : goal.decreases-push_indexed
 decreases-push_indexed l = rank l.scope l.index 5
@@ -35,7 +35,7 @@ abbrev pub decreases-push_cell : goal.decreases-push_cell
 decreases-push_cell l = rank l.scope l.index 6
 
 abbrev pub decreases-push_square : goal.decreases-push_square
-decreases-push_square l = rank l.scope l.above 0
+decreases-push_square l = rank l.below.scope l.below.number 0
 
 abbrev pub decreases-push_item : goal.decreases-push_item
-decreases-push_item l = rank l.scope l.above 3
+decreases-push_item l = rank l.below.scope l.below.number 3

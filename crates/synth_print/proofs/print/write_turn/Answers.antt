@@ -13,17 +13,17 @@ use Rattle.trace_core.specs.Bypasses.{bypasses_tree}
 pub returns-in_err-write_plan : goal.returns-in_err-write_plan
 returns-in_err-write_plan g c =
     let p = err_from_is_err_and c.from_residual.result c.from_residual.ensures.1 in
-    let found = slice_get c.args.bypasses.now.plans.items c.args.number in
-    rw (p.1, p.2) (part_of _ _ _ (found_lines (stack_tree c.args.stack.now) (names.Plan c.args.number) found)
+    let found = slice_get c.args.bypasses.now.plans.items c.args.numbered.number in
+    rw (p.1, p.2) (part_of _ _ _ (found_lines (stack_tree c.args.stack.now) (names.Plan c.args.numbered.number) found)
     (plan_turn (stack_tree c.args.stack.now) (bypasses_tree c.args.bypasses.now)
-    (c.args.number, plan_tree c.args.plan.now)) _
-    (sym (turn_is (stack_tree c.args.stack.now) c.args.bypasses.now c.args.number (plan_tree c.args.plan.now) found
+    (c.args.numbered.number, plan_tree c.args.numbered.plan.now)) _
+    (sym (turn_is (stack_tree c.args.stack.now) c.args.bypasses.now c.args.numbered.number (plan_tree c.args.numbered.plan.now) found
     refl))
     c.in_err-write_plan.ensures)
 
 pub returns : goal.returns
 returns g c =
     wrote_as _ _ _ _ _
-    (turn_is (stack_tree c.args.stack.now) c.args.bypasses.now c.args.number (plan_tree c.args.plan.now) _
+    (turn_is (stack_tree c.args.stack.now) c.args.bypasses.now c.args.numbered.number (plan_tree c.args.numbered.plan.now) _
     c.cases_at.ensures)
     (wrote_both _ _ _ _ _ _ c.in_ok-write_plan.ensures c.write_found.ensures)

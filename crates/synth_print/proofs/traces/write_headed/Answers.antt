@@ -12,12 +12,12 @@ use Rattle.trace_core.specs.Trees.{trace_tree}
 pub returns-in_err-write_heading : goal.returns-in_err-write_heading
 returns-in_err-write_heading g c =
     let p = err_from_is_err_and c.from_residual.result c.from_residual.ensures.1 in
-    rw (p.1, p.2) (part_of _ _ (ended_line (trace_heading c.args.name c.args.second) ∷ [])
+    rw (p.1, p.2) (part_of _ _ (ended_line (trace_heading c.args.case.name c.args.case.second) ∷ [])
     (ended_lines (operation_lines true (stack_tree c.args.stack.now) (trace_tree c.args.trace.now))) _ _ refl
     c.in_err-write_heading.ensures)
 
 pub returns : goal.returns
 returns g c =
-    wrote_both _ _ _ (ended_line (trace_heading c.args.name c.args.second) ∷ [])
+    wrote_both _ _ _ (ended_line (trace_heading c.args.case.name c.args.case.second) ∷ [])
     (ended_lines (operation_lines true (stack_tree c.args.stack.now) (trace_tree c.args.trace.now))) _
     c.in_ok-write_heading.ensures c.write_trace.ensures
