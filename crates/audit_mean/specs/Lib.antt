@@ -5,3 +5,4 @@ pub mod Segment
 pub mod Clash
 pub mod Lack
 pub mod Finding
+pub mod Examples

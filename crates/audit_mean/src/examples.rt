@@ -1,61 +1,65 @@
 //! Small reports, and what the definitions find in them.
 ghost use Rattle.std.specs.Prelude.{◌≡◌, [], ◌++◌, codes, Ok, Err};
+ghost use Rattle.audit_mean.specs.Examples.{view_change_report};
 ghost use Rattle.audit_mean.specs.Finding.{audit_of, bad_line};
 ghost use Rattle.audit_mean.specs.declared.law.Law.TheVariants.{Sender, Total, Same};
 ghost use Rattle.audit_mean.specs.declared.law.Finding.TheVariants.{Holds, Breach};
 
 /// Members that deliver in another order, or leave a view with other deliveries.
 pub fn find_breaches()
-    ensures order { audit_of Total (codes "deliver 0 cast 0 61\ndeliver 1 cast 1 62\ndeliver 1 cast 0 61\nend 3\n") ≡ Ok (Breach 1 2) }
-    ensures later_order { audit_of Total (codes "deliver 0 cast 0 61\ndeliver 1 cast 0 61\ndeliver 0 cast 1 62\ndeliver 2 cast 0 63\ndeliver 1 cast 1 64\nend 5") ≡ Ok (Breach 1 4) }
-    ensures order_of_a_peer { audit_of Sender (codes "deliver 0 cast 0 61\ndeliver 0 cast 1 62\ndeliver 1 cast 1 62\ndeliver 1 cast 0 -\nend 4") ≡ Ok (Breach 1 4) }
-    ensures name_twice { audit_of Total (codes "view 0 1 3\ndeliver 0 cast 0 61\nview 0 2 3\nview 0 1 3\ndeliver 0 cast 0 62\nview 1 1 3\ndeliver 1 cast 0 61\nend 0") ≡ Ok (Breach 5 7) }
+    ensures order { audit_of Total (codes "deliver 0 cast 0 61\ndeliver 1 cast 1 62\ndeliver 1 cast 0 61\nend 3\n") ≡
+        Ok (Breach 1 2) }
+    ensures later_order { audit_of Total (codes "deliver 0 cast 0 61\ndeliver 1 cast 0 61\ndeliver 0 cast 1 62\n"
+        ++ codes "deliver 2 cast 0 63\ndeliver 1 cast 1 64\nend 5") ≡ Ok (Breach 1 4) }
+    ensures order_of_a_peer { audit_of Sender (codes "deliver 0 cast 0 61\ndeliver 0 cast 1 62\ndeliver 1 cast 1 62\n"
+        ++ codes "deliver 1 cast 0 -\nend 4") ≡ Ok (Breach 1 4) }
+    ensures name_twice { audit_of Total (codes "view 0 1 3\ndeliver 0 cast 0 61\nview 0 2 3\nview 0 1 3\n"
+        ++ codes "deliver 0 cast 0 62\nview 1 1 3\ndeliver 1 cast 0 61\nend 0") ≡ Ok (Breach 5 7) }
     ensures lacking { audit_of Same (codes "deliver 0 cast 0 61\nview 0 1 3\nview 1 1 3\nend 3\n") ≡ Ok (Breach 1 3) }
-    ensures lacking_one_of_two { audit_of Same (codes "deliver 0 cast 0 61\ndeliver 0 cast 0 61\ndeliver 1 cast 0 61\nview 0 1 3\nview 1 1 3\nend 0") ≡ Ok (Breach 2 5) }
-    ensures line_of_the_later_first { audit_of Sender (codes "deliver 0 cast 0 61\ndeliver 0 cast 1 62\ndeliver 1 cast 1 63\ndeliver 1 cast 0 64\nend 4") ≡ Ok (Breach 2 3) }
-    ensures line_of_the_end_first { audit_of Same (codes "deliver 0 cast 0 61\ndeliver 1 cast 0 62\nview 0 1 3\nview 1 1 3\nend 4") ≡ Ok (Breach 2 3) }
-    ensures lacking_what_comes_later { audit_of Same (codes "view 1 1 3\ndeliver 0 cast 0 61\nview 0 1 3\nend 3\nvisits 0") ≡ Ok (Breach 2 1) }
+    ensures lacking_one_of_two { audit_of Same (codes "deliver 0 cast 0 61\ndeliver 0 cast 0 61\ndeliver 1 cast 0 61\n"
+        ++ codes "view 0 1 3\nview 1 1 3\nend 0") ≡ Ok (Breach 2 5) }
+    ensures line_of_the_later_first { audit_of Sender (codes "deliver 0 cast 0 61\ndeliver 0 cast 1 62\n"
+        ++ codes "deliver 1 cast 1 63\ndeliver 1 cast 0 64\nend 4") ≡ Ok (Breach 2 3) }
+    ensures line_of_the_end_first { audit_of Same (codes "deliver 0 cast 0 61\ndeliver 1 cast 0 62\nview 0 1 3\n"
+        ++ codes "view 1 1 3\nend 4") ≡ Ok (Breach 2 3) }
+    ensures lacking_what_comes_later { audit_of Same (codes "view 1 1 3\ndeliver 0 cast 0 61\nview 0 1 3\nend 3\n"
+        ++ codes "visits 0") ≡ Ok (Breach 2 1) }
 {}
 
 /// Members that keep a law though they differ: in the order of two peers, in other views, in sends, and
 /// after the line by which one is out.
 pub fn keep_laws()
-    ensures order_of_two_peers { audit_of Sender (codes "deliver 0 cast 0 61\ndeliver 1 cast 1 62\ndeliver 1 cast 0 61\nend 3\n") ≡ Ok Holds }
-    ensures same_so_far { audit_of Same (codes "deliver 0 cast 0 61\ndeliver 1 cast 1 62\ndeliver 1 cast 0 61\nend 3\n") ≡ Ok Holds }
+    ensures order_of_two_peers { audit_of Sender (codes "deliver 0 cast 0 61\ndeliver 1 cast 1 62\n"
+        ++ codes "deliver 1 cast 0 61\nend 3\n") ≡ Ok Holds }
+    ensures same_so_far { audit_of Same
+        (codes "deliver 0 cast 0 61\ndeliver 1 cast 1 62\ndeliver 1 cast 0 61\nend 3\n") ≡
+        Ok Holds }
     ensures lists_in_order { audit_of Total (codes "deliver 0 cast 0 61\nview 0 1 3\nview 1 1 3\nend 3\n") ≡ Ok Holds }
-    ensures other_views_total { audit_of Total (codes "view 0 1 3\nview 1 2 3\ndeliver 0 cast 0 61\ndeliver 1 cast 0 62\nview 0 3 3\nview 1 3 3\nend 4") ≡ Ok Holds }
-    ensures other_views_same { audit_of Same (codes "view 0 1 3\nview 1 2 3\ndeliver 0 cast 0 61\ndeliver 1 cast 0 62\nview 0 3 3\nview 1 3 3\nend 4") ≡ Ok Holds }
-    ensures itself { audit_of Same (codes "view 0 1 3\ndeliver 0 cast 0 61\nview 0 2 3\nview 0 1 3\ndeliver 0 cast 0 62\nview 1 1 3\ndeliver 1 cast 0 61\nend 0") ≡ Ok Holds }
-    ensures out_total { audit_of Total (codes "out 0\ndeliver 0 cast 0 61\nview 0 1 3\ndeliver 1 cast 0 62\nview 1 1 3\nend 0") ≡ Ok Holds }
-    ensures out_same { audit_of Same (codes "out 0\ndeliver 0 cast 0 61\nview 0 1 3\ndeliver 1 cast 0 62\nview 1 1 3\nend 0") ≡ Ok Holds }
-    ensures sends { audit_of Total (codes "deliver 0 send 0 61\ndeliver 0 cast 0 62\ndeliver 1 cast 0 62\ndeliver 1 send 0 63\nend 0") ≡ Ok Holds }
+    ensures other_views_total { audit_of Total (codes "view 0 1 3\nview 1 2 3\ndeliver 0 cast 0 61\n"
+        ++ codes "deliver 1 cast 0 62\nview 0 3 3\nview 1 3 3\nend 4") ≡ Ok Holds }
+    ensures other_views_same { audit_of Same (codes "view 0 1 3\nview 1 2 3\ndeliver 0 cast 0 61\ndeliver 1 cast 0 62\n"
+        ++ codes "view 0 3 3\nview 1 3 3\nend 4") ≡ Ok Holds }
+    ensures itself { audit_of Same (codes "view 0 1 3\ndeliver 0 cast 0 61\nview 0 2 3\nview 0 1 3\n"
+        ++ codes "deliver 0 cast 0 62\nview 1 1 3\ndeliver 1 cast 0 61\nend 0") ≡ Ok Holds }
+    ensures out_total { audit_of Total (codes "out 0\ndeliver 0 cast 0 61\nview 0 1 3\ndeliver 1 cast 0 62\n"
+        ++ codes "view 1 1 3\nend 0") ≡ Ok Holds }
+    ensures out_same { audit_of Same (codes "out 0\ndeliver 0 cast 0 61\nview 0 1 3\ndeliver 1 cast 0 62\nview 1 1 3\n"
+        ++ codes "end 0") ≡ Ok Holds }
+    ensures sends { audit_of Total (codes "deliver 0 send 0 61\ndeliver 0 cast 0 62\ndeliver 1 cast 0 62\n"
+        ++ codes "deliver 1 send 0 63\nend 0") ≡ Ok Holds }
 {}
 
 /// The report of a run in which one of three members falls silent, and two go into a view without it.
 pub fn keep_laws_in_a_view_change()
-    ensures sender { audit_of Sender (codes "timer 0 100\ntimer 1 100\ntimer 2 100\npacket 1 0 1 suspect.ping() -\npacket 2 0 2 suspect.ping() -\n"
-        ++ codes "timer 0 500\npacket 3 1 0 suspect.ping() -\npacket 4 1 2 suspect.ping() -\ntimer 1 500\npacket 5 0 1 suspect.ping() -\n"
-        ++ codes "packet 6 0 2 suspect.ping() -\ntimer 0 700\npacket 7 0 1 suspect.none()/elect.none()/sync.block(4) -\nblock 0 4\nblock 1 4\n"
-        ++ codes "packet 8 1 0 suspect.none()/elect.none()/sync.flush() -\nannounce 0 3\npacket 9 0 1 suspect.none()/elect.none()/sync.none()/intra.view(3) -\nview 0 1 3\nannounce 1 3\n"
-        ++ codes "view 1 1 3\nrefused 1 view\npacket 10 2 0 suspect.ping() -\npacket 11 2 1 suspect.ping() -\ntimer 2 700\n"
-        ++ codes "block 2 3\nannounce 2 4\nview 2 1 4\nend 13\n") ≡ Ok Holds }
-    ensures total { audit_of Total (codes "timer 0 100\ntimer 1 100\ntimer 2 100\npacket 1 0 1 suspect.ping() -\npacket 2 0 2 suspect.ping() -\n"
-        ++ codes "timer 0 500\npacket 3 1 0 suspect.ping() -\npacket 4 1 2 suspect.ping() -\ntimer 1 500\npacket 5 0 1 suspect.ping() -\n"
-        ++ codes "packet 6 0 2 suspect.ping() -\ntimer 0 700\npacket 7 0 1 suspect.none()/elect.none()/sync.block(4) -\nblock 0 4\nblock 1 4\n"
-        ++ codes "packet 8 1 0 suspect.none()/elect.none()/sync.flush() -\nannounce 0 3\npacket 9 0 1 suspect.none()/elect.none()/sync.none()/intra.view(3) -\nview 0 1 3\nannounce 1 3\n"
-        ++ codes "view 1 1 3\nrefused 1 view\npacket 10 2 0 suspect.ping() -\npacket 11 2 1 suspect.ping() -\ntimer 2 700\n"
-        ++ codes "block 2 3\nannounce 2 4\nview 2 1 4\nend 13\n") ≡ Ok Holds }
-    ensures same { audit_of Same (codes "timer 0 100\ntimer 1 100\ntimer 2 100\npacket 1 0 1 suspect.ping() -\npacket 2 0 2 suspect.ping() -\n"
-        ++ codes "timer 0 500\npacket 3 1 0 suspect.ping() -\npacket 4 1 2 suspect.ping() -\ntimer 1 500\npacket 5 0 1 suspect.ping() -\n"
-        ++ codes "packet 6 0 2 suspect.ping() -\ntimer 0 700\npacket 7 0 1 suspect.none()/elect.none()/sync.block(4) -\nblock 0 4\nblock 1 4\n"
-        ++ codes "packet 8 1 0 suspect.none()/elect.none()/sync.flush() -\nannounce 0 3\npacket 9 0 1 suspect.none()/elect.none()/sync.none()/intra.view(3) -\nview 0 1 3\nannounce 1 3\n"
-        ++ codes "view 1 1 3\nrefused 1 view\npacket 10 2 0 suspect.ping() -\npacket 11 2 1 suspect.ping() -\ntimer 2 700\n"
-        ++ codes "block 2 3\nannounce 2 4\nview 2 1 4\nend 13\n") ≡ Ok Holds }
+    ensures sender { audit_of Sender view_change_report ≡ Ok Holds }
+    ensures total { audit_of Total view_change_report ≡ Ok Holds }
+    ensures same { audit_of Same view_change_report ≡ Ok Holds }
 {}
 
 /// Texts that are no reports, and their first lines out of form.
 pub fn find_faults()
-    ensures no_end { audit_of Total (codes "deliver 0 cast 0 61\ndeliver 1 cast 1 62\ndeliver 1 cast 0 61\n") ≡ Err (bad_line 4) }
+    ensures no_end { audit_of Total (codes "deliver 0 cast 0 61\ndeliver 1 cast 1 62\ndeliver 1 cast 0 61\n") ≡
+        Err (bad_line 4) }
     ensures empty { audit_of Same [] ≡ Err (bad_line 1) }
     ensures no_bytes_in_a_line { audit_of Same (codes "\nend 0\n") ≡ Err (bad_line 1) }
     ensures comment { audit_of Same (codes "# said\nend 0\n") ≡ Err (bad_line 1) }

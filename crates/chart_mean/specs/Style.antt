@@ -23,7 +23,8 @@ style = ended_lines
     ∷ codes "g .arrow { stroke: #3d3846; stroke-width: 1.2; marker-end: url(#tip) }"
     ∷ codes "</style>"
     ∷ codes "<defs>"
-    ∷ codes "<marker id='tip' viewBox='0 0 8 8' refX='13' refY='4' markerWidth='8' markerHeight='8' orient='auto' markerUnits='userSpaceOnUse'>"
+    ∷ (codes "<marker id='tip' viewBox='0 0 8 8' refX='13' refY='4' markerWidth='8' markerHeight='8' orient='auto' "
+    ++ codes "markerUnits='userSpaceOnUse'>")
     ∷ codes "<path d='M0 0 8 4 0 8z' fill='#3d3846'/></marker>"
     ∷ codes "<circle id='cast' r='5' fill='#1a5fb4'/>"
     ∷ codes "<path id='send' d='M0-6 6 0 0 6-6 0z' fill='#1b7a4b'/>"

@@ -1,1 +1,2 @@
 mod Trees
+pub mod Rules

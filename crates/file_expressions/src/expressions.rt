@@ -22,7 +22,7 @@ const PART: Wanted = Wanted::One(Sort::Part);
 
 /// An expression, which is to be a number.
 #[cycle(types)]
-#[tactic(auto, using(file_scope::proofs::Finds::finds_none, file_scope::proofs::Finds::finds_both, file_scope::proofs::Parts::three_parts, file_scope::proofs::Parts::four_parts))]
+#[tactic(auto, using(crate::proofs::Rules::parts_found))]
 pub fn expression(found: &mut Found, scope: &Scope, e: &Expression)
     ensures { Finds found.old (spec.number_faults (scope_of scope.now) (expression_tree e.now)) found.new }
 {
@@ -114,7 +114,7 @@ pub fn message(found: &mut Found, scope: &Scope, m: &MessageExpression)
 
 /// A message that is no bare name.
 #[cycle(types)]
-#[tactic(auto, using(file_scope::proofs::Finds::finds_none, file_scope::proofs::Finds::finds_both, file_scope::proofs::Parts::three_parts, file_scope::proofs::Parts::four_parts))]
+#[tactic(auto, using(crate::proofs::Rules::parts_found))]
 pub fn built(found: &mut Found, scope: &Scope, b: &Built)
     ensures { Finds found.old (spec.built_faults (scope_of scope.now) (built_tree b.now)) found.new }
 {

@@ -1,3 +1,4 @@
 pub mod Laying
 pub mod Lines
 pub mod Remarks
+pub mod Rules

@@ -70,7 +70,7 @@ impl LineCursor {
 }
 
 /// Ends a line by that many line feeds, if there are any.
-#[tactic(auto, using(crate::proofs::Lines::no_lines, crate::proofs::Lines::all_left, crate::proofs::Lines::one_line, crate::proofs::Lines::none_left))]
+#[tactic(auto, using(crate::proofs::Rules::of_end_line))]
 fn end_line<O: Sink>(line: &mut Vec<u8>, feeds: usize, out: &mut O) -> Result<(), SinkError>
     ensures wrote { Wrote (spec.line_at_feeds line.old.items feeds) (tells_of O.Sink out.old) (tells_of O.Sink out.new)
         result }

@@ -189,7 +189,8 @@ module _ (b : Begun) (p : List Held) (s : Stock) (is : InPool b p s) (fits : Sto
       } in
       let goes = scope_sent b p s is dir e header k m there in
       let step = messages_gone b p q u goes.0 gone in
-      let longer = longer_fits b.layout s fits places s.arrived (dir, pool_event e (Some (sent_behind dir header m))) in (
+      let longer = longer_fits b.layout s fits places s.arrived
+      (dir, pool_event e (Some (sent_behind dir header m))) in (
         step.0,
         record {
           rows = fits.rows;

@@ -64,7 +64,7 @@ fn place_at(
 }
 
 /// A place: its layer is one of the file, or else of the library.
-#[tactic(auto, using(file_scope::proofs::Layers::within_file, file_scope::proofs::Layers::within_made, file_scope::proofs::Layers::made_at))]
+#[tactic(auto, using(crate::proofs::Rules::of_place))]
 fn place(alloc: Global, found: &mut Found, judged: &Judged, place: &Place) -> Result<(), AllocError>
     ensures { OnOk result
         (Finds found.old (place_faults (file_tree judged.now.file.now) (place_tree place.now)) found.new) }

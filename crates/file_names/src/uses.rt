@@ -49,7 +49,7 @@ fn label(found: &mut Found, scope: &Scope, queue: &Name, label: &Name)
 
 /// The uses in an expression.
 #[cycle(uses)]
-#[tactic(auto, using(file_scope::proofs::Finds::finds_none, file_scope::proofs::Finds::finds_both, file_scope::proofs::Finds::finds_row, file_scope::proofs::Finds::finds_three))]
+#[tactic(auto, using(crate::proofs::Rules::three_found))]
 pub fn expression(found: &mut Found, scope: &Scope, e: &Expression)
     ensures { Finds found.old (uses_faults (scope_of scope.now) (used.uses (expression_tree e.now))) found.new }
 {
@@ -106,7 +106,7 @@ pub fn expression(found: &mut Found, scope: &Scope, e: &Expression)
 
 /// The uses in the mention of a queue.
 #[cycle(uses)]
-#[tactic(auto, using(file_scope::proofs::Finds::finds_none, file_scope::proofs::Finds::finds_both, file_scope::proofs::Finds::finds_row, file_scope::proofs::Finds::finds_three))]
+#[tactic(auto, using(crate::proofs::Rules::three_found))]
 pub fn queue(found: &mut Found, scope: &Scope, q: &Queue)
     ensures { Finds found.old (uses_faults (scope_of scope.now) (used.queue_uses (queue_tree q.now))) found.new }
 {
@@ -119,7 +119,7 @@ pub fn queue(found: &mut Found, scope: &Scope, q: &Queue)
 
 /// The uses in a message.
 #[cycle(uses)]
-#[tactic(auto, using(file_scope::proofs::Finds::finds_none, file_scope::proofs::Finds::finds_both, file_scope::proofs::Finds::finds_row, file_scope::proofs::Finds::finds_three))]
+#[tactic(auto, using(crate::proofs::Rules::three_found))]
 pub fn message(found: &mut Found, scope: &Scope, m: &MessageExpression)
     ensures { Finds found.old (uses_faults (scope_of scope.now) (used.message_uses (message_tree m.now))) found.new }
 {
@@ -131,7 +131,7 @@ pub fn message(found: &mut Found, scope: &Scope, m: &MessageExpression)
 
 /// The uses in a message that is no bare name.
 #[cycle(uses)]
-#[tactic(auto, using(file_scope::proofs::Finds::finds_none, file_scope::proofs::Finds::finds_both, file_scope::proofs::Finds::finds_row, file_scope::proofs::Finds::finds_three))]
+#[tactic(auto, using(crate::proofs::Rules::three_found))]
 pub fn built(found: &mut Found, scope: &Scope, b: &Built)
     ensures { Finds found.old (uses_faults (scope_of scope.now) (used.built_uses (built_tree b.now))) found.new }
 {
@@ -237,7 +237,7 @@ pub fn optional(found: &mut Found, scope: &Scope, e: &Option<Expression>)
 }
 
 /// The uses in a statement, without those in its blocks.
-#[tactic(auto, using(file_scope::proofs::Finds::finds_none, file_scope::proofs::Finds::finds_both, file_scope::proofs::Finds::finds_row))]
+#[tactic(auto, using(crate::proofs::Rules::row_found))]
 pub fn statement(found: &mut Found, scope: &Scope, s: &Statement)
     ensures { Finds found.old (uses_faults (scope_of scope.now) (used.statement_uses (statement_tree s.now)))
         found.new }

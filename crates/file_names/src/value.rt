@@ -39,7 +39,7 @@ pub fn is_param(scope: &Scope, word: &Word) -> bool
 }
 
 /// The value that is given to a param; a table tells where each is given first.
-#[tactic(auto, using(crate::proofs::Lookups::given_within, crate::proofs::Lookups::given_at, crate::proofs::Lookups::given_nowhere))]
+#[tactic(auto, using(crate::proofs::Rules::of_given_value))]
 fn given_value(given: &[Given], names: &Words, word: &Word) -> Option<u32>
     requires { names.now ≡ map (λ g. g.name.word) (map given_tree given.now) }
     ensures { result ≡ spec.given_value (map given_tree given.now) word.now }

@@ -76,7 +76,7 @@ pub fn locals_as(alloc: Global, sorts: &[Sort], names: &Names) -> Result<Vec<Loc
 }
 
 /// The sort of an item of a row by its place; after the last item are numbers.
-#[tactic(auto, using(crate::proofs::Sorted::first_sort, crate::proofs::Sorted::rest_sort, crate::proofs::Sorted::no_sort))]
+#[tactic(auto, using(crate::proofs::Rules::of_item_sort))]
 fn item_sort(row: &Items, place: usize) -> Sort
     ensures { result ≡ slice_index_or (map (λ i. i.sort) (items_in (items_tree row.now))) place Int }
 {

@@ -41,7 +41,7 @@ fn second(arguments: &Arguments) -> Option<&Argument>
 }
 
 /// The argument after the first, for which something is wanted or nothing.
-#[tactic(auto, using(file_scope::proofs::Finds::finds_none, crate::proofs::Arguments::one_behind, crate::proofs::Arguments::none_behind))]
+#[tactic(auto, using(crate::proofs::Rules::of_behind_first))]
 fn behind_first(found: &mut Found, scope: &Scope, wanted: Option<Wanted>, rest: &[Argument])
     ensures { Finds found.old
         (arguments_faults (scope_of scope.now) (map sorts_of (option_to_list wanted)) (map argument_tree rest.now))

@@ -29,7 +29,7 @@ pub struct Ranked<'a> {
 }
 
 /// The layers that a file writes, each with the table of its own words.
-#[tactic(auto, using(file_scope::proofs::Finds::finds_none, file_scope::proofs::Finds::part_more, file_scope::proofs::Layers::made_within, file_scope::proofs::Layers::made_at))]
+#[tactic(auto, using(crate::proofs::Rules::of_written))]
 pub fn written(
     alloc: Global,
     found: &mut Found,

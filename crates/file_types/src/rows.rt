@@ -59,7 +59,7 @@ fn lesser(a: usize, b: usize) -> usize
 }
 
 /// Arguments, for each of which the sort of an item is wanted.
-#[tactic(auto, using(file_scope::proofs::Finds::finds_none, crate::proofs::Arguments::item_more, crate::proofs::Arguments::items_end))]
+#[tactic(auto, using(crate::proofs::Rules::of_each_item))]
 fn each_item(found: &mut Found, scope: &Scope, items: &[Item], all: &[Argument])
     ensures { Finds found.old
         (arguments_faults (scope_of scope.now) (map (λ i. i.sort ∷ []) (map item_tree items.now))

@@ -21,23 +21,28 @@ pub fn name_jobs()
         Some (replay (codes "a") (codes "b") layered false false) }
     ensures replays_by_default { job_of_words (codes "replay" ∷ codes "a" ∷ codes "b" ∷ []) ≡
         Some (replay (codes "a") (codes "b") bypass false false) }
-    ensures in_any_order { job_of_words (codes "--count" ∷ codes "replay" ∷ codes "--run=bypass" ∷ codes "a" ∷ codes "--wire" ∷ codes "b" ∷
+    ensures in_any_order { job_of_words (codes "--count" ∷ codes "replay" ∷ codes "--run=bypass" ∷ codes "a" ∷
+        codes "--wire" ∷ codes "b" ∷
         []) ≡ Some (replay (codes "a") (codes "b") bypass true true) }
     ensures replays_traces { job_of_words (codes "replay" ∷ codes "a" ∷ codes "b" ∷ codes "--with" ∷ codes "t" ∷ []) ≡
         Some (replay_with (codes "a") (codes "b") (codes "t") false false) }
-    ensures replays_traces_by_bypasses { job_of_words (codes "replay" ∷ codes "--with=t" ∷ codes "a" ∷ codes "--wire" ∷ codes "--run=bypass" ∷
+    ensures replays_traces_by_bypasses { job_of_words (codes "replay" ∷ codes "--with=t" ∷ codes "a" ∷ codes "--wire" ∷
+        codes "--run=bypass" ∷
         codes "b" ∷ codes "--count" ∷ []) ≡ Some (replay_with (codes "a") (codes "b") (codes "t") true true) }
     ensures explains { job_of_words (codes "explain" ∷ codes "a" ∷ codes "b" ∷ []) ≡
         Some (explain (codes "a") (codes "b")) }
     ensures loads { job_of_words (codes "load" ∷ codes "a" ∷ codes "--seed=4294967295" ∷ codes "--events" ∷
         codes "99999" ∷ codes "--members" ∷ codes "32" ∷ []) ≡
         Some (load (codes "a") 4294967295 99999 32 false bypass) }
-    ensures loads_datagrams { job_of_words (codes "load" ∷ codes "a" ∷ codes "--raw" ∷ codes "--seed=7" ∷ codes "--events=0" ∷
+    ensures loads_datagrams { job_of_words (codes "load" ∷ codes "a" ∷ codes "--raw" ∷ codes "--seed=7" ∷
+        codes "--events=0" ∷
         codes "--members=1" ∷ codes "--run=layered" ∷ []) ≡ Some (load (codes "a") 7 0 1 true layered) }
-    ensures runs_a_node { job_of_words (codes "node" ∷ codes "a" ∷ codes "b" ∷ codes "--turns" ∷ codes "1000000" ∷ codes "--me" ∷
+    ensures runs_a_node { job_of_words (codes "node" ∷ codes "a" ∷ codes "b" ∷ codes "--turns" ∷ codes "1000000" ∷
+        codes "--me" ∷
         codes "0,2,31" ∷ codes "--run" ∷ codes "layered" ∷ []) ≡
         Some (node (codes "a") (codes "b") 1000000 (0 ∷ 2 ∷ 31 ∷ []) 0 layered) }
-    ensures runs_a_patient_node { job_of_words (codes "node" ∷ codes "a" ∷ codes "b" ∷ codes "--patience" ∷ codes "1000" ∷ codes "--turns=1" ∷
+    ensures runs_a_patient_node { job_of_words (codes "node" ∷ codes "a" ∷ codes "b" ∷ codes "--patience" ∷
+        codes "1000" ∷ codes "--turns=1" ∷
         codes "--me=0" ∷ []) ≡ Some (node (codes "a") (codes "b") 1 (0 ∷ []) 1000 bypass) }
     ensures audits_peers { job_of_words (codes "audit" ∷ codes "r" ∷ codes "--law" ∷ codes "sender" ∷ []) ≡
         Some (audit (codes "r") Sender) }
@@ -47,5 +52,6 @@ pub fn name_jobs()
         Some (audit (codes "r") Same) }
     ensures behind_the_end_of_options { job_of_words (codes "check" ∷ codes "--" ∷ codes "--wire" ∷ []) ≡
         Some (check (codes "--wire")) }
-    ensures hyphen_and_nothing { job_of_words (codes "replay" ∷ codes "-" ∷ [] ∷ []) ≡ Some (replay (codes "-") [] bypass false false) }
+    ensures hyphen_and_nothing { job_of_words (codes "replay" ∷ codes "-" ∷ [] ∷ []) ≡
+        Some (replay (codes "-") [] bypass false false) }
 {}

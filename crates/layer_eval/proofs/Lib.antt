@@ -6,3 +6,4 @@ pub mod Sizes
 pub mod Trees
 pub mod Visits
 pub mod Nothing
+pub mod Rules

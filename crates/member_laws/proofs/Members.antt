@@ -284,10 +284,11 @@ installed_is stack view id ranks typed is = go (view.ltime == last_ltime) refl w
       IsChainedMember stack (option_map_or (λ next. opened_member stack next id)
       (if b then None else Some record { ltime = view.ltime + 1; mask = mask_of view ranks }) out)
   go true last = tt
-  go false last = opened_is_chained stack (record { ltime = view.ltime + 1; mask = mask_of view ranks }) id typed record {
-    ltime = omega (arith, is.ltime, eqb-false view.ltime last_ltime last);
-    mask = mask_small view ranks;
-  }
+  go false last = opened_is_chained stack (record { ltime = view.ltime + 1; mask = mask_of view ranks }) id typed
+      record {
+        ltime = omega (arith, is.ltime, eqb-false view.ltime last_ltime last);
+        mask = mask_small view ranks;
+      }
 
 -- steps
 

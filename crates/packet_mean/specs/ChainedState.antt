@@ -101,8 +101,8 @@ pub record IsEvent (Chain : List Header → Type 0) (e : Event) : Type 0 where
 abbrev pub IsChainedState : (stack : List LayerTree) (place : ℕ) → State → Type 0
 IsChainedState stack place s = IsState (IsFrom stack (suc place)) (slice_index_or stack place no_layer) s
 
--- The place from which the message of an event comes that arrives at a place: going up it has the place's own header, and
--- going down it doesn't have it yet.
+-- The place from which the message of an event comes that arrives at a place: going up it has the place's own header,
+-- and going down it doesn't have it yet.
 abbrev pub from_place : Dir → ℕ → ℕ
 from_place Up place = place
 from_place Down place = suc place

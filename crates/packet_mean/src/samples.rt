@@ -39,12 +39,12 @@ pub fn spell_counter()
 /// The packets are read again, in both forms; a header that ends the chain has none after it.
 pub fn read_samples()
     ensures ordered_full { received ordering_stack [] (second 1 3) (full_bytes ordered_cast) ≡ Ok ordered_cast }
-    ensures ordered_short { received ordering_stack (ordered_plan ∷ []) (second 1 3) (short_bytes 0 ordered_plan ordered_cast) ≡
-        Ok ordered_cast }
+    ensures ordered_short { received ordering_stack (ordered_plan ∷ []) (second 1 3)
+        (short_bytes 0 ordered_plan ordered_cast) ≡ Ok ordered_cast }
     ensures request { received ordering_stack [] (second 1 3) (full_bytes ordered_request) ≡ Ok ordered_request }
     ensures counter_full { received counter counter_plans (second 7 7) (full_bytes counter_cast) ≡ Ok counter_cast }
-    ensures counter_short { received counter counter_plans (second 7 7) (front 0xE6 1 7 0 7 0 0xFF ++ 0 ∷ small 0 ++ codes "hi") ≡
-        Ok counter_cast }
+    ensures counter_short { received counter counter_plans (second 7 7) (front 0xE6 1 7 0 7 0 0xFF
+        ++ 0 ∷ small 0 ++ codes "hi") ≡ Ok counter_cast }
 {}
 
 /// A packet fits a plan of its kind, tags and constants alone.

@@ -9,21 +9,28 @@ const EXPLAIN: &[&str] = &["explain", "f", "s"];
 
 /// A layer with two cases, of which the first goes round a loop and has no shape.
 const LATE: &[u8] =
-    b"layer late { state int k; header a() passes; header b() passes; down Cast(p, m) { set k = (k + 1); if two ((k & 1) == 1) { each i below 1 max 1 { down Cast(p, m) with a(); } } else { down Cast(p, m) with b(); } } } stack { late; }";
+    b"layer late { state int k; header a() passes; header b() passes; down Cast(p, m) { set k = (k + 1); \
+    if two ((k & 1) == 1) { each i below 1 max 1 { down Cast(p, m) with a(); } } else { down Cast(p, m) with b(); } } \
+    } stack { late; }";
 
 /// A layer with two cases whose lines differ, and whose sends go round a loop in the second.
 const BOTH: &[u8] =
-    b"layer both {\n  state int k;\n  down Cast(p, m) {\n    set k = (k + 1);\n    if two (k == 1) {\n      if (k > 5) { down Cast(p, m); }\n    } else {\n      if rare\n        (k > 1) { down Send(p, m); }\n    }\n  }\n  down Send(p, m) {\n    if two (p == 0) { down Send(p, m); }\n    else { each i below 1 max 1 { down Send(p, m); } }\n  }\n}\nstack { both; }\n";
+    b"layer both {\n  state int k;\n  down Cast(p, m) {\n    set k = (k + 1);\n    if two (k == 1) {\n      \
+    if (k > 5) { down Cast(p, m); }\n    } else {\n      if rare\n        (k > 1) { down Send(p, m); }\n    }\n  }\n  \
+    down Send(p, m) {\n    if two (p == 0) { down Send(p, m); }\n    \
+    else { each i below 1 max 1 { down Send(p, m); } }\n  }\n}\nstack { both; }\n";
 
 const ORDER: &[u8] = b"stack { bottom; mnak; local; total; }";
 
 /// A layer that sends what it has kept.
 const KEEP: &[u8] =
-    b"layer keep { state queue q[2] of (x: int, m: msg); header h(v) passes; down Cast(p, m) { if (len(q) > 1) { take q (w, z) { down Cast(p, z) with h(w); } else { } } push q (len(q), m) else { } } } stack { keep; }";
+    b"layer keep { state queue q[2] of (x: int, m: msg); header h(v) passes; down Cast(p, m) { if (len(q) > 1) { \
+    take q (w, z) { down Cast(p, z) with h(w); } else { } } push q (len(q), m) else { } } } stack { keep; }";
 
 /// Ten layers that send two casts for one.
 const TWINS: &[u8] =
-    b"layer twin { header h(v) passes; down Cast(p, m) { down Cast(p, m) with h(1); down Cast(p, m) with h(2); } } stack { twin; twin; twin; twin; twin; twin; twin; twin; twin; twin; }";
+    b"layer twin { header h(v) passes; down Cast(p, m) { down Cast(p, m) with h(1); down Cast(p, m) with h(2); } } \
+    stack { twin; twin; twin; twin; twin; twin; twin; twin; twin; twin; }";
 
 /// Whether it is told of a script's steps what they lacked.
 fn tells(alloc: Global, file: &[u8], script: &[u8], told: &[u8]) -> Result<bool, AllocError> {

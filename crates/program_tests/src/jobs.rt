@@ -107,14 +107,15 @@ const TRACES: &[u8] = b"\
 
 /// A layer whose casts and sends go round a loop.
 pub(crate) const REPEATER: &[u8] = b"\
-        layer rep { down Cast(p, m) { each i below 2 max 2 { down Cast(p, m); } } down Send(p, m) { each i below 1 max 1 { down Send(p, m); } } }\n\
+        layer rep { down Cast(p, m) { each i below 2 max 2 { down Cast(p, m); } } down Send(p, m) { \
+        each i below 1 max 1 { down Send(p, m); } } }\n\
         stack { rep; }\n";
 
 const LOOPS: &[u8] = b"entry cast absent loop 0\nentry send absent loop 0\nend 0 fused 2 absent\n";
 
 /// A layer that sends a message which it had stored.
-const KEEPER: &[u8] =
-    b"layer keep {\n  state queue q[4] of (m: msg);\n  header one() passes;\n  down Cast(p, m) { push q (m) else { } take q (w) { down Cast(p, w) with one(); } else { } }\n}\nstack { keep; }\n";
+const KEEPER: &[u8] = b"layer keep {\n  state queue q[4] of (m: msg);\n  header one() passes;\n  \
+    down Cast(p, m) { push q (m) else { } take q (w) { down Cast(p, w) with one(); } else { } }\n}\nstack { keep; }\n";
 
 const STORED: &[u8] = b"\
         entry cast absent stored 0\nentry send fused\ndo out down Send(peer,body) keep.none()\n\
@@ -123,7 +124,8 @@ const STORED: &[u8] = b"\
 
 /// A layer whose headers and conditions are numbers alone.
 const LITERAL: &[u8] =
-    b"layer lit { header h(v) passes; down Cast(p, m) { down Cast(p, m) with h((2 + 3)); }\n  up Cast(o, m) with h(v) common ((v == 5) and (1 < 2)) { if (v == 5) { up Cast(o, m); } } }\nstack { lit; }\n";
+    b"layer lit { header h(v) passes; down Cast(p, m) { down Cast(p, m) with h((2 + 3)); }\n  \
+    up Cast(o, m) with h(v) common ((v == 5) and (1 < 2)) { if (v == 5) { up Cast(o, m); } } }\nstack { lit; }\n";
 
 const COMPUTED: &[u8] = b"\
         entry cast fused\ndo bind t.0 = peer\ndo bind t.1 = 5\n\
@@ -134,7 +136,9 @@ const COMPUTED: &[u8] = b"\
 
 /// A layer with two cases, whose casts have no handler when they arrive.
 pub(crate) const FLIP: &[u8] =
-    b"layer flip {\n  state int k;\n  header a(x) passes;\n  header b(x) passes;\n  down Cast(p, m) {\n    set k = (k + 1);\n    if two ((k & 1) == 1) { down Cast(p, m) with a(k); } else { down Cast(p, m) with b(k); }\n  }\n}\nstack { flip; }\n";
+    b"layer flip {\n  state int k;\n  header a(x) passes;\n  header b(x) passes;\n  down Cast(p, m) {\n    \
+    set k = (k + 1);\n    if two ((k & 1) == 1) { down Cast(p, m) with a(k); } else { down Cast(p, m) with b(k); }\n  \
+    }\n}\nstack { flip; }\n";
 
 const CASES: &[u8] = b"\
         entry cast fused\nlet v.0 = (0.k + 1)\nwhen ((v.0 & 1) == 1)\ndo set 0.k = (0.k + 1)\n\

@@ -34,18 +34,23 @@ const ORDER: &[u8] = b"stack { bottom; mnak; local; total; }";
 
 /// A layer that branches on a cell that it has just written.
 const ALIAS: &[u8] =
-    b"layer alias { state int k = 1; state int e[n]; header a() passes; header b() passes; down Cast(p, m) { set e[(k & 1)] = 5; set k = (k + 1); if (e[0] == 5) { down Cast(p, m) with a(); } else { down Cast(p, m) with b(); } } } stack { alias; }";
+    b"layer alias { state int k = 1; state int e[n]; header a() passes; header b() passes; down Cast(p, m) { \
+    set e[(k & 1)] = 5; set k = (k + 1); if (e[0] == 5) { down Cast(p, m) with a(); } else { down Cast(p, m) with b(); \
+    } } } stack { alias; }";
 
 /// A layer with two cases, of which the first goes round a loop and has no code.
 const LATE: &[u8] =
-    b"layer late { state int k; header a() passes; header b() passes; down Cast(p, m) { set k = (k + 1); if two ((k & 1) == 1) { each i below 1 max 1 { down Cast(p, m) with a(); } } else { down Cast(p, m) with b(); } } } stack { late; }";
+    b"layer late { state int k; header a() passes; header b() passes; down Cast(p, m) { set k = (k + 1); \
+    if two ((k & 1) == 1) { each i below 1 max 1 { down Cast(p, m) with a(); } } else { down Cast(p, m) with b(); } } \
+    } stack { late; }";
 
 /// A layer whose casts lead into a view.
 const LEAD: &[u8] = b"layer lead { down Cast(p, m) { up View(5); } } stack { lead; }";
 
 /// A layer that keeps the last two casts, and lets the older one go.
 const KEEP: &[u8] =
-    b"layer keep { state queue q[2] of (x: int, m: msg); header h(v) passes; down Cast(p, m) { if (len(q) > 1) { take q (w, z) { down Cast(p, m) with h(w); } else { } } push q (len(q), m) else { } } } stack { keep; }";
+    b"layer keep { state queue q[2] of (x: int, m: msg); header h(v) passes; down Cast(p, m) { if (len(q) > 1) { \
+    take q (w, z) { down Cast(p, m) with h(w); } else { } } push q (len(q), m) else { } } } stack { keep; }";
 
 const VIEWS: &[u8] = b"stack { suspect; elect; sync; intra; top; }";
 

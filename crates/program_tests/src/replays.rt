@@ -7,7 +7,9 @@ use std::test::Fail;
 
 /// A layer with a queue of one row.
 const QUEUE: &[u8] =
-    b"layer one {\n  state int s = 4294967295;\n  state queue q[1] of (x: int);\n  header num(v) passes;\n  header full() ends;\n  down Cast(p, m) {\n    push q (s) else { down Cast(p, nothing) with full(); }\n    set s = (s + 1);\n    down Cast(p, m) with num(s);\n  }\n}\nstack { one; }\n";
+    b"layer one {\n  state int s = 4294967295;\n  state queue q[1] of (x: int);\n  header num(v) passes;\n  \
+    header full() ends;\n  down Cast(p, m) {\n    push q (s) else { down Cast(p, nothing) with full(); }\n    \
+    set s = (s + 1);\n    down Cast(p, m) with num(s);\n  }\n}\nstack { one; }\n";
 
 #[test]
 fn reports(rt: HostRuntime) -> Result<(), Fail> {

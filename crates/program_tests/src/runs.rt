@@ -11,11 +11,15 @@ pub(crate) const REPLAY: &[&str] = &["replay", "f", "s", "--run", "layered"];
 pub(crate) const FIRST: &[u8] = b"group 1 stamp 7 members 3\n";
 
 pub(crate) const COUNTER: &[u8] =
-    b"layer cnt {\n  state int k;\n  state int e[n];\n  header num(seq) passes;\n  down Cast(p, m) {\n    down Cast(p, m) with num(k);\n    set k = (k + 1);\n  }\n  up Cast(o, m) with num(seq) common (seq == e[o]) {\n    set e[o] = (seq + 1);\n    up Cast(o, m);\n  }\n}\nstack { cnt; }\n";
+    b"layer cnt {\n  state int k;\n  state int e[n];\n  header num(seq) passes;\n  down Cast(p, m) {\n    \
+    down Cast(p, m) with num(k);\n    set k = (k + 1);\n  }\n  up Cast(o, m) with num(seq) common (seq == e[o]) {\n    \
+    set e[o] = (seq + 1);\n    up Cast(o, m);\n  }\n}\nstack { cnt; }\n";
 
 /// A layer that keeps 320 rows with messages for each member: too many for 26 members.
 pub(crate) const ROWS: &[u8] =
-    b"layer all {\n  state queue a[n][64] of (m: msg);\n  state queue b[n][64] of (m: msg);\n  state queue c[n][64] of (m: msg);\n  state queue d[n][64] of (m: msg);\n  state queue e[n][64] of (m: msg);\n}\nstack { all; }\n";
+    b"layer all {\n  state queue a[n][64] of (m: msg);\n  state queue b[n][64] of (m: msg);\n  \
+    state queue c[n][64] of (m: msg);\n  state queue d[n][64] of (m: msg);\n  state queue e[n][64] of (m: msg);\n}\n\
+    stack { all; }\n";
 
 /// What a run left: its status, and the bytes on its output and on its standard error.
 #[derive(Drop)]

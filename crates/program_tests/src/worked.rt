@@ -5,14 +5,17 @@ use std::test::Fail;
 
 /// A layer that keeps 320 rows for each member of its view.
 const BIG: &[u8] =
-    b"layer big { state queue q0[n][64] of (m: msg); state queue q1[n][64] of (m: msg); state queue q2[n][64] of (m: msg); state queue q3[n][64] of (m: msg); state queue q4[n][64] of (m: msg); } stack { big; }";
+    b"layer big { state queue q0[n][64] of (m: msg); state queue q1[n][64] of (m: msg); \
+    state queue q2[n][64] of (m: msg); state queue q3[n][64] of (m: msg); state queue q4[n][64] of (m: msg); } \
+    stack { big; }";
 
 #[test]
 fn refuses_files(rt: HostRuntime) -> Result<(), Fail> {
     let alloc = rt.alloc();
     let cases: [(&[u8], &[u8]); 6] = [
         (
-            b"layer echo { down Cast(p, m) { up Cast(p, m); } up Cast(o, m) { down Cast(o, m); } } stack { echo; echo; }",
+            b"layer echo { down Cast(p, m) { up Cast(p, m); } up Cast(o, m) { down Cast(o, m); } } \
+            stack { echo; echo; }",
             b"file: cycle 0 Cast\n",
         ),
         (

@@ -86,7 +86,8 @@ fn push_with_message(
     headers: &Headers,
     body: &[u8],
 ) -> Result<(), Memory>
-    ensures { OnOk result (line.new ≡ line.old ++ (codes "[" ++ join_by decimal (44 ∷ []) numbers.now ++ lead (44 ∷ []) (length numbers.now)
+    ensures { OnOk result (line.new ≡ line.old
+        ++ (codes "[" ++ join_by decimal (44 ∷ []) numbers.now ++ lead (44 ∷ []) (length numbers.now)
         ++ message_text (stack_tree stack.now) (record { headers = headers.now; body = body.now }) ++ codes "]")) }
 {
     line.text(b"[")?;

@@ -95,7 +95,8 @@ fn push_row_at<S: Shows>(
     queue: u32,
     k: u32,
 ) -> Result<(), Memory>
-    requires { k < length (rows_at (state_at (S.group group.now) queues.spot.id queues.spot.place) queues.spot.cell queue) }
+    requires { k < length
+        (rows_at (state_at (S.group group.now) queues.spot.id queues.spot.place) queues.spot.cell queue) }
     ensures { OnOk result (line.new ≡ line.old ++ lead (codes " ") k
         ++ row_text (stack_tree queues.entry.stack.now)
         (slice_index_or (rows_at (state_at (S.group group.now) queues.entry.spot.id queues.entry.spot.place)
@@ -117,7 +118,8 @@ fn push_rows<S: Shows>(
 ) -> Result<(), Memory>
     ensures { OnOk result (line.new ≡ line.old
         ++ rows_text (stack_tree queues.entry.stack.now)
-        (rows_at (state_at (S.group group.now) queues.entry.spot.id queues.entry.spot.place) queues.entry.spot.cell queue)) }
+        (rows_at (state_at (S.group group.now) queues.entry.spot.id queues.entry.spot.place)
+        queues.entry.spot.cell queue)) }
 {
     let count = group.rows(queues.spot, queue);
     if count == 0 {
@@ -151,7 +153,8 @@ fn push_queue<S: Shows>(
         ++ (cell_front queues.entry.spot.id queues.entry.spot.place (layer_tree queues.entry.layer.now).name
         queues.entry.name.now ++ index_if queues.entry.is_array queue
         ++ codes " " ++ rows_text (stack_tree queues.entry.stack.now)
-        (rows_at (state_at (S.group group.now) queues.entry.spot.id queues.entry.spot.place) queues.entry.spot.cell queue)
+        (rows_at (state_at (S.group group.now) queues.entry.spot.id queues.entry.spot.place)
+        queues.entry.spot.cell queue)
         ++ codes "\n")) }
 {
     let layer = queues.layer.name.bytes();

@@ -124,7 +124,8 @@ lack_reached : (mark : Option Mark) (group : Option Group) (one other : Known) �
 lack_reached None group one other lacks only parted differ = absurd cc
 lack_reached (Some mark) group one other lacks only parted differ =
     elim mark.more_members as
-    (λ t. mark.more_members ≡ t → Reaches (cond t (lacking (Some mark) group) (other_than mark.member group)) one.line) [
+    (λ t. mark.more_members ≡ t →
+    Reaches (cond t (lacking (Some mark) group) (other_than mark.member group)) one.line) [
       | true ↦ λ e. lacks
       | false ↦ λ e. parted mark.member (λ is. differ (is ∙ sym (only e refl)))
     ] refl

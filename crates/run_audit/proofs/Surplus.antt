@@ -128,7 +128,8 @@ of_group one (other ∷ others) =
           (λ q. flat_map (lacks (known_segment one))
           (cond q (known_segment other ∷ filter (is_other (known_segment one)) rest)
           (filter (is_other (known_segment one)) rest)) ≡
-          flat_map (spec.lacks one) (cond q (other ∷ filter (goes_along one) others) (filter (goes_along one) others))) [
+          flat_map (spec.lacks one)
+          (cond q (other ∷ filter (goes_along one) others) (filter (goes_along one) others))) [
             | true ↦ λ i. same_lacks one other i ++ more i
             | false ↦ more
           ]

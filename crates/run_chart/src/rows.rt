@@ -50,7 +50,8 @@ fn draw_heading(member: u32, text: &mut Text) -> Result<(), AllocError>
 #[tactic(auto, using(crate::proofs::Stays::stays_last))]
 fn draw_stays(member: u32, end: u64, lines: &[Line<'_>], text: &mut Text) -> Result<(), AllocError>
     ensures { OnOk result
-        (text.new ≡ text.old ++ spec.stays member end spec.first_turn (spec.turns_at member (map line_shown lines.now))) }
+        (text.new ≡ text.old
+        ++ spec.stays member end spec.first_turn (spec.turns_at member (map line_shown lines.now))) }
 {
     let mut turn = Turn {
         x: LEFT,

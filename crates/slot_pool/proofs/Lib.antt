@@ -5,3 +5,4 @@ pub mod Places
 pub mod References
 pub mod Spots
 pub mod Times
+pub mod Rules

@@ -67,7 +67,7 @@ impl Row {
     }
 
     /// The body of a place.
-    #[tactic(auto, using(crate::proofs::Spots::length_joined, crate::proofs::Spots::spot_at_joined, crate::proofs::Spots::spot_short))]
+    #[tactic(auto, using(crate::proofs::Rules::of_body))]
     pub(crate) fn body(&self, index: usize) -> &[u8]
         requires there { index < length self.now.values }
         requires fits { (spot_at self.now.values index).len ≤ LONGEST }

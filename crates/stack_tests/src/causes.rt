@@ -41,7 +41,8 @@ fn each_cause_stands_at_its_place(rt: HostRuntime) {
             FileError::Unknown(At { line: 1, col: 38 }),
         ),
         (
-            b"layer a { state int k; state queue q[1] of (x: int);\n  up Timer(t) { take q (y) { set k = y; } else { set k = y; } } }\nstack { a; }",
+            b"layer a { state int k; state queue q[1] of (x: int);\n  \
+            up Timer(t) { take q (y) { set k = y; } else { set k = y; } } }\nstack { a; }",
             FileError::Unknown(At { line: 2, col: 58 }),
         ),
         (
@@ -49,7 +50,8 @@ fn each_cause_stands_at_its_place(rt: HostRuntime) {
             FileError::Unknown(At { line: 1, col: 30 }),
         ),
         (
-            b"layer a { state int k; state queue q[1] of (x: int);\n  up Timer(t) { set k = at(q, 0).y; } }\nstack { a; }",
+            b"layer a { state int k; state queue q[1] of (x: int);\n  up Timer(t) { set k = at(q, 0).y; } }\n\
+            stack { a; }",
             FileError::Unknown(At { line: 2, col: 34 }),
         ),
         (
@@ -85,7 +87,8 @@ fn each_cause_stands_at_its_place(rt: HostRuntime) {
             FileError::Twice(At { line: 1, col: 42 }),
         ),
         (
-            b"layer a { state queue q[1] of (x: int, y: int); up Timer(t) { take q (z, z) { } else { } } }\nstack { a; }",
+            b"layer a { state queue q[1] of (x: int, y: int); up Timer(t) { take q (z, z) { } else { } } }\n\
+            stack { a; }",
             FileError::Twice(At { line: 1, col: 74 }),
         ),
         (
@@ -230,7 +233,8 @@ fn each_cause_stands_at_its_place(rt: HostRuntime) {
 fn stacks_are_judged_behind_their_files(rt: HostRuntime) {
     let texts: [(&[u8], FileError); 3] = [
         (
-            b"layer echo { down Cast(p, m) { up Cast(p, m); } up Cast(o, m) { down Cast(o, m); } } stack { echo; echo; }",
+            b"layer echo { down Cast(p, m) { up Cast(p, m); } up Cast(o, m) { down Cast(o, m); } } \
+            stack { echo; echo; }",
             FileError::Cycle(0, Kind::Cast),
         ),
         (
@@ -238,7 +242,8 @@ fn stacks_are_judged_behind_their_files(rt: HostRuntime) {
             FileError::TooMany(69_905),
         ),
         (
-            b"layer much { state int k; down Cast(p, m) { each i below 32 max 32 { each j below 32 max 32 { set k = size(join(nothing, m)); } }
+            b"layer much { state int k; down Cast(p, m) { each i below 32 max 32 { each j below 32 max 32 { \
+            set k = size(join(nothing, m)); } }
   set k = size(join(nothing, m)); } } stack { much; }",
             FileError::TooManyJoins,
         ),
@@ -251,7 +256,8 @@ fn stacks_are_judged_behind_their_files(rt: HostRuntime) {
 #[test]
 fn library_layers_are_accepted(rt: HostRuntime) -> Result<(), Fail> {
     let text =
-        b"stack { bottom; mnak; pt2pt; pt2ptw; mflow; frag; collect; stable; local; total; suspect; elect; sync; intra; top; }";
+        b"stack { bottom; mnak; pt2pt; pt2ptw; mflow; frag; collect; stable; local; total; suspect; elect; sync; \
+        intra; top; }";
     let stack = judge(rt.alloc(), text)?;
     assert_eq!(rt; stack.places(), 15);
     Ok(())
@@ -400,15 +406,18 @@ fn each_size_has_its_edge(rt: HostRuntime) -> Result<(), Fail> {
             Some(FileError::BadToken(At { line: 1, col: 21 })),
         ),
         (
-            b"layer a { state int k; down Cast(p, m) { each i below 32 max 32 { each j below 32 max 32 { set k = size(join(nothing, m)); } } } } stack { a; }",
+            b"layer a { state int k; down Cast(p, m) { each i below 32 max 32 { each j below 32 max 32 { \
+            set k = size(join(nothing, m)); } } } } stack { a; }",
             None,
         ),
         (
-            b"layer f { up Cast(o, m) { each i below 16 max 16 { up Cast(o, m); } } } layer g { up Cast(o, m) { each i below 15 max 15 { up Cast(o, m); } } } stack { g; f; f; f; }",
+            b"layer f { up Cast(o, m) { each i below 16 max 16 { up Cast(o, m); } } } layer g { up Cast(o, m) { \
+            each i below 15 max 15 { up Cast(o, m); } } } stack { g; f; f; f; }",
             None,
         ),
         (
-            b"layer f { up Cast(o, m) { each i below 16 max 16 { up Cast(o, m); } } } layer g { up Cast(o, m) { each i below 15 max 15 { up Cast(o, m); } } } stack { f; g; f; f; }",
+            b"layer f { up Cast(o, m) { each i below 16 max 16 { up Cast(o, m); } } } layer g { up Cast(o, m) { \
+            each i below 15 max 15 { up Cast(o, m); } } } stack { f; g; f; f; }",
             Some(FileError::TooMany(65_537)),
         ),
     ];

@@ -11,3 +11,4 @@ mod Acting
 mod Learning
 mod Differing
 mod Valued
+pub mod Rules

@@ -92,7 +92,7 @@ fn square_act(
 }
 
 /// Puts a row at the back of a queue.
-#[tactic(auto, using(crate::proofs::Acting::push_made, crate::proofs::Sent::all_numbers, crate::proofs::Growing::knows_made, crate::proofs::Growing::knows_numbers, crate::proofs::Growing::knows_three))]
+#[tactic(auto, using(crate::proofs::Rules::of_push_act))]
 fn push_act(
     table: &mut Table,
     walk: &Walk<'_>,

@@ -30,7 +30,7 @@ fn add_act(acts: &mut Vec<ActForm>, act: Option<ActForm>) -> Result<(), AllocErr
 }
 
 /// One more operation of a trace.
-#[tactic(auto, using(crate::proofs::Learning::stepped, crate::proofs::Learning::operation_there, crate::proofs::Growing::knows_act))]
+#[tactic(auto, using(crate::proofs::Rules::of_step))]
 fn step(
     table: &mut Table,
     walk: &mut Walk<'_>,
@@ -117,7 +117,7 @@ fn is_same(acts: &[ActForm], own: &[ActForm], place: usize) -> bool
 }
 
 /// The first place at which two lists of acts differ.
-#[tactic(auto, using(crate::proofs::Differing::same_more, crate::proofs::Differing::ends_apart, crate::proofs::Differing::ends_same))]
+#[tactic(auto, using(crate::proofs::Rules::of_first_apart))]
 fn first_apart(acts: &[ActForm], own: &[ActForm]) -> Option<usize>
     ensures { Differs acts.now own.now result }
 {

@@ -79,7 +79,7 @@ fn pass(walk: &mut Walk<'_>)
 }
 
 /// What is known after an operation.
-#[tactic(auto, using(crate::proofs::Learning::set_learns, crate::proofs::Learning::take_learns, crate::proofs::Learning::pass_learns))]
+#[tactic(auto, using(crate::proofs::Rules::of_learn))]
 pub(crate) fn learn(
     table: &mut Table,
     walk: &mut Walk<'_>,

@@ -54,7 +54,7 @@ fn atom_values(
 }
 
 /// The row of some numbers, without the first.
-#[tactic(auto, using(crate::proofs::Sent::row_end, crate::proofs::Sent::row_next, crate::proofs::Sent::row_there, crate::proofs::Sent::number_kept))]
+#[tactic(auto, using(crate::proofs::Rules::of_row_behind))]
 fn row_behind(table: &mut Table, numbers: &Fields, first: u32) -> Result<u32, AllocError>
     requires numbers { AllNumbers (meanings table.old) numbers.now }
     ensures { Makes table.old table.new (a_row (map (number_in (meanings table.old)) (drop first numbers.now))) result }
@@ -94,7 +94,7 @@ pub(crate) fn atom_row(table: &mut Table, walk: &Walk<'_>, atoms: &Atoms) -> Res
 }
 
 /// A chain of known headers.
-#[tactic(auto, using(crate::proofs::Sent::chain_end, crate::proofs::Sent::chain_next, crate::proofs::Sent::row_there, crate::proofs::Sent::chain_there, crate::proofs::Sent::chain_later, crate::proofs::Growing::knows_made))]
+#[tactic(auto, using(crate::proofs::Rules::of_chain))]
 fn chain(table: &mut Table, walk: &Walk<'_>, number: u32) -> Result<u32, AllocError>
     requires there { links.IsChain (chains walk.now.trace.now.links) number }
     requires knows { Knows table.old walk.now }
@@ -122,7 +122,7 @@ fn chain(table: &mut Table, walk: &Walk<'_>, number: u32) -> Result<u32, AllocEr
 }
 
 /// A message after known headers.
-#[tactic(auto, using(crate::proofs::Sent::message_sent, crate::proofs::Sent::chain_later, crate::proofs::Growing::message_later, crate::proofs::Growing::knows_made))]
+#[tactic(auto, using(crate::proofs::Rules::of_sent_message))]
 fn sent_message(table: &mut Table, walk: &Walk<'_>, sent: Chained) -> Result<u32, AllocError>
     requires there { links.IsChain (chains walk.now.trace.now.links) sent.chain }
     requires knows { Knows table.old walk.now }

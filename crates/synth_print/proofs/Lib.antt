@@ -7,3 +7,4 @@ pub mod Planned
 pub mod Printed
 pub mod Read
 pub mod Traced
+pub mod Rules

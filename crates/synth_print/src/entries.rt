@@ -145,7 +145,8 @@ fn write_made<O: Sink>(
     made: &Made,
     out: &mut O,
 ) -> Result<(), SinkError>
-    ensures { Wrote (ended_lines (made_lines (stack_tree stack.now) (heading case.name case.second) (made_tree made.now)))
+    ensures { Wrote
+        (ended_lines (made_lines (stack_tree stack.now) (heading case.name case.second) (made_tree made.now)))
         (tells_of O.Sink out.old) (tells_of O.Sink out.new) result }
 {
     match made {

@@ -176,7 +176,8 @@ fn write_operation<O: Sink>(
     out: &mut O,
 ) -> Result<(), SinkError>
     requires few { written.old.binds + 1 < 2 ^ 64 }
-    requires parts { IsPart (terms (nodes_in stacked.source.now.nodes)) (chains stacked.source.now.links.now) operation }
+    requires parts { IsPart (terms (nodes_in stacked.source.now.nodes)) (chains stacked.source.now.links.now)
+        operation }
     ensures wrote { Wrote
         (done_lines stacked.entry.source.now.noting (stack_tree stacked.entry.stack.now)
         (written_of stacked.entry.stack.now stacked.entry.source.now written.old)

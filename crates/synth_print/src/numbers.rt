@@ -207,7 +207,7 @@ pub(crate) fn push_core(line: &mut Line, scope: &Scope<'_>, core: Core) -> Resul
 
 /// A noted message, called by its number or written out: what it names was there before it.
 #[cycle(texts)]
-#[tactic(auto, using(crate::proofs::Notes::note_read, crate::proofs::Notes::note_called, crate::proofs::Notes::no_note))]
+#[tactic(auto, using(crate::proofs::Rules::of_push_note))]
 fn push_note(line: &mut Line, scope: &Scope<'_>, number: u32) -> Result<(), Memory>
     ensures { OnOk result (line.new ≡ line.old ++ slice_index_or (written_in scope.now).notes number []) }
 {
@@ -321,7 +321,8 @@ struct RowItem {
 #[cycle(texts)]
 fn push_item(line: &mut Line, below: Below<'_>, spot: Spot, item: RowItem) -> Result<(), Memory>
     requires { (item.index < below.number) × (item.row < below.number) }
-    ensures { OnOk result (line.new ≡ line.old ++ codes "at" ++ bracketed_list (cell_at below.entry.scope.now spot item.index
+    ensures { OnOk result (line.new ≡ line.old ++ codes "at"
+        ++ bracketed_list (cell_at below.entry.scope.now spot item.index
         ∷ number_at below.entry.scope.now item.row ∷ []) ++ codes "."
         ++ slice_index_or (numbers_called (form_at (layer_of (layers_in below.entry.scope.now) spot.place) spot.cell))
         item.item []) }

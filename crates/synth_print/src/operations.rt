@@ -115,7 +115,8 @@ fn push_output_parts(
     numbers: &Atoms,
     message: Option<Chained>,
 ) -> Result<(), Memory>
-    ensures { OnOk result (line.new ≡ line.old ++ codes "(" ++ comma_list (atom_texts (written_in scope.now) numbers.now)
+    ensures { OnOk result (line.new ≡ line.old ++ codes "("
+        ++ comma_list (atom_texts (written_in scope.now) numbers.now)
         ++ last_part (length numbers.now) (option_map (core_of (written_in scope.now)) message) ++ codes ")") }
 {
     line.text(b"(")?;

@@ -80,7 +80,8 @@ fn write_turn<O: Sink>(
     bypasses: &Bypasses,
     out: &mut O,
 ) -> Result<(), SinkError>
-    ensures { Wrote (plan_turn (stack_tree stack.now) (bypasses_tree bypasses.now) (numbered.entry.number, plan_tree numbered.entry.plan.now))
+    ensures { Wrote (plan_turn (stack_tree stack.now) (bypasses_tree bypasses.now)
+        (numbered.entry.number, plan_tree numbered.entry.plan.now))
         (tells_of O.Sink out.old) (tells_of O.Sink out.new) result }
 {
     let number = numbered.number as u64;

@@ -103,7 +103,7 @@ pub(crate) fn target_named(
 
 /// The node of a number of a cell that a name begins.
 #[cycle(expressions)]
-#[tactic(auto, using(crate::proofs::Cells::element_read, crate::proofs::Cells::square_read, trace_core::proofs::Makes::number_made))]
+#[tactic(auto, using(crate::proofs::Rules::of_cell_number))]
 fn cell_number(
     text: &mut Text<'_>,
     scope: &Scope<'_>,
@@ -208,7 +208,7 @@ fn length(
 
 /// `at(QUEUE,ROW).NAME`, after its word.
 #[cycle(expressions)]
-#[tactic(auto, using(crate::proofs::Arms::no_item, trace_core::proofs::Makes::number_made, trace_core::proofs::Makes::made_two))]
+#[tactic(auto, using(crate::proofs::Rules::of_item))]
 fn item(
     text: &mut Text<'_>,
     scope: &Scope<'_>,
@@ -258,7 +258,7 @@ fn size(
 
 /// `pick(CONDITION,FIRST,SECOND)`, after its word.
 #[cycle(expressions)]
-#[tactic(auto, using(trace_core::proofs::Makes::number_made, trace_core::proofs::Makes::made_two, trace_core::proofs::Makes::made_three))]
+#[tactic(auto, using(crate::proofs::Rules::of_choice))]
 fn choice(
     text: &mut Text<'_>,
     scope: &Scope<'_>,
@@ -416,7 +416,7 @@ pub(crate) fn number(
 
 /// `held(QUEUE,ROW)`, after its word.
 #[cycle(expressions)]
-#[tactic(auto, using(crate::proofs::Arms::not_held, trace_core::proofs::Makes::number_made, trace_core::proofs::Makes::made_two))]
+#[tactic(auto, using(crate::proofs::Rules::of_held))]
 fn held(
     text: &mut Text<'_>,
     scope: &Scope<'_>,
@@ -446,7 +446,7 @@ fn held(
 
 /// `cut(MESSAGE,FROM,LENGTH)`, after its word.
 #[cycle(expressions)]
-#[tactic(auto, using(trace_core::proofs::Makes::number_made, trace_core::proofs::Makes::made_two, trace_core::proofs::Makes::message_three))]
+#[tactic(auto, using(crate::proofs::Rules::of_cut))]
 fn cut(
     text: &mut Text<'_>,
     scope: &Scope<'_>,

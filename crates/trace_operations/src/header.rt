@@ -38,7 +38,7 @@ fn with_field(fields: Atoms, field: Atom) -> Result<Atoms, AllocError>
 }
 
 /// That many fields more, each after a comma.
-#[tactic(auto, using(crate::proofs::Fields::no_fields, crate::proofs::Fields::field_more, crate::proofs::Fields::no_comma, crate::proofs::Fields::no_field))]
+#[tactic(auto, using(crate::proofs::Rules::of_more_fields))]
 fn more_fields(
     text: &mut Text<'_>,
     scope: &Scope<'_>,

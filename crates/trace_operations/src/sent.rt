@@ -51,7 +51,7 @@ fn with_number(numbers: Atoms, atom: Atom) -> Atoms
 }
 
 /// After these numbers that many at most, and a message.
-#[tactic(auto, using(crate::proofs::Sending::ends_sent, crate::proofs::Sending::more_sent, crate::proofs::Sending::no_more_sent, crate::proofs::Sending::no_sent))]
+#[tactic(auto, using(crate::proofs::Rules::of_sent_within))]
 fn sent_within(
     text: &mut Text<'_>,
     scope: &Scope<'_>,

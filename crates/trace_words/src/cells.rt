@@ -215,7 +215,7 @@ fn header_place(word: &[u8], headers: &[HeaderForm]) -> Option<usize>
 }
 
 /// The tag of a header, `none` or a declared one, by its name.
-#[tactic(auto, using(crate::proofs::Places::none_first, crate::proofs::Places::header_behind, crate::proofs::Places::no_header))]
+#[tactic(auto, using(crate::proofs::Rules::of_header_tag))]
 fn header_tag(word: &[u8], headers: &[HeaderForm]) -> Option<usize>
     ensures { result ≡ named.place_of word.now
         (map (λ (h : HeaderTree). h.name) (header_none ∷ map header_tree headers.now)) }

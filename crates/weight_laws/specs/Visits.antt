@@ -31,7 +31,8 @@ pub record IsVisit (stack : List LayerTree) (s : State) (t : Task Event) : Type 
   pub known : IsKnown stack t
   pub sent : AllByRecursion (IsKnown stack) (sent_tasks stack s t)
 
--- However nodes are rated, what a visit sends adds up to no more than the arrows of its node allow, whatever way it goes.
+-- However nodes are rated, what a visit sends adds up to no more than the arrows of its node allow, whatever way it
+-- goes.
 abbrev pub SendsFollowArrows : Type 0
 SendsFollowArrows = (stack : List LayerTree) (s : State) (t : Task Event) (f : Node → ℕ) → IsVisit stack s t →
     sum_by (λ x. f (task_node x)) (sent_tasks stack s t) ≤ behind_arrows f (arrows stack (task_node t))

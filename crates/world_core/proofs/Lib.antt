@@ -8,3 +8,4 @@ pub mod Restarting
 pub mod Spelled
 pub mod Stepped
 pub mod Visits
+pub mod Rules

@@ -114,7 +114,8 @@ module _ (mode : Mode) (stack : List LayerTree) (plans : List Plan) (group stamp
       sym (length-map olds member_of)
 
   -- the group stands where it began
-  pub stands_again : (c : Peopled) (before spelled : List (List ℕ)) → kept mode stack plans group stamp olds before ≡ c →
+  pub stands_again : (c : Peopled) (before spelled : List (List ℕ)) →
+      kept mode stack plans group stamp olds before ≡ c →
       AreSeated mode stack plans group stamp olds →
       AreAgain (first_view (length olds)) olds news → spelled ≡ [] →
       Stands (kept mode stack plans group stamp news spelled)

@@ -71,7 +71,8 @@ module _ (stack : List LayerTree) (plans : List Plan) where
   SpellsIf (Some bytes) (Some p) = SpellsPacket stack plans bytes p
   SpellsIf _ _ = ⊥
 
-  pub spells_at : (datagrams : List (List ℕ)) (packets : List Packet) (k : ℕ) → SpellPackets stack plans datagrams packets →
+  pub spells_at : (datagrams : List (List ℕ)) (packets : List Packet) (k : ℕ) →
+      SpellPackets stack plans datagrams packets →
       SpellsIf (slice_get datagrams k) (slice_get packets k)
   spells_at [] [] k spell = tt
   spells_at [] (p ∷ packets) k spell = absurd spell

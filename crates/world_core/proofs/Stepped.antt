@@ -22,8 +22,8 @@ use Rattle.packet_laws.proofs.Once.{one_full_spelling}
 use Rattle.packet_laws.proofs.Strays.{received_as_meant}
 use Rattle.member_laws.specs.Steps.{WireIsSpelled}
 use Rattle.run_mean.specs.Common.{with_plans, plan_behind, short_from}
-use Rattle.run_mean.specs.Member.{Member, inside, out, Input, datagram, is_out, Entered, entered_input, from_datagram, Output}
-use Rattle.run_mean.specs.Member.{packet_in}
+use Rattle.run_mean.specs.Member.{Member, inside, out, Input, datagram, is_out, Entered, entered_input}
+use Rattle.run_mean.specs.Member.{from_datagram, packet_in, Output}
 use Rattle.run_mean.specs.Member.{Refusal, Step, step_from}
 use Rattle.run_mean.specs.World.{World, Happening, only, refused, taken, absent, shown, here_of, member_at}
 use Rattle.run_mean.specs.World.{packet_number, world_behind}

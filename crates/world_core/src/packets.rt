@@ -21,8 +21,8 @@ use step_outputs::{OutputView, Outputs, PacketView};
 /// For how many bytes more room is made at least.
 const LEAST_ROOM: usize = 1_048_576;
 
-/// Every packet ever sent, as the datagram in which it was sent, in the order of output: the bytes of all, one after the
-/// other, and where each ends.
+/// Every packet ever sent, as the datagram in which it was sent, in the order of output: the bytes of all, one after
+/// the other, and where each ends.
 #[derive(Drop)]
 pub struct Packets {
     bytes: Vec<u8>,
@@ -49,7 +49,7 @@ fn start(ends: &[usize], index: usize) -> usize
 }
 
 /// A part of bytes that has an end.
-#[tactic(auto, using(crate::proofs::Arena::starts_before, crate::proofs::Arena::ends_within, crate::proofs::Arena::part_at))]
+#[tactic(auto, using(crate::proofs::Rules::of_part))]
 fn part<'b>(bytes: &'b [u8], ends: &[usize], index: usize) -> &'b [u8]
     requires there { index < length ends.now }
     requires within { EndAt (length bytes.now) 0 ends.now }
