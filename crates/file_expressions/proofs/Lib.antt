@@ -1,2 +1,2 @@
 mod Trees
-pub mod Rules
+mod Rules

@@ -14,4 +14,4 @@ mod Rows
 mod SameEvents
 mod SizesWithin
 mod Twice
-pub mod Rules
+mod Rules

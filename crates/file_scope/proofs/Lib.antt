@@ -10,4 +10,4 @@ pub mod Finds
 pub mod Firsts
 pub mod Moved
 pub mod Parts
-pub mod Rules
+mod Rules

@@ -7,4 +7,4 @@ mod Counts
 mod Files
 mod Handlers
 mod Refusals
-pub mod Rules
+mod Rules

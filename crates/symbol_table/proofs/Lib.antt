@@ -11,4 +11,4 @@ mod Acting
 mod Learning
 mod Differing
 mod Valued
-pub mod Rules
+mod Rules

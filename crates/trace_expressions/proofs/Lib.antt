@@ -2,4 +2,4 @@ mod Took
 mod Arms
 mod Cells
 mod Opened
-pub mod Rules
+mod Rules

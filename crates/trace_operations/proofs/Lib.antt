@@ -4,4 +4,4 @@ mod Chaining
 mod Sending
 mod Numbering
 mod Writing
-pub mod Rules
+mod Rules

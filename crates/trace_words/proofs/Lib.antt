@@ -2,4 +2,4 @@ pub mod Fronts
 mod Runs
 mod Signs
 mod Places
-pub mod Rules
+mod Rules
