@@ -9,9 +9,9 @@ ghost use Rattle.packet_full.specs.Chain.{header_read, none_at, TakesNone};
 ghost use Rattle.packet_full.specs.Taking.{Takes, left, preamble_tree};
 
 use crate::form::form_at;
-use crate::front::{Preamble, dest_of};
+use crate::front::{PREAMBLE_BYTES, Preamble, dest_of};
 use event_graph::Stack;
-use msg_core::{Fields, Header, Headers, View};
+use msg_core::{Fields, Header, Headers};
 
 /// The most numbers that a header carries.
 const MOST_FIELDS: u8 = 4;
@@ -71,25 +71,26 @@ impl<'a> Cursor<'a> {
         Some(fields)
     }
 
-    /// What stands in front of a datagram.
+    /// What stands in front of a datagram. Whether there are bytes enough is asked once, before the first is taken, so
+    /// that the compiler reads them all at once. The view's numbers are set where they stay: a view that is made apart
+    /// is moved as one number of 64 bits.
     pub fn preamble(&mut self) -> Option<Preamble>
         ensures { Takes (reading.preamble (left self.old)) (option_map preamble_tree result) (left self.new) }
     {
-        let form = self.byte()?;
-        let group = self.number()?;
-        let stamp = self.number()?;
-        let ltime = self.number()?;
-        let mask = self.number()?;
-        let sender = self.byte()?;
-        let dest = self.byte()?;
-        Some(Preamble {
-            form,
-            group,
-            stamp,
-            view: View { ltime, mask },
-            sender,
-            dest: dest_of(dest),
-        })
+        if self.bytes.len() < PREAMBLE_BYTES {
+            return None;
+        }
+        let mut cursor = *self;
+        let mut front = Preamble::none();
+        front.form = cursor.byte()?;
+        front.group = cursor.number()?;
+        front.stamp = cursor.number()?;
+        front.view.ltime = cursor.number()?;
+        front.view.mask = cursor.number()?;
+        front.sender = cursor.byte()?;
+        front.dest = dest_of(cursor.byte()?);
+        *self = cursor;
+        Some(front)
     }
 
     /// The header of a place's layer, and whether it closes the chain.

@@ -17,6 +17,7 @@ use packet_mean::Here;
 
 /// What stands in front of a datagram of one of the two forms that is meant for a member; or the first cause for which
 /// it isn't one.
+#[inline]
 #[tactic(auto, unfolding(crate::specs::Steps::opened))]
 pub fn open<'a>(here: &Here, bytes: &'a [u8]) -> Result<Opened<'a>, Stray>
     ensures front { Opens (opened here.now bytes.now) result }

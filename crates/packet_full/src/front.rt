@@ -1,7 +1,8 @@
 //! What stands in front of a datagram, and whether it is meant for a member.
 
-ghost use Rattle.std.specs.Prelude.{◌≡◌, ◌==◌, ◌&&◌, ◌||◌, ◌≤◌, not, nat_lt, IfOk};
+ghost use Rattle.std.specs.Prelude.{◌≡◌, ◌==◌, ◌&&◌, ◌||◌, ◌≤◌, true, not, nat_lt, IfOk};
 ghost use Rattle.msg_core.specs.View.{member_count as members_of, most_members};
+ghost use Rattle.msg_core.specs.declared.packet.Dest.TheVariants as to;
 ghost use Rattle.packet_mean.specs.Reading as reading;
 ghost use Rattle.packet_mean.specs.Received as received;
 ghost use Rattle.packet_mean.specs.Spelling.{full_form, short_form};
@@ -19,7 +20,10 @@ pub const SHORT_FORM: u8 = 0xE6;
 /// The byte that stands for all members in place of a rank.
 pub(crate) const EVERYONE: u8 = 0xFF;
 
-/// The 19 bytes in front.
+/// How many bytes stand in front of a datagram of either form.
+pub(crate) const PREAMBLE_BYTES: usize = 19;
+
+/// What stands in front of a datagram.
 #[derive(Clone, Copy)]
 pub struct Preamble {
     pub form: u8,
@@ -28,6 +32,29 @@ pub struct Preamble {
     pub view: View,
     pub sender: u8,
     pub dest: Dest,
+}
+
+impl Preamble {
+    /// One that nothing was read into: numbers of 0, to all.
+    pub(crate) fn none() -> Preamble
+        ensures { result ≡ record {
+          form = 0;
+          group = 0;
+          stamp = 0;
+          view = record { ltime = 0; mask = 0 };
+          sender = 0;
+          dest = to.All;
+        } }
+    {
+        Preamble {
+            form: 0,
+            group: 0,
+            stamp: 0,
+            view: View { ltime: 0, mask: 0 },
+            sender: 0,
+            dest: Dest::All,
+        }
+    }
 }
 
 /// The destination that a byte names.
@@ -73,18 +100,31 @@ fn is_other(view: View, own: u8, rank: u8) -> bool
     u32::from(rank) < member_count(view) && rank != own
 }
 
+/// Whether the group, the stamp and the view in front are a member's own. No test waits for another, so the compiler
+/// compares all sixteen bytes at once.
+fn is_own(here: &Here, front: &Preamble) -> bool
+    ensures is { result ≡ (front.now.group == here.now.group) && (front.now.stamp == here.now.stamp)
+        && received.same_view front.now.view here.now.view }
+    ensures own { result ≡ true → IsOwn here.now front.now }
+{
+    (front.group == here.group)
+        & (front.stamp == here.stamp)
+        & (front.view.ltime == here.view.ltime)
+        & (front.view.mask == here.view.mask)
+}
+
 /// Tells the first cause for which a datagram isn't meant for a member, by what stands in front.
 pub(crate) fn meant_for(here: &Here, front: &Preamble) -> Result<(), Stray>
     ensures cause { result ≡ received.meant_for here.now (preamble_tree front.now) }
     ensures own { IfOk result (λ _. IsOwn here.now front.now) }
 {
-    if front.group != here.group {
-        return Err(Stray::Group);
-    }
-    if front.stamp != here.stamp {
-        return Err(Stray::Stamp);
-    }
-    if front.view != here.view {
+    if !is_own(here, front) {
+        if front.group != here.group {
+            return Err(Stray::Group);
+        }
+        if front.stamp != here.stamp {
+            return Err(Stray::Stamp);
+        }
         return Err(Stray::View);
     }
     if !is_other(here.view, here.rank, front.sender) {

@@ -9,13 +9,10 @@ ghost use Rattle.packet_mean.specs.declared.here.Here.{Here};
 ghost use Rattle.packet_full.specs.Room.{room_needed};
 ghost use Rattle.packet_full.specs.Sent.{sent_packet};
 
-use crate::front::{EVERYONE, FULL_FORM};
+use crate::front::{EVERYONE, FULL_FORM, PREAMBLE_BYTES};
 use msg_core::{Dest, Header, Headers};
 use packet_mean::Here;
 use std::mem::replace;
-
-/// The bytes in front of a packet's headers.
-const PREAMBLE_BYTES: usize = 19;
 
 /// The most bytes of a header: its tag and four numbers.
 const HEADER_BYTES: usize = 17;
