@@ -15,7 +15,8 @@ pub struct PoolMessage {
 }
 
 impl PoolMessage {
-    ghost use Rattle.std.specs.Prelude.{◌≡◌, ℕ, ◌+◌, ◌<◌, ◌≤◌, List, [], ◌∷◌, ◌++◌, map, length, Some, None};
+    ghost use Rattle.std.specs.Prelude.{◌≡◌, ℕ, ◌+◌, ◌<◌, ◌≤◌, List, [], ◌∷◌, ◌++◌, map, length, slice_set};
+    ghost use Rattle.std.specs.Prelude.{Some, None};
     ghost use Rattle.std.specs.List.{range_with_len};
     ghost use Rattle.slot_pool.specs.References.{Covers};
     ghost use Rattle.layer_mean.specs.Headers.{said_tag, said_fields};
@@ -148,6 +149,21 @@ impl PoolMessage {
         ensures { self.new ≡ record self.old { headers = header ∷ self.old.headers } }
     {
         self.headers.push_front(header);
+    }
+
+    /// Its headers become these.
+    pub fn copy_headers(&mut self, headers: &Headers)
+        ensures { self.new ≡ record self.old { headers = headers.now } }
+    {
+        self.headers.copy_from(headers);
+    }
+
+    /// Puts `header` in the place of header number `k`.
+    pub fn set_header(&mut self, k: u8, header: Header)
+        requires { k < length self.old.headers }
+        ensures { self.new ≡ record self.old { headers = slice_set self.old.headers k header } }
+    {
+        self.headers.set(k, header);
     }
 
     /// Takes the first header off.
