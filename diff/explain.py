@@ -294,7 +294,7 @@ def lacks_in(line):
 
 
 def tries(count=1000, seed=1):
-    """Tries so many files and scripts; answers 1 where there is a difference."""
+    """Tries a number of files and scripts; answers 1 where there is a difference."""
     r, counts, wrong = random.Random(seed), collections.Counter(), 0
     for number in range(count):
         text = file_of(r, r.choice(("random", "random", "library", "counter")))
@@ -357,7 +357,7 @@ def cases(folder, count=50, seed=1):
 
 
 def compare(files, count, seed):
-    """Compares so many answers; answers 1 where there is a difference."""
+    """Compares a number of answers; answers 1 where there is a difference."""
     counts, number, differences = collections.Counter(), 0, 0
     with tempfile.TemporaryDirectory() as folder:
         paths = [os.path.join(folder, name) for name in ("random.layers", "random.script")]

@@ -138,7 +138,7 @@ class Line:
         word, self.at = self.text[self.at:end], end
         return word
 
-    # Expressions; so many brackets more may be opened.
+    # Expressions, by how many more brackets may be opened.
 
     def index(self, left):
         self.the("[")

@@ -906,7 +906,7 @@ class Types:
 
 
 class Graph:
-    """The nodes of a stack: an event that comes to a place, of a direction and a kind, with the tag of the header above its gap."""
+    """The nodes of a stack: an event that arrives at a place, of a direction and a kind, with the tag of the header above its gap."""
 
     def __init__(self, stack):
         self.stack = stack  # (layer, place) each, lowest first

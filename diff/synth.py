@@ -12,8 +12,8 @@ diff/synth.py cases FOLDER [COUNT] [SEED] writes such files of all kinds with wh
 proved, is compared on all of them after one build: in crates/stackc, rt try --seconds 3600 --cases FOLDER -- synth {}
 
 diff/synth.py hostile FILE [PLACES], large FILE and heavy FILE [WRITES] [READS] write files by which `synth` is timed: one whose numbers double at each
-of 24 places and whose message does at so many of them (24; its text then has 335 million bytes), one of 1,000,000 bytes whose cast has some 3,000
-operations, and one with so many reads behind so many writes (500 and 500; its text grows with their product).
+of 24 places and whose message does at PLACES of them (24; its text then has 335 million bytes), one of 1,000,000 bytes whose cast has some 3,000
+operations, and one with READS reads after WRITES writes (500 and 500; its text grows with their product).
 """
 import collections
 import os
@@ -164,7 +164,7 @@ HOSTILE = """layer twice {
 
 
 def hostile(places=24):
-    """Numbers that double at each of 24 places, and a message that does so at so many of them."""
+    """Numbers that double at each of 24 places, and a message that does so at `places` of them."""
     doubling = HOSTILE.replace("twice", "again").replace("down Cast((p + p), m)", "down Cast((p + p), join(cut(m, 0, 1), m))")
     return HOSTILE + doubling + "stack { " + "twice; " * (24 - places) + "again; " * places + "}\n"
 

@@ -1,4 +1,4 @@
--- A trace in place of the own one, or left out.
+-- A trace in place of the stack's own, or left out.
 use Rattle.std.proofs.Common.{◌≡◌, Bool, true, false, nat_le, List, sym, ap, ◌∙◌}
 use Rattle.std.specs.Prelude.{if◌then◌else◌}
 use Rattle.trace_mean.specs.Trace.{Operation}

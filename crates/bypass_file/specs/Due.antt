@@ -22,7 +22,7 @@ entry_varying e = count_varying e.fields
 abbrev pub plan_varying : Plan → ℕ
 plan_varying plan = count_varying plan.fields.items
 
--- The case of an entry of this number, of which n fields vary: due where something is made of it.
+-- The case of an entry of this number, with n variable fields: due where something is made of it.
 abbrev pub made_due : ℕ → ℕ → Case → Made → List Due
 made_due n fields case (fused own guarded) = record { entry = n; case = case; fields = fields; own = own } ∷ []
 made_due n fields case (absent reason) = []

@@ -1,4 +1,4 @@
--- What is made of cases with the traces of a file, each of which is judged against the own one of its case.
+-- What is made of cases with the traces of a file, each of which is judged against the stack's own.
 use Rattle.std.specs.Prelude.{◌≡◌, ◌⊎◌, ℕ, suc, List, [], ◌∷◌, ◌++◌, Option, Some, None, Result, Ok, Err}
 use Rattle.layer_mean.specs.declared.run.Case.{Case}
 use Rattle.layer_mean.specs.declared.run.Case.TheVariants.{First, Second}
@@ -40,12 +40,12 @@ abbrev pub all_owned : ℕ → List MadeCases → List Owned
 all_owned n [] = []
 all_owned n (c ∷ cs) = cases_owned n c ++ all_owned (suc n) cs
 
--- As far as there are traces, they do what the own ones do, one after another.
+-- As far as there are traces, they do what the stack's own do, one after another.
 abbrev pub AreSame : List Owned → List (List Operation) → Type 0
 AreSame (o ∷ os) (trace ∷ traces) = (symbolic trace ≡ symbolic o.own) × AreSame os traces
 AreSame _ _ = Unit {0}
 
--- A trace does something else than the own one of this case, at this act first.
+-- A trace does something else than the stack's own of this case, at this act first.
 pub record IsOther (o : Owned) (trace : List Operation) (entry : ℕ) (case : Case) (act : ℕ) : Type 0 where
   pub entry_is : o.entry ≡ entry
   pub case_is : o.case ≡ case
@@ -89,7 +89,7 @@ Fills owns whole old new made (Err (Differs entry case act)) = FirstOther owns o
 Fills owns whole old new made (Err Memory) = Unit {0}
 Fills owns whole old new made (Err _) = ⊥
 
--- A trace does what the own one does; or it differs, in this case of this entry.
+-- A trace does what the stack's own does; or it differs, in this case of this entry.
 abbrev pub Agrees : ℕ → Case → (trace own : List Operation) → Result (Unit {0}) BypassError → Type 0
 Agrees n case trace own (Ok same) = symbolic trace ≡ symbolic own
 Agrees n case trace own (Err (Differs entry at act)) = IsOther (record { entry = n; case = case; own = own }) trace
@@ -97,7 +97,7 @@ Agrees n case trace own (Err (Differs entry at act)) = IsOther (record { entry =
 Agrees n case trace own (Err Memory) = Unit {0}
 Agrees n case trace own (Err _) = ⊥
 
--- A trace that does the same is in place of the own one, where it joins no more.
+-- A trace that does the same is in place of the stack's own, where it joins no more.
 pub record IsReplaced (own trace : List Operation) (b : Bypass) : Type 0 where
   pub made : fused (trace_tree b.trace) (guarded_tree b.guarded) ≡
       fused (chosen_trace own trace) (simplest (chosen_trace own trace))

@@ -1,4 +1,4 @@
-//! Whether a trace of a file does what the own one does.
+//! Whether a trace of a file does what the stack's own does.
 
 ghost use Rattle.trace_core.specs.Trees.{trace_tree};
 ghost use Rattle.bypass_file.specs.Filling.{Agrees};

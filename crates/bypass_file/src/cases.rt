@@ -20,7 +20,7 @@ use std::alloc::Global;
 use std::collections::VecDeque;
 use trace_core::{Bypasses, Cases, Made, Trace};
 
-/// Puts the next trace of a file in place of the own one of a case. Where nothing is made none is due.
+/// Puts the next trace of a file in place of the stack's own for a case. Where nothing is made none is due.
 fn fill(
     alloc: Global,
     entry: u32,
@@ -101,7 +101,7 @@ fn fill_plans(
     Ok(())
 }
 
-/// Puts the traces of a file in place of the own ones of all entries, each where it joins no more.
+/// Puts the traces of a file in place of those of the stack for all entries, each where it joins no more.
 pub(crate) fn fill_all(
     alloc: Global,
     own: &mut Bypasses,

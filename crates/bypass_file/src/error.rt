@@ -15,7 +15,7 @@ pub enum BypassError {
     /// The file has more than 33,554,432 bytes.
     #[error("the file is too large")]
     TooLarge,
-    /// The line of that number, counted from 1, is out of form.
+    /// The line of this number, counted from 1, is out of form.
     #[error("line {0} is out of form")]
     Line(u32),
     /// The trace of a case does something else than the stack's own, from that act on. The entry is counted: 0 is the

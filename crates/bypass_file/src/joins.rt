@@ -52,7 +52,7 @@ fn trace_joins(trace: &Trace) -> u32
     joins
 }
 
-/// Whether a trace joins no more than the own one. Err comes where that joins 4,294,967,295 times or more.
+/// Whether a trace joins no more than the stack's own. Err comes where that joins 4,294,967,295 times or more.
 pub(crate) fn joins_no_more(trace: &Trace, own: &Trace) -> Result<bool, AllocError>
     ensures { IfOk result
         (λ few. few ≡ nat_le (trace_joins (trace_tree trace.now)) (trace_joins (trace_tree own.now))) }

@@ -25,9 +25,9 @@ use synth::synth;
 use trace_core::Bypasses;
 use trace_file::{LONGEST_FILE, read_traces};
 
-/// The bypasses that a file of traces gives for a stack, if it is accepted: of each case its trace where that joins no
-/// more than the stack's own, and else the own one, with their handlers. The file is refused for its length, else for
-/// its first line that is out of form, else for the first case whose trace does something else than the own one.
+/// The bypasses that a file of traces gives for a stack, if it is accepted: of each case its trace, where that joins no
+/// more than the stack's own, and else the latter, with their handlers. The file is refused for its length, else for
+/// its first line out of form, else for the first case whose trace does something else than the stack's own.
 pub fn read_bypasses(alloc: Global, stack: &Stack, text: &[u8]) -> Result<Bypasses, BypassError>
     ensures judged { Judges (stack_tree stack.now) text.now result }
     ensures of_stack { IsSound (stack_tree stack.now) →

@@ -13,7 +13,7 @@ use std::alloc::Global;
 use synth::guard;
 use trace_core::{Bypass, Trace};
 
-/// Judges the trace of a case of an entry, and puts it in place of the own one, if it joins no more.
+/// Judges the trace of a case of an entry, and puts it in place of the stack's own, if it joins no more.
 #[tactic(auto, using(crate::proofs::Replacing::put_in_place, crate::proofs::Replacing::left_out))]
 pub(crate) fn replace(
     alloc: Global,

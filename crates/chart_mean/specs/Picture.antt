@@ -12,7 +12,7 @@ use Rattle.chart_mean.specs.Row.{rows_below}
 use Rattle.chart_mean.specs.Style.{style}
 use Rattle.chart_mean.specs.declared.types.Range.{Range}
 
--- the first line of a picture, of that many pixels each way
+-- the first line of a picture of this width and height, in pixels
 abbrev pub opening : (width height : ℕ) → List ℕ
 opening width height =
     codes "<svg xmlns='http://www.w3.org/2000/svg'" ++ numbered (codes "width") width ++

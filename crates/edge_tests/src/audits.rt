@@ -4,7 +4,7 @@ use run_audit::{AuditError, Finding, Law, audit};
 use std::alloc::{AllocError, Global};
 use std::test::Fail;
 
-/// A report of that many bytes: one line that no law looks at, and `end 0`.
+/// A report of `bytes` bytes: one line that no law looks at, and `end 0`.
 fn padded(alloc: Global, bytes: u32) -> Result<Vec<u8>, AllocError> {
     let mut text = Vec::from_slice(alloc, b"timer ")?;
     for _ in 12..bytes {

@@ -10,8 +10,8 @@ use std::rt::Files;
 use std::test::Fail;
 use std::{fs, io, process};
 
-/// A stream that takes three bytes at most in a call, is interrupted before each, and fails once it took that many. Its
-/// first flush fails.
+/// A stream that takes three bytes at most in a call, is interrupted before each call, and fails once it has taken
+/// `most`. Its first flush fails.
 #[derive(Drop)]
 struct Slow {
     taken: Vec<u8>,
@@ -93,7 +93,7 @@ fn gives<S: Shelf>(alloc: Global, shelf: &mut S, name: &str, bytes: &[u8]) -> bo
     shelf.read(name, &mut into, bytes.len() as u64) == Ok(Got::Whole) && into.as_slice() == bytes
 }
 
-/// Whether a shelf holds more than n bytes under a name.
+/// Whether a shelf holds more than `most` bytes under a name.
 fn is_longer<S: Shelf>(alloc: Global, shelf: &mut S, name: &str, most: u64) -> bool {
     let mut into = Vec::new(alloc);
     shelf.read(name, &mut into, most) == Ok(Got::TooLong)
@@ -110,15 +110,15 @@ fn takes<O: Sink>(sink: &mut O, bytes: &[u8]) -> bool {
     sink.put(bytes) == Ok(())
 }
 
-/// Whether the stream of a sink got that many bytes, where its first flush failed.
+/// Whether the stream of a sink got `count` bytes, and its first flush failed.
 fn is_whole(sink: &mut StdSink<Slow>, count: usize) -> bool {
     sink.finish() == Err(SinkError::Failed)
         && sink.finish() == Ok(())
         && sink.stream().taken.len() == count
 }
 
-/// Whether a sink takes that many bytes of this value.
-fn takes_so_many<O: Sink>(
+/// Whether a sink takes `byte` this many times.
+fn takes_repeated<O: Sink>(
     alloc: Global,
     sink: &mut O,
     byte: u8,
@@ -131,10 +131,10 @@ fn takes_so_many<O: Sink>(
 /// Whether a sink takes bytes up to the 64 KiB that it gathers, one more, and more than it gathers.
 fn takes_pieces<O: Sink>(alloc: Global, sink: &mut O) -> Result<bool, AllocError> {
     Ok(
-        takes_so_many(alloc, sink, b'a', 65_530)?
-            && takes_so_many(alloc, sink, b'b', 6)?
+        takes_repeated(alloc, sink, b'a', 65_530)?
+            && takes_repeated(alloc, sink, b'b', 6)?
             && takes(sink, b"c")
-            && takes_so_many(alloc, sink, b'd', 70_000)?,
+            && takes_repeated(alloc, sink, b'd', 70_000)?,
     )
 }
 

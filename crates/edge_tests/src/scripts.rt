@@ -6,7 +6,7 @@ use std::test::Fail;
 
 const GROUP_LINE: &[u8] = b"group 1 stamp 7 members 3\n";
 
-/// The group's line, line feeds until the text has that many, and a comment of that many bytes.
+/// The group's line, line feeds until the text has `line_feeds`, and a comment of `comment` bytes.
 fn padded(alloc: Global, line_feeds: usize, comment: usize) -> Result<Vec<u8>, AllocError> {
     let mut text = Vec::from_slice(alloc, GROUP_LINE)?;
     for _ in 1..line_feeds {

@@ -24,7 +24,7 @@ fn peer(process: u32, number: u32, port: u16) -> Peer
     }
 }
 
-// That many bytes, of which none is like its neighbours.
+// As many bytes as a datagram has at most, each unlike its neighbours.
 fn pattern(alloc: Global) -> Result<Vec<u8>, AllocError>
     ensures { IfOk result (λ bytes. length bytes.items ≡ LONGEST_DATAGRAM) }
 {

@@ -58,7 +58,7 @@ pub one_at_least : (n r : ℕ) → (n ≡ 0 → r ≡ 1) → (0 < n → r ≡ n)
 one_at_least zero r none some = none refl
 one_at_least (suc n) r none some = some (omega arith)
 
--- one byte more of many
+-- one more byte of many
 pub filled_more : (old now new : List ℕ) (n y : ℕ) → now ≡ old ++ replicate n y → new ≡ now ++ y ∷ [] →
     new ≡ old ++ replicate (n + 1) y
 filled_more old now new n y is more =

@@ -4,7 +4,7 @@ use Rattle.std.proofs.Common.{sym, ap, ◌∙◌, arith}
 use Rattle.layer_ast.specs.Spelling.{is_blank}
 use Rattle.format_mean.specs.Pieces.{one_more, comment_length}
 
--- what is found of a line of which n bytes were seen, by the length so far and that of what is left
+-- what is found of a line after its first bytes were seen, by how many they were and how many are left
 abbrev pub so_far : (last seen : ℕ) → ℕ → ℕ
 so_far last seen zero = last
 so_far last seen (suc n) = seen + suc n

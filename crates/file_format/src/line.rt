@@ -32,7 +32,7 @@ impl LineCursor {
         }
     }
 
-    /// Puts a token or comment after that many line feeds: ends the line before it, or goes on with it.
+    /// Puts a token or comment after `feeds` line feeds: ends the line before it, or goes on with it.
     pub(crate) fn put<O: Sink>(
         &mut self,
         feeds: usize,
@@ -69,7 +69,7 @@ impl LineCursor {
     }
 }
 
-/// Ends a line by that many line feeds, if there are any.
+/// Ends a line by `feeds` line feeds, if there are any.
 #[tactic(auto, using(crate::proofs::Rules::of_end_line))]
 fn end_line<O: Sink>(line: &mut Vec<u8>, feeds: usize, out: &mut O) -> Result<(), SinkError>
     ensures wrote { Wrote (spec.line_at_feeds line.old.items feeds) (tells_of O.Sink out.old) (tells_of O.Sink out.new)
@@ -114,7 +114,7 @@ fn put_behind(
     line.extend_from_slice(spelling)
 }
 
-/// Adds that many bytes.
+/// Adds a byte `count` times.
 fn push_many(line: &mut Vec<u8>, byte: u8, count: usize) -> Result<(), AllocError>
     ensures { OnOk result (line.new.items ≡ line.old.items ++ replicate count byte) }
 {
@@ -184,7 +184,7 @@ fn depth_of(stand: Stand, class: Class) -> u8
     }
 }
 
-/// How many blanks stand before a token or comment in a line that has that many bytes.
+/// How many blanks stand before a token or comment in a line that has `column` bytes.
 fn blanks_apart(stand: Stand, column: usize, class: Class) -> usize
     ensures { result ≡ spec.blanks_apart stand column class }
 {

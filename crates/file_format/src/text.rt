@@ -40,7 +40,7 @@ pub fn lay_out<O: Sink>(alloc: Global, text: &[u8], out: &mut O) -> Result<(), S
     line.finish(out)
 }
 
-/// The first byte of a text and that many after it.
+/// The first byte of a text and `more` after it.
 fn front(text: &[u8], more: usize) -> &[u8]
     requires { more < length text.now }
     ensures { result.now ≡ take (suc more) text.now }
@@ -48,7 +48,7 @@ fn front(text: &[u8], more: usize) -> &[u8]
     &text[..more + 1]
 }
 
-/// One line feed more, of which two count.
+/// One more line feed, of which two count.
 #[tactic(auto, using(crate::proofs::Lines::feeds_more))]
 fn more_feeds(feeds: usize) -> usize
     ensures { result ≡ spec.more_feeds feeds }

@@ -19,7 +19,7 @@ use Rattle.file_jobs.specs.declared.report.TheConstants.{LONGEST_REPORT}
 use Rattle.file_jobs.specs.Stack.{StopsAt, IsRefused}
 use Rattle.file_jobs.specs.Report as report
 
--- A job that stopped at its stack file ended so.
+-- How a job that stopped at its stack file ended.
 pub stops : (job : Job) (a : Around) (end : Ended) → ReadsStack job →
     StopsAt (file_name job) a.told a.reads a.reads_after end →
     a.output_after ≡ a.output → Comes job a end
@@ -39,7 +39,7 @@ pub large_file : (name : Text) (told : Option Shelved) (reads reads_after : ℕ)
 large_file name told reads reads_after h sound =
     let l = longer told name longest_file h in record { file = l.0; found = l.1; refused = l.2; sound = sound }
 
--- An audit that stopped at its file ended so.
+-- How an audit that stopped at its file ended.
 pub audit_stops : (name : Text) (law : Law) (a : Around) (end : Ended) →
     report.StopsAt name law a.told a.reads a.reads_after end →
     a.output_after ≡ a.output → Comes (audit name law) a end

@@ -59,7 +59,7 @@ fn judged(alloc: Global, text: &[u8]) -> Result<Stack, Ending>
 }
 
 /// The same, with the tree of the file that the text spells: judging takes its own apart, so the text is read once
-/// more. A stack that isn't wanted any longer goes back with the memory of the program.
+/// more. The memory of a stack that is no longer needed goes back with that of the program.
 fn judged_file(alloc: Global, text: &[u8]) -> Result<StackFile, Ending>
     ensures { JudgesFile text.now result }
 {

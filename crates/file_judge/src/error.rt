@@ -10,8 +10,8 @@ use file_types::TypeError;
 use layer_ast::{At, Kind};
 use thiserror::Error;
 
-/// Why a file is refused: the first cause, in the order in which they stand here but that those at places in the text
-/// are told from each other by where they stand. The text is read first, then its names are judged, then its types,
+/// Why a file is refused: the first cause, in the order in which they stand here; of causes at places in the text, the
+/// first in the text. The text is read first, then its names are judged, then its types,
 /// then the stack.
 #[derive(Clone, Copy, PartialEq, Eq, Debug, Error)]
 pub enum FileError {
@@ -47,10 +47,10 @@ pub enum FileError {
     /// An initial value that isn't made of what it may be made of.
     #[error("initial {}:{}", .0.line, .0.col)]
     Initial(At),
-    /// An event that arrives at a place, counted from 0, and is of a kind can follow from itself.
+    /// An event of this kind that arrives at this place, counted from 0, can follow from itself.
     #[error("an event at place {0} can follow from itself")]
     Cycle(u8, Kind),
-    /// That many tasks can follow from one event, as far as 32 bits hold the number.
+    /// This many tasks can follow from one event, as far as 32 bits hold the number.
     #[error("{0} tasks can follow from one event")]
     TooMany(u32),
     /// Too many joins can follow from one event.

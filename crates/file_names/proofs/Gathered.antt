@@ -39,7 +39,7 @@ statements_more (y ∷ xs) x =
     ap (λ l. y ∷ (statements_inside y ++ l)) (statements_more xs x)
     ∙ ap (λ l. y ∷ l) (sym (append_assoc (statements_inside y) (statements_in (trees xs)) (x ∷ statements_inside x)))
 
--- one statement more, with those inside it
+-- one more statement, with those inside it
 pub gathers_more : (a b c d : List Name) (l m n o : List (List ℕ)) (xs : List Statement) (i : ℕ) (x : Statement) →
     i < length xs → x ≡ get_or xs i x →
     Gathers a l (statements_in (trees (map statement_tree (take i xs)))) b m →
@@ -54,7 +54,7 @@ gathers_more a b c d l m n o xs i x within is so_far own inner =
     (statement_tree x ∷ [] ++ statements_inside (statement_tree x)) so_far
     (gathers_both b c d m n o (statement_tree x ∷ []) (statements_inside (statement_tree x)) own inner))
 
--- words of one thing more
+-- words of one more thing
 pub words_more : {X A : Type 0} (tree : X → A) (f : A → List (List ℕ)) (start before after : List (List ℕ))
     (xs : List X) (i : ℕ) (x : X) →
     i < length xs → x ≡ get_or xs i x → before ≡ fold noted_words start (flat_map f (map tree (take i xs))) →

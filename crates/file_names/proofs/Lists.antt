@@ -3,7 +3,7 @@ use Rattle.std.proofs.Common.{◌≡◌, ℕ, ◌+◌, ◌<◌, List, [], ◌∷
 use Rattle.std.proofs.lemmas.List.{map-append}
 use Rattle.file_scope.proofs.Lists.{trees_more}
 
--- what is made of one thing more, after what was made before
+-- what is made of one more thing, after what was made before
 pub made_more : {X A B : Type 0} (tree : X → A) (make : A → B) (xs : List X) (i : ℕ) (x : X) (before after : List B)
     (y : B) →
     i < length xs → x ≡ get_or xs i x → y ≡ make (tree x) → before ≡ map make (map tree (take i xs)) →

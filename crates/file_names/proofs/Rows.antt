@@ -35,7 +35,7 @@ filtered_more tree p name xs i x all within is so_far =
     ∙ (map-append name (filter p (map tree (take i xs))) (filter p (tree x ∷ []))
     ∙ ap (λ l. l ++ map name (filter p (tree x ∷ []))) (sym so_far)))
 
--- one thing more, that passes a test or not
+-- one more thing, that passes a test or not
 pub kept_more : {X A : Type 0} (tree : X → A) (p : A → Bool) (name : A → Name) (xs : List X) (i : ℕ) (x : X)
     (all : List Name) →
     i < length xs → x ≡ get_or xs i x → p (tree x) ≡ true → all ≡ map name (filter p (map tree (take i xs))) →

@@ -61,7 +61,7 @@ seen_more seen new hs h sees updates code =
       go false p true e = e
       go false p false e = e
 
--- one handler more
+-- one more handler
 pub event_next : {S : Type 0} (a b c : Found) (xs : List Handler) (i : ℕ) (x : Handler) (code : List ℕ)
     (seen new : IndexSet (List ℕ) S)
     (is_new : Bool) → i < length xs → x ≡ get_or xs i x → code ≡ event_code (handler_tree x) →

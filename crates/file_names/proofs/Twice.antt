@@ -104,7 +104,7 @@ pub seen_next : (xs : List Name) (i : ℕ) (x : Name) (seen new : List (List ℕ
 seen_next xs i x seen new within is sees pushed =
     pushed ∙ (ap (λ w. w ++ x.word ∷ []) sees ∙ sym (trees_more (λ n. n.word) xs i x within is))
 
--- one handler more
+-- one more handler
 pub repeated_next : (a b c : Found) (xs : List Handler) (i : ℕ) (x : Handler) (known : Bool) →
     i < length xs → x ≡ get_or xs i x →
     known ≡ list_any (λ h. same_events (handler_tree x) (handler_tree h)) (take i xs) →
@@ -134,7 +134,7 @@ pub declares_none : (scope : names.Scope) (a : Found) → Declares scope a [] a 
 declares_none scope a =
     (finds_none name_shown a, ap (λ m. record { layer = scope.layer; locals = m }) (sym (append-nil scope.locals)))
 
--- one local more
+-- one more local
 pub declares_next : (outer scope inner : names.Scope) (a b c : Found) (locals : List Local) (i : ℕ) (l : Local)
     (known : Bool) →
     i < length locals → l ≡ get_or locals i l → known ≡ names.is_visible scope l.name.word →

@@ -85,7 +85,7 @@ fn all_names(alloc: Global, declarations: &[Declaration]) -> Result<Vec<Name>, A
     Ok(all)
 }
 
-/// The declarations of a form, of which there may be n.
+/// The declarations of a form, of which there may be `most`.
 fn few(
     alloc: Global,
     found: &mut Found,
@@ -135,7 +135,7 @@ fn all_too_many(found: &mut Found, handlers: &[Handler])
     }
 }
 
-/// Handlers, of which there may be n.
+/// The handlers of a layer, of which there may be `MOST_HANDLERS`.
 #[tactic(auto, using(crate::proofs::Layers::none_beyond))]
 fn few_handlers(found: &mut Found, handlers: &[Handler])
     ensures { Finds found.old (map (λ h. fault.too_many h.at) (drop most_handlers (map handler_tree handlers.now)))

@@ -37,7 +37,7 @@ fn all_too_many(found: &mut Found, names: &[Name])
     }
 }
 
-/// Names, of which there may be n.
+/// Names, of which there may be `most`.
 #[tactic(auto, using(file_scope::proofs::Finds::finds_none, crate::proofs::Finds::none_beyond))]
 pub fn too_many(found: &mut Found, most: usize, names: &[Name])
     ensures { Finds found.old (too_many_of most names.now) found.new }

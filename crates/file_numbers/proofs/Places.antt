@@ -159,7 +159,7 @@ few_labels p (rows_cell at name capacity items) holds = omega arith
 few_labels p (rows_array at name capacity items) holds = omega arith
 few_labels p (header at name fields ending) holds = holds
 
--- the word of one declaration more
+-- the word of one more declaration
 pub word_next : (ds : List Declaration) (i : ℕ) (d : Declaration) (words new : List (List ℕ)) → i < length ds →
     d ≡ get_or ds i d →
     words ≡ words_of (map declaration_tree (take i ds)) → new ≡ words ++ (declared_name (declaration_tree d)).word ∷

@@ -53,7 +53,7 @@ entries_take n slots =
     ∙ (sym (length-drop n slots) ∙ sym (length-map (reverse (drop n slots)) entry ∙ length-reverse (drop n slots))) in
     sym (ap (λ k. drop k (entries slots)) count ∙ (ap (drop (length front)) parts ∙ drop-append_seam front back))
 
--- one slot more
+-- one more slot
 entries_push : (slots : List VisibleName) (s : VisibleName) → entries (slots ++ s ∷ []) ≡ entry s ∷ entries slots
 entries_push slots s = ap (map entry) (reverse-append slots (s ∷ []))
 

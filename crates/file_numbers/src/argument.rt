@@ -25,7 +25,7 @@ pub fn carries(kind: Kind) -> bool
     matches!(kind, Kind::Cast | Kind::Send)
 }
 
-/// How many of that many things stand for numbers.
+/// How many of `count` things stand for numbers.
 pub fn numbers_of(has_message: bool, count: usize) -> usize
     ensures { result ≡ (if has_message then count - 1 else count) }
 {

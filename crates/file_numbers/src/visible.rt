@@ -104,7 +104,7 @@ impl Visible {
         Ok(())
     }
 
-    /// Leaves a block: that many names stay visible.
+    /// Leaves a block: the first `outer` names stay visible.
     pub fn leave(&mut self, outer: usize)
         ensures { self.new ≡ record {
           names = drop (length self.old.names - outer) self.old.names;

@@ -219,7 +219,7 @@ good_more l r = by_bad r.bad_at
     by_bad None = refl
     by_bad (Some at) = refl
 
--- a piece that is bad, or a token of that many bytes
+-- a piece that is bad, or a token of m bytes
 abbrev IsOwn : (Bool → Type 0) → Cut → ℕ → Type 0
 IsOwn calm (gap _) m = ⊥
 IsOwn calm bad m = Unit {0}

@@ -61,8 +61,7 @@ abbrev pub at_least_one : ℕ → ℕ
 at_least_one zero = 1
 at_least_one (suc n) = suc n
 
--- how many blanks stand before it in a line that has that many bytes: a comment stands at its column, or after one
--- blank
+-- how many blanks stand before it in a line of `column` bytes: a comment stands at its column, or after one blank
 abbrev pub blanks_apart : Stand → ℕ → Class → ℕ
 blanks_apart s column class.Remark = at_least_one (COMMENT_COLUMN - column)
 blanks_apart s column c = if are_joined s.last c then 0 else 1

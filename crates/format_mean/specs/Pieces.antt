@@ -9,13 +9,13 @@ pub record Piece : Type 0 where
   pub feeds : ℕ
   pub spelling : List ℕ
 
--- what a text begins with: a line feed, another blank, or a token or comment with that many bytes after its first
+-- what a text begins with: a line feed, another blank, or a token or comment with `more` bytes after its first
 pub data Front : Type 0 where
   feed : Front
   blank : Front
   whole : (more : ℕ) → Front
 
--- one byte more of a comment, unless it and all after it in its line are blanks
+-- one more byte of a comment, unless it and all after it in its line are blanks
 abbrev pub one_more : Bool → ℕ → ℕ
 one_more true zero = 0
 one_more true (suc n) = suc (suc n)
@@ -45,7 +45,7 @@ length_behind b bs =
 abbrev pub front : ℕ → List ℕ → Front
 front b bs = if nat_eq b 10 then feed else if is_blank b then blank else whole (length_behind b bs)
 
--- one line feed more, of which two count
+-- one more line feed, of which two count
 abbrev pub more_feeds : ℕ → ℕ
 more_feeds zero = 1
 more_feeds (suc n) = 2
@@ -56,7 +56,7 @@ with_front feed feeds b bs rest = rest (more_feeds feeds) 0
 with_front blank feeds b bs rest = rest feeds 0
 with_front (whole more) feeds b bs rest = record { feeds = feeds; spelling = b ∷ take more bs } ∷ rest 0 more
 
--- the pieces of a text after that many line feeds, whose first bytes still belong to a piece before it
+-- the pieces of a text after `feeds` line feeds, whose first `inside` bytes still belong to a piece before it
 abbrev pub pieces_from : (feeds inside : ℕ) → List ℕ → List Piece
 pieces_from feeds inside [] = []
 pieces_from feeds zero (b ∷ bs) = with_front (front b bs) feeds b bs (λ feeds inside. pieces_from feeds inside bs)

@@ -1,4 +1,4 @@
--- How a run of a name reaches its end.
+-- How a run over a named file ends.
 use Rattle.std.proofs.Common.{◌≡◌, ℕ, List, length, Option, Some, None, inl, inr, cond, sym, ap, subst, ◌∙◌}
 use Rattle.std.proofs.lemmas.Bool.{le-ltb}
 use Rattle.std.specs.Prelude.{◌≤◌, Result, Ok, Err}

@@ -119,7 +119,7 @@ Writes file old new ending.Write = Fails old new (formatted_lines file)
 Writes file old new ending.Memory = Begins old new (formatted file)
 Writes file old new _ = ⊥
 
--- A file that is laid out was found, and so much of it was written.
+-- A file that is laid out was found, and its lines were written, or those before the end.
 pub record Wrote (name : List ℕ) (a : Around) (end : Ending) : Type 0 where
   pub file : List ℕ
   pub found : IsGood name a.told a.reads a.reads_after file
@@ -130,7 +130,7 @@ pub record Stopped (name : List ℕ) (a : Around) (end : Ending) : Type 0 where
   pub stopped : StopsAt name a.told a.reads a.reads_after end
   pub untouched : a.output_after ≡ a.output
 
--- How a run of a name ended.
+-- How a run over a named file ended.
 abbrev pub ComesOf : List ℕ → Around → Ending → Type 0
 ComesOf name a ending.Done = Wrote name a ending.Done
 ComesOf name a ending.Write = Wrote name a ending.Write

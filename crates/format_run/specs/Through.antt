@@ -24,8 +24,8 @@ surrounding told reads reads_after output output_after = record {
   output_after = output_after;
 }
 
--- A run that put so much on the output and ended so; what was handed on to the output's stream; and what was said then,
--- of the end that comes of both, and handed on to the standard error's.
+-- A run: what it put on the output, and how it ended; what was handed on to the output's stream; and what was said
+-- then of the end that follows from both, and handed on to the standard error's stream.
 pub record RunsThrough (name : Option (List ℕ)) (told : Option Shelved) (reads reads_after : ℕ) (out err : Stream)
     (status : ℕ) : Type 0 where
   pub put : Tells

@@ -16,7 +16,7 @@ use std::rt::{Env, Files};
 /// Lays out the file that the words name, hands on what was put to both streams, and answers the program's status.
 ///
 /// The status is 0 only where the whole text was put and the output's stream got all of it. Where the stream did not,
-/// that is said as a fault of writing; how a run ended else stays. What was said is handed on to the stream of `err`,
+/// that is said as a fault of writing; any other end of a run stays. What was said is handed on to the stream of `err`,
 /// or that sink counted a fault.
 pub fn run_through<S: Shelf, O: Write + Drop, E: Write + Drop>(
     alloc: Global,

@@ -1,4 +1,4 @@
--- What an event gives that is tried as a common step.
+-- What an event that is tried as a common step yields.
 use Rattle.std.specs.Prelude.{◌≡◌, true, false, List, Option, Some, None, option_map, Result, Ok, Err}
 use Rattle.layer_mean.specs.Tree.{LayerTree}
 use Rattle.msg_core.specs.declared.message.Memory.{Memory}

@@ -1,4 +1,4 @@
--- What opening a group gives that is examined.
+-- What opening a group that is examined yields.
 use Rattle.std.specs.Prelude.{◌≡◌, ℕ, ◌<◌, List, Result, Ok, Err}
 use Rattle.std.specs.Rc.{rc_value}
 use Rattle.run_mean.specs.Mode.{bypass}

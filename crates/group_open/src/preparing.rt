@@ -40,7 +40,7 @@ fn draw(alloc: Global, stack: Stack) -> Result<Drawn, Memory>
     })
 }
 
-/// What a run is made of over a stack that is drawn.
+/// What a run over a stack that is drawn is made of.
 fn parts_of(alloc: Global, drawn: Drawn, codes: Option<Rc<Codes>>) -> Result<Parts, Memory>
     ensures { IfOk result (ArePartsOf drawn (option_map rc_value codes)) }
 {
@@ -76,7 +76,7 @@ pub(crate) fn prepare(alloc: Global, mode: Mode, stack: Stack) -> Result<Parts, 
     parts_of(alloc, drawn, codes)
 }
 
-/// What a run by bypasses is made of that are given.
+/// What a run by given bypasses is made of.
 pub(crate) fn prepare_with(
     alloc: Global,
     bypasses: &Bypasses,
@@ -90,7 +90,7 @@ pub(crate) fn prepare_with(
     parts_of(alloc, drawn, Some(codes))
 }
 
-/// What a group is made of that is examined.
+/// What an examined group is made of.
 pub(crate) fn prepare_examined(alloc: Global, stack: Stack) -> Result<(Parts, StackChecks), Memory>
     requires { IsSound (stack_tree stack) }
     ensures { IfOk result (λ made. IsExaminable (stack_tree stack) made.0 made.1) }

@@ -12,8 +12,8 @@ use Rattle.job_streams.specs.Closes.{Closes, end_after_delivery}
 use Rattle.hunt_mean.specs.Ends.{Comes, Good, Runs}
 use Rattle.hunt_mean.specs.Words.{Request, request_of}
 
--- A run that put so much on the output and ended so, and how that was said over the streams. Where that is the run's
--- own end, all that `run` does is done.
+-- A run: what it put on the output, how it ended, and how that was said over the streams. Where that is the run's own
+-- end, all that `run` does is done.
 pub record RunsThrough (words : List Text) (told : Option Shelved) (reads reads_after : ℕ) (out err : Stream)
     (status : ℕ) : Type 0 where
   pub put : Tells

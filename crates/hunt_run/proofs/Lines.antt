@@ -2,7 +2,7 @@
 use Rattle.std.proofs.Common.{◌≡◌, refl, ap, ◌∙◌, ℕ, zero, suc, ◌+◌, List, [], ◌∷◌, drop, slice_index_or}
 use Rattle.std.proofs.lemmas.List.{drop-drop}
 
--- what is first after that many parts stands at their place
+-- the first of what is left after k parts is part number k
 pub first_behind : {A : Type 0} (parts : List A) (k : ℕ) (d : A) → slice_index_or (drop k parts) 0 d ≡
     slice_index_or parts k d
 first_behind [] zero d = refl
@@ -10,7 +10,7 @@ first_behind [] (suc k) d = refl
 first_behind (x ∷ parts) zero d = refl
 first_behind (x ∷ parts) (suc k) d = first_behind parts k d
 
--- one part more is left out
+-- one more part is left out
 pub one_more : {A : Type 0} (parts left more : List A) (k : ℕ) → left ≡ drop k parts → more ≡ drop 1 left →
     more ≡ drop (k + 1) parts
 one_more parts left more k is next = next ∙ ap (drop 1) is ∙ drop-drop 1 k parts

@@ -2,10 +2,8 @@
 //! of the group.
 //!
 //! `run` is the whole of it over sinks, and its contract says what is written and which status comes. `run_through` is
-//! `run` over streams that gather
-//! what is put, and the handing on of both. `program` calls it with the arguments, the files, the streams and the clock
-//! of the system, and a program's
-//! `main` is a call of that.
+//! `run` over streams that gather what is put, and the handing on of both. `program` calls it with the arguments, the
+//! files, the streams and the clock of the system, and a program's `main` is a call of that.
 #![tactic(auto)]
 
 mod broken;

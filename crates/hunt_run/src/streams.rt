@@ -17,7 +17,7 @@ use std::io::Write;
 /// Does the hunt that the words ask for, hands on what was put to both streams, and answers the program's status.
 ///
 /// The status is 0, or 8, only where all was put and the output's stream got all of it. Where the stream did not, that
-/// is said as a fault of writing; how a run ended else stays. What was said is handed on to the stream of `err`, or
+/// is said as a fault of writing; any other end of a run stays. What was said is handed on to the stream of `err`, or
 /// that sink counted a fault.
 pub fn run_through<S: Shelf, O: Write + Drop, E: Write + Drop, C: Clock + Drop, N: Write + Drop>(
     alloc: Global,

@@ -71,7 +71,7 @@ fn begun(all: &Stays, member: u8, name: Option<Name>) -> Stay {
     }
 }
 
-/// The stay in which a member is after one note more.
+/// The stay in which a member is after one more note.
 fn follow(all: &mut Stays, now: Option<Stay>, note: &Note) -> Result<Option<Stay>, SearchError> {
     match note.deed {
         Deed::Delivered(content) => {

@@ -47,12 +47,12 @@ impl Ledger {
         self.notes.as_slice()
     }
 
-    /// To whom the packets of the last step go that was taken.
+    /// To whom the packets of the last step that was taken go.
     pub(crate) fn dests(&self) -> &[Dest] {
         self.dests.as_slice()
     }
 
-    /// A step as an event of a script, if the packet was sent that it gives.
+    /// A step as an event of a script, if the packet that it gives was sent.
     pub(crate) fn event_of(
         &self,
         alloc: Global,

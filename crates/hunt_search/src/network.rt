@@ -99,7 +99,7 @@ impl Network {
         Ok(())
     }
 
-    /// Puts a packet on its way, or where those wait whose view is to come. One of a view that the member left is lost.
+    /// Puts a packet on its way, or to those that wait for their view. One of a view that the member left is lost.
     fn put(&mut self, due: Due) -> Result<(), SearchError> {
         let ltime = self.ltime_of(due.to);
         if due.ltime == ltime {

@@ -1,6 +1,6 @@
 //! What a law looks at.
 
-/// What a cast says that is delivered: whose it is, and its body, by a number that other bodies hardly have.
+/// What a delivered cast says: whose it is, and its body, by a number that other bodies hardly have.
 #[derive(Clone, Copy, PartialEq, Eq)]
 pub(crate) struct Content {
     pub peer: u32,
@@ -14,7 +14,7 @@ pub(crate) struct Name {
     pub mask: u32,
 }
 
-/// What a member did on which a law looks.
+/// What a member did, as far as a law looks at it.
 #[derive(Clone, Copy)]
 pub(crate) enum Deed {
     Delivered(Content),

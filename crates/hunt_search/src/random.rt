@@ -27,7 +27,7 @@ impl Random {
         ((mixed >> 32) % u64::from(bound)) as u32
     }
 
-    /// Whether something happens that comes so often in a hundred times.
+    /// Whether something happens that happens this often in a hundred times.
     pub(crate) fn percent(&mut self, often: u32) -> bool {
         self.below(100) < often
     }

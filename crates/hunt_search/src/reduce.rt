@@ -13,7 +13,7 @@ const MOST_ROUNDS: u32 = 16;
 /// The body of the first cast or send, and those of the next ones follow.
 const FIRST_BODY: u8 = b'a';
 
-/// Makes a schedule small that breaks the law: it still does.
+/// Makes a schedule that breaks the law small: it still breaks it.
 pub(crate) fn reduce(search: &mut Search, least: &mut Schedule) -> Result<(), SearchError> {
     cut_off(search, least)?;
     thin_out(search, least)?;
@@ -182,7 +182,7 @@ fn shorten_bodies(search: &mut Search, least: &mut Schedule) -> Result<bool, Sea
     Ok(is_less)
 }
 
-/// Makes the body as short as it can be that is cast at a place.
+/// Makes the body that is cast at a place as short as it can be.
 fn shorten(search: &mut Search, least: &mut Schedule, place: usize) -> Result<bool, SearchError> {
     let Some(act) = act_at(least, place) else {
         return Ok(false);

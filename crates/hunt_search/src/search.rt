@@ -50,7 +50,7 @@ impl Search {
         })
     }
 
-    /// Makes the run of a number, and answers the script of it, made small, where it breaks the law.
+    /// Makes the run of a number, and answers its script, made small, where it breaks the law.
     pub fn run(&mut self, number: u64) -> Result<Option<Vec<u8>>, SearchError> {
         let mut schedule = self.wander(number)?;
         if !self.is_broken(schedule.members)? {

@@ -21,28 +21,28 @@ pub(crate) fn report_line(alloc: Global, line: u32) -> Result<String, AllocError
     format!(in alloc; "file: line {line}\n")
 }
 
-/// The line of a second file of which a line is out of form.
+/// The line for a second file with a line out of form.
 pub(crate) fn second_line(alloc: Global, line: u32) -> Result<String, AllocError>
     ensures { IfOk result (λ text. string_bytes text ≡ codes "script: line " ++ decimal line ++ codes "\n") }
 {
     format!(in alloc; "script: line {line}\n")
 }
 
-/// The line of a second file of which a line names a member that the group doesn't have.
+/// The line for a second file with a line that names a member that the group doesn't have.
 pub(crate) fn second_member(alloc: Global, line: u32) -> Result<String, AllocError>
     ensures { IfOk result (λ text. string_bytes text ≡ codes "script: member " ++ decimal line ++ codes "\n") }
 {
     format!(in alloc; "script: member {line}\n")
 }
 
-/// The line of a file of traces of which a line is out of form.
+/// The line for a file of traces with a line out of form.
 pub(crate) fn traces_line(alloc: Global, line: u32) -> Result<String, AllocError>
     ensures { IfOk result (λ text. string_bytes text ≡ codes "bypass: line " ++ decimal line ++ codes "\n") }
 {
     format!(in alloc; "bypass: line {line}\n")
 }
 
-/// The line of a file of traces of which one does something else.
+/// The line for a file of traces of which one does something else.
 pub(crate) fn traces_differ(
     alloc: Global,
     entry: u32,

@@ -13,8 +13,8 @@ end_after_delivery false done = write_failed
 end_after_delivery false breached = write_failed
 end_after_delivery _ end = end
 
--- A job that ended so, from when all was put: what was handed on to the output's stream; and what was said then, of the
--- end that comes of both, and handed on to the standard error's.
+-- What followed when a job that ended so had put all: what was handed on to the output's stream; and what was said
+-- then of the end that follows from both, and handed on to the standard error's stream.
 pub record Closes (end : Ended) (out err : Stream) (status : ℕ) : Type 0 where
   pub whole : Bool
   pub handed_on : HandsOn out.before out.after out.holds whole

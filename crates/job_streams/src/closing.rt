@@ -14,7 +14,7 @@ use std::io::Write;
 /// Hands on what a job put to the output's stream, says how the job ended, hands on what was said, and answers the
 /// program's status.
 ///
-/// Where the output's stream lacks something, a whole output is said as a fault of writing; how a job ended else stays.
+/// Where the output's stream lacks something, a whole output is said as a fault of writing; any other end stays.
 /// What was said is handed on to the stream of `err`, or that sink counted a fault.
 pub fn close<O: Write + Drop, E: Write + Drop>(
     alloc: Global,

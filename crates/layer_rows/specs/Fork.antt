@@ -36,12 +36,11 @@ flip = flip_where always
 abbrev pub own_flip : LayerTree
 own_flip = flip_where (common (binary Equal (local 0) me))
 
--- The layer's state at the member of rank 1 of 2 after that many casts.
+-- The layer's state at the member of rank 1 of 2 after k casts.
 abbrev pub state_after : ℕ → State
 state_after k = record { me = 1; count = 2; ltime = 0; cells = state.numbers (k ∷ []) ∷ [] }
 
--- A visit of the cast of a member after that many others, and what it is to give: the header's tag, and the
--- decisions.
+-- A visit of a member's cast after `before` others, and what it is to give: the header's tag, and the decisions.
 abbrev pub Flips : LayerTree → (peer before tag : ℕ) → List Decision → Type 0
 Flips layer peer before tag decided = step 0 layer (state_after before) Down (cast peer (plain (codes "x"))) ≡ record {
   state = state_after (before + 1);

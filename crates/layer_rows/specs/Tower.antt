@@ -66,7 +66,7 @@ total = record {
       ) ∷ [];
 }
 
--- A cast of the application at the top of a stack of that many places.
+-- A cast of the application at the top of a stack of `places` places.
 abbrev pub cast_at : ℕ → Task Event
 cast_at places = record { at = places; dir = Down; event = cast 0 (plain (codes "a")) }
 

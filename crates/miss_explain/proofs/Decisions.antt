@@ -1,4 +1,4 @@
--- The lines of the decisions of statements, form by form, and those of one statement more.
+-- The lines of the decisions of statements, form by form, and those of one more statement.
 use Rattle.std.proofs.Common.{◌≡◌, ℕ, ◌+◌, ◌<◌, Bool, true, false, if◌then◌else◌, List, [], ◌∷◌, ◌++◌, map, take}
 use Rattle.std.proofs.Common.{length, get_or, refl, sym, ap, ◌∙◌, subst, append-nil, append_assoc}
 use Rattle.layer_ast.specs.Tree as ast
@@ -87,7 +87,7 @@ module _ (case : Case) (s : StatementTree) (l : Likely) (at : At) (condition : a
       ∙ ap (λ x. at.line ∷ (if x then block_lines case block else block_lines case otherwise)) (sym is ∙ false_is)) one
       two
 
--- one statement more
+-- one more statement
 block_append : (case : Case) (xs : List StatementTree) (s : StatementTree) →
     block_lines case (trees (xs ++ s ∷ [])) ≡ block_lines case (trees xs) ++ statement_lines case s
 block_append case [] s = append-nil (statement_lines case s)

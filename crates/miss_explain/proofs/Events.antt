@@ -1,4 +1,4 @@
--- What one event gives that is probed, and then fed unless it was a common step.
+-- What one event gives, which is probed and then fed unless it was a common step.
 use Rattle.std.proofs.Common.{◌≡◌, ℕ, true, if◌then◌else◌, List, [], Option, Some, None, option_map, refl, sym, ap}
 use Rattle.std.proofs.Common.{subst, ◌∙◌, append-nil}
 use Rattle.std.specs.List.{concat}

@@ -70,7 +70,7 @@ moment_of stack plans w event = record { before = w; event = event; happening = 
 abbrev pub lines_at : FileTree → List LayerTree → List Plan → ℕ → World → ScriptEvent → List (List ℕ)
 lines_at file stack plans number w event = event_misses file stack plans (number, moment_of stack plans w event)
 
--- An event is after, and its line is written; or that was cut short.
+-- An event was fed, and its line is written; or that was cut short.
 pub record IsExplained (file : FileTree) (stack : List LayerTree) (plans : List Plan) (number : ℕ) (w : World)
     (event : ScriptEvent) (c' : Peopled)
     (before after : Tells) : Type 0 where

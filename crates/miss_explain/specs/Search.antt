@@ -8,7 +8,7 @@ use Rattle.layer_mean.specs.declared.run.Case.TheVariants.{First, Second}
 use Rattle.miss_explain.specs.declared.search.Search.{Search}
 use Rattle.miss_explain.specs.declared.search.Search.TheVariants.{Ahead, Found}
 
--- The line of one decision more is passed: it is the wanted one where none stands before it.
+-- The line of one more decision is passed: it is the wanted one where none stands before it.
 abbrev pub search_after : Search → ℕ → Search
 search_after (Ahead zero) line = Found line
 search_after (Ahead (suc left)) line = Ahead left

@@ -7,7 +7,7 @@ ghost use Rattle.node_jobs.specs.Plan.{end_of};
 use job_ends::Ending;
 use node_loop::NodeError;
 
-/// How the job ends whose run gave this.
+/// How a job ends whose run answered this.
 pub(crate) fn ending(served: Result<(), NodeError>) -> Ending
     ensures { shown_end result ≡ end_of served }
 {

@@ -41,7 +41,7 @@ outputs_fan plans id (o ∷ outs) =
     ∙ ap (λ n. n + length (flat_map (handed_output plans id) outs)) (output_fan plans id o.0 o.1)
     ∙ ap (λ n. fan id o.0 + n) (outputs_fan plans id outs)
 
--- To how many they go hangs on no plan.
+-- To how many they go depends on no plan.
 fans_hang_on_no_plan : (plans : List Plan) (id : ℕ) (next other : Option ℕ) (outputs : List Output) →
     fans id (with_plans plans next outputs) ≡ fans id (with_plans plans other outputs)
 fans_hang_on_no_plan plans id next other [] = refl

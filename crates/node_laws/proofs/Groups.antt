@@ -44,7 +44,7 @@ use Rattle.node_laws.specs.Groups.{SendsAreSendable}
 use Rattle.node_laws.proofs.Happenings.{each_happens}
 use Rattle.node_laws.proofs.Wires.{wires_fit}
 
--- what passes a test and so is so is so of each that passes
+-- what holds of whatever passes a test holds of each item that passes
 each_passing : (p : ℕ → Bool) (P : ℕ → Type 0) → ((x : ℕ) → p x ≡ true → P x) → (xs : List ℕ) →
     AllByRecursion P (filter p xs)
 each_passing p P so [] = tt

@@ -83,7 +83,7 @@ acts_of mode stack plans w (asks id heard ∷ doings) failed = acts_of mode stac
 acts_of mode stack plans w (bears id ∷ doings) failed = puts (deaf_line id) ∷ acts_of mode stack plans w doings failed
 
 -- What is written and handed on in these acts is what is written and handed on of events, and of all that a node does.
--- What is written hangs on no mode: a line doesn't show how a packet is sent.
+-- What is written depends on no mode: a line doesn't show how a packet is sent.
 abbrev pub EventActs : Type 0
 EventActs = (mode : Mode) (stack : List LayerTree) (plans : List Plan) (w : World) (event : ScriptEvent)
     (failed : List Bool) →

@@ -20,7 +20,7 @@ met_as (datagram bytes) = Came bytes
 met_as silence = Quiet
 met_as failure = Broke
 
--- Which of that many sendings to come fail.
+-- Which of the next `count` sendings fail.
 abbrev pub fates_of : ℕ → List Fate → List Bool
 fates_of zero fates = []
 fates_of (suc count) fates = is_failure (next_fate fates) ∷ fates_of count (drop 1 fates)

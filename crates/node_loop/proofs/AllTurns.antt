@@ -22,7 +22,7 @@ due_at_first [] = tt
 due_at_first (entry ∷ entries) = (omega arith, due_at_first entries)
 
 module _ (stack : List LayerTree) (plans : List Plan) (c : Course) where
-  -- That many turns were made.
+  -- t turns were made.
   pub record TurnsSo (patience : ℕ) (start : Now) (listening : ℕ → Option ℕ) (t : ℕ) (p : Progress) (at : Now)
       (listening_now : ℕ → Option ℕ)
       : Type 0 where

@@ -254,7 +254,7 @@ module _ (stack : List LayerTree) (plans : List Plan) where
     failed before after (Err Memory) bore c b moments answers t borne ids clock sum within so =
         cut_here before after sink.Memory bore.0 bore.1 c b moments answers t borne ids clock sum within so
 
-  -- That many members asked.
+  -- i members asked.
   pub record AskedSome (me : List ℕ) (i before after : ℕ) (g g' : Peopled) (d d' : NodeDesk) (a a' : Around)
       (heard heard' : ℕ → Option ℕ) : Type 0 where
     pub told : (c : Course) (b : Begun) (moments answers t borne : ℕ) (clock : Option (List ℕ)) →

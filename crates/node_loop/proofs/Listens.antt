@@ -23,7 +23,7 @@ drop_next zero flags = refl
 drop_next (suc k) [] = refl
 drop_next (suc k) (flag ∷ flags) = drop_next k flags
 
--- one flag more
+-- one more flag
 flags_more : (k : ℕ) (flags : List Bool) → flags_of (suc k) flags ≡ flags_of k flags ++ is_next_to_fail (drop k flags) ∷
     []
 flags_more zero flags = refl
@@ -124,11 +124,11 @@ pub listened_some : (peers : List Peer) (ids : List ℕ) (k : ℕ) (a b c : Opti
 listened_some peers ids k a b c so is =
     subst (Tells (ListenedSome peers ids) a) (sym is) (tells_as a b so (λ n n' l. record { some = k; is = l.is }))
 
--- These members listen, each with that many peers.
+-- These members listen, each with `peers` peers.
 abbrev pub AllListen : (ℕ → Option ℕ) → (peers : ℕ) → List ℕ → Type 0
 AllListen listening peers ids = AllByRecursion (λ id. listening id ≡ Some peers) ids
 
--- That many members listened, and no other call was made.
+-- k members listened, and no other call was made.
 pub record ListensSo (listening : ℕ → Option ℕ) (peers : List Peer) (faults faults_after sends sends_after : ℕ)
     (told told_after : Option Network) (k : ℕ)
     (ids : List ℕ) : Type 0 where
@@ -137,7 +137,7 @@ pub record ListensSo (listening : ℕ → Option ℕ) (peers : List Peer) (fault
   pub so : Tells (Listened peers (take k ids)) told told_after
   pub listen : AllListen listening (length peers) (take k ids)
 
--- A member more listens, and those that did still do.
+-- One more member listens, and those that did still do.
 pub listen_more : (old new : ℕ → Option ℕ) (peers id : ℕ) (ids : List ℕ) → ((m : ℕ) → m ≢ id → new m ≡ old m) →
     new id ≡ Some peers →
     AllListen old peers ids → AllListen new peers (ids ++ id ∷ [])

@@ -26,7 +26,7 @@ use Rattle.node_loop.specs.declared.error.NodeError.{NodeError}
 use Rattle.node_loop.proofs.Asking.{AskedAll, asked_on, wider}
 use Rattle.node_loop.proofs.Turning.{again_then}
 
--- A clock told one moment more.
+-- A clock told one more moment.
 
 drop_next : {A : Type 0} (k : ℕ) (xs : List A) → drop k (drop 1 xs) ≡ drop (suc k) xs
 drop_next k xs = let next : 1 + k ≡ suc k = omega arith in drop-drop k 1 xs ∙ ap (λ n. drop n xs) next
@@ -74,7 +74,7 @@ one_more : (n t : ℕ) → t * n + n ≡ (t + 1) * n
 one_more n t = omega arith
 
 module _ (stack : List LayerTree) (plans : List Plan) (c : Course) (b : Begun) where
-  -- one moment more was told
+  -- one more moment was told
   pub moment_so : (m k borne : ℕ) (rest other : List ℕ → List Heard → List Doing) (moment : ℕ) (g : Peopled)
       (d : NodeDesk)
       (a : Around)

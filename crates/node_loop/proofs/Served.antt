@@ -75,8 +75,8 @@ pub record Reaches (OverNetwork : Network → Network → Type 0) (a b : Around)
   pub sends : b.sends ≡ a.sends
   pub told : Tells OverNetwork a.told b.told
 
--- A network to which nothing was handed, and of which nothing was heard. That many members were to listen, all of them
--- where there was a moment.
+-- A network to which nothing was handed, and of which nothing was heard. Some members, `count`, were to listen: all of
+-- them where there was a moment.
 pub record IsUntouched (peers : List Peer) (me clock : List ℕ) (n n' : Network) : Type 0 where
   pub count : ℕ
   pub all : (count ≡ length me) ⊎ (clock ≡ [])

@@ -109,7 +109,7 @@ module _ (stack : List LayerTree) (plans : List Plan) where
   of_bytes id bytes bytes' g g' d d' a a' r same fed =
       subst (λ bytes. FedOn stack plans (Raw id bytes) g g' d d' a a' r) same fed
 
-  -- That many members took a tick.
+  -- i members took a tick.
   pub record Ticked (moment : ℕ) (me : List ℕ) (i : ℕ) (g g' : Peopled) (d d' : NodeDesk) (a a' : Around)
       (heard heard' : ℕ → Option ℕ) : Type 0 where
     pub told : (c : Course) (b : Begun) (moments answers t left borne : ℕ) (clock : Option (List ℕ)) →

@@ -23,12 +23,12 @@ surrounding output faults sends told = record { output = output; faults = faults
 abbrev pub around : {O N : Type 0} → outputs.Ghosts O → links.Ghosts N → O → N → Around
 around o n out links = surrounding (tells_of o out) (n.faults links) (n.send_faults links) (n.told links)
 
--- A count after that many more failed calls.
+-- A count after `more` failed calls.
 abbrev pub count_on : ℕ → ℕ → ℕ
 count_on count zero = count
 count_on count (suc more) = count_on (next_count count) more
 
--- A count rose by that many, unless it stands at its last value.
+-- A count rose by `more`, unless it stands at its last value.
 abbrev pub RoseBy : (before after more : ℕ) → Type 0
 RoseBy before after more = (after ≡ before + more) ⊎ (after ≡ last_count)
 

@@ -47,8 +47,8 @@ pub record Now : Type 0 where
 abbrev pub now : Peopled → NodeDesk → Around → Option (List ℕ) → Now
 now group desk around clock = record { group = group; desk = desk; around = around; clock = clock }
 
--- So far a node was told n moments and answers; it did what they call for, wrote the lines of that and handed on
--- its packets, and what is left to do hangs on what it will be told. That many of the answers are failures.
+-- So far a node was told `moments` moments and `answers` answers, of which `borne` are failures; it did what they call
+-- for, wrote the lines of that and handed on its packets, and what is left to do depends on what it will be told.
 pub record SoFar (stack : List LayerTree) (plans : List Plan) (c : Course) (b : Begun) (moments answers : ℕ)
     (rest : List ℕ → List Heard → List Doing) (borne : ℕ) (at : Now) : Type 0 where
   pub clock : List ℕ
@@ -72,8 +72,7 @@ pub record SoFar (stack : List LayerTree) (plans : List Plan) (c : Course) (b : 
   pub told : Tells (Goes b.mode stack plans b.first done failed) b.around.told at.around.told
   pub clock_told : Told b.clock at.clock clock
 
--- That many moments and answers, of which n are failures, are those of no more than all turns, and all failures are
--- borne.
+-- No more moments and answers than in all turns, and no more failures than are borne.
 pub record Within (c : Course) (b : Begun) (moments answers borne : ℕ) : Type 0 where
   pub turns : moments ≤ c.turns
   pub all : answers ≤ c.turns * length c.me
@@ -110,7 +109,7 @@ abbrev pub Advances : List LayerTree → List Plan → Course → Begun → (mom
 Advances stack plans c b moments answers rest borne at (Ok done) = SoFar stack plans c b moments answers rest borne at
 Advances stack plans c b moments answers rest borne at (Err e) = CutOff stack plans c b e at.around at.clock
 
--- What feeding an event gives which is the next thing to do.
+-- What feeding an event gives, where that is the next thing to do.
 abbrev pub FedOn : List LayerTree → List Plan → ScriptEvent → Peopled → Peopled → NodeDesk → NodeDesk → Around →
     Around →
     Result (Unit {0}) SinkError → Type 0
@@ -132,14 +131,14 @@ pub record DeafAt (stack : List LayerTree) (plans : List Plan) (c : Course) (b :
   pub before : List Heard
   pub last : so.heard ≡ before ++ failure ∷ []
 
--- Members asked: that many failures were borne yet and that many may be. What is left then hangs on this.
+-- Members asked: some failures were borne, and `left` more may be. What is left to do depends on that.
 pub record Asked (stack : List LayerTree) (plans : List Plan) (c : Course) (b : Begun) (moments answers : ℕ)
     (rest : ℕ → List ℕ → List Heard → List Doing) (left : ℕ) (at : Now) : Type 0 where
   pub borne : ℕ
   pub sum : borne + left ≡ b.patience
   pub so : SoFar stack plans c b moments answers (rest left) borne at
 
--- A node went deaf within that many answers.
+-- A node went deaf after more than `least` answers, and at most `most`.
 pub record Deafened (stack : List LayerTree) (plans : List Plan) (c : Course) (b : Begun) (moments least most : ℕ)
     (at : Now) : Type 0 where
   pub answers : ℕ

@@ -1,4 +1,4 @@
--- What an event gives that a node feeds.
+-- What an event that a node feeds gives.
 use Rattle.std.specs.Prelude.{◌≡◌, ℕ, ◌+◌, ◌<◌, List, length, Option, Some, Result, Ok, Err}
 use Rattle.std.specs.List.{AllByRecursion}
 use Rattle.outside.specs.declared.sink.SinkError.{SinkError}

@@ -24,7 +24,7 @@ pub record Passes (acts : List Act) (failed : List Bool) (a b : Around) : Type 0
   pub sendings : b.sends ≡ count_on a.sends (failures_in failed)
   pub told : Tells (Takes (sends_in acts) failed) a.told b.told
 
--- So much was handed to a network, and so much was heard of it.
+-- What was handed to a network, and what was heard of it.
 pub record HandedSome (sent : List Handed) (heard : List Heard) (n n' : Network) : Type 0 where
   pub handed : n'.handed ≡ n.handed ++ map sent_as sent
   pub met : n'.met ≡ n.met ++ map met_as heard
@@ -58,7 +58,7 @@ abbrev pub Stops : SinkError → List Act → List Act → sink.Tells → sink.T
 Stops Failed done rest a b = StopsAtPut done rest a b
 Stops Memory done rest a b = StopsForMemory done rest a b
 
--- Acts, which hang on the sendings that failed, were broken off.
+-- Acts, which depend on the sendings that failed, were broken off.
 pub record Breaks (acts : List Bool → List Act) (e : SinkError) (a b : Around) : Type 0 where
   pub failed : List Bool
   pub done : List Act

@@ -25,7 +25,7 @@ sent_to from bytes to = record { from = from; to = to; bytes = bytes }
 abbrev pub datagram_of : List Plan → Here → PacketView → List ℕ
 datagram_of plans here v = wire plans (sent_packet here v.dest v.headers.now v.body.now) v.plan
 
--- These bytes may be handed on to this one of that many peers.
+-- These bytes may be handed on to this one of the peers.
 abbrev pub MayTake : List ℕ → (peers to : ℕ) → Type 0
 MayTake bytes peers to = (to < peers) × (length bytes ≤ LONGEST_DATAGRAM)
 

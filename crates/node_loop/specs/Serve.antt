@@ -1,4 +1,4 @@
--- What a node gives.
+-- What the run of a node does, by how it ended.
 use Rattle.std.specs.Prelude.{◌≡◌, ◌⊎◌, ℕ, zero, suc, ◌+◌, ◌*◌, ◌<◌, ◌≤◌, Bool, true, false, List, [], ◌∷◌, ◌++◌}
 use Rattle.std.specs.Prelude.{length, map, take, drop, replicate, Option, Result, Ok, Err}
 use Rattle.outside.specs.Links.{Listen, Network, listen_of}
@@ -51,7 +51,7 @@ abbrev pub after_listens : List Peer → List ℕ → Network → Network
 after_listens peers me n =
     record n { listened = n.listened ++ listens_of peers me; listens = drop (length me) n.listens }
 
--- Whether the next n calls of a kind are to fail, of which it is told which are.
+-- Which of the next n calls of a kind are to fail, where it is told of some.
 abbrev pub flags_of : ℕ → List Bool → List Bool
 flags_of zero flags = []
 flags_of (suc count) flags = is_next_to_fail flags ∷ flags_of count (drop 1 flags)
@@ -92,7 +92,7 @@ pub record MadeAllTurns (task : Task) (a b : Whereabouts) : Type 0 where
       (node_moments task.stack task.plan task.words s))
   pub told : IsTold task s a b (RanOver task s)
 
--- A member couldn't listen: of the listens, which come by ascending id, the one after that many failed.
+-- A member couldn't listen: of the listens, by ascending id, the first `count` went well and the next failed.
 pub record ListenFailed (task : Task) (n n' : Network) : Type 0 where
   pub count : ℕ
   pub within : count < length task.words.me

@@ -14,7 +14,7 @@ pub(crate) fn has(view: View, id: u8) -> bool
     view.mask >> id & 1 == 1
 }
 
-/// The member of a rank in a view, if it has that many.
+/// The member of a rank in a view, if there is one.
 pub(crate) fn member_at(view: View, rank: u8) -> Option<u8>
     ensures { result ≡ slice_get (ids view) rank }
 {

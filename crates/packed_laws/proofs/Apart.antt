@@ -76,7 +76,7 @@ among_told true words are apart =
 among_told false words are apart = record { words = are; apart = apart }
 
 module _ (p : Placed) where
-  -- what is so of all declared names is so of those of cells and of headers
+  -- what holds of all declared names holds of those of cells and of headers
   cells_all : (P : List ℕ → Type 0) (ds : List ast.DeclarationTree) →
       AllByRecursion (λ d. P (declared_name d).word) ds →
       AllByRecursion P (map (λ (cell : CellTree). cell.name) (filter_map (cell_in p) ds))

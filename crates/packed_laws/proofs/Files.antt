@@ -117,7 +117,7 @@ module _ (stack : List LayerTree) where
   taken_is s (take p c e) = refl
   taken_is s (output dir kind ns message) = refl
 
-  -- what may be named stays countable while that many operations are to come
+  -- what may be named stays countable while n operations are to come
   record Room (s : Named) (n : ℕ) : Type 0 where
     fields : s.fields ≤ largest_number
     binds : s.binds + n ≤ largest_number

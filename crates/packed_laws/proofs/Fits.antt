@@ -33,7 +33,7 @@ CoreFits taken _ = Unit {0}
 
 abbrev mutual
   -- So it is in a number and in a message, where these rows were taken; a message that a queue holds is what it
-  -- carries; and no more brackets than that many are open at once, round and square ones together.
+  -- carries; and no more than n brackets are open at once, round and square ones together.
   pub NumberFits : List LayerTree → List ItemsTree → ℕ → TraceNumber → Type 0
   NumberFits stack taken n (atom a) = AtomFits a
   NumberFits stack taken n me = Unit {0}

@@ -480,7 +480,7 @@ module _ (stack : List LayerTree) (told : AreToldApart stack) (few : length stac
         of_among (queue capacity own) is = absurd (cc is)
         of_among (queues capacity own) is = ap (λ o. unwrap_or o no_items) is
 
-  -- what is read in a bracket after which that many may be opened
+  -- what is read in a bracket after which n may be opened
   abbrev At : ℕ → Inner
   At n = inside stack s n
 

@@ -218,7 +218,7 @@ module _ (stack : List LayerTree) (taken : List ItemsTree) where
   core_fits next (tail m from) = tt
   core_fits next (join first m) = tt
 
--- with one row more
+-- with one more row
 more_core : (taken : List ItemsTree) (items : ItemsTree) (c : Core) → CoreFits taken c →
     CoreFits (taken ++ items ∷ []) c
 more_core taken items body h = tt

@@ -149,7 +149,7 @@ cut_named b zero (x ∷ bs) at = behind_piece (piece b x bs) at _ (piece_named b
     (λ number behind. cut_named number behind bs (place_behind x at))
 cut_named b (suc inside) (x ∷ bs) at = cut_named b inside bs (place_behind x at)
 
--- printed tokens, with room for that many brackets
+-- printed tokens, with room for `room` brackets
 abbrev pub Walk : ℕ → List Printed → Type 0
 Walk room [] = Unit {0}
 Walk room (p ∷ printed) = NameToken p.token × WithRoom (room_behind p.token room) (λ left. Walk left printed)

@@ -24,7 +24,7 @@ one_planned : (p : Option ℕ) (ps : List (Option ℕ)) (bytes : List ℕ) →
 one_planned (Some c) ps bytes = refl
 one_planned None ps bytes = refl
 
--- the first of that many fields
+-- the first fields, if there are enough
 abbrev if_some : Bool → List ℕ → List ℕ → Option (List ℕ × List ℕ)
 if_some le own behind = if le then Some (own, behind) else None
 

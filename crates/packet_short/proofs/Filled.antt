@@ -45,7 +45,7 @@ a_layout stack plans k plan layout hs zs r listed read headers_are are within fi
       (dealing_agrees stack 0 plan.tags plan.fields zs hs r read).tagged (first is);
 }
 
--- one more of a list in which what is there is so
+-- one more item of a list whose items are as is said
 pub one_more_so : {X : Type 0} (P : ℕ → X → Type 0) (xs : List (Option X)) (x : Option X) →
     ((k : ℕ) (y : X) → slice_get xs k ≡ Some (Some y) → P k y) → IfSome x (λ y. P (length xs) y) →
     (k : ℕ) (y : X) → slice_get (xs ++ x ∷ []) k ≡ Some (Some y) → P k y
@@ -99,7 +99,7 @@ at_place [] k x is = absurd (cc is)
 at_place (y ∷ ys) zero x is = sym (same_read is)
 at_place (y ∷ ys) (suc k) x is = at_place ys k x is
 
--- the least plan that headers fit which were read by one, if no plan before it has its print
+-- the plan by which headers were read is the least that they fit, if no plan before it has its print
 least_read : (plans : List Plan) (k : ℕ) (plan : Plan) (kind : Kind) (hs : List Header) →
     slice_get plans k ≡ Some plan → IsNext plans (plan_print plan) 0 (Some k) → plan.kind ≡ kind →
     map (λ h. h.tag) hs ≡ plan.tags → fits_headers kind hs plan ≡ true → IsLeastFor plans (Some k) kind hs

@@ -69,7 +69,7 @@ room_first most (p ∷ ps) plan all is =
     let same : p ≡ plan = cc is in
     subst (λ (q : Plan). length q.fields ≤ most) same all.0
 
--- plans have that many fields at most, one by one
+-- plans with at most some number of fields each have no more than a larger number
 all_so : (most next : ℕ) → most ≤ next → (plans : List Plan) → AllByRecursion (HasAtMost most) plans →
     AllByRecursion (HasAtMost next) plans
 all_so most next larger [] all = tt

@@ -9,7 +9,7 @@ abbrev pub kept_by : List Plan → (number : Option ℕ) → (fields : List ℕ)
 kept_by plans number fields =
     variable (option_map_or (λ plan. plan.fields) (option_and_then (λ k. slice_get plans k) number) []) fields
 
--- A plan has that many fields at most.
+-- A plan has `most` fields at most.
 abbrev pub HasAtMost : ℕ → Plan → Type 0
 HasAtMost most plan = length plan.fields ≤ most
 

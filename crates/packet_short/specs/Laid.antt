@@ -24,7 +24,7 @@ is_loose (None ∷ planned) = true
 abbrev pub loose_at : (place tag : ℕ) (own : List (Option ℕ)) → List LooseTree
 loose_at place tag own = if is_loose own then record { place = place; tag = tag; own = own } ∷ [] else []
 
--- Those of headers of which a field is variable, from a place on.
+-- Those of the headers from a place on that have a variable field.
 abbrev pub loose_from : (place : ℕ) (planned : List (Option ℕ)) → List Header → List LooseTree
 loose_from place planned [] = []
 loose_from place planned (h ∷ hs) =
@@ -59,7 +59,7 @@ abbrev pub all_own : List LooseTree → ℕ
 all_own [] = 0
 all_own (l ∷ ls) = length l.own + all_own ls
 
--- Loose headers stand so among n, and have that many fields at most.
+-- Each loose header stands so among `count`, and together they have at most `most` fields.
 pub record HasRoom (most count : ℕ) (ls : List LooseTree) : Type 0 where
   pub all : AllByRecursion (IsWithin count) ls
   pub room : all_own ls ≤ most

@@ -54,7 +54,7 @@ abbrev pub IsLeastFor : List Plan → Option ℕ → Kind → List Header → Ty
 IsLeastFor plans None kind headers = Unit {0}
 IsLeastFor plans (Some k) kind headers = Some k ≡ position (fits_headers kind headers) plans
 
--- The same; and of their fields those are kept then that this plan leaves variable.
+-- The same; and then those of their fields are kept that this plan leaves variable.
 abbrev pub IsReadAs : List Plan → Option ℕ → Kind → List Header → (kept : List ℕ) → Type 0
 IsReadAs plans None kind headers kept = Unit {0}
 IsReadAs plans (Some k) kind headers kept =

@@ -60,7 +60,7 @@ fn keep_fields<'a>(
 }
 
 /// Puts the fields of headers that a plan leaves variable, from the lowest layer up, after what a vector holds. It
-/// takes no memory: there is to be room for as many numbers as the plan has fields.
+/// takes no memory: there must be room for as many numbers as the plan has fields.
 pub fn variable_fields(plan: &Plan, headers: &Headers, into: &mut Vec<u32>)
     requires { vec_len into.old + length plan.now.fields.items ≤ vec_capacity into.old }
     ensures items { into.new.items ≡ into.old.items ++

@@ -143,7 +143,7 @@ pub fn fits_scan(plans: &Plans, scan: &Scan) -> Option<u8>
 }
 
 /// The same as `fits_scan`; and the fields that this plan leaves variable stand then in place of what a vector held,
-/// none where there is no plan. It takes no memory: there is to be room for the fields of each plan.
+/// none where there is no plan. It takes no memory: there must be room for the fields of each plan.
 pub fn fits_with_fields(plans: &Plans, scan: &Scan, into: &mut Vec<u32>) -> Option<u8>
     requires room { AllByRecursion (HasAtMost (vec_capacity into.old)) (plans_tree plans.now) }
     ensures fits { (here : Here) (bytes : List ℕ) →

@@ -96,7 +96,7 @@ impl Layout {
         Some(())
     }
 
-    /// The number of its plan, if that is known to be the least that what was read by it fits.
+    /// The number of its plan, if that is known to be the least plan that fits what was read by it.
     pub(crate) fn known(&self, number: u8) -> Option<u8>
         ensures { result ≡ (if self.now.is_least then Some number else None) }
     {
@@ -140,7 +140,7 @@ fn add_loose(
     Ok(())
 }
 
-/// Those of a plan's headers of which a field is variable; None where the headers have more fields than are planned.
+/// Those of a plan's headers that have a variable field; None if the headers have more fields than are planned.
 pub(crate) fn loose_of(
     alloc: Global,
     plan: &Plan,

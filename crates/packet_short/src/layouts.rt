@@ -38,7 +38,7 @@ fn is_first(plans: &Plans, kind: Kind, headers: &Headers, number: u8) -> bool
 }
 
 impl Layout {
-    /// That of the plan of a number: its headers as they are read where all that varies is 0. None where the plan's
+    /// The layout of the plan of a number: its headers as they are read where all that varies is 0. None if the plan's
     /// tags and fields aren't those of a chain of the stack.
     fn of(alloc: Global, stack: &Stack, plans: &Plans, number: u8) -> Result<Option<Layout>, Memory>
         ensures { IfOk result (λ found. IfSome found
@@ -76,7 +76,7 @@ impl Layouts {
         }
     }
 
-    /// All plans are, that can be.
+    /// All plans that can be are laid out.
     pub fn of(alloc: Global, stack: &Stack, plans: &Plans) -> Result<Layouts, Memory>
         ensures { IfOk result (AreLaidOut (stack_tree stack.now) (plans_tree plans.now)) }
     {

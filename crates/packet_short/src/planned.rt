@@ -58,7 +58,7 @@ impl<'a> Planned<'a> {
         self.tags.is_empty() && self.fields.is_empty()
     }
 
-    /// The first n planned fields.
+    /// The first `count` planned fields.
     fn fields(&mut self, cursor: &mut Cursor<'_>, count: u8) -> Option<Fields>
         requires { count ≤ most_fields }
         ensures read { Takes (dealing.fields count self.old.fields.now (left cursor.old))

@@ -46,7 +46,7 @@ pub fn scan_packet(
 
 /// The same, by plans that are laid out. Of a short datagram it is told too which is the least plan that its packet
 /// fits, if that is known, and then a vector has the fields that this plan leaves variable, in place of what it held;
-/// else what it has is of no use. It takes no memory: there is to be room for the fields of each plan.
+/// else what it holds is of no use. It takes no memory: there must be room for the fields of each plan.
 pub fn scan_known(
     known: &Known<'_>,
     here: &Here,

@@ -81,7 +81,7 @@ pub fn short_room_of(headers: &Headers, body: &[u8]) -> usize
 
 /// Puts in its short form, under a plan and its number, what a member sends to a destination, with these headers and
 /// this body, after what a vector holds, as the plan says and without asking whether it fits. It takes no memory:
-/// there is to be room for 17 bytes of each header, the body and 20 more.
+/// there must be room for 17 bytes of each header, the body and 20 more.
 pub fn put_short(
     plan: &Plan,
     number: u8,

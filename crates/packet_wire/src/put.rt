@@ -37,7 +37,7 @@ fn put_under(plans: &Plans, number: u8, here: &Here, packet: &PacketView<'_>, in
 }
 
 /// Puts a packet as it is sent after what a vector holds: short under its plan, where it has one and there is such a
-/// plan, and else in full. It takes no memory: there is to be room for 17 bytes of each header, the body and 20 more.
+/// plan, and else in full. It takes no memory: there must be room for 17 bytes of each header, the body and 20 more.
 #[inline(always)]
 pub fn put_wire(plans: &Plans, here: &Here, packet: &PacketView<'_>, into: &mut Vec<u8>)
     requires { vec_len into.old + short_room

@@ -1,4 +1,4 @@
--- What a replay and a load give whose run gave something.
+-- The ends of a replay and of a load, from what their runs did.
 use Rattle.std.proofs.Common.{◌≡◌, refl, sym, subst, ◌∙◌, ap, ℕ, ◌<◌, List, [], Some, inl, inr, Bool, true, false}
 use Rattle.std.proofs.Common.{arith}
 use Rattle.std.specs.Prelude.{Result, Ok, Err, None, nat_le, if◌then◌else◌}
@@ -49,7 +49,7 @@ enough : (stack : List LayerTree) (members : ℕ) → HasRoom stack members → 
 enough stack members room = rw (le-leb (rows_of stack members) most_rows room) refl
 
 -- A job that plays over a stack whose file was found, beside its second file: its members have room or too many rows,
--- and it gave what the run gave.
+-- and it ended as its run did.
 module _ (job : Job) (a : Around) (stack : List LayerTree) (members : ℕ) (file second : List ℕ)
     (found : Finds job a.told (Some file))
     (beside : Beside job a.told (Some second)) (behind : Behind job a.told (Some [])) (means : Means file stack)
@@ -130,7 +130,7 @@ load_comes name seed events members raw mode a stack f = played (load name seed 
     (λ room. record { stack = stack; means = f.means; room = room; written = refl })
     refl refl f.sound
 
--- A replay by traces gave what followed over its stack and its script.
+-- A replay by traces ended as what followed its stack and its script.
 module _ (name script given : Text) (wire count : Bool) (a : Around) (between middle : ℕ) (stack : List LayerTree)
     (s : Script)
     (f : IsStack name a.told a.reads between stack)
@@ -222,7 +222,7 @@ module _ (name script given : Text) (wire count : Bool) (a : Around) (between mi
   with_comes (second_refused fault) p = absurd p
   with_comes _ p = absurd p
 
--- A replay by traces over members that have room gave what the run gave.
+-- A replay by traces over members that have room ended as its run did.
 pub played_traces : (stack : List LayerTree) (s : Script) (name : Text) (wire count : Bool) (a : Around) →
     HasRoom stack s.members →
     AreTraces stack name a.told a.reads a.reads_after → (run : Result (Unit {0}) PlayError) →

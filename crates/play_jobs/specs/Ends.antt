@@ -1,4 +1,4 @@
--- How a job ends whose run gave something.
+-- How a job ends, by what its run answered.
 use Rattle.std.specs.Prelude.{Result, Ok, Err}
 use Rattle.end_mean.specs.Status.{Ended, done, second_refused, write_failed, no_memory, too_many_rows}
 use Rattle.play_jobs.specs.declared.error.PlayError.{PlayError}

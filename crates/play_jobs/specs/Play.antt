@@ -1,4 +1,4 @@
--- What a run over a stack gives.
+-- What a run over a stack writes and answers.
 use Rattle.std.specs.Prelude.{◌≡◌, ◌⊎◌, ℕ, ◌<◌, List, Result, Ok, Err}
 use Rattle.std.specs.List.{concat}
 use Rattle.layer_mean.specs.Tree.{LayerTree}
@@ -13,7 +13,7 @@ use Rattle.bypass_member.specs.declared.error.OpenError.TheVariants as opening
 use Rattle.play_jobs.specs.declared.error.PlayError.{PlayError}
 use Rattle.play_jobs.specs.declared.error.PlayError.TheVariants.{TooManyRows, Failed, Memory}
 
--- Where that many members of a stack have room, lines were written: all, or those before a put that failed, or a
+-- Where the members of a group have room, lines were written: all, or those before a put that failed, or a
 -- prefix of their bytes before memory ran out; where they have none, and where memory ran out before, nothing was.
 abbrev pub Plays : List LayerTree → (members : ℕ) → List (List ℕ) → Tells → Tells → Result (Unit {0}) PlayError → Type 0
 Plays stack members lines old new (Ok run) = HasRoom stack members × Gains old new lines
@@ -21,12 +21,12 @@ Plays stack members lines old new (Err TooManyRows) = (most_rows < rows_of stack
 Plays stack members lines old new (Err Failed) = HasRoom stack members × Fails old new lines
 Plays stack members lines old new (Err Memory) = (new ≡ old) ⊎ (HasRoom stack members × Begins old new (concat lines))
 
--- What a group gave that wasn't opened, as a run's.
+-- The error of a run whose group wasn't opened.
 abbrev pub not_opened : OpenError → PlayError
 not_opened opening.TooLarge = TooManyRows
 not_opened opening.Memory = Memory
 
--- What lines gave, as a run's.
+-- The result of a run, from that of putting its lines.
 abbrev pub cut_short : Result (Unit {0}) SinkError → Result (Unit {0}) PlayError
 cut_short (Ok wrote) = Ok wrote
 cut_short (Err sink.Failed) = Err Failed

@@ -73,7 +73,7 @@ FetchesTraces stack name told reads reads_after (Ok b) = AreTraces stack name to
 FetchesTraces stack name told reads reads_after (Err ending) =
     StopsAtTraces stack name told reads reads_after (shown_end ending)
 
--- A script was played over a stack whose members have room, by accepted traces, and what is put out gave something.
+-- A script was played by accepted traces over a stack whose members have room, and the end is that of what was put out.
 pub record PlayedSo (Came : Type 0) (stack : List LayerTree) (s : Script) (name : Text) (a : Around) : Type 0 where
   pub room : HasRoom stack s.members
   pub traces : AreTraces stack name a.told a.reads a.reads_after

@@ -23,7 +23,7 @@ first_id : (d : ℕ) (set : Bool) (at : ℕ) (ids : List ℕ) → d < 2 → (d =
 first_id d true at ids small is = let one = eqb-true d 1 is in omega arith
 first_id d false at ids small is = let other = eqb-false d 1 is in omega arith
 
--- the ids from a place on are as many as the ones among that many digits from there on
+-- there are as many ids from a place on as ones among the digits from there on
 counted : (mask at k q : ℕ) → mask / 2 ^ at ≡ q → ids_from mask at k ≡ ones_in k q
 unfolding ones_in
 counted mask at zero q digits = refl

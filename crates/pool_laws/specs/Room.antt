@@ -18,7 +18,7 @@ use Rattle.pool_laws.specs.Rows.{AreWithin}
 abbrev pub slots_beyond : ℕ
 slots_beyond = 1025
 
--- These are all references of a pool that is made for that many rows, and no more than the rows.
+-- These are all references of a pool that is made for `rows` rows, and no more than the rows.
 pub record IsPoolFor (rows : ℕ) (p : List Held) (xs : List ℕ) : Type 0 where
   pub exact : Exact p xs
   pub few : length xs ≤ rows

@@ -40,7 +40,7 @@ pub fn stages_have_few_references<S: Stage>()
         OwnPool S.refs S.state S.ready stack most p stages → IsPoolFor (rows_of stack most) p (flat_map S.refs stages) }
 {}
 
-/// A pool with that many slots more than references isn't full, and has room for a run, with the body of its event and
+/// A pool with enough slots beyond its references isn't full, and has room for a run, with the body of its event and
 /// without.
 pub fn pools_have_room()
     ensures not_full { NotFull }

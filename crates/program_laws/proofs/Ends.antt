@@ -615,7 +615,7 @@ want : (r : Run) (n : ℕ) → Came r 7 → Came r n
 want r n (inl seven) = inr seven
 want r n (inr seven) = inr seven
 
--- A run that ended that stopped it for this cause, or to none.
+-- The status of a run that ended for want of memory.
 want_of : (r : Run) (end : Ended) (n : ℕ) → end ≡ no_memory → Came r (status_number end) → Came r n
 want_of r end n is came = want r n (subst (λ e. Came r (status_number e)) is came)
 

@@ -11,7 +11,7 @@ const PART: usize = 2048;
 
 const WHOLE: usize = 8 * PART;
 
-/// Puts a text, that many digits and the line's end after a text.
+/// Puts a text, `digits` digits and the line's end after a text.
 fn put_line(to: &mut Vec<u8>, text: &[u8], digits: usize) -> Result<(), AllocError> {
     to.extend_from_slice(text)?;
     for _ in 0..digits / 2 {

@@ -86,7 +86,7 @@ fn says_what_failed(rt: HostRuntime) -> Result<(), Fail> {
     Ok(())
 }
 
-/// That many times a byte, of which no more is said.
+/// A byte `count` times; the contract says nothing of the list.
 fn filled(alloc: Global, byte: u8, count: usize) -> Result<Vec<u8>, AllocError> {
     vec![in alloc; byte; count]
 }
@@ -109,7 +109,7 @@ fn refuses_lines(alloc: Global, count: usize) -> Result<bool, AllocError> {
     )
 }
 
-/// Whether a cast of that many bytes is refused by the member.
+/// Whether the member refuses a cast of `count` bytes.
 fn refuses_body(alloc: Global, count: usize) -> Result<bool, AllocError> {
     let mut script = Vec::from_slice(alloc, b"group 1 stamp 7 members 3\ncast 0 ")?;
     script.extend_from_slice(&filled(alloc, b'6', count.saturating_mul(2))?)?;

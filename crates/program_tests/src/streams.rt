@@ -7,7 +7,7 @@ use std::alloc::{AllocError, Global};
 use std::io::{self, ErrorKind, Write};
 use std::test::Fail;
 
-/// A stream that takes that many bytes and no more, and whose flush may fail.
+/// A stream that takes `most` bytes and no more, and whose flush may fail.
 #[derive(Drop)]
 struct Narrow {
     taken: Vec<u8>,
@@ -43,7 +43,7 @@ fn run_narrowly<S: Shelf, O: Write + Drop, E: Write + Drop, N: Links, C: Clock>(
     run_through(alloc, words, shelf, out, err, links, clock)
 }
 
-/// A sink over a stream that takes that many bytes, and whose flush may fail.
+/// A sink over a stream that takes `most` bytes, and whose flush may fail.
 fn sink_of(alloc: Global, most: usize, stuck: bool) -> Result<StdSink<Narrow>, AllocError> {
     let stream = Narrow {
         taken: Vec::new(alloc),
@@ -71,7 +71,7 @@ fn left_through(
     })
 }
 
-/// A run of the counter layer, or of another file, over a stream that takes that many bytes.
+/// A run of the counter layer, or of another file, over a stream that takes `most` bytes.
 fn streamed(alloc: Global, file: &[u8], most: usize, stuck: bool) -> Result<Left, AllocError> {
     let mut shelf = MemShelf::of(pair(alloc, file, "s", FIRST)?, Vec::new(alloc));
     let mut out = sink_of(alloc, most, stuck)?;

@@ -70,7 +70,7 @@ total_more case stack visits x =
     sum_by-append f (map shape_visit visits) (shape_visit x ∷ [])
     ∙ ap (λ n. sum_by f (map shape_visit visits) + n) one
 
--- where the drawing goes on, the decisions of the run are that many
+-- where the drawing goes on, the run has made d decisions
 abbrev CountsIf : Case → Result Progress NoShape → List Decision → ℕ → Type 0
 CountsIf case (Err reason) ds d = Unit {0}
 CountsIf case (Ok p) ds d = Counts case ds d

@@ -33,7 +33,7 @@ use Rattle.replay_laws.proofs.Missed.{missed_is_on_the_way}
 use Rattle.replay_laws.proofs.Short.{wires_are_short_where_due}
 use Rattle.replay_laws.proofs.Steps.{moments_are_steps, replays_are_played}
 
--- what is so of a datagram of a moment
+-- what holds of a datagram of a moment
 record IsGood (mode : Mode) (stack : List LayerTree) (m : Moment) (d : Datagram) : Type 0 where
   spells : SpellsPacket stack (plans_of stack) d.bytes d.packet
   step : Step

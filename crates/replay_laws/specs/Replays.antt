@@ -1,4 +1,4 @@
--- What is so of a replay from its bytes to what is written: the report is the layered one, its datagrams expand to the
+-- What holds of a replay from its bytes to what is written: the report is the layered one, its datagrams expand to the
 -- layered packets, and they are short exactly where it is due.
 use Rattle.std.specs.Prelude.{◌≡◌, ◌↔◌, ℕ, ◌<◌, Bool, true, false, List, ◌++◌, map, slice_get, Option, Some}
 use Rattle.std.specs.Prelude.{option_to_list, Ok}

@@ -14,7 +14,7 @@ use Rattle.run_mean.specs.Member.{Member, inside, out, opened_member, Entered, s
 use Rattle.run_mean.specs.World.{World, first_world, member_at, happens}
 use Rattle.run_mean.specs.Report.{Moment, moments}
 
--- A state is that of the member of this rank, of that many, in a view of this count.
+-- A state is that of the member of rank `me` among `count`, in a view of this `ltime`.
 pub record StandsAs (me count ltime : ℕ) (s : State) : Type 0 where
   pub me_is : s.me ≡ me
   pub count_is : s.count ≡ count

@@ -58,8 +58,7 @@ fn is_none_of(headers: &[Header], k: usize, place: u8) -> bool
     is_none(header)
 }
 
-/// How many headers from number `k` on are `none`, of one place after the other from `first` on: that one, and at most
-/// that many.
+/// How many headers from number `k` on are `none`, of one place after the other from `first` on: at most `most`.
 fn count_nones(headers: &[Header], k: usize, first: u8, most: u8) -> u8
     requires few { (k ≤ most_headers) × (0 < most) × (first + most < 2 ^ 8) }
     requires first { drop k headers.now ≡ none_of first ∷ drop (k + 1) headers.now }

@@ -159,7 +159,7 @@ impl NamedStack {
         }
     }
 
-    /// The headers `none` of that many places from `first` on, each with `/` after it.
+    /// The headers `none` of `count` places from `first` on, each with `/` after it.
     pub(crate) fn nones(&self, first: u8, count: u8) -> &[u8]
         requires { first + count ≤ length (stack_tree self.now) }
         ensures { result.now ≡ slashed_headers (stack_tree self.now) (nones first count) }

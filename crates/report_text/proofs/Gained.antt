@@ -290,7 +290,7 @@ short_is mode stack plans world.shown outs before after (did.Stepped (Taken comm
 short_is mode stack plans world.shown outs before after (did.Stepped (Refused told)) is = absurd is
 short_is mode stack plans world.shown outs before after did.Absent is = absurd is
 
--- one moment more
+-- one more moment
 counts_gained : (mode : Mode) (stack : List LayerTree) (plans : List Plan) (run : List Moment) (m : Moment) →
     counts_of mode stack plans (run ++ m ∷ [])
     ≡ gained (counts_of mode stack plans run) (moment_lines stack plans None m)

@@ -19,7 +19,7 @@ use report_lines::{
 };
 use typed_layer::TypedLayer;
 
-/// A cell of queues, the only one or an array: where it is, and what its line is told by.
+/// A cell of queues, one queue or an array of them: where it is, and what its lines are made from.
 #[derive(Clone, Copy)]
 pub(crate) struct Queues<'a> {
     pub(crate) stack: &'a NamedStack,

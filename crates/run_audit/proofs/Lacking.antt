@@ -110,13 +110,13 @@ still_lacking : (mark : Option Mark) (group : Option Group) (member line : ℕ) 
 still_lacking None group member line above = rw (same_line line) refl
 still_lacking (Some mark) group member line above = rw (unguarded mark group member line above, same_line line) refl
 
--- and one that has it not is the first
+-- and one that lacks it is the first
 now_lacking : (mark : Option Mark) (group : Option Group) (member line : ℕ) → Above line mark →
     lacking mark (Some (group_with group member line)) ≡ Some line
 now_lacking None group member line above = refl
 now_lacking (Some mark) group member line above = rw (apart mark.front line above) refl
 
--- a segment that has an item not stands at the first of these, or after it
+-- a segment that lacks an item stands at the first of these, or after it
 pub covered : (p : Placed) (n : ℕ) (group : List Known) → Rises n group →
     AllByRecursion (λ one. has p one ≡ false → Reaches (lacking (item_found p group) (group_found group)) one.line)
     group

@@ -27,7 +27,7 @@ item_for way ranked = record { way = way; content = content_of ranked.entry; pla
 abbrev pub same_item_key : Item → Item → Bool
 same_item_key a b = same_way a.way b.way && (same_content_key a.content b.content && a.place == b.place)
 
--- the line that ended the first segment of a group that has an item not
+-- the line that ended the first segment of a group that lacks an item
 abbrev pub lacking : Option Mark → Option Group → Option ℕ
 lacking mark None = None
 lacking None (Some group) = Some group.front

@@ -10,7 +10,7 @@ pub enum AuditError {
     /// The text has more than 67,108,864 bytes.
     #[error("too large")]
     TooLarge,
-    /// The line of that number, counted from 1, is the first out of form; where `end` is missing it is
+    /// The line of this number, counted from 1, is the first out of form; where `end` is missing it is
     /// one past the last.
     #[error("line {0}")]
     Line(u32),

@@ -23,7 +23,7 @@ struct Item<'a> {
 
 /// Who has an item, of the segments of a group from some segment on: the member of the last that has
 /// it, and whether another member has it; the line that ended the first that has it, and the line that
-/// ended the first after that which has it not.
+/// ended the first after that which lacks it.
 #[derive(Clone, Copy)]
 struct Mark {
     member: u8,
@@ -144,7 +144,7 @@ fn mark_with(mark: Option<Mark>, behind: Option<Group>, one: &Ended<'_>) -> Mark
     }
 }
 
-/// The line that ended the first segment of a group that has an item not.
+/// The line that ended the first segment of a group that lacks an item.
 fn lacking(mark: Option<Mark>, group: Option<Group>) -> Option<u32>
     ensures { result ≡ lacking mark group }
 {

@@ -3,7 +3,7 @@ use Rattle.std.proofs.Common.{◌≡◌, sym, ap, ◌∙◌, ℕ, List, ◌++◌
 use Rattle.std.specs.Prelude.{Result, OnOk}
 use Rattle.std.proofs.lemmas.Result.{on_ok_weaker}
 
--- one piece more
+-- one more piece
 pub more : (start pieces piece text longer : List ℕ) → text ≡ start ++ pieces → longer ≡ text ++ piece →
     longer ≡ start ++ (pieces ++ piece)
 more start pieces piece text longer is next = next ∙ ap (λ t. t ++ piece) is ∙ append_assoc start pieces piece

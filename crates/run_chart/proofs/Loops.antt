@@ -15,7 +15,7 @@ use Rattle.run_chart.specs.Reading.{line_shown, text_shown, texts_shown}
 use Rattle.run_chart.specs.declared.lines.Line.{Line}
 use denote.Ref.{Bor}
 
--- one byte more
+-- one more byte
 pub escaped_more : (text : List ℕ) (i d : ℕ) → i < length text → escaped (take (i + 1) text) ≡ escaped (take i text) ++
     escaped_byte (get_or text i d)
 escaped_more text i d lt =

@@ -16,7 +16,7 @@ use chart_mean::{Ending, Range};
 use run_audit::{AuditError, Law, audit};
 use std::alloc::{AllocError, Global};
 
-/// The picture of a range of a text, or how the program ends that is to draw it. The texts of which there is one are
+/// The picture of a range of a text, or how the program that is to draw it ends. The texts of which there is one are
 /// those that an audit takes, by whichever law.
 pub(crate) fn chart(alloc: Global, text: &[u8], range: Range) -> Result<Vec<u8>, Ending>
     ensures { Charts (spec.chart_of range text.now) result }

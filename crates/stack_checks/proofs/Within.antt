@@ -1,4 +1,4 @@
--- What makes no more numbers than that many makes no more than a larger number.
+-- What makes no more numbers than a limit makes no more than a larger one.
 use Rattle.std.proofs.Common.{◌≡◌, ◌∙◌, ℕ, ◌+◌, ◌<◌, ◌≤◌, List, [], ◌∷◌, ◌++◌, map, take, length, get_or, le_trans, sym}
 use Rattle.std.proofs.Common.{ap, subst, arith}
 use Rattle.std.specs.Prelude.{Option, Some, None}

@@ -6,7 +6,7 @@ use Rattle.miss_laws.specs.Asked.{Asked, checks, nothing}
 use Rattle.stack_checks.specs.Trees.{EntryAsked, entry_asked}
 use Rattle.stack_checks.specs.declared.cases.CaseChecks.{CaseChecks}
 
--- The tests make no more numbers than that many.
+-- The tests make at most `most` numbers.
 abbrev pub IsWithin : ℕ → Asked → Type 0
 IsWithin most (checks c) = prepared_numbers c.tests ≤ most
 IsWithin most (nothing reason) = Unit {0}

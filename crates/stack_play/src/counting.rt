@@ -1,4 +1,4 @@
-//! How many lines of each kind the report of a script has that is made while it is played.
+//! How many lines of each kind a script's report has, where the script is made while it is played.
 
 ghost use Rattle.std.specs.Prelude.{◌≡◌, ◌^◌, ◌<◌, ◌≤◌, OnOk, length};
 ghost use Rattle.event_graph.specs.Answer.{stack_tree};

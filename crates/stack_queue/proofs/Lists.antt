@@ -20,7 +20,7 @@ as_many [] (x ∷ xs) same = absurd (omega (arith, same))
 as_many (at ∷ places) [] same = absurd (omega (arith, same))
 as_many (at ∷ places) (x ∷ xs) same = ap suc (as_many places xs (omega (arith, same)))
 
--- one task more
+-- one more task
 pub pushed : (places : List ℕ) (xs : List (Dir × PoolEvent)) (at : ℕ) (dir : Dir) (event : PoolEvent) →
     length places ≡ length xs →
     tasks_at (places ++ at ∷ []) (xs ++ (dir, event) ∷ []) ≡ tasks_at places xs ++

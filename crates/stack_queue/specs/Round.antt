@@ -13,7 +13,7 @@ use Rattle.pool_message.specs.declared.event.PoolEvent.{PoolEvent}
 use Rattle.stack_queue.specs.declared.tasks.PoolTask.{PoolTask}
 use Rattle.stack_queue.specs.Pending.{first_task}
 
--- A stage that lets an event pass took one event more, and is else as it was.
+-- A stage that lets an event pass took one more event, and is else as it was.
 pub record HasPassed {S : Type 0} (place : S → ℕ) (layer : S → LayerTree) (refs : S → List ℕ)
     (Ready : List Held → S → Type 0)
     (state : List Held → S → State) (taken : S → ℕ) (s : S) (sent : Dir × PoolEvent) (s' : S) (after : Dir × PoolEvent)

@@ -19,7 +19,7 @@ visited_for places play zero r = []
 visited_for places play (suc n) r = if is_done r.tasks then [] else place_visited places r.tasks ++
     visited_for places play n (next places play r)
 
--- The layer at a place took one event more.
+-- The layer at a place took one more event.
 abbrev pub counted_at : List ℕ → ℕ → List ℕ
 counted_at counts at = slice_set counts (at - 1) (one_more (slice_index_or counts (at - 1) 0))
 

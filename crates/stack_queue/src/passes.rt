@@ -46,7 +46,7 @@ pub(crate) fn pass_one<S: Stage>(stage: &mut S, sent: &mut (Dir, PoolEvent)) -> 
     stage.pass(sent.0, &mut sent.1)
 }
 
-/// Whether one of that many layers stands at a place.
+/// Whether one of `places` layers stands at a place.
 fn is_place(places: usize, at: u16) -> bool
     ensures { result ≡ spec.is_place places at }
 {

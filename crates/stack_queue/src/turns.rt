@@ -103,7 +103,7 @@ pub fn run<S: Stage>(
     predicted
 }
 
-/// Whether a task stands at an edge of a stack with that many places.
+/// Whether a task stands at an edge of a stack with `places` places.
 fn is_edge(places: u8, at: u16) -> bool
     ensures { result ≡ not (spec.is_place places at) }
 {

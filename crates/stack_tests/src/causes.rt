@@ -263,7 +263,7 @@ fn library_layers_are_accepted(rt: HostRuntime) -> Result<(), Fail> {
     Ok(())
 }
 
-/// A text of that many lines, each with two digits in it, after a first line and before a last one.
+/// A text of `count` lines, each with two digits in it, after a first line and before a last one.
 fn lines(alloc: Global, parts: [&[u8]; 4], count: u8) -> Result<Vec<u8>, AllocError> {
     let [first, front, back, last] = parts;
     let mut text = Vec::new(alloc);
@@ -280,7 +280,7 @@ fn lines(alloc: Global, parts: [&[u8]; 4], count: u8) -> Result<Vec<u8>, AllocEr
     Ok(text)
 }
 
-/// A layer of that many handlers, a line each, of which no two are of one event.
+/// A layer of `count` handlers, a line each, no two of which are of one event.
 fn handlers(alloc: Global, count: usize) -> Result<Vec<u8>, AllocError> {
     let kinds: [&[u8]; 10] = [
         b"Timer", b"Suspect", b"Elect", b"Block", b"BlockOk", b"Flushed", b"View", b"Leave",

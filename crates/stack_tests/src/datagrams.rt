@@ -80,7 +80,7 @@ fn refusal(stack: &Stack, bytes: &[u8]) -> Option<Stray> {
     scan_full(stack, &SECOND, bytes, &mut Scan::none()).err()
 }
 
-/// What the member of rank 1 says of the cast with that many bytes more.
+/// What the member of rank 1 says of the cast with `more` bytes after it.
 fn longer(alloc: Global, stack: &Stack, more: usize) -> Result<Option<Stray>, AllocError> {
     let mut bytes = Vec::new(alloc);
     bytes.extend_from_slice(&CAST)?;

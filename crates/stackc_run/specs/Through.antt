@@ -20,8 +20,8 @@ use Rattle.node_loop.specs.Serve.{MadeAllTurns}
 use Rattle.node_jobs.specs.Comes.{Beyond, Node, Ran}
 use Rattle.stackc_run.specs.Performed.{Way, over_files, over_network, way_of, Performed, Does}
 
--- A run that put so much on the output and ended so, and how that was said over the streams. Where that is the job's
--- own end, all that `run` does is done.
+-- A run: what it put on the output, how it ended, and how that was said over the streams. Where that is the job's own
+-- end, all that `run` does is done.
 pub record RunsThrough (words : List Text) (told : Option Shelved) (reads reads_after : ℕ) (n : Beyond)
     (out err : Stream) (status : ℕ) : Type 0 where
   pub put : Tells

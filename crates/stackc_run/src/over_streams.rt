@@ -16,7 +16,7 @@ use std::io::Write;
 /// Does the job that the words name, hands on what was put to both streams, and answers the program's status.
 ///
 /// The status is 0, or 8, only where the job's whole output was put and the output's stream got all of it. Where the
-/// stream did not, that is said as a fault of writing; how a job ended else stays. What was said is handed on to the
+/// stream did not, that is said as a fault of writing; any other end of a job stays. What was said is handed on to the
 /// stream of `err`, or that sink counted a fault.
 pub fn run_through<S: Shelf, O: Write + Drop, E: Write + Drop, N: Links, C: Clock>(
     alloc: Global,

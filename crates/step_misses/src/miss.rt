@@ -23,7 +23,7 @@ pub struct Miss {
     pub second: Option<Lack>,
 }
 
-/// What an event gives that is tried as a common step.
+/// What an event that is tried as a common step yields.
 #[derive(Clone, Copy, Debug, PartialEq, Eq)]
 pub enum Probed {
     /// A common step, which was made.

@@ -14,7 +14,7 @@ use Rattle.step_outputs.specs.declared.kept.What.{What}
 use Rattle.step_outputs.specs.declared.kept.What.TheVariants.{Cast, Send, Block, Announce, Timer, Packet, Nowhere}
 use Rattle.step_outputs.specs.declared.kept.What.TheVariants.{Quiet}
 
--- what is announced doesn't hang on where, on headers or on bytes
+-- what is announced doesn't depend on where, on headers or on bytes
 one_announced : (here : Here) (what : What) (headers : List Header) (body : List ℕ) →
     announced_ranks (output_with here what headers body).0 ≡ announced_by what
 one_announced here (Cast peer) headers body = refl

@@ -33,7 +33,7 @@ outputs_stay here bytes more (k ∷ list) lie = λ i.
     output_with here k.what k.headers (range_stays k.body.from k.body.len bytes more lie.0 i) ∷
     outputs_stay here bytes more list lie.1 i
 
--- one output more, with its bytes
+-- one more output, with its bytes
 pub with_one_more : (here : Here) (bytes more : List ℕ) (list : List Kept) (k : Kept) (o : member.Output × Option ℕ) →
     AllByRecursion (λ k. LiesWithin bytes k.body) list → output_in here (bytes ++ more) k ≡ o →
     map (output_in here (bytes ++ more)) (list ++ k ∷ []) ≡ map (output_in here bytes) list ++ o ∷ []

@@ -80,7 +80,7 @@ numbered_outputs count k [] = []
 numbered_outputs count k (x ∷ list) = record x { what = under (number_below count k) x.what } ∷
     numbered_outputs count (number_behind count k x.what) list
 
--- Outputs are kept in that many places: there is room for the rest of them, and for the longest body of each.
+-- Outputs are kept in `places` places: there is room for the rest of them, and for the longest body of each.
 pub record AreKept (places room room_of_bytes : ℕ) (bytes : List ℕ) (list : List Kept) : Type 0 where
   pub outputs : places ≤ room
   pub held : length list ≤ places

@@ -35,7 +35,7 @@ impl KeptList {
     ghost use Rattle.stack_mean.specs.Plans.{plans_limit};
     ghost use Rattle.step_outputs.specs.Kept.{numbered_outputs};
 
-    /// No output, with that many places.
+    /// No output, with room for `places`.
     pub fn fresh(alloc: Global, places: usize) -> Result<KeptList, AllocError>
         ensures { IfOk result (λ l. l ≡ buffer [] places) }
     {
@@ -98,7 +98,7 @@ impl KeptList {
         self.count += 1;
     }
 
-    /// Each takes its number, from this one on, of that many plans.
+    /// Each takes its number, from `first` on, where there are `count` plans.
     pub fn number(&mut self, first: u32, count: u32)
         requires { count ≤ plans_limit }
         ensures { self.new ≡ buffer (numbered_outputs count first self.old.items) self.old.capacity }
@@ -107,7 +107,7 @@ impl KeptList {
     }
 }
 
-/// Each of the first outputs takes its number, from this one on, of that many plans.
+/// Each of the first `used` outputs takes its number, from `first` on, where there are `count` plans.
 fn number_front(list: &mut [Kept], used: usize, first: u32, count: u32)
     requires few { count ≤ plans_limit }
     requires within { used ≤ length list.old }
@@ -116,7 +116,7 @@ fn number_front(list: &mut [Kept], used: usize, first: u32, count: u32)
     number_all(&mut list[..used], first, count);
 }
 
-/// Each of some outputs takes its number, from this one on, of that many plans.
+/// Each of some outputs takes its number, from `first` on, where there are `count` plans.
 fn number_all(list: &mut [Kept], first: u32, count: u32)
     requires { count ≤ plans_limit }
     ensures { list.new ≡ numbered_outputs count first list.old }

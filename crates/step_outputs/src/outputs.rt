@@ -146,8 +146,8 @@ impl Outputs {
         self.list.push_bare(what, body);
     }
 
-    /// Outputs that are sent in full get their plans, of which there are n: each packet, and each send that has
-    /// nowhere to go, takes one number, in order, from this one on.
+    /// Outputs that are sent in full get their plans, of which there are `count`: each packet, and each send that has
+    /// nowhere to go, takes one number, in order, from `first` on.
     pub fn send_short(&mut self, first: u32, count: u32)
         requires { count ≤ plans_limit }
         ensures { (plans : List Plan) → length plans ≡ count → (outs : List Output) →

@@ -26,7 +26,7 @@ pub record Walked (fs : List Form) (w : Walk) (acts : List ActForm) : Type 0 whe
   pub knows : Knows fs w
   pub stand : AllZip (ActStands (meanings fs)) acts (symbolic (take w.done (trace_tree w.trace.now)))
 
--- One operation more.
+-- One more operation.
 pub record Steps (old new : List Form) (w u : Walk) (acts : List ActForm) : Type 0 where
   pub grows : Grown old new
   pub same_trace : u.trace ≡ w.trace

@@ -1,4 +1,4 @@
--- What is known where a trace was gone along.
+-- What is known where a walk along a trace stands.
 use Rattle.std.specs.Prelude.{◌≡◌, ℕ, ◌+◌, List, [], ◌∷◌, length, take, Option, option_to_list, Result, Ok, Err}
 use Rattle.std.specs.List.{AllZip, fold, slice_get}
 use Rattle.std.specs.Option.{unwrap_or}
@@ -50,7 +50,7 @@ pub record KnowsAs (fs : List Form) (w : Walk) (v : Values) : Type 0 where
 abbrev pub Knows : List Form → Walk → Type 0
 Knows fs w = KnowsAs fs w (known_to w)
 
--- That many values were made.
+-- `many` values were made.
 pub record AllMade (old new : List Form) (xs : List Meant) (many : ℕ) (ks : List ℕ) : Type 0 where
   pub grows : Grown old new
   pub stand : AllZip (Stands (meanings new)) ks xs

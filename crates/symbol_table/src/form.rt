@@ -19,7 +19,7 @@ pub enum NumberForm {
     Peer,
     /// A variable field of the input's packet.
     Field(u32),
-    /// The own rank.
+    /// The member's own rank.
     Me,
     /// The number of members.
     Count,

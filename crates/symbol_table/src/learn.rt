@@ -46,7 +46,7 @@ fn note(table: &mut Table, walk: &mut Walk<'_>, node: u32) -> Result<(), AllocEr
     Ok(())
 }
 
-/// A cell is written, after that many takes.
+/// A cell is written, after `takes` takes.
 fn write(walk: &mut Walk<'_>, place: u8, cell: u8, takes: u32) -> Result<(), AllocError>
     requires more { walk.old.done < length walk.old.trace.now.operations.items }
     ensures { OnOk result (Wrote walk.old walk.new place cell takes) }

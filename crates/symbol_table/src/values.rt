@@ -36,7 +36,7 @@ fn noted_at(walk: &Walk<'_>, message: u32) -> Option<u32>
     walk.messages.get(message as usize).copied()
 }
 
-/// The form of a number of a row, after that many takes.
+/// The form of a number of a row, after `takes` takes.
 fn taken_number_form(takes: u32, row: u32, number: u8) -> NumberForm
     ensures { result ≡ taken_number_form takes row number }
 {
@@ -47,7 +47,7 @@ fn taken_number_form(takes: u32, row: u32, number: u8) -> NumberForm
     }
 }
 
-/// The form of the message of a row, after that many takes.
+/// The form of the message of a row, after `takes` takes.
 fn taken_message_form(takes: u32, row: u32, load: Load) -> MessageForm
     ensures { result ≡ taken_message_form takes row load }
 {

@@ -1,10 +1,10 @@
-//! How far a trace was gone along, and what is known there.
+//! How far a walk along a trace has come, and what is known there.
 
 use crate::counts::Counts;
 use trace_core::Trace;
 
-/// A trace after that many operations: the values of what was bound and noted, how many rows were taken, and how often
-/// cells were written.
+/// A trace after its first `done` operations: the values of what was bound and noted, how many rows were taken, and how
+/// often cells were written.
 #[derive(Drop)]
 pub(crate) struct Walk<'a> {
     pub trace: &'a Trace,

@@ -115,7 +115,7 @@ module _ (stack : List LayerTree) (ts : List Term) (rows : List Spot) where
   unfolding note_texts
   later_row row notes within = same_texts row [] notes within
 
--- a note more
+-- one more note
 one_within : (n : ℕ) (notes : List Note) (note : Note) (more : List Note) → more ≡ notes ++ note ∷ [] →
     is_within n note ≡ true →
     are_within n notes ≡ true → are_within n more ≡ true
@@ -164,7 +164,7 @@ noted stack ts many spots notes more message rows all is =
         (message_in ts message)) (take_all rows spots (omega (arith, all)))
         ∙ message_bare stack 0 (written_all stack ts many spots notes) (message_in ts message)
 
--- a row more
+-- one more row
 within_more : (n : ℕ) (notes : List Note) → are_within n notes ≡ true → are_within (suc n) notes ≡ true
 within_more n [] within = refl
 within_more n (note ∷ notes) within =

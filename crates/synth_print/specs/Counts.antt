@@ -11,7 +11,7 @@ use Rattle.trace_core.specs.declared.bypass.Cases.{Cases}
 abbrev pub no_counts : Counts
 no_counts = record { fused = 0; absent = 0 }
 
--- With what is made in one case more, where there is one.
+-- With what is made in one more case, where there is one.
 abbrev pub with_made : Counts → mean.Made → Counts
 with_made c made = record { fused = c.fused + a_fused made; absent = c.absent + an_absent made }
 

@@ -17,7 +17,7 @@ use Rattle.trace_core.specs.Bypasses.{first_tree, second_tree}
 use Rattle.trace_core.specs.declared.bypass.Cases.{Cases}
 use Rattle.trace_mean.specs.Fuse.{fields_of}
 
--- How an entry is called, and what the lines of a case of it begin with.
+-- What an entry is called, and what the lines of a case of it begin with.
 abbrev pub name_text : Name → List ℕ
 name_text names.Cast = codes "cast"
 name_text names.Send = codes "send"

@@ -9,7 +9,7 @@ abbrev pub rows_named : Note → ℕ
 rows_named notes.Called = 0
 rows_named (notes.Spelled message rows) = rows
 
--- Whether noted messages name none but that many first rows.
+-- Whether a noted message names none but the first n rows.
 abbrev pub is_within : ℕ → Note → Bool
 is_within n note = nat_le (rows_named note) n
 

@@ -12,14 +12,14 @@ use Rattle.synth_print.specs.declared.written.Spot.{Spot}
 use Rattle.synth_print.specs.declared.written.Written.{Written}
 use Rattle.trace_core.specs.View.{Term, message_in}
 
--- How the numbers of taken rows are called.
+-- What the numbers of taken rows are called.
 abbrev pub row_called : List LayerTree → Spot → List (List ℕ)
 row_called stack spot = numbers_called (form_at (layer_of stack spot.place) spot.cell)
 
 abbrev pub rows_called : List LayerTree → List Spot → List (List (List ℕ))
 rows_called stack spots = map (row_called stack) spots
 
--- What a noted message may name: that many first rows, and messages that are written so.
+-- What a noted message may name: the first `many` rows, and messages that are written so.
 abbrev pub before_note : List LayerTree → List Spot → List (List ℕ) → ℕ → mean.Written
 before_note stack spots texts many = record {
   binds = 0;
@@ -41,7 +41,7 @@ with_text stack ts spots texts note = texts ++ note_text stack ts spots texts no
 unfoldable pub note_texts : List LayerTree → List Term → List Spot → List Note → List (List ℕ)
 note_texts stack ts spots noted = fold (with_text stack ts spots) [] noted
 
--- What may be named, where it may be that many first rows and notes; and where it may be all.
+-- What may be named, where that is the first `many_rows` rows and `many_notes` notes; and where it is all.
 abbrev pub written_first : List LayerTree → List Term → Written → (many_rows many_notes : ℕ) → mean.Written
 written_first stack ts w many_rows many_notes = record {
   binds = w.binds;

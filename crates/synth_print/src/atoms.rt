@@ -34,7 +34,7 @@ fn row_at(scope: &Scope<'_>, number: u32) -> Option<Spot>
     }
 }
 
-/// How a number of a taken row is called.
+/// What a number of a taken row is called.
 #[tactic(auto, using(crate::proofs::Notes::no_row))]
 fn push_row_called(line: &mut Line, scope: &Scope<'_>, row: u32, number: u8) -> Result<(), Memory>
     ensures { OnOk result

@@ -92,7 +92,7 @@ pub(crate) fn is_alone(stack: &Stack, place: u8, cell: u8) -> bool
     is_without(cell_at(stack, place, cell))
 }
 
-/// How a number of a queue's rows is called.
+/// What a number of a queue's rows is called.
 fn push_word(line: &mut Line, items: &Items, number: u8) -> Result<(), Memory>
     ensures { OnOk result (line.new ≡ line.old ++ slice_index_or (items_tree items.now).numbers number []) }
 {
@@ -102,7 +102,7 @@ fn push_word(line: &mut Line, items: &Items, number: u8) -> Result<(), Memory>
     }
 }
 
-/// How a number of the rows of a cell that there may be is called.
+/// What a number of the rows of a cell is called, if there is such a cell.
 fn push_number_of(line: &mut Line, cell: Option<&Cell>, number: u8) -> Result<(), Memory>
     ensures { OnOk result
         (line.new ≡ line.old ++ slice_index_or (numbers_called (form_shown (cell_shown cell.entry))) number []) }
@@ -118,7 +118,7 @@ fn push_number_of(line: &mut Line, cell: Option<&Cell>, number: u8) -> Result<()
     }
 }
 
-/// How a number of the rows of a cell of the layer at a place is called.
+/// What a number of the rows of a cell of the layer at a place is called.
 pub(crate) fn push_called(
     line: &mut Line,
     stack: &Stack,

@@ -27,7 +27,7 @@ fn one_more(count: u64) -> Result<u64, Memory>
 }
 
 impl Counts {
-    /// With what is made in one case more.
+    /// With what is made in one more case.
     fn with_made(self, made: &Made) -> Result<Counts, Memory>
         ensures { IfOk result (λ counts. counts ≡ with_made self (made_tree made.now)) }
     {
@@ -59,7 +59,7 @@ impl Counts {
         }
     }
 
-    /// With what is made of one entry more.
+    /// With what is made of one more entry.
     fn with_cases(self, cases: &Cases) -> Result<Counts, Memory>
         ensures { IfOk result (λ counts. counts ≡ with_cases self cases.now) }
     {

@@ -22,7 +22,7 @@ use report_lines::Line;
 use shape_core::Absent;
 use trace_core::{Cases, Guarded, Made};
 
-/// How an entry is called.
+/// What an entry is called.
 pub(crate) fn push_name(line: &mut Line, name: Name) -> Result<(), Memory>
     ensures { OnOk result (line.new ≡ line.old ++ name_text name) }
 {

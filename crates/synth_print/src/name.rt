@@ -1,4 +1,4 @@
-//! How entries and their cases are called.
+//! The names of entries and their cases.
 
 /// An entry: the application's own cast or send, or the packets of a plan by its number.
 #[derive(Clone, Copy)]

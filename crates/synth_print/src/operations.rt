@@ -34,7 +34,7 @@ fn push_numbers(line: &mut Line, scope: &Scope<'_>, numbers: &Fields) -> Result<
     Ok(())
 }
 
-/// The message of a row that is pushed, after that many numbers.
+/// The message of a row that is pushed, after its `count` numbers.
 fn push_last_message(
     line: &mut Line,
     scope: &Scope<'_>,
@@ -89,7 +89,7 @@ fn push_row(
     push_row_parts(line, scope, numbers, message)
 }
 
-/// The message of an output, after that many numbers and without its known headers.
+/// The message of an output, after its `count` numbers and without its known headers.
 fn push_last_core(
     line: &mut Line,
     scope: &Scope<'_>,

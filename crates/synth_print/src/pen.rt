@@ -3,7 +3,7 @@
 use report_lines::Line;
 use std::alloc::Global;
 
-/// A line as it is built, whose memory is kept from line to line, and where more memory is had.
+/// The line that is being built, in memory that is kept from line to line, and where more memory comes from.
 #[derive(Drop)]
 pub(crate) struct Pen {
     pub alloc: Global,

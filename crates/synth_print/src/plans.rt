@@ -78,7 +78,7 @@ fn count_at(layer: Option<&TypedLayer>, tag: u8) -> usize
     }
 }
 
-/// That many first fields, or all.
+/// The first `count` fields, or all.
 #[tactic(auto, using(crate::proofs::Planned::all_first))]
 fn first_fields(fields: &[Option<u32>], count: usize) -> &[Option<u32>]
     ensures { result.now ≡ take count fields.now }
@@ -90,7 +90,7 @@ fn first_fields(fields: &[Option<u32>], count: usize) -> &[Option<u32>]
     }
 }
 
-/// The fields after that many first ones.
+/// The fields after the first `count`.
 #[tactic(auto, using(crate::proofs::Planned::none_behind))]
 fn later_fields(fields: &[Option<u32>], count: usize) -> &[Option<u32>]
     ensures { result.now ≡ drop count fields.now }

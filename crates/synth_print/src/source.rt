@@ -50,7 +50,7 @@ pub(crate) struct Source<'a> {
     pub noting: bool,
 }
 
-/// Operations, with the stack that they are of.
+/// Operations, and the stack to which they belong.
 #[derive(Clone, Copy)]
 pub(crate) struct Stacked<'a> {
     pub stack: &'a Stack,

@@ -29,7 +29,7 @@ pub(crate) enum Note {
 #[derive(Drop)]
 pub(crate) struct Written {
     pub binds: u64,
-    /// Of each row the queue that it was taken from, which tells how its numbers are called.
+    /// Of each row the queue that it was taken from, which tells what its numbers are called.
     pub rows: Vec<Spot>,
     pub notes: Vec<Note>,
     ghost within: { are_within (length rows.items) notes.items ≡ true },

@@ -6,7 +6,7 @@ use Rattle.trace_words.specs.declared.error.LineError.{LineError}
 use Rattle.trace_words.specs.declared.error.LineError.TheVariants.{Form, Memory}
 use Rattle.trace_words.specs.declared.scope.Scope.{Scope}
 
--- How what stands in a bracket of a line is read, inside of which n may be opened.
+-- How what stands in a bracket of a line is read, where `room` more may be opened inside it.
 unfoldable pub inner : Scope → ℕ → Inner
 inner s room = inside (layers_in s) (named_in s) room
 

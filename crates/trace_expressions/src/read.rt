@@ -12,7 +12,7 @@ use crate::targeted::Target;
 use trace_core::Arena;
 use trace_words::{LineError, Scope, Text};
 
-/// So deep may brackets go.
+/// How deep brackets may go.
 pub const MOST_BRACKETS: u32 = 200;
 
 /// A number, as a node.

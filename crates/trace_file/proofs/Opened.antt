@@ -18,7 +18,7 @@ use Rattle.trace_words.specs.declared.error.LineError.{LineError}
 use Rattle.trace_file.specs.declared.open.Open.{Open}
 use Rattle.trace_file.specs.Open.{AreParts, IsAdded, IsPut, LeavesAfter, SaysIn, left_after, named_of}
 
--- One operation more, that a line says.
+-- One more operation, that a line says.
 pub added : (stack : List LayerTree) (line : List ℕ) (old middle now new : Open) (r : Result Operation LineError)
     (o : Operation) (n : ℕ) →
     AreParts old →

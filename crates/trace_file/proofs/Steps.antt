@@ -49,7 +49,7 @@ line_in_case stack r line e = ap (λ stage. line_read stack
     (record { stage = stage_in stack stage r.due.now r.current; held = held_in r.current; traces = traces_of r })
     (stage_in stack stage r.due.now r.current) line) e
 
--- with one operation more
+-- with one more operation
 with_is : (stack : List LayerTree) (due : List Due) (s : Named) (left n : ℕ) (r : file.Reading) (o : trace.Operation) →
     left_after left o ≡ Some n →
     with_operation stack due s left r o ≡

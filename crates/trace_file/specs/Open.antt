@@ -38,7 +38,7 @@ pub record IsEmpty (fields : ℕ) (o : Open) : Type 0 where
   pub rows : o.rows.items ≡ []
   pub left : o.left ≡ most_operations
 
--- How many operations it may have after one, where it may have that many: notes don't count.
+-- How many operations it may have after one, where it may have `left` with it: notes don't count.
 abbrev pub left_after : ℕ → trace.Operation → Option ℕ
 left_after left (trace.note m) = Some left
 left_after zero o = None
@@ -83,7 +83,7 @@ pub record SaysIn (stack : List LayerTree) (line : List ℕ) (old new : Open) (r
     pub said : Says (operation_said stack (named_of stack old) line) old.store new.store r
     pub rest : new ≡ record old { store = new.store }
 
--- One operation more was read from a line.
+-- One more operation was read from a line.
 pub record IsAdded (stack : List LayerTree) (line : List ℕ) (old new : Open) : Type 0 where
   pub operation : trace.Operation
   pub said : operation_said stack (named_of stack old) line ≡ Some operation

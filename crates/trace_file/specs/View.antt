@@ -83,7 +83,7 @@ abbrev pub Closes : Reading → Reading → {E : Type 0} → Result (Unit {0}) E
 Closes old new (Ok done) = IsClosed old new
 Closes old new (Err e) = Unit {0}
 
--- What is read with one line more.
+-- What is read with one more line.
 abbrev pub line_from : List LayerTree → Reading → List ℕ → Option file.Reading
 line_from stack r line = file.line_read stack (reading_in stack r) (stage_in stack r.stage r.due.now r.current) line
 

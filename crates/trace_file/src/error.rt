@@ -7,7 +7,7 @@ use std::alloc::AllocError;
 /// A file of traces isn't read.
 #[derive(Clone, Copy, Debug)]
 pub enum ReadError {
-    /// The line of that number, counted from 1, is the first out of form; where `end` is missing it is one past the
+    /// The line of this number, counted from 1, is the first out of form; where `end` is missing it is one past the
     /// last.
     Line(u32),
     Memory,

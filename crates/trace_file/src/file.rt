@@ -20,7 +20,7 @@ use trace_words::LineError;
 /// The most bytes of a file of traces.
 pub const LONGEST_FILE: usize = 33_554_432;
 
-/// What a line of a number gave.
+/// What the line of this number yielded.
 fn told(read: Result<(), LineError>, number: u32) -> Result<(), ReadError>
     ensures { Tells read number result }
 {

@@ -10,7 +10,7 @@ use crate::due::Due;
 use layer_mean::Case;
 use trace_words::{LineError, Text};
 
-/// How an entry is called.
+/// What an entry is called.
 fn entry_name(text: &mut Text<'_>, entry: u32) -> Result<(), LineError>
     ensures { Takes (reader.the_text (file.entry_name entry) (left text.old)) result (left text.new) }
 {
@@ -23,7 +23,7 @@ fn entry_name(text: &mut Text<'_>, entry: u32) -> Result<(), LineError>
     }
 }
 
-/// These bytes, and how an entry is called.
+/// These bytes, and what an entry is called.
 #[tactic(auto, using(trace_words::proofs::Fronts::not_front))]
 fn named_entry(text: &mut Text<'_>, front: &[u8], entry: u32) -> Result<(), LineError>
     ensures { Takes (reader.the_text (front.now ++ file.entry_name entry) (left text.old)) result (left text.new) }

@@ -15,7 +15,7 @@ use trace_words::{LineError, Scope, Spot};
 pub(crate) const MOST_OPERATIONS: u32 = 4_096;
 
 /// A case whose lines are read: its operations so far, what its next line may name, and how many operations it may
-/// have yet.
+/// still have.
 #[derive(Drop)]
 pub(crate) struct Open {
     store: Store,
@@ -100,7 +100,7 @@ impl Open {
         }
     }
 
-    /// One operation more.
+    /// One more operation.
     fn put(&mut self, operation: Operation) -> Result<(), AllocError>
         ensures { Puts self.old self.new operation result }
     {
@@ -123,7 +123,7 @@ impl Open {
         operation(line, &scope, &mut self.store)
     }
 
-    /// One operation more, which a line spells.
+    /// One more operation, which a line spells.
     pub(crate) fn add(&mut self, stack: &Stack, line: &[u8]) -> Result<(), LineError>
         requires { AreParts self.old }
         ensures { Adds (stack_tree stack.now) line.now self.old self.new result }

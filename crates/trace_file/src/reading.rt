@@ -102,7 +102,7 @@ impl<'a> Reading<'a> {
         Ok(())
     }
 
-    /// One line more.
+    /// One more line.
     pub(crate) fn line(
         &mut self,
         alloc: Global,
@@ -119,7 +119,7 @@ impl<'a> Reading<'a> {
         }
     }
 
-    /// The traces of a file that ends before the line of a number.
+    /// The traces of a file that ends before the line of this number.
     pub(crate) fn finish(self, number: u32) -> Result<Vec<Trace>, ReadError>
         ensures { (stack : List LayerTree) → Reads (file.traces_at_end (reading_in stack self.entry).stage number
             (reading_in stack self.entry).traces) result }

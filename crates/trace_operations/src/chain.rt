@@ -36,7 +36,7 @@ fn put(links: &mut Links, place: u8, header: Header, rest: u32) -> Result<u32, A
     })
 }
 
-/// Headers of places from one on, each after a slash, of which there may be n; the number of their chain.
+/// At most `most` headers of places from `place` on, each after a slash; the number of their chain.
 fn chain_after(
     text: &mut Text<'_>,
     scope: &Scope<'_>,

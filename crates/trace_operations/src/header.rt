@@ -25,7 +25,7 @@ pub(crate) struct Header {
     pub(crate) fields: Atoms,
 }
 
-/// One field more, where there is room for it.
+/// One more field, where there is room for it.
 fn with_field(fields: Atoms, field: Atom) -> Result<Atoms, AllocError>
     ensures { IfOk result (λ all. all ≡ fields ++ field ∷ []) }
 {
@@ -37,7 +37,7 @@ fn with_field(fields: Atoms, field: Atom) -> Result<Atoms, AllocError>
     Ok(fields)
 }
 
-/// That many fields more, each after a comma.
+/// `count` more fields, each after a comma.
 #[tactic(auto, using(crate::proofs::Rules::of_more_fields))]
 fn more_fields(
     text: &mut Text<'_>,
@@ -58,7 +58,7 @@ fn more_fields(
     more_fields(text, scope, _place, most - 1, fields)
 }
 
-/// That many fields, with commas between.
+/// `count` fields, with commas between.
 #[tactic(auto, using(crate::proofs::Fields::fields_after, crate::proofs::Fields::no_first))]
 fn fields(text: &mut Text<'_>, scope: &Scope<'_>, place: u8, count: u8) -> Result<Atoms, LineError>
     ensures { TakesAs (map atom_tree) (reader.each_of (operation.an_atom (named_in scope.now))

@@ -42,9 +42,8 @@ fn operation_by(
 }
 
 /// The operation that a whole line spells, in what it may name; nodes and links are added for it. `Form` is
-/// answered exactly where it spells
-/// none, and `Memory` beside want of memory where a place, a number of a cell or a number of fields is over what
-/// traces keep.
+/// answered exactly where it spells none, and `Memory`, beside want of memory, where a place, a number of a cell or a
+/// number of fields is over what traces keep.
 pub fn operation(line: &[u8], scope: &Scope<'_>, store: &mut Store) -> Result<Operation, LineError>
     ensures { Says (operation.operation_said (layers_in scope.now) (named_in scope.now) line.now) store.old store.new
         result }

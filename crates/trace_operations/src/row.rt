@@ -22,7 +22,7 @@ use trace_expressions::number;
 use trace_words::{LineError, Scope, Text};
 use typed_layer::Items;
 
-/// One node more, where there is room for it.
+/// One more node, where there is room for it.
 fn with_node(nodes: Fields, node: u32) -> Result<Fields, AllocError>
     ensures { IfOk result (λ all. all ≡ nodes ++ node ∷ []) }
 {

@@ -50,7 +50,7 @@ fn with_number(numbers: Atoms, atom: Atom) -> Atoms
     numbers
 }
 
-/// After these numbers that many at most, and a message.
+/// At most `most` numbers after these, and a message.
 #[tactic(auto, using(crate::proofs::Rules::of_sent_within))]
 fn sent_within(
     text: &mut Text<'_>,

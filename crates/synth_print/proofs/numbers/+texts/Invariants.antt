@@ -5,7 +5,7 @@ use Rattle.synth_print.specs.Parts.{part_node}
 use Rattle.synth_print.specs.declared.scope.Scope.{Scope}
 use Rattle.synth_print.proofs.numbers.+texts.Given as goal
 
--- A note more weighs more than any node, since these have numbers of 32 bits; and a node weighs more than the steps
+-- One more note weighs more than any node, since these have numbers of 32 bits; and a node weighs more than the steps
 -- from it to those that it names.
 abbrev rank : Bor Scope → ℕ → ℕ → ℕ
 rank s node step = 34359738368 * s.now.notes + 8 * node + step

@@ -28,7 +28,7 @@ invariant_of-self c =
     (ap (λ (b : Buffer Kept). b.capacity) kept) c.keep_bytes-body.ensures.capacity c.body_of.ensures.few refl
     c.keep_bytes-body.ensures.within
 
--- one output more of those that are gathered
+-- one more output of those that are gathered
 abbrev with_output : Gathered → Dir × Event → Gathered
 with_output g sent = record g { outputs = g.outputs ++ (output_of g.here sent, None) ∷ [] }
 

@@ -28,7 +28,7 @@ invariant_of-self c =
     (c.span_behind-span.ensures ∙ sym c.keep_bytes.ensures.place)
     c.keep_bytes.ensures.within
 
--- one output more of those that are gathered
+-- one more output of those that are gathered
 abbrev with_output : Gathered → Dir × Event → Gathered
 with_output g sent = record g { outputs = g.outputs ++ full_output g.here sent ∷ [] }
 
