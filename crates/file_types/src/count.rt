@@ -12,7 +12,7 @@ use layer_ast::{Arguments, Names};
 #[derive(Clone, Copy)]
 pub enum Count {
     Nothing,
-    /// One, and that many after it.
+    /// One, and this many after it.
     Behind(usize),
 }
 

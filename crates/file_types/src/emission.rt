@@ -19,7 +19,15 @@ use file_expressions::{Cause, NUMBER, Wanted, argument, argument_sort, note_unle
 use file_scope::{Found, Scope, declares_end};
 use layer_ast::{Argument, Arguments, At, Dir, Kind, Pushed, Sort};
 
-/// Whether events of a kind have that many arguments.
+/// What an emission sends, and from where: its place in the text, the direction and the kind of its events.
+#[derive(Clone, Copy)]
+pub struct Sending {
+    pub at: At,
+    pub direction: Dir,
+    pub kind: Kind,
+}
+
+/// Whether events of a kind have as many arguments as these.
 #[tactic(auto, using(crate::proofs::Counts::trees_count))]
 fn has_arity(kind: Kind, arguments: &Arguments) -> bool
     ensures { result ≡ (length (arguments_in (Some (arguments_tree arguments.now))) == length (arguments_of kind)) }
@@ -67,14 +75,16 @@ fn event_arguments(found: &mut Found, scope: &Scope, kind: Kind, arguments: &Arg
 
 /// A header that is put on.
 #[tactic(auto, using(file_scope::proofs::Finds::finds_both))]
-fn put_on(found: &mut Found, scope: &Scope, at: At, dir: Dir, kind: Kind, p: &Pushed)
-    ensures { Finds found.old (spec.pushed_faults (scope_of scope.now) at dir kind (pushed_tree p.now)) found.new }
+fn put_on(found: &mut Found, scope: &Scope, sending: Sending, p: &Pushed)
+    ensures { Finds found.old
+        (spec.pushed_faults (scope_of scope.now) sending.at sending.direction sending.kind (pushed_tree p.now))
+        found.new }
 {
-    let is_allowed = pushes(dir) && carries(kind);
+    let is_allowed = pushes(sending.direction) && carries(sending.kind);
     header(
         found,
         scope,
-        at,
+        sending.at,
         &p.name,
         count_arguments(&p.fields),
         is_allowed,
@@ -84,14 +94,14 @@ fn put_on(found: &mut Found, scope: &Scope, at: At, dir: Dir, kind: Kind, p: &Pu
 
 /// The header that an emission puts on, where it names one.
 #[tactic(auto, using(file_scope::proofs::Finds::finds_none))]
-fn pushed(found: &mut Found, scope: &Scope, at: At, dir: Dir, kind: Kind, p: &Option<Pushed>)
+fn pushed(found: &mut Found, scope: &Scope, sending: Sending, p: &Option<Pushed>)
     ensures { Finds found.old
-        (option_map_or (spec.pushed_faults (scope_of scope.now) at dir kind) (option_map pushed_tree p.now) [])
-        found.new }
+        (option_map_or (spec.pushed_faults (scope_of scope.now) sending.at sending.direction sending.kind)
+        (option_map pushed_tree p.now) []) found.new }
 {
     match p {
         None => {}
-        Some(p) => put_on(found, scope, at, dir, kind, p),
+        Some(p) => put_on(found, scope, sending, p),
     }
 }
 
@@ -119,14 +129,14 @@ fn sent_sort(scope: &Scope, kind: Kind, arguments: &Arguments) -> Option<Sort>
 }
 
 /// Whether the header of an emission suits its message.
-fn is_suited(scope: &Scope, dir: Dir, kind: Kind, arguments: &Arguments, p: &Option<Pushed>) -> bool
+fn is_suited(scope: &Scope, sending: Sending, arguments: &Arguments, p: &Option<Pushed>) -> bool
     ensures { result ≡ option_map_or
-        (spec.suits dir (spec.ends_with (scope_of scope.now).layer (option_map pushed_tree p.now)))
-        (spec.sent_sort (scope_of scope.now) kind (arguments_in (Some (arguments_tree arguments.now)))) true }
+        (spec.suits sending.direction (spec.ends_with (scope_of scope.now).layer (option_map pushed_tree p.now)))
+        (spec.sent_sort (scope_of scope.now) sending.kind (arguments_in (Some (arguments_tree arguments.now)))) true }
 {
-    match sent_sort(scope, kind, arguments) {
+    match sent_sort(scope, sending.kind, arguments) {
         None => true,
-        Some(sort) => suits(dir, ends_with(scope, p), sort),
+        Some(sort) => suits(sending.direction, ends_with(scope, p), sort),
     }
 }
 
@@ -135,19 +145,22 @@ fn is_suited(scope: &Scope, dir: Dir, kind: Kind, arguments: &Arguments, p: &Opt
 pub fn emission(
     found: &mut Found,
     scope: &Scope,
-    at: At,
-    dir: Dir,
-    kind: Kind,
+    sending: Sending,
     arguments: &Arguments,
     p: &Option<Pushed>,
 )
     ensures { Finds found.old
-        (spec.emission_faults (scope_of scope.now) at dir kind (arguments_in (Some (arguments_tree arguments.now)))
-        (option_map pushed_tree p.now)) found.new }
+        (spec.emission_faults (scope_of scope.now) sending.at sending.direction sending.kind
+        (arguments_in (Some (arguments_tree arguments.now))) (option_map pushed_tree p.now)) found.new }
 {
-    note_unless(found, has_arity(kind, arguments), Cause::Arity, at);
-    event_arguments(found, scope, kind, arguments);
-    pushed(found, scope, at, dir, kind, p);
-    let holds = is_suited(scope, dir, kind, arguments, p);
-    note_unless(found, holds, Cause::Header, at);
+    note_unless(
+        found,
+        has_arity(sending.kind, arguments),
+        Cause::Arity,
+        sending.at,
+    );
+    event_arguments(found, scope, sending.kind, arguments);
+    pushed(found, scope, sending, p);
+    let holds = is_suited(scope, sending, arguments, p);
+    note_unless(found, holds, Cause::Header, sending.at);
 }

@@ -36,7 +36,7 @@ fn fields(scope: &Scope, word: &Word) -> Count
     }
 }
 
-/// The header that is named after `with`, with that many fields, where one is allowed or not.
+/// The header that is named after `with`, with `count` fields, where one is allowed or not.
 #[tactic(auto, using(file_scope::proofs::Parts::three_parts))]
 pub fn header(found: &mut Found, scope: &Scope, at: At, name: &Name, count: Count, is_allowed: bool)
     ensures { Finds found.old (spec.with_faults (scope_of scope.now).layer at name.now (count_of count) is_allowed)

@@ -40,7 +40,7 @@ fn row_items(scope: &Scope, q: &Queue) -> Count
     }
 }
 
-/// A push or a take of that many items.
+/// A push or a take of `count` items.
 #[tactic(auto, using(file_scope::proofs::Finds::finds_both))]
 pub fn row(found: &mut Found, scope: &Scope, at: At, q: &Queue, count: Count)
     ensures { Finds found.old (spec.row_type_faults (scope_of scope.now) at (queue_tree q.now) (count_of count))

@@ -14,7 +14,7 @@ ghost use Rattle.file_expressions.specs.Found.{Finds};
 ghost use Rattle.file_scope.specs.Scope.{scope_of};
 
 use crate::count::Count;
-use crate::emission::emission;
+use crate::emission::{Sending, emission};
 use crate::rows::{row, row_arguments};
 use file_expressions::{Cause, expression, note_unless, size_at};
 use file_scope::{Found, Scope, declares_numbers, declares_param};
@@ -34,35 +34,37 @@ pub fn size(found: &mut Found, scope: &Scope, at: At, s: &Size)
     }
 }
 
+/// An assignment without its indexes: its place in the text, the cell's name and the value.
+#[derive(Clone, Copy)]
+struct Assignment<'a> {
+    at: &'a At,
+    name: &'a Name,
+    value: &'a Expression,
+}
+
 /// An assignment to a cell that is one number.
 #[tactic(auto, using(crate::proofs::Assignments::of_one))]
-fn set_one(found: &mut Found, scope: &Scope, at: At, name: &Name, value: &Expression)
-    ensures { Finds found.old (spec.set_faults (scope_of scope.now) at One name.now (expression_tree value.now ∷ []))
-        found.new }
+fn set_one(found: &mut Found, scope: &Scope, set: Assignment<'_>)
+    ensures { Finds found.old
+        (spec.set_faults (scope_of scope.now) set.entry.at.now One set.entry.name.now
+        (expression_tree set.entry.value.now ∷ [])) found.new }
 {
-    let holds = declares_numbers(scope, Shape::One, &name.word);
-    note_unless(found, holds, Cause::Kind, at);
-    expression(found, scope, value);
+    let holds = declares_numbers(scope, Shape::One, &set.name.word);
+    note_unless(found, holds, Cause::Kind, *set.at);
+    expression(found, scope, set.value);
 }
 
 /// An assignment to an element of an array.
 #[tactic(auto, using(crate::proofs::Assignments::of_two))]
-fn set_element(
-    found: &mut Found,
-    scope: &Scope,
-    at: At,
-    name: &Name,
-    index: &Expression,
-    value: &Expression,
-)
+fn set_element(found: &mut Found, scope: &Scope, set: Assignment<'_>, index: &Expression)
     ensures { Finds found.old
-        (spec.set_faults (scope_of scope.now) at Array name.now
-        (expression_tree index.now ∷ expression_tree value.now ∷ [])) found.new }
+        (spec.set_faults (scope_of scope.now) set.entry.at.now Array set.entry.name.now
+        (expression_tree index.now ∷ expression_tree set.entry.value.now ∷ [])) found.new }
 {
-    let holds = declares_numbers(scope, Shape::Array, &name.word);
-    note_unless(found, holds, Cause::Kind, at);
+    let holds = declares_numbers(scope, Shape::Array, &set.name.word);
+    note_unless(found, holds, Cause::Kind, *set.at);
     expression(found, scope, index);
-    expression(found, scope, value);
+    expression(found, scope, set.value);
 }
 
 /// An assignment to an element of a square.
@@ -70,39 +72,31 @@ fn set_element(
 fn set_square(
     found: &mut Found,
     scope: &Scope,
-    at: At,
-    name: &Name,
+    set: Assignment<'_>,
     row: &Expression,
     column: &Expression,
-    value: &Expression,
 )
     ensures { Finds found.old
-        (spec.set_faults (scope_of scope.now) at Square name.now
-        (expression_tree row.now ∷ expression_tree column.now ∷ expression_tree value.now ∷ [])) found.new }
+        (spec.set_faults (scope_of scope.now) set.entry.at.now Square set.entry.name.now
+        (expression_tree row.now ∷ expression_tree column.now ∷ expression_tree set.entry.value.now ∷ [])) found.new }
 {
-    let holds = declares_numbers(scope, Shape::Square, &name.word);
-    note_unless(found, holds, Cause::Kind, at);
+    let holds = declares_numbers(scope, Shape::Square, &set.name.word);
+    note_unless(found, holds, Cause::Kind, *set.at);
     expression(found, scope, row);
     expression(found, scope, column);
-    expression(found, scope, value);
+    expression(found, scope, set.value);
 }
 
 /// An assignment, with an index or without.
-fn set(
-    found: &mut Found,
-    scope: &Scope,
-    at: At,
-    name: &Name,
-    index: &Option<Expression>,
-    value: &Expression,
-)
+fn set(found: &mut Found, scope: &Scope, set: Assignment<'_>, index: &Option<Expression>)
     ensures { Finds found.old
         (spec.statement_type_faults (scope_of scope.now)
-        (tree.set at name.now (option_map expression_tree index.now) (expression_tree value.now))) found.new }
+        (tree.set set.entry.at.now set.entry.name.now (option_map expression_tree index.now)
+        (expression_tree set.entry.value.now))) found.new }
 {
     match index {
-        None => set_one(found, scope, at, name, value),
-        Some(index) => set_element(found, scope, at, name, index, value),
+        None => set_one(found, scope, set),
+        Some(index) => set_element(found, scope, set, index),
     }
 }
 
@@ -150,14 +144,14 @@ pub fn statement(found: &mut Found, scope: &Scope, s: &Statement)
             name,
             index,
             value,
-        } => set(found, scope, *at, name, index, value),
+        } => set(found, scope, Assignment { at, name, value }, index),
         Statement::SetSquare {
             at,
             name,
             row,
             column,
             value,
-        } => set_square(found, scope, *at, name, row, column, value),
+        } => set_square(found, scope, Assignment { at, name, value }, row, column),
         Statement::Push {
             at,
             queue,
@@ -179,6 +173,16 @@ pub fn statement(found: &mut Found, scope: &Scope, s: &Statement)
             kind,
             arguments,
             pushed,
-        } => emission(found, scope, *at, *direction, *kind, arguments, pushed),
+        } => emission(
+            found,
+            scope,
+            Sending {
+                at: *at,
+                direction: *direction,
+                kind: *kind,
+            },
+            arguments,
+            pushed,
+        ),
     }
 }

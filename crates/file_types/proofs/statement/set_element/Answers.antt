@@ -8,5 +8,5 @@ use Rattle.file_types.proofs.statement.set_element.Goals as goal
 pub returns : goal.returns
 returns c = of_two (number_faults (scope_of c.args.scope.now)) c.args.found.now c.note_unless.new.found
     c.expression.new.found
-    c.expression-2.new.found _ (expression_tree c.args.index.now) (expression_tree c.args.value.now)
+    c.expression-2.new.found _ (expression_tree c.args.index.now) (expression_tree c.args.set.value.now)
     (search rules) c.expression.ensures c.expression-2.ensures

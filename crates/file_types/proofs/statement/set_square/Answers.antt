@@ -10,4 +10,5 @@ returns c = of_three (number_faults (scope_of c.args.scope.now)) c.args.found.no
     c.expression.new.found
     c.expression-2.new.found c.expression-3.new.found _ (expression_tree c.args.row.now)
     (expression_tree c.args.column.now)
-    (expression_tree c.args.value.now) (search rules) c.expression.ensures c.expression-2.ensures c.expression-3.ensures
+    (expression_tree c.args.set.value.now) (search rules) c.expression.ensures c.expression-2.ensures
+    c.expression-3.ensures
