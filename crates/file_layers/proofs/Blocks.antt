@@ -45,7 +45,7 @@ pub holds_next : (all : List rust.Statement) (i : ℕ) (s : rust.Statement) (nam
 holds_next all i s names within is holds =
     subst (λ l. HoldsBlock (statements_of names (written.statement_trees l))) (drop_at all i s within is) holds
 
--- one statement more
+-- one more statement
 pub statements_next : (all : List rust.Statement) (i : ℕ) (s : rust.Statement) (outer names after : Names)
     (made pushed : List Statement) (m : Statement) → i < length all → s ≡ get_or all i s →
     HoldsBlock (statements_of names (written.statement_trees (drop i all))) →

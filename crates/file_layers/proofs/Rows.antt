@@ -18,7 +18,7 @@ range_more a (suc k) =
     let e : (a + 1) + k ≡ a + suc k = omega arith in
     ap (λ l. a ∷ l) (range_more (a + 1) k ∙ ap (λ n. range_with_len (a + 1) k ++ n ∷ []) e)
 
--- one slot more
+-- one more slot
 pub slots_more : (all pushed : List ℕ) (a k n : ℕ) → all ≡ range_with_len a k → n ≡ a + k → pushed ≡ all ++ n ∷ [] →
     pushed ≡ range_with_len a (k + 1)
 slots_more all pushed a k n so_far is push =

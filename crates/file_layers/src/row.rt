@@ -78,35 +78,41 @@ fn content(
     })
 }
 
+/// Where an event goes, and of which kind it is.
+#[derive(Clone, Copy)]
+pub struct Way {
+    pub direction: Dir,
+    pub kind: Kind,
+}
+
 /// An emission.
 pub fn emission(
     alloc: Global,
     names: &VisibleNames,
-    direction: Dir,
-    kind: Kind,
+    way: Way,
     arguments: &Arguments,
     pushed: &Option<Pushed>,
 ) -> Result<Emission, AllocError>
-    requires numbers { length (spec.emission_of (names_of names.now) direction kind
+    requires numbers { length (spec.emission_of (names_of names.now) way.direction way.kind
         (arguments_in (Some (written.arguments_tree arguments.now)))
         (option_map written.pushed_tree pushed.now)).numbers ≤ most_fields }
     requires content { HoldsContent
-        (spec.emission_of (names_of names.now) direction kind
+        (spec.emission_of (names_of names.now) way.direction way.kind
         (arguments_in (Some (written.arguments_tree arguments.now)))
         (option_map written.pushed_tree pushed.now)).content }
     ensures { IfOk result (λ e. emission_tree e
-        ≡ spec.emission_of (names_of names.now) direction kind
+        ≡ spec.emission_of (names_of names.now) way.direction way.kind
         (arguments_in (Some (written.arguments_tree arguments.now))) (option_map written.pushed_tree pushed.now)) }
 {
-    let has_message = carries(kind);
+    let has_message = carries(way.kind);
     let numbers = numbers(alloc, names, has_message, arguments)?;
     let content = match last_message(alloc, names, has_message, arguments)? {
         None => None,
         Some(message) => Some(content(alloc, names, message, pushed)?),
     };
     Ok(Emission {
-        direction,
-        kind,
+        direction: way.direction,
+        kind: way.kind,
         numbers: few(numbers),
         content,
     })
@@ -141,7 +147,7 @@ pub fn pushed_row(
     })
 }
 
-/// That many slots, from one on.
+/// `count` slots, from `first` on.
 fn slots(alloc: Global, first: u16, count: usize) -> Result<Vec<u8>, AllocError>
     requires { first + count ≤ 256 }
     ensures { IfOk result (λ all. all.items ≡ range_with_len first count) }

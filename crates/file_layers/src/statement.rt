@@ -17,10 +17,10 @@ ghost use Rattle.file_numbers.specs.Scope.{names_of};
 ghost use Rattle.msg_core.specs.Headers.{most_fields};
 
 use crate::made::made;
-use crate::row::{emission, pushed_row, take_row};
+use crate::row::{Way, emission, pushed_row, take_row};
 use file_numbers::{VisibleNames, number, queue_index};
 use layer_ast as ast;
-use layer_ast::{Arguments, Dir, Kind, Likely, Name, Pushed, Queue, Size};
+use layer_ast::{Arguments, Likely, Name, Pushed, Queue, Size};
 use std::alloc::{AllocError, Global};
 use typed_layer::{Block, Expression, Statement, Taken};
 
@@ -44,22 +44,28 @@ fn bind(
     Ok(Statement::Bind { slot, value })
 }
 
+/// An assignment without its indexes: the cell's name and the value.
+#[derive(Clone, Copy)]
+struct Assignment<'a> {
+    name: &'a Name,
+    value: &'a ast::Expression,
+}
+
 /// An assignment to a cell of numbers.
 #[tactic(auto, using(crate::proofs::Views::set_tree, crate::proofs::Views::set_element_tree))]
 fn set(
     alloc: Global,
     names: &VisibleNames,
-    name: &Name,
+    set: Assignment<'_>,
     index: &Option<ast::Expression>,
-    value: &ast::Expression,
 ) -> Result<Statement, AllocError>
     ensures { IfOk result (λ s. statement_tree s
-        ≡ tree.assign (named.cell_of (names_of names.now).place name.now)
+        ≡ tree.assign (named.cell_of (names_of names.now).place set.entry.name.now)
         (spec.index_of (names_of names.now) (option_map written.expression_tree index.now))
-        (values.number_of (names_of names.now) (written.expression_tree value.now))) }
+        (values.number_of (names_of names.now) (written.expression_tree set.entry.value.now))) }
 {
-    let cell = names.place.cell(name);
-    let value = number(alloc, names, value)?;
+    let cell = names.place.cell(set.name);
+    let value = number(alloc, names, set.value)?;
     match index {
         None => Ok(Statement::Set { cell, value }),
         Some(index) => {
@@ -74,22 +80,21 @@ fn set(
 fn set_square(
     alloc: Global,
     names: &VisibleNames,
-    name: &Name,
+    set: Assignment<'_>,
     row: &ast::Expression,
     column: &ast::Expression,
-    value: &ast::Expression,
 ) -> Result<Statement, AllocError>
     ensures { IfOk result (λ s. statement_tree s
-        ≡ tree.assign_square (named.cell_of (names_of names.now).place name.now)
+        ≡ tree.assign_square (named.cell_of (names_of names.now).place set.entry.name.now)
         (values.number_of (names_of names.now) (written.expression_tree row.now))
         (values.number_of (names_of names.now) (written.expression_tree column.now))
-        (values.number_of (names_of names.now) (written.expression_tree value.now))) }
+        (values.number_of (names_of names.now) (written.expression_tree set.entry.value.now))) }
 {
     let row = number(alloc, names, row)?;
     let column = made!(number(alloc, names, column), row);
-    let value = made!(number(alloc, names, value), row, column);
+    let value = made!(number(alloc, names, set.value), row, column);
     Ok(Statement::SetSquare {
-        cell: names.place.cell(name),
+        cell: names.place.cell(set.name),
         row,
         column,
         value,
@@ -101,23 +106,22 @@ fn set_square(
 fn emit(
     alloc: Global,
     names: &VisibleNames,
-    direction: Dir,
-    kind: Kind,
+    way: Way,
     arguments: &Arguments,
     pushed: &Option<Pushed>,
 ) -> Result<Statement, AllocError>
-    requires numbers { length (spec.emission_of (names_of names.now) direction kind
+    requires numbers { length (spec.emission_of (names_of names.now) way.direction way.kind
         (arguments_in (Some (written.arguments_tree arguments.now)))
         (option_map written.pushed_tree pushed.now)).numbers ≤ most_fields }
     requires content { HoldsContent
-        (spec.emission_of (names_of names.now) direction kind
+        (spec.emission_of (names_of names.now) way.direction way.kind
         (arguments_in (Some (written.arguments_tree arguments.now)))
         (option_map written.pushed_tree pushed.now)).content }
     ensures { IfOk result (λ s. statement_tree s
-        ≡ tree.emit (spec.emission_of (names_of names.now) direction kind
+        ≡ tree.emit (spec.emission_of (names_of names.now) way.direction way.kind
         (arguments_in (Some (written.arguments_tree arguments.now))) (option_map written.pushed_tree pushed.now))) }
 {
-    let emission = emission(alloc, names, direction, kind, arguments, pushed)?;
+    let emission = emission(alloc, names, way, arguments, pushed)?;
     Ok(Statement::Emit(emission))
 }
 
@@ -175,21 +179,30 @@ fn statement(
             index,
             value,
             ..
-        } => set(alloc, names, name, index, value),
+        } => set(alloc, names, Assignment { name, value }, index),
         ast::Statement::SetSquare {
             name,
             row,
             column,
             value,
             ..
-        } => set_square(alloc, names, name, row, column, value),
+        } => set_square(alloc, names, Assignment { name, value }, row, column),
         ast::Statement::Emit {
             direction,
             kind,
             arguments,
             pushed,
             ..
-        } => emit(alloc, names, *direction, *kind, arguments, pushed),
+        } => emit(
+            alloc,
+            names,
+            Way {
+                direction: *direction,
+                kind: *kind,
+            },
+            arguments,
+            pushed,
+        ),
         ast::Statement::Push {
             queue,
             items,
@@ -233,7 +246,7 @@ fn statement(
             most,
             block: first,
             ..
-        } => each(alloc, names, first, name, below, most),
+        } => each(alloc, names, first, Turns { name, below, most }),
     }
 }
 
@@ -367,6 +380,14 @@ fn when(
     Ok(branch(likely, condition, first, empty(alloc)))
 }
 
+/// The turns of a loop: the name that counts them, below which number, and how many there are at most.
+#[derive(Clone, Copy)]
+struct Turns<'a> {
+    name: &'a Name,
+    below: &'a ast::Expression,
+    most: &'a Size,
+}
+
 /// A loop.
 #[cycle(blocks)]
 #[tactic(auto, using(crate::proofs::Views::each_tree))]
@@ -374,29 +395,27 @@ fn each(
     alloc: Global,
     names: &mut VisibleNames,
     first: &ast::Block,
-    name: &Name,
-    below: &ast::Expression,
-    most: &Size,
+    turns: Turns<'_>,
 ) -> Result<Statement, AllocError>
     requires { IsByte (names_of names.old).taken.numbers
-        × IsByte (named.size_value (names_of names.old).place (written.size_tree most.now))
-        × HoldsBlock (spec.statements_of (named.with_numbers (name.now ∷ []) (names_of names.old))
+        × IsByte (named.size_value (names_of names.old).place (written.size_tree turns.most.now))
+        × HoldsBlock (spec.statements_of (named.with_numbers (turns.name.now ∷ []) (names_of names.old))
         (written.block_tree first.now)) }
     ensures is { IfOk result (λ s. statement_tree s
         ≡ tree.each (names_of names.old).taken.numbers
-        (values.number_of (names_of names.old) (written.expression_tree below.now))
-        (named.size_value (names_of names.old).place (written.size_tree most.now))
-        (spec.statements_of (named.with_numbers (name.now ∷ []) (names_of names.old))
+        (values.number_of (names_of names.old) (written.expression_tree turns.entry.below.now))
+        (named.size_value (names_of names.old).place (written.size_tree turns.entry.most.now))
+        (spec.statements_of (named.with_numbers (turns.entry.name.now ∷ []) (names_of names.old))
         (written.block_tree first.now))) }
     ensures names { OnOk result (names_of names.new
-        ≡ past (names_of names.old) (named.with_numbers (name.now ∷ []) (names_of names.old))
+        ≡ past (names_of names.old) (named.with_numbers (turns.entry.name.now ∷ []) (names_of names.old))
         (written.block_tree first.now)) }
 {
-    let below = number(alloc, names, below)?;
-    let most = names.place.size(most) as u8;
+    let below = number(alloc, names, turns.below)?;
+    let most = names.place.size(turns.most) as u8;
     let slot = names.numbers.taken() as u8;
     let outer = names.outer();
-    made!(names.bring_numbers(&[*name]), below);
+    made!(names.bring_numbers(&[*turns.name]), below);
     let first = made!(block(alloc, names, first), below);
     names.leave(outer);
     Ok(Statement::Each {
