@@ -27,12 +27,12 @@ pub record AreFresh (me count ltime : ℕ) (trees : List LayerTree) (layers : Li
   pub refs : flat_map refs_of layers ≡ []
   pub states : (p : List Held) → map (state_in p) layers ≡ map (λ layer. fresh layer me count ltime) trees
 
--- That many layers more were made.
+-- `count` more layers were made.
 pub record Made (count : ℕ) (old new : Making) : Type 0 where
   pub same : new.stack ≡ old.stack
   pub made : new.made ≡ old.made + count
 
--- At most that many were.
+-- At most `most` more were made.
 pub record MadeAtMost (most : ℕ) (old new : Making) : Type 0 where
   pub same : new.stack ≡ old.stack
   pub made : new.made ≤ old.made + most

@@ -1,4 +1,4 @@
--- What a contract sees of a member, and what is so of each.
+-- What a contract sees of a member, and what holds of each.
 use Rattle.std.specs.Prelude.{◌≡◌, ℕ, ◌<◌, [], Option, Some, None, option_map}
 use Rattle.std.specs.Rc.{rc_value}
 use Rattle.msg_core.specs.View.{most_members}

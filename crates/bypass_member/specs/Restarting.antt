@@ -12,7 +12,7 @@ use Rattle.bypass_member.specs.Viewing.{HasMembers}
 use Rattle.bypass_member.specs.Working.{states_in, IsReady}
 use Rattle.bypass_member.specs.declared.works.Works.{Works}
 
--- Each of these layers has at least that many members.
+-- Each of these layers has at least `count` members.
 pub record AreAmong (count : ℕ) (layers : List FileLayer) : Type 0 where
   pub counts : (p : List Held) → AllByRecursion (λ s. count ≤ s.count) (map (state_in p) layers)
 

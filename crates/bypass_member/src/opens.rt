@@ -105,7 +105,7 @@ fn make_layers(
     Ok(layers)
 }
 
-/// What a member of a view works with, with room for that many rows with messages.
+/// What a member of a view works with, with room for `rows` rows with messages.
 pub(crate) fn open_works(
     alloc: Global,
     maker: &mut Maker,

@@ -7,7 +7,7 @@ use Rattle.layer_desk.specs.Laid.{Laid}
 use Rattle.layer_mean.specs.Envelope.{event_in}
 use Rattle.layer_mean.specs.declared.envelope.Envelope.{Envelope}
 
--- The event's numbers, the fields of a header, and that many more.
+-- The event's numbers, the fields of a header, and `count` more.
 abbrev pub entry_numbers : Envelope → List ℕ → ℕ → List ℕ
 entry_numbers e fields count = with_room count 0 (arguments (event_in e None) ++ fields)
 
@@ -21,7 +21,7 @@ with_arrived l = record l {
   arrived = None;
 }
 
--- That many messages more, without bytes.
+-- `count` more messages, without bytes.
 abbrev pub with_bare : ℕ → Laid → Laid
 with_bare count l = record l
     { scope = record { numbers = l.scope.numbers; messages = with_room count (plain []) l.scope.messages } }

@@ -43,7 +43,7 @@ abbrev pub CellFits : KeptCell PoolRow → Type 0
 CellFits cell = (length (queues_kept cell) ≤ most_members) ×
     AllByRecursion (QueueFits (capacity_of cell)) (queues_kept cell)
 
--- How many rows cells keep at most whose queues keep that many each.
+-- How many rows cells keep at most, from how many a queue of each keeps.
 abbrev pub rows_most : List ℕ → ℕ
 rows_most [] = 0
 rows_most (n ∷ capacities) = most_members * n + rows_most capacities
@@ -60,8 +60,8 @@ pub record StockFits (l : Layout) (s : Stock) : Type 0 where
   pub sent : length s.sent ≤ l.places
   pub few : rows_most l.rows + (l.messages + (2 + l.hand)) ≤ most_own
 
--- What is sent is added to a list that keeps that many: that many events were there before, whose references are among
--- those of the beginning, and there may be n, which are no more than any list of events has.
+-- What is sent is added to a list with room for `list`: `first` events were there before, whose references are among
+-- those of the beginning, and there may be `places`, which are no more than any list of events has.
 pub record SentGrows (from : List ℕ) (list first places : ℕ) (sent : Buffer (Dir × PoolEvent)) : Type 0 where
   pub kept : sent.capacity ≡ list
   pub before : first ≤ length sent.items

@@ -47,7 +47,7 @@ fn put_fields(numbers: &mut Vec<u32>, fields: &Fields)
     }
 }
 
-/// The numbers of a scope in which a block is entered that declares that many.
+/// The numbers of the scope in which a block that declares `count` numbers is entered.
 fn fill_numbers(numbers: &mut Vec<u32>, envelope: Envelope, fields: &Fields, count: u8)
     requires { count + most_bound ≤ vec_capacity numbers.old }
     ensures numbers { numbers.new.items ≡ entry_numbers envelope fields.now count }
@@ -94,7 +94,7 @@ fn bind_arrived<K: Start>(desk: &mut FileDesk, pool: &Pool)
     desk.tray.bind();
 }
 
-/// Puts that many messages without bytes after those of the scope.
+/// Puts `count` messages without bytes after those of the scope.
 fn bind_bare<K: Start>(desk: &mut FileDesk, pool: &Pool, count: u8)
     requires ready { IsReady K.begun pool.now desk.old }
     requires room { length desk.old.tray.messages.items + count ≤ desk.old.tray.messages.capacity }

@@ -30,7 +30,7 @@ pub record IsGround (stack : List LayerTree) (maker : Making) (plans : List Plan
   pub made : maker.made ≤ begun * 768
   pub few : begun ≤ 1099511627776
 
--- A group is where that many members of a stack begin, and they have room.
+-- A group is where `members` members of a stack begin, and they have room.
 pub record HasBegun (stack : List LayerTree) (members : ℕ) (c : Peopled) : Type 0 where
   pub stack_is : c.stack ≡ stack
   pub plans_are : c.plans ≡ plans_of stack

@@ -34,7 +34,7 @@ drop_taken (suc a) (suc n) (x ∷ xs) =
     let left : n - min a n ≡ suc n - min (suc a) (suc n) = omega arith in
     drop_taken a n xs ∙ (λ i. take (left i) (drop (least i) (x ∷ xs)))
 
--- A range without its first, and that many of what is left.
+-- A range without its first a bytes.
 pub range_behind : (from len a : ℕ) (bs : List ℕ) → range (from + min a len) (len - min a len) bs ≡
     drop a (range from len bs)
 range_behind from len a bs =

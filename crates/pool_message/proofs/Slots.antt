@@ -429,7 +429,7 @@ rest_pushed [] e = refl
 rest_pushed (e' ∷ []) e = refl
 rest_pushed (e' ∷ e'' ∷ es) e = ap (λ more. e' ∷ more) (rest_pushed (e'' ∷ es) e)
 
--- that many events stand as there are numbers
+-- where an event stands, there is a number
 pub some_stand : (xs es : List (Dir × PoolEvent)) (order : List ℕ) → standing xs order ≡ es → 0 < length es →
     0 < length order
 some_stand xs es order is some = omega (arith, some, ap length is, stand_count xs order)

@@ -24,7 +24,7 @@ pub record Returned (p q : List Held) (xs : List ℕ) : Type 0 where
   pub moved : Moved p q xs []
   pub slots : spare p ≤ spare q
 
--- A message has that many bytes, in each pool in which it lies.
+-- A message has n bytes, in each pool in which it lies.
 pub record Counts (m : PoolMessage) (n : ℕ) : Type 0 where
   pub bytes : (p : List Held) → Lies p m → length (content_seen p m).body ≡ n
   pub few : n ≤ longest_body

@@ -50,7 +50,7 @@ impl Events {
     ghost use Rattle.std.specs.Borrow.{sem};
     ghost use Rattle.pool_message.specs.Lends.{lends_first};
 
-    /// Room for that many events.
+    /// Room for `places` events.
     pub fn fresh(alloc: Global, places: usize) -> Result<Events, AllocError>
         requires { places ≤ most_sent }
         ensures { IfOk result (λ e. e ≡ buffer [] places) }

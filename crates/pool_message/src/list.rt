@@ -48,7 +48,7 @@ impl List {
     ghost use Rattle.std.specs.Borrow.{sem};
     ghost use Rattle.pool_message.specs.Lends.{lends_listed, lends_last, last_sent};
 
-    /// Room for that many events.
+    /// Room for `places` events.
     pub fn fresh(alloc: Global, places: usize) -> Result<List, AllocError>
         requires { places ≤ most_sent }
         ensures { IfOk result (λ e. e ≡ buffer [] places) }

@@ -44,7 +44,7 @@ impl Messages {
     ghost use Rattle.pool_message.specs.Piled.{pile_refs, without_last, with_header_last};
     ghost use Rattle.pool_message.specs.PutBody.{PutsBody};
 
-    /// No message, with that many places.
+    /// No message, with room for `places`.
     pub fn fresh(alloc: Global, places: usize) -> Result<Messages, AllocError>
         ensures { IfOk result (λ m. m ≡ buffer [] places) }
     {

@@ -33,7 +33,7 @@ impl<T> Model for ShortQueue<T> {
 }
 
 impl<T: Copy> ShortQueue<T> {
-    /// No item, with room for that many. Where no item is, `none` stands for the first.
+    /// No item, with room for `capacity`. Where no item is, `none` stands for the first.
     pub fn with_capacity(
         alloc: Global,
         capacity: usize,
@@ -91,7 +91,7 @@ impl<T: Copy> ShortQueue<T> {
         self.others.back()
     }
 
-    /// Number `index`, if there are n.
+    /// Number `index`, if there is one.
     pub fn get(&self, index: usize) -> Option<&T>
         ensures { option_copied result ≡ slice_get self.now.items index }
     {

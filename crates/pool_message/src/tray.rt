@@ -75,7 +75,7 @@ impl Tray {
     ghost use Rattle.pool_message.specs.Piled.{pile_refs, without_last};
     ghost use Rattle.pool_message.specs.Tray.{also_sent, message_at};
 
-    /// No event, and no message in a scope with that many places.
+    /// No event, and no message in a scope with room for `messages`.
     pub fn fresh(alloc: Global, messages: usize) -> Result<Tray, AllocError>
         ensures { IfOk result (λ t. t ≡ record { arrived = None; messages = buffer [] messages; sent = buffer [] 0 }) }
     {

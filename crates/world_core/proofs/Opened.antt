@@ -29,7 +29,7 @@ told_next f g xs ys x n before is more =
     ap (λ y. map g (range_with_len 0 n) ++ y ∷ []) is ∙
     sym (map-range_with_len_more g 0 n n (omega arith))
 
--- that many times so much
+-- n + 1 times l
 times_next : (n l : ℕ) → (n + 1) * l ≡ n * l + l
 times_next n l = ap (λ k. k * l) (add-one n) ∙ suc-mul n l
 

@@ -1,4 +1,4 @@
--- What is so of a member that is given an input.
+-- What holds of a member that is given an input.
 use Rattle.std.specs.Prelude.{◌≡◌}
 use Rattle.stack_mean.specs.Plans.{plans_of}
 use Rattle.run_mean.specs.Member.{Input}

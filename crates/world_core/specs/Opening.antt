@@ -17,8 +17,8 @@ use Rattle.bypass_member.specs.declared.opening.Opening.{Opening}
 use Rattle.world_core.specs.Seats.{member_of, seat_of, seats}
 use Rattle.group_feed.specs.Standing.{Peopled, Stands}
 
--- That many members are in the first view, in the mode of the opening, and no packet was sent; as many layers were made
--- as they have.
+-- n members are in the first view, in the mode of the opening, and no packet was sent; as many layers were made as they
+-- have.
 pub record IsBegun (o : Opening) (n : ℕ) (before after : Making) (c : Peopled) : Type 0 where
   pub world : Stands c (first_world (stack_in o) o.group o.stamp n)
   pub mode_is : c.mode ≡ mode_in o

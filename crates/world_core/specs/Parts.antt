@@ -7,7 +7,7 @@ abbrev pub parts_from : (bytes : List ℕ) → ℕ → (ends : List ℕ) → Lis
 parts_from bytes from [] = []
 parts_from bytes from (end ∷ ends) = slice_range bytes from end ∷ parts_from bytes end ends
 
--- No end is before the one before it, and the last is that of that many bytes.
+-- No end is before the one before it, and the last is at `total` bytes.
 abbrev pub EndAt : ℕ → ℕ → List ℕ → Type 0
 EndAt total from [] = from ≡ total
 EndAt total from (end ∷ ends) = (from ≤ end) × EndAt total end ends

@@ -1,4 +1,4 @@
-//! Members that are given an input, with what is so of them then.
+//! Members that are given an input, with what holds of them then.
 
 ghost use Rattle.std.specs.Prelude.{◌≡◌, ◌^◌, ◌≤◌};
 ghost use Rattle.bypass_laws.specs.Making.{IsSound};

@@ -60,7 +60,7 @@ fn part<'b>(bytes: &'b [u8], ends: &[usize], index: usize) -> &'b [u8]
     &bytes[from..end]
 }
 
-/// Makes room for that many bytes more, and where there is too little, for many at once.
+/// Makes room for `more` bytes, and where there is too little, for many at once.
 fn make_room(bytes: &mut Vec<u8>, more: usize) -> Result<(), Memory>
     ensures items { bytes.new.items ≡ bytes.old.items }
     ensures ok { OnOk result (vec_len bytes.new + more ≤ vec_capacity bytes.new) }
