@@ -6,6 +6,7 @@ use Rattle.layer_ast.specs.Tree.{DeclarationTree, param, int, rows_cell, rows_ar
 use Rattle.layer_ast.specs.View.{given_tree}
 use Rattle.layer_ast.specs.declared.syntax.Given.{Given}
 use Rattle.fault_mean.specs.Declared.{declared_name}
+use Rattle.fault_mean.specs.Scope.{Scope}
 use Rattle.file_mean.specs.Names.{Placed}
 use Rattle.typed_layer.specs.View.{blank_headers}
 use Rattle.typed_layer.specs.declared.tree.Blank.{Blank}
@@ -32,3 +33,10 @@ holds-prop p (header at name fields ending) = le_prop
 
 pub HoldDeclarations-prop : (p : Placed) → IsProp (HoldDeclarations p)
 HoldDeclarations-prop p = AllByRecursion-prop (HoldsDeclaration p) (holds-prop p) p.layer.declarations
+
+-- The same of the layer of a scope.
+abbrev pub AreHeld : Scope → List Given → Blank → Type 0
+AreHeld scope given blank = HoldDeclarations (placement scope.layer given blank)
+
+pub AreHeld-prop : (scope : Scope) (given : List Given) (blank : Blank) → IsProp (AreHeld scope given blank)
+AreHeld-prop scope given blank = HoldDeclarations-prop (placement scope.layer given blank)

@@ -13,7 +13,7 @@ ghost use Rattle.file_mean.specs.Names as spec;
 ghost use Rattle.file_scope.specs.Scope.{scope_of};
 ghost use Rattle.typed_layer.specs.View.{blank_headers, carried_tree};
 ghost use Rattle.file_laws.specs.Bounds.{HoldsDeclaration};
-ghost use Rattle.file_numbers.specs.Placed.{HoldDeclarations, HoldDeclarations-prop, placement, words_of};
+ghost use Rattle.file_numbers.specs.Placed.{AreHeld, AreHeld-prop, HoldDeclarations, placement, words_of};
 ghost use Rattle.fault_mean.specs.Limits.{most_cells};
 ghost use Rattle.msg_core.specs.Headers.{most_declared};
 
@@ -37,7 +37,7 @@ pub struct PlacedLayer<'a> {
     ghost headers_are: { headers ≡ words_of (headers_of (scope_of scope).layer) },
     ghost few_cells: { length (cells_of (scope_of scope).layer) ≤ most_cells },
     ghost few_headers: { length (headers_of (scope_of scope).layer) ≤ most_declared },
-    ghost declarations_hold: { HoldDeclarations (placement (scope_of scope).layer given.now blank) } by { HoldDeclarations-prop (placement (scope_of scope).layer given.now blank) },
+    ghost held: { AreHeld (scope_of scope) given.now blank } by { AreHeld-prop (scope_of scope) given.now blank },
 }
 
 impl<'a> PlacedLayer<'a> {

@@ -12,7 +12,7 @@ use Rattle.chart_mean.specs.Escape.{escaped, escaped_byte}
 use Rattle.chart_mean.specs.Place as spec
 use Rattle.chart_mean.specs.Place.{line_at, lines_from, rows, rows_to}
 use Rattle.run_chart.specs.Reading.{line_shown, text_shown, texts_shown}
-use Rattle.run_chart.specs.declared.lines.Line.{Line}
+use Rattle.run_chart.specs.declared.lines.DrawnLine.{DrawnLine}
 use denote.Ref.{Bor}
 
 -- one more byte
@@ -86,7 +86,8 @@ placed_more first i texts d lt =
     ∙ lines_more first 0 front (get_or texts i d).now
     ∙ ap (λ p. lines_from first 0 front ++ line_at first p (get_or texts i d).now ∷ []) count
 
-pub placed_on : (first i : ℕ) (texts : List (Bor (List ℕ))) (d : Bor (List ℕ)) (lines more : List Line) (line : Line) →
+pub placed_on : (first i : ℕ) (texts : List (Bor (List ℕ))) (d : Bor (List ℕ)) (lines more : List DrawnLine)
+    (line : DrawnLine) →
     i < length texts →
     map line_shown lines ≡ lines_from first 0 (texts_shown (take i texts)) → length lines ≡ i →
     more ≡ lines ++ line ∷ [] →
@@ -100,7 +101,7 @@ placed_on first i texts d lines more line lt are count is shown = (
 )
 
 -- the rows of one more line
-pub rows_more : (lines : List Line) (i : ℕ) (d : Line) → i < length lines →
+pub rows_more : (lines : List DrawnLine) (i : ℕ) (d : DrawnLine) → i < length lines →
     rows (map line_shown (take (i + 1) lines)) ≡
     max (rows (map line_shown (take i lines))) (rows_to (line_shown (get_or lines i d)).says)
 rows_more lines i d lt =
@@ -109,5 +110,5 @@ rows_more lines i d lt =
     ∙ fold-append (λ (most : ℕ) (line : spec.Line). max most (rows_to line.says)) 0 (map line_shown (take i lines))
     (line_shown (get_or lines i d) ∷ [])
 
-pub shown_length : (lines : List Line) → length (map line_shown lines) ≡ length lines
+pub shown_length : (lines : List DrawnLine) → length (map line_shown lines) ≡ length lines
 shown_length lines = length-map lines line_shown

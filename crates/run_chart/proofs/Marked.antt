@@ -11,7 +11,7 @@ use Rattle.chart_mean.specs.Place as spec
 use Rattle.chart_mean.specs.declared.types.Sent.{Sent}
 use Rattle.run_chart.specs.Bearers.{Agrees, NextBearers}
 use Rattle.run_chart.specs.Reading.{line_shown}
-use Rattle.run_chart.specs.declared.lines.Line.{Line}
+use Rattle.run_chart.specs.declared.lines.DrawnLine.{DrawnLine}
 use Rattle.run_chart.specs.declared.marks.Body.{Body}
 
 -- the mark of a line after others
@@ -27,13 +27,13 @@ one_more before (first ∷ lines) line =
     ∙ ap (λ front. marks (before ++ first ∷ []) lines ++ mark_behind front line ∷ [])
     (append_assoc before (first ∷ []) lines))
 
-shown_more : (lines : List Line) (i : ℕ) (d : Line) → i < length lines →
+shown_more : (lines : List DrawnLine) (i : ℕ) (d : DrawnLine) → i < length lines →
     map line_shown (take (i + 1) lines) ≡ map line_shown (take i lines) ++ line_shown (get_or lines i d) ∷ []
 shown_more lines i d lt = ap (map line_shown) (take_more lines i d lt) ∙
     map-append line_shown (take i lines) (get_or lines i d ∷ [])
 
 -- the text of the marks with one more
-pub marks_more : (lines : List Line) (i : ℕ) (d : Line) → i < length lines →
+pub marks_more : (lines : List DrawnLine) (i : ℕ) (d : DrawnLine) → i < length lines →
     concat (marks [] (map line_shown (take (i + 1) lines)))
     ≡ concat (marks [] (map line_shown (take i lines))) ++
     mark_behind (map line_shown (take i lines)) (line_shown (get_or lines i d))
@@ -46,7 +46,7 @@ marks_more lines i d lt =
     ∙ ap (λ text. concat (marks [] front) ++ text) (append-nil last)
 
 -- what is kept agrees with one more line
-pub agrees_more : (old new : Body → Option Sent) (lines : List Line) (i : ℕ) (d : Line) → i < length lines →
+pub agrees_more : (old new : Body → Option Sent) (lines : List DrawnLine) (i : ℕ) (d : DrawnLine) → i < length lines →
     Agrees old (map line_shown (take i lines)) →
     NextBearers old new (line_shown (get_or lines i d)) → Agrees new (map line_shown (take (i + 1) lines))
 agrees_more old new lines i d lt agrees next = λ body.
@@ -55,7 +55,7 @@ agrees_more old new lines i d lt agrees next = λ body.
     ∙ fold-append (bearer_next body.word.now) None (map line_shown (take i lines)) (line_shown (get_or lines i d) ∷ []))
 
 -- both after one more line
-pub drawn_more : (lines : List Line) (i : ℕ) (d : Line) (start text more : List ℕ) (sent : Option Sent)
+pub drawn_more : (lines : List DrawnLine) (i : ℕ) (d : DrawnLine) (start text more : List ℕ) (sent : Option Sent)
     (old new : Body → Option Sent) → i < length lines →
     text ≡ start ++ concat (marks [] (map line_shown (take i lines))) → Agrees old (map line_shown (take i lines)) →
     ((before : List spec.Line) → Agrees old before →

@@ -9,13 +9,13 @@ use Rattle.chart_mean.specs.declared.types.Stay.{Stay}
 use Rattle.chart_mean.specs.declared.types.Turn.{Turn}
 use Rattle.run_chart.specs.Reading.{line_shown}
 use Rattle.run_chart.specs.Turns.{TurnsTo}
-use Rattle.run_chart.specs.declared.lines.Line.{Line}
+use Rattle.run_chart.specs.declared.lines.DrawnLine.{DrawnLine}
 
 -- a member's stays from a turn on, over the lines from one on
-abbrev pub stays_from : (member end : ℕ) → Turn → List Line → ℕ → List ℕ
+abbrev pub stays_from : (member end : ℕ) → Turn → List DrawnLine → ℕ → List ℕ
 stays_from member end turn lines i = stays member end turn (turns_at member (map line_shown (drop i lines)))
 
-at_line : (member end : ℕ) (turn : Turn) (lines : List Line) (i : ℕ) (d : Line) → i < length lines →
+at_line : (member end : ℕ) (turn : Turn) (lines : List DrawnLine) (i : ℕ) (d : DrawnLine) → i < length lines →
     stays_from member end turn lines i
     ≡ stays member end turn
     (turn_at member (line_shown (get_or lines i d)) ++ turns_at member (map line_shown (drop (i + 1) lines)))
@@ -23,7 +23,8 @@ at_line member end turn lines i d lt = ap (λ ls. stays member end turn (turns_a
     (drop_more lines i d lt)
 
 -- one more line
-pub stays_step : (member end : ℕ) (lines : List Line) (i : ℕ) (d : Line) (start text more : List ℕ) (turn next : Turn) →
+pub stays_step : (member end : ℕ) (lines : List DrawnLine) (i : ℕ) (d : DrawnLine) (start text more : List ℕ)
+    (turn next : Turn) →
     i < length lines →
     TurnsTo member turn (line_shown (get_or lines i d)) text more next → text ++ stays_from member end turn lines i ≡
     start →
@@ -49,7 +50,7 @@ turns member turn stay line text more is drew = λ end rest.
     ∙ ap (λ s. text ++ stays member end turn (stay_turn line.x s ++ rest)) is
 
 -- after the last line
-pub stays_last : (member end : ℕ) (turn : Turn) (lines : List Line) (i : ℕ) → length lines ≤ i →
+pub stays_last : (member end : ℕ) (turn : Turn) (lines : List DrawnLine) (i : ℕ) → length lines ≤ i →
     stays_from member end turn lines i ≡ stay_band member turn.x end turn.stay
 stays_last member end turn lines i le = ap (λ ls. stays member end turn (turns_at member (map line_shown ls)))
     (drop_all i lines le)

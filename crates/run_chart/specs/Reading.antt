@@ -8,7 +8,7 @@ use Rattle.chart_mean.specs.Words as words
 use Rattle.run_chart.specs.declared.pieces.Pieces.{Pieces}
 use Rattle.run_chart.specs.declared.says.Says.{Says}
 use Rattle.run_chart.specs.declared.says.Says.TheVariants.{Deliver, Packet, View, Out, Other, Aside}
-use Rattle.run_chart.specs.declared.lines.Line.{Line}
+use Rattle.run_chart.specs.declared.lines.DrawnLine.{DrawnLine}
 use Rattle.run_chart.specs.declared.words.Request.{Request}
 use denote.Ref.{Bor}
 
@@ -24,7 +24,7 @@ says_shown (Out member) = spec.out member
 says_shown (Other verb member) = spec.other verb.now member
 says_shown Aside = spec.aside
 
-abbrev pub line_shown : Line → place.Line
+abbrev pub line_shown : DrawnLine → place.Line
 line_shown line = record { number = line.number; x = line.x; text = line.text.now; says = says_shown line.says }
 
 abbrev pub text_shown : Bor (List ℕ) → List ℕ

@@ -13,7 +13,7 @@ use std::alloc::{AllocError, Global};
 
 /// A line of a report in a picture: its number in the report, its place, its text and what it says.
 #[derive(Clone, Copy)]
-pub(crate) struct Line<'a> {
+pub(crate) struct DrawnLine<'a> {
     pub number: u64,
     pub x: u64,
     pub text: &'a [u8],
@@ -50,7 +50,7 @@ pub(crate) fn placed<'a>(
     alloc: Global,
     first: u32,
     texts: &[&'a [u8]],
-) -> Result<Vec<Line<'a>>, AllocError>
+) -> Result<Vec<DrawnLine<'a>>, AllocError>
     requires { length texts.now ≤ 67108865 }
     ensures lines { IfOk result
         (λ lines. map line_shown lines.items ≡ spec.lines_from first 0 (texts_shown texts.now)) }
@@ -63,11 +63,11 @@ pub(crate) fn placed<'a>(
     Ok(lines)
 }
 
-fn line_at<'a>(first: u32, place: usize, text: &'a [u8]) -> Line<'a>
+fn line_at<'a>(first: u32, place: usize, text: &'a [u8]) -> DrawnLine<'a>
     requires { place < 67108865 }
     ensures { line_shown result ≡ spec.line_at first place text.now }
 {
-    Line {
+    DrawnLine {
         number: u64::from(first) + place as u64,
         x: across(place),
         text,
@@ -77,7 +77,7 @@ fn line_at<'a>(first: u32, place: usize, text: &'a [u8]) -> Line<'a>
 
 /// The rows of a picture.
 #[tactic(auto, using(crate::proofs::Loops::rows_more))]
-pub(crate) fn count_rows(lines: &[Line<'_>]) -> u32
+pub(crate) fn count_rows(lines: &[DrawnLine<'_>]) -> u32
     ensures { result ≡ spec.rows (map line_shown lines.now) }
 {
     let mut most = 0;
@@ -89,7 +89,7 @@ pub(crate) fn count_rows(lines: &[Line<'_>]) -> u32
 
 /// The right end of all rows.
 #[tactic(auto, using(crate::proofs::Loops::shown_length))]
-pub(crate) fn end_of(lines: &[Line<'_>]) -> u64
+pub(crate) fn end_of(lines: &[DrawnLine<'_>]) -> u64
     requires { length lines.now ≤ 67108865 }
     ensures is { result ≡ spec.across (length (map line_shown lines.now)) }
     ensures inside { result ≤ 805306432 }

@@ -7,7 +7,7 @@ ghost use Rattle.chart_mean.specs.Place as place;
 ghost use Rattle.run_chart.specs.Bearers.{Agrees, Bears, NextBearers, same_body};
 ghost use Rattle.run_chart.specs.Reading.{line_shown, says_shown};
 
-use crate::lines::Line;
+use crate::lines::DrawnLine;
 use crate::place::down;
 use crate::says::Says;
 use crate::text::{Ends, Text};
@@ -24,7 +24,7 @@ struct Body<'a> {
 /// Appends the marks of lines.
 pub(crate) fn draw_marks(
     alloc: Global,
-    lines: &[Line<'_>],
+    lines: &[DrawnLine<'_>],
     text: &mut Text,
 ) -> Result<(), AllocError>
     ensures { OnOk result (text.new ≡ text.old ++ concat (spec.marks [] (map line_shown lines.now))) }
@@ -49,7 +49,7 @@ fn bringer(bearers: &HashMap<Body<'_>, Sent>, says: &Says<'_>) -> Option<Sent>
 }
 
 /// Appends the mark of a line.
-fn draw_mark(sent: Option<Sent>, line: &Line<'_>, text: &mut Text) -> Result<(), AllocError>
+fn draw_mark(sent: Option<Sent>, line: &DrawnLine<'_>, text: &mut Text) -> Result<(), AllocError>
     ensures { OnOk result (text.new ≡ text.old ++ spec.mark sent (line_shown line.now)) }
 {
     draw_title(line, text)?;
@@ -60,7 +60,7 @@ fn draw_mark(sent: Option<Sent>, line: &Line<'_>, text: &mut Text) -> Result<(),
 }
 
 /// Appends the beginning of a mark, with the line's text for its title.
-fn draw_title(line: &Line<'_>, text: &mut Text) -> Result<(), AllocError>
+fn draw_title(line: &DrawnLine<'_>, text: &mut Text) -> Result<(), AllocError>
     ensures { OnOk result (text.new ≡ text.old ++ spec.title (line_shown line.now)) }
 {
     text.put_number(b"<g id='L", line.number)?;
@@ -86,7 +86,7 @@ fn draw_arrow(sent: Option<Sent>, x: u64, y: u64, text: &mut Text) -> Result<(),
 }
 
 /// Appends a line's sign.
-fn draw_sign(line: &Line<'_>, text: &mut Text) -> Result<(), AllocError>
+fn draw_sign(line: &DrawnLine<'_>, text: &mut Text) -> Result<(), AllocError>
     ensures { OnOk result (text.new ≡ text.old ++ spec.sign (line_shown line.now)) }
 {
     text.put(b"<use href='#")?;
@@ -98,7 +98,7 @@ fn draw_sign(line: &Line<'_>, text: &mut Text) -> Result<(), AllocError>
 }
 
 /// Appends the number of each tenth line.
-fn draw_tenth(line: &Line<'_>, text: &mut Text) -> Result<(), AllocError>
+fn draw_tenth(line: &DrawnLine<'_>, text: &mut Text) -> Result<(), AllocError>
     ensures { OnOk result (text.new ≡ text.old ++ spec.tenth (line_shown line.now)) }
 {
     if line.number % 10 != 0 {
@@ -122,7 +122,7 @@ fn from_another(member: u8, sent: Option<&Sent>) -> Option<Sent>
 }
 
 /// Notes a line as the bearer of its body, if it is a packet that carries one.
-fn note<'a>(bearers: &mut HashMap<Body<'a>, Sent>, line: &Line<'a>) -> Result<(), AllocError>
+fn note<'a>(bearers: &mut HashMap<Body<'a>, Sent>, line: &DrawnLine<'a>) -> Result<(), AllocError>
     ensures { OnOk result
         (NextBearers (hash.get same_body bearers.old) (hash.get same_body bearers.new) (line_shown line.now)) }
 {

@@ -6,7 +6,7 @@ ghost use Rattle.chart_mean.specs.declared.types.Range.{Range};
 ghost use Rattle.run_chart.specs.Reading.{line_shown};
 ghost use Rattle.run_chart.specs.Charts.{Charts, IsReport};
 
-use crate::lines::{Line, all_lines, count_rows, end_of, in_range, placed};
+use crate::lines::{DrawnLine, all_lines, count_rows, end_of, in_range, placed};
 use crate::marks::draw_marks;
 use crate::place::{AXIS, LEFT, down};
 use crate::rows::draw_rows;
@@ -62,7 +62,7 @@ fn draw(alloc: Global, text: &[u8], range: Range) -> Result<Vec<u8>, AllocError>
 }
 
 /// Appends the picture of these lines.
-fn draw_picture(alloc: Global, lines: &[Line<'_>], text: &mut Text) -> Result<(), AllocError>
+fn draw_picture(alloc: Global, lines: &[DrawnLine<'_>], text: &mut Text) -> Result<(), AllocError>
     requires { length lines.now ≤ 67108865 }
     ensures { OnOk result (text.new ≡ text.old ++ spec.picture (map line_shown lines.now)) }
 {

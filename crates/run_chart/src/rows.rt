@@ -4,7 +4,7 @@ ghost use Rattle.chart_mean.specs.Row as spec;
 ghost use Rattle.run_chart.specs.Reading.{line_shown, says_shown};
 ghost use Rattle.run_chart.specs.Turns.{TurnsTo};
 
-use crate::lines::Line;
+use crate::lines::DrawnLine;
 use crate::place::{LEFT, down};
 use crate::says::Says;
 use crate::text::{Ends, Text};
@@ -18,7 +18,7 @@ const TINTS: u32 = 6;
 pub(crate) fn draw_rows(
     rows: u32,
     end: u64,
-    lines: &[Line<'_>],
+    lines: &[DrawnLine<'_>],
     text: &mut Text,
 ) -> Result<(), AllocError>
     ensures { OnOk result (text.new ≡ text.old ++ spec.rows_below rows end (map line_shown lines.now)) }
@@ -30,7 +30,12 @@ pub(crate) fn draw_rows(
 }
 
 /// Appends a member's row.
-fn draw_row(member: u32, end: u64, lines: &[Line<'_>], text: &mut Text) -> Result<(), AllocError>
+fn draw_row(
+    member: u32,
+    end: u64,
+    lines: &[DrawnLine<'_>],
+    text: &mut Text,
+) -> Result<(), AllocError>
     ensures { OnOk result (text.new ≡ text.old ++ spec.row end (map line_shown lines.now) member) }
 {
     draw_heading(member, text)?;
@@ -48,7 +53,12 @@ fn draw_heading(member: u32, text: &mut Text) -> Result<(), AllocError>
 
 /// Appends a member's stays.
 #[tactic(auto, using(crate::proofs::Stays::stays_last))]
-fn draw_stays(member: u32, end: u64, lines: &[Line<'_>], text: &mut Text) -> Result<(), AllocError>
+fn draw_stays(
+    member: u32,
+    end: u64,
+    lines: &[DrawnLine<'_>],
+    text: &mut Text,
+) -> Result<(), AllocError>
     ensures { OnOk result
         (text.new ≡ text.old
         ++ spec.stays member end spec.first_turn (spec.turns_at member (map line_shown lines.now))) }
@@ -65,7 +75,12 @@ fn draw_stays(member: u32, end: u64, lines: &[Line<'_>], text: &mut Text) -> Res
 
 /// Appends the stay that a line ends, if it ends one, and answers the turn after the line.
 #[tactic(auto, using(crate::proofs::Stays::stands, crate::proofs::Stays::turns))]
-fn draw_turn(member: u32, turn: Turn, line: &Line<'_>, text: &mut Text) -> Result<Turn, AllocError>
+fn draw_turn(
+    member: u32,
+    turn: Turn,
+    line: &DrawnLine<'_>,
+    text: &mut Text,
+) -> Result<Turn, AllocError>
     ensures { IfOk result (λ next. TurnsTo member turn (line_shown line.now) text.old text.new next) }
 {
     match stay_of(member, &line.says) {

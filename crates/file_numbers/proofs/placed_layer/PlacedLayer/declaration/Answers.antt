@@ -4,5 +4,5 @@ use Rattle.file_numbers.proofs.placed_layer.PlacedLayer.declaration.Goals as goa
 
 -- src/place.rt:67:5
 pub returns-clause-holds : goal.returns-clause-holds
-returns-clause-holds c = holds_found (placed_of c.args.self.now) c.args.word.now _ c.args.self.now.declarations_hold
+returns-clause-holds c = holds_found (placed_of c.args.self.now) c.args.word.now _ c.args.self.now.held
     c.declaration.ensures

@@ -21,6 +21,6 @@ invariant_of-result c =
           ap (λ l. words_of (headers_of l)) same);
       few_cells = subst (λ (l : LayerTree). length (cells_of l) ≤ 16) same c.requires.cells;
       few_headers = subst (λ (l : LayerTree). length (headers_of l) ≤ 7) same c.requires.headers;
-      declarations_hold = subst (λ (l : LayerTree). HoldDeclarations (placement l c.args.given.now c.args.blank)) same
+      held = subst (λ (l : LayerTree). HoldDeclarations (placement l c.args.given.now c.args.blank)) same
           c.requires.declarations;
     }
