@@ -22,11 +22,11 @@ pub record Placed : Type 0 where
   pub place : ℕ
 
 -- deliveries that stand after others, each with its place
-abbrev pub placed_behind : Lists → List Entry → List Entry → List Placed
-placed_behind lists before [] = []
-placed_behind lists before (entry ∷ entries) =
+abbrev pub placed_after : Lists → List Entry → List Entry → List Placed
+placed_after lists before [] = []
+placed_after lists before (entry ∷ entries) =
     record { entry = entry; place = count_by (λ b. same_list lists b entry) before } ∷
-    placed_behind lists (before ++ entry ∷ []) entries
+    placed_after lists (before ++ entry ∷ []) entries
 
 -- two deliveries stand at the same place of lists of segments of one name
 abbrev pub same_place : Lists → Placed → Placed → Bool
@@ -43,11 +43,11 @@ abbrev pub lines_at : Placed → Placed → ℕ × ℕ
 lines_at b a = (a.entry.line, b.entry.line)
 
 -- each delivery with each of those before it that it clashes with
-abbrev pub clashes_behind : Lists → List Placed → List Placed → List (ℕ × ℕ)
-clashes_behind lists before [] = []
-clashes_behind lists before (b ∷ rest) =
-    map (lines_at b) (filter (clashes lists b) before) ++ clashes_behind lists (before ++ b ∷ []) rest
+abbrev pub clashes_after : Lists → List Placed → List Placed → List (ℕ × ℕ)
+clashes_after lists before [] = []
+clashes_after lists before (b ∷ rest) =
+    map (lines_at b) (filter (clashes lists b) before) ++ clashes_after lists (before ++ b ∷ []) rest
 
 -- all clashes of the deliveries of a report
 abbrev pub clashes_of : Lists → List Entry → List (ℕ × ℕ)
-clashes_of lists entries = clashes_behind lists [] (placed_behind lists [] entries)
+clashes_of lists entries = clashes_after lists [] (placed_after lists [] entries)

@@ -4,7 +4,7 @@ use Rattle.std.specs.Prelude.{option_map}
 use Rattle.std.specs.List.{flat_map}
 use Rattle.std.specs.Option.{option_to_list}
 use Rattle.audit_mean.specs.Line.{view}
-use Rattle.audit_mean.specs.Segment.{Name, in_view, Segment, Numbered, Entry, same_name, same_content, segment_behind}
+use Rattle.audit_mean.specs.Segment.{Name, in_view, Segment, Numbered, Entry, same_name, same_content, segment_after}
 use Rattle.audit_mean.specs.Segment.{entries_of}
 
 -- a segment that a member ended by the `view` line of this number, the view that is next, and what the member delivered
@@ -32,13 +32,13 @@ ended_by before (number, view member ltime mask) =
       entries =
           filter (is_in member segment) (entries_of before);
     })
-    (segment_behind member before)
+    (segment_after member before)
 ended_by before (number, _) = None
 
 -- the segments that lines after others end
-abbrev pub ended_behind : List Numbered → List Numbered → List Ended
-ended_behind before [] = []
-ended_behind before (line ∷ lines) = option_to_list (ended_by before line) ++ ended_behind (before ++ line ∷ []) lines
+abbrev pub ended_after : List Numbered → List Numbered → List Ended
+ended_after before [] = []
+ended_after before (line ∷ lines) = option_to_list (ended_by before line) ++ ended_after (before ++ line ∷ []) lines
 
 -- two members went from segments of one name to the same view
 abbrev pub goes_along : Ended → Ended → Bool
@@ -46,19 +46,19 @@ goes_along one other = (same_name one.name other.name && same_name one.next othe
     not (one.member == other.member)
 
 -- the first deliveries, of those after others, that have as many of their kind in front as the one segment has in all
-abbrev pub surplus_behind : List Entry → List Entry → List Entry → List Entry
-surplus_behind all before [] = []
-surplus_behind all before (entry ∷ entries) =
+abbrev pub surplus_after : List Entry → List Entry → List Entry → List Entry
+surplus_after all before [] = []
+surplus_after all before (entry ∷ entries) =
     filter (λ e. count_by (same_content e) before == count_by (same_content e) all) (entry ∷ []) ++
-    surplus_behind all (before ++ entry ∷ []) entries
+    surplus_after all (before ++ entry ∷ []) entries
 
 -- what the one segment lacks of the other: the line of the other's first delivery too many of each kind, and the line
 -- that ended the one
 abbrev pub lacks : Ended → Ended → List (ℕ × ℕ)
-lacks one other = map (λ entry. (entry.line, one.line)) (surplus_behind one.entries [] other.entries)
+lacks one other = map (λ entry. (entry.line, one.line)) (surplus_after one.entries [] other.entries)
 
 -- all that segments of a report lack of others
 abbrev pub lacks_of : List Numbered → List (ℕ × ℕ)
 lacks_of lines =
-    let all = ended_behind [] lines in
+    let all = ended_after [] lines in
     flat_map (λ one. flat_map (lacks one) (filter (goes_along one) all)) all

@@ -86,8 +86,8 @@ abbrev pub is_skipped : Word → Bool
 is_skipped verb = list_any (bytes_eq verb) skipped_words
 
 -- what stands after the first word of a line
-abbrev pub behind_first : Word → Form ReportLine
-behind_first verb =
+abbrev pub after_first : Word → Form ReportLine
+after_first verb =
     if bytes_eq verb (codes "deliver") then deliver_line
     else if bytes_eq verb (codes "view") then view_line
     else if bytes_eq verb (codes "out") then out_line
@@ -100,7 +100,7 @@ behind_first verb =
 abbrev pub any_line : Form ReportLine
 any_line = do
   verb ← a_word
-  behind_first verb
+  after_first verb
 
 -- what a line says, if it is in form
 abbrev pub line_said : List ℕ → Option ReportLine

@@ -9,13 +9,13 @@ pub data Stage : Type 0 where
   closed : Stage
 
 -- the stage after a line, if the line may stand there: `end` once, and `visits` only after it
-abbrev pub stage_behind : Stage → ReportLine → Option Stage
-stage_behind running end = Some ended
-stage_behind running visits = None
-stage_behind running line = Some running
-stage_behind ended visits = Some closed
-stage_behind ended line = None
-stage_behind closed line = None
+abbrev pub stage_after : Stage → ReportLine → Option Stage
+stage_after running end = Some ended
+stage_after running visits = None
+stage_after running line = Some running
+stage_after ended visits = Some closed
+stage_after ended line = None
+stage_after closed line = None
 
 infixl 10 ◌>>=◌
 -- the second step, if the first met no line out of form
@@ -40,6 +40,6 @@ abbrev pub report_from : Stage → ℕ → List (List ℕ) → Result (List Repo
 report_from stage number [] = at_end stage number
 report_from stage number (line ∷ lines) = do
   said ← in_form number (line_said line)
-  next ← in_form number (stage_behind stage said)
+  next ← in_form number (stage_after stage said)
   more ← report_from next (number + 1) lines
   Ok (said ∷ more)

@@ -35,8 +35,8 @@ segment_next member now (number, out m) = if m == member then None else now
 segment_next member now (number, _) = now
 
 -- a member's segment after these lines, if it is in one
-abbrev pub segment_behind : ℕ → List Numbered → Option Segment
-segment_behind member lines = fold (segment_next member) (Some first_segment) lines
+abbrev pub segment_after : ℕ → List Numbered → Option Segment
+segment_after member lines = fold (segment_next member) (Some first_segment) lines
 
 -- a delivery of a cast in a segment
 pub record Entry : Type 0 where
@@ -58,15 +58,15 @@ entry_in segments (number, deliver member peer body) =
 entry_in segments (number, _) = None
 
 -- the delivery of a line after these
-abbrev pub entry_behind : List Numbered → Numbered → Option Entry
-entry_behind before line = entry_in (λ member. segment_behind member before) line
+abbrev pub entry_after : List Numbered → Numbered → Option Entry
+entry_after before line = entry_in (λ member. segment_after member before) line
 
 -- the deliveries of lines that stand after others, in order
-abbrev pub entries_behind : List Numbered → List Numbered → List Entry
-entries_behind before [] = []
-entries_behind before (line ∷ lines) = option_to_list (entry_behind before line) ++
-    entries_behind (before ++ line ∷ []) lines
+abbrev pub entries_after : List Numbered → List Numbered → List Entry
+entries_after before [] = []
+entries_after before (line ∷ lines) = option_to_list (entry_after before line) ++
+    entries_after (before ++ line ∷ []) lines
 
 -- the deliveries of a report
 abbrev pub entries_of : List Numbered → List Entry
-entries_of lines = entries_behind [] lines
+entries_of lines = entries_after [] lines

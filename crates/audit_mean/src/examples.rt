@@ -63,10 +63,10 @@ pub fn find_faults()
     ensures empty { audit_of Same [] ≡ Err (bad_line 1) }
     ensures no_bytes_in_a_line { audit_of Same (codes "\nend 0\n") ≡ Err (bad_line 1) }
     ensures comment { audit_of Same (codes "# said\nend 0\n") ≡ Err (bad_line 1) }
-    ensures behind_the_end { audit_of Same (codes "end 0\n\n") ≡ Err (bad_line 2) }
+    ensures after_the_end { audit_of Same (codes "end 0\n\n") ≡ Err (bad_line 2) }
     ensures end_twice { audit_of Total (codes "end 0\nend 0\n") ≡ Err (bad_line 2) }
     ensures visits_first { audit_of Total (codes "visits 1\nend 0\n") ≡ Err (bad_line 1) }
-    ensures behind_visits { audit_of Total (codes "out 1\nend 0\nvisits 1\nvisits 1\n") ≡ Err (bad_line 4) }
+    ensures after_visits { audit_of Total (codes "out 1\nend 0\nvisits 1\nvisits 1\n") ≡ Err (bad_line 4) }
     ensures member_of_no_group { audit_of Sender (codes "out 31\nout 32\nend 0\n") ≡ Err (bad_line 2) }
     ensures leading_zero { audit_of Sender (codes "view 0 01 3\nend 0\n") ≡ Err (bad_line 1) }
     ensures too_long_a_count { audit_of Sender (codes "end 18446744073709551616\n") ≡ Err (bad_line 1) }

@@ -12,7 +12,7 @@ use Rattle.bypass_file.specs.Filling.{cases_owned, all_owned, AreSame, FirstOthe
 use Rattle.bypass_file.specs.Filling.{Fills, AreSimple}
 use Rattle.bypass_file.specs.declared.error.BypassError.{BypassError}
 use Rattle.bypass_file.specs.declared.error.BypassError.TheVariants.{TooLarge, Line, Differs, Memory}
-use Rattle.bypass_file.proofs.Walk.{Traces, cases_left, same_later, other_later, other_in_front}
+use Rattle.bypass_file.proofs.Walk.{Traces, cases_left, same_later, other_later, other_before}
 
 -- Of these entries these are made, and from a number on these are left, with these traces.
 pub record GoesOn (own : List MadeCases) (old : Traces) (n : ℕ) (left : List MadeCases) (now : Traces)
@@ -52,7 +52,7 @@ pub stops : (own : List MadeCases) (old : Traces) (n : ℕ) (c : MadeCases) (lef
     FirstOther (cases_owned n c) now entry case act →
     FirstOther (all_owned 2 own) old entry case act
 stops own old n c left now done entry case act h o =
-    h.other entry case act (other_in_front (cases_owned n c) (all_owned (suc n) left) now entry case act o)
+    h.other entry case act (other_before (cases_owned n c) (all_owned (suc n) left) now entry case act o)
 
 pub ends : (own : List MadeCases) (old : Traces) (n : ℕ) (now : Traces) (done : List MadeCases) →
     GoesOn own old n [] now done →

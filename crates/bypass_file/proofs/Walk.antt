@@ -25,24 +25,24 @@ same_both [] more ts h k = k
 same_both (o ∷ os) more [] h k = tt
 same_both (o ∷ os) more (t ∷ ts) h k = (h.0, same_both os more ts h.1 k)
 
-pub other_in_front : (os more : List Owned) (ts : Traces) (entry : ℕ) (case : Case) (act : ℕ) →
+pub other_before : (os more : List Owned) (ts : Traces) (entry : ℕ) (case : Case) (act : ℕ) →
     FirstOther os ts entry case act →
     FirstOther (os ++ more) ts entry case act
-other_in_front [] more ts entry case act h = absurd h
-other_in_front (o ∷ os) more [] entry case act h = absurd h
-other_in_front (o ∷ os) more (t ∷ ts) entry case act (inl h) = inl h
-other_in_front (o ∷ os) more (t ∷ ts) entry case act (inr h) = inr (h.0, other_in_front os more ts entry case act h.1)
+other_before [] more ts entry case act h = absurd h
+other_before (o ∷ os) more [] entry case act h = absurd h
+other_before (o ∷ os) more (t ∷ ts) entry case act (inl h) = inl h
+other_before (o ∷ os) more (t ∷ ts) entry case act (inr h) = inr (h.0, other_before os more ts entry case act h.1)
 
 none_left : {X : Type 0} (os : List Owned) (entry : ℕ) (case : Case) (act : ℕ) → FirstOther os [] entry case act → X
 none_left [] entry case act h = absurd h
 none_left (o ∷ os) entry case act h = absurd h
 
-other_behind : (os more : List Owned) (ts : Traces) (entry : ℕ) (case : Case) (act : ℕ) → AreSame os ts →
+other_after : (os more : List Owned) (ts : Traces) (entry : ℕ) (case : Case) (act : ℕ) → AreSame os ts →
     FirstOther more (drop (length os) ts) entry case act → FirstOther (os ++ more) ts entry case act
-other_behind [] more ts entry case act same h = h
-other_behind (o ∷ os) more [] entry case act same h = none_left more entry case act h
-other_behind (o ∷ os) more (t ∷ ts) entry case act same h =
-    inr (same.0, other_behind os more ts entry case act same.1 h)
+other_after [] more ts entry case act same h = h
+other_after (o ∷ os) more [] entry case act same h = none_left more entry case act h
+other_after (o ∷ os) more (t ∷ ts) entry case act same h =
+    inr (same.0, other_after os more ts entry case act same.1 h)
 
 drop_both : (os more : List Owned) (ts : Traces) → drop (length more) (drop (length os) ts) ≡
     drop (length (os ++ more)) ts
@@ -80,7 +80,7 @@ module _ {A : Type 0} (os more : List Owned) (w : A × Traces) (old mid : Traces
   pub other_later : (entry : ℕ) (case : Case) (act : ℕ) → FirstOther more mid entry case act →
       FirstOther (os ++ more) old entry case act
   other_later entry case act k =
-      other_behind os more old entry case act h.same
+      other_after os more old entry case act h.same
       (subst (λ ts. FirstOther more ts entry case act) (sym h.left_is ∙ left) k)
 
 -- of an entry
@@ -115,11 +115,11 @@ differs_in (d ∷ due) [] entry case act h = absurd h
 differs_in (d ∷ due) (t ∷ ts) entry case act (inl h) = record {
   before = [];
   due_here = d;
-  behind = due;
+  following = due;
   due_is = refl;
   before_traces = [];
   trace = t;
-  behind_traces = ts;
+  after_traces = ts;
   traces_are = refl;
   same = tt;
   entry_is = h.entry_is;
@@ -131,11 +131,11 @@ differs_in (d ∷ due) (t ∷ ts) entry case act (inr h) =
     record {
       before = d ∷ k.before;
       due_here = k.due_here;
-      behind = k.behind;
+      following = k.following;
       due_is = ap (λ ds. d ∷ ds) k.due_is;
       before_traces = t ∷ k.before_traces;
       trace = k.trace;
-      behind_traces = k.behind_traces;
+      after_traces = k.after_traces;
       traces_are = ap (λ xs. t ∷ xs) k.traces_are;
       same = (h.0, k.same);
       entry_is = k.entry_is;
@@ -144,13 +144,13 @@ differs_in (d ∷ due) (t ∷ ts) entry case act (inr h) =
     }
 
 -- what is cut short in the front, or after what was made
-cut_in_front : {A B : Type 0} (os more : List Owned) (w : A × Traces) (v : B × Traces) (old mid new : Traces) (x : A)
+cut_before : {A B : Type 0} (os more : List Owned) (w : A × Traces) (v : B × Traces) (old mid new : Traces) (x : A)
     (y : B) (e : BypassError) →
     Fills os w old mid x (Err e) → Fills (os ++ more) v old new y (Err e)
-cut_in_front os more w v old mid new x y (Differs entry case act) h = other_in_front os more old entry case act h
-cut_in_front os more w v old mid new x y Memory h = tt
-cut_in_front os more w v old mid new x y TooLarge h = absurd h
-cut_in_front os more w v old mid new x y (Line line) h = absurd h
+cut_before os more w v old mid new x y (Differs entry case act) h = other_before os more old entry case act h
+cut_before os more w v old mid new x y Memory h = tt
+cut_before os more w v old mid new x y TooLarge h = absurd h
+cut_before os more w v old mid new x y (Line line) h = absurd h
 
 cut_later : {A B C : Type 0} (os more : List Owned) (w : A × Traces) (v : B × Traces) (u : C × Traces)
     (old mid next new : Traces)
@@ -191,7 +191,7 @@ pub first_cut : (n : ℕ) (c one : MadeCases) (cs cut : List MadeCases) (old mid
     Fills (cases_owned n c) (cases_filled c old) old mid one (Err e) →
     Fills (all_owned n (c ∷ cs)) (all_filled (c ∷ cs) old) old new cut (Err e)
 first_cut n c one cs cut old mid new e h =
-    cut_in_front (cases_owned n c) (all_owned (suc n) cs) (cases_filled c old) (all_filled (c ∷ cs) old) old mid new one
+    cut_before (cases_owned n c) (all_owned (suc n) cs) (cases_filled c old) (all_filled (c ∷ cs) old) old mid new one
     cut e h
 
 pub more_cut : (n : ℕ) (c one : MadeCases) (cs more cut : List MadeCases) (old mid next new : Traces)

@@ -32,7 +32,7 @@ module _ (name : Text) (a : Around) (stack : List LayerTree) (f : IsStack name a
     third = [];
     found = f.found;
     beside = refl;
-    behind = refl;
+    following = refl;
     lines = own_lines Handlers stack;
     output = record {
       stack = stack;
@@ -49,7 +49,7 @@ module _ (name : Text) (a : Around) (stack : List LayerTree) (f : IsStack name a
     third = [];
     found = f.found;
     beside = refl;
-    behind = refl;
+    following = refl;
     lines = own_lines Traces stack;
     output = record {
       stack = stack;

@@ -124,12 +124,12 @@ abbrev pub chain_text : List LayerTree → (Atom → List ℕ) → List Link →
 chain_text stack shown chain = join_by (link_text stack shown) (codes "/") chain
 
 -- Known headers after what they are of, where there are any.
-abbrev pub behind : List LayerTree → Written → List Link → List ℕ
-behind stack w [] = []
-behind stack w (l ∷ ls) = codes " " ++ chain_text stack (atom_text w) (l ∷ ls)
+abbrev pub following : List LayerTree → Written → List Link → List ℕ
+following stack w [] = []
+following stack w (l ∷ ls) = codes " " ++ chain_text stack (atom_text w) (l ∷ ls)
 
 abbrev pub pushed_text : List LayerTree → Written → Chained → List ℕ
-pushed_text stack w m = core_text w m.core ++ behind stack w m.chain
+pushed_text stack w m = core_text w m.core ++ following stack w m.chain
 
 -- The line of an operation that isn't a note.
 abbrev pub line_of : List LayerTree → Written → Operation → List ℕ
@@ -148,7 +148,7 @@ line_of stack w (output dir kind arguments message) = codes "out " ++ sign_text 
     kind_word kind
     ++ bracketed_list (map (atom_text w) arguments ++
     map (λ (m : Chained). core_text w m.core) (option_to_list message))
-    ++ option_map_or (λ (m : Chained). behind stack w m.chain) message []
+    ++ option_map_or (λ (m : Chained). following stack w m.chain) message []
 
 abbrev pub with_line : List ℕ → Written → Written
 with_line line w = record w { lines = w.lines ++ line ∷ [] }

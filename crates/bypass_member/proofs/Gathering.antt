@@ -40,9 +40,9 @@ pub record Leaving (p : List Held) (event : PoolEvent) (dir : Dir) (now : Gather
   pub covers : Covers p (event_refs event)
   pub room : suc (length now.outputs) ≤ now.places
 
-behind_lies : (p q : List Held) (e : PoolEvent) (rest : List (Dir × PoolEvent)) → Moved p q (event_refs e) [] →
+after_lies : (p q : List Held) (e : PoolEvent) (rest : List (Dir × PoolEvent)) → Moved p q (event_refs e) [] →
     Covers p (event_refs e ++ sent_refs rest) → SentLie p rest → SentLie q rest × (sent_seen q rest ≡ sent_seen p rest)
-behind_lies p q e rest moved covers lie =
+after_lies p q e rest moved covers lie =
     each_stays (λ (x : Dir × PoolEvent). event_refs x.1) (λ x. EventLies p x.1) (λ x. EventLies q x.1)
     (λ (x : Dir × PoolEvent). (x.0, event_seen p x.1)) (λ (x : Dir × PoolEvent). (x.0, event_seen q x.1)) p
     (event_refs e)
@@ -72,7 +72,7 @@ module _ (start : List Held) (all : List (Dir × PoolEvent)) (first : Gathered) 
   gathered_one q [] now dir event is at returned = absurd (cc)
   gathered_one q (x ∷ rest) now dir event is at returned =
       let same : (dir, event) ≡ x = cc in
-      let stays = behind_lies p q x.1 rest returned.moved is.covers is.lie.1 in
+      let stays = after_lies p q x.1 rest returned.moved is.covers is.lie.1 in
       subst (λ (y : Dir × PoolEvent). IsGathering start all first q rest (record now {
         outputs = now.outputs ++ full_output now.here (
           y.0,

@@ -117,10 +117,10 @@ last_is p layers xs s is left =
       };
     }
 
-pub left_behind : (p q : List Held) (layers xs : List FileLayer) (s : FileLayer) → layers ≡ xs ++ s ∷ [] →
+pub left_after : (p q : List Held) (layers xs : List FileLayer) (s : FileLayer) → layers ≡ xs ++ s ∷ [] →
     Left p layers → Returned p q (refs_of
     s) → Left q xs
-left_behind p q layers xs s is left returned =
+left_after p q layers xs s is left returned =
     let order = each_last (IsInOrder p) xs s
     (subst (λ (ys : List FileLayer). AllByRecursion (IsInOrder p) ys) is left.order) in
     let all : flat_map refs_of layers ≡ flat_map refs_of xs ++ (refs_of s ++ []) = ap (flat_map refs_of) is ∙

@@ -37,15 +37,15 @@ use Rattle.run_mean.specs.Common.{is_common, as_sent}
 use Rattle.run_mean.specs.Report.{visit_count}
 use Rattle.run_mean.specs.Member.{Member, inside, out, Input, Refusal, Entered, entered_input, first_task, Step}
 use Rattle.run_mean.specs.Member.{step_from}
-use Rattle.run_mean.specs.Member.{member_behind}
-use Rattle.stack_queue.specs.Taken.{taken_behind}
+use Rattle.run_mean.specs.Member.{member_following}
+use Rattle.stack_queue.specs.Taken.{taken_after}
 use Rattle.step_outputs.specs.Gathered.{Gathered}
 use Rattle.view_core.specs.Refusals.{refusal_meant}
 use Rattle.view_core.specs.Steps.{installed_change}
 use Rattle.view_core.specs.declared.refusal.Refusal as refusal
 use Rattle.view_core.specs.declared.refusal.Refusal.TheVariants as reasons
 use Rattle.member_reads.specs.Shown.{member_in}
-use Rattle.bypass_member.specs.Behind.{rank_of, view_behind}
+use Rattle.bypass_member.specs.After.{rank_of, view_after}
 use Rattle.bypass_member.specs.Placed.{Placed, here_in, step_in, step_at, step_of, member_after, taken_at, SamePlace}
 use Rattle.bypass_member.specs.Placed.{Takes}
 use Rattle.bypass_member.specs.Stepping.{stack_of, plans_in, codes_in, mode_of, IsGround, step_over, taken_over}
@@ -95,7 +95,7 @@ module _ (p : Placed) (view : View) (states : List State) (input : Input) (is : 
       entered_input p.stack p.plans (here_in p view) input ≡ Ok what →
       HasTaken g old what works gathered before after took →
       states_in old ≡ states → p.taken ≡ taken_in old →
-      new.member ≡ member_in (view_behind g.here.now.view took.change) (states_in works) → new.taken ≡ taken_in works →
+      new.member ≡ member_in (view_after g.here.now.view took.change) (states_in works) → new.taken ≡ taken_in works →
       SamePlace p new →
       Takes p input new gathered.outputs before after took.common took.change
   takes g what old works gathered before after took new stack plans mode here id enters taken are told member tells
@@ -105,13 +105,13 @@ module _ (p : Placed) (view : View) (states : List State) (input : Input) (is : 
       is_common p.stack p.plans (its what) =
       λ i. is_common (stack i) (plans i) (same i) in
       let ran : taken_over g (states_in old) what (taken_in old) ≡ taken_at p p.member what =
-      (λ i. taken_behind (stack i) (are i) (first_task (stack i) (here i).rank what) (sym told i)) ∙
+      (λ i. taken_after (stack i) (are i) (first_task (stack i) (here i).rank what) (sym told i)) ∙
       ap (λ (m : Member). taken_at p m what) (sym is)
       in record {
         step = its what;
         is = steps_in what enters;
         member =
-            member ∙ taken.member ∙ (λ i. member_behind (here i).view (same i))
+            member ∙ taken.member ∙ (λ i. member_following (here i).view (same i))
             ∙ ap (λ (m : Member). member_after m (its what)) (sym is);
         outputs = taken.outputs ∙ (λ i. as_sent (mode i) (stack i) (plans i) (same i));
         common_is = taken.common ∙ common;

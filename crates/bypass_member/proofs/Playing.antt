@@ -48,7 +48,7 @@ use Rattle.pool_message.specs.declared.event.PoolEvent.{PoolEvent}
 use Rattle.pool_message.specs.declared.message.PoolMessage.{PoolMessage}
 use Rattle.stack_queue.specs.Pending.{task_seen}
 use Rattle.stack_queue.specs.Stages.{Stand}
-use Rattle.stack_queue.specs.Taken.{taken_behind}
+use Rattle.stack_queue.specs.Taken.{taken_after}
 use Rattle.stack_queue.specs.declared.tasks.PoolTask.{PoolTask}
 use Rattle.stack_queue.proofs.Entries.{entries_fit}
 use Rattle.pool_laws.specs.Room.{IsPoolFor}
@@ -208,7 +208,7 @@ module _ (stack : List LayerTree) (here : Here) (id : ℕ) (states : List State)
     pub outs : sent_seen new.pool new.outs.items ≡ its.work.outs
     pub predicted : result ≡ as_predicted its.work.decided
     pub visits : after ≡ before + its.work.visits
-    pub taken : taken_in new ≡ taken_behind stack states (first_task stack here.rank what) (taken_in old)
+    pub taken : taken_in new ≡ taken_after stack states (first_task stack here.rank what) (taken_in old)
 
   pub ended : (w : Works) (first : PoolTask) (before : ℕ) (new : Works) (after : ℕ) (result : Predicted) →
       states_in w ≡ states →
@@ -220,7 +220,7 @@ module _ (stack : List LayerTree) (here : Here) (id : ℕ) (states : List State)
         outs = has.outs ∙ ap (λ (k : Work). k.outs) work;
         predicted = has.predicted ∙ ap (λ (k : Work). as_predicted k.decided) work;
         visits = has.visits ∙ ap (λ (k : Work). before + k.visits) work;
-        taken = has.taken ∙ (λ i. taken_behind stack (same i) (seen i) (taken_in w));
+        taken = has.taken ∙ (λ i. taken_after stack (same i) (seen i) (taken_in w));
       }
 
   module _ (step : IsStep stack here states what) where

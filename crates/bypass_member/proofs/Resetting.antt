@@ -34,7 +34,7 @@ module _ (me count ltime : ℕ) where
       IsResetting me count ltime 0 p olds p olds
   resetting_begins p olds order covers room = record {
     again = tt;
-    behind = refl;
+    following = refl;
     size = refl;
     order = order;
     room = room;
@@ -46,7 +46,7 @@ module _ (me count ltime : ℕ) where
   pub record Next (k : ℕ) (p : List Held) (olds news : List FileLayer) (x : FileLayer) : Type 0 where
     pub front : drop k olds ≡ x ∷ drop (suc k) olds
     pub old : get_or olds k x ≡ x
-    pub behind : drop (suc k) news ≡ drop (suc k) olds
+    pub following : drop (suc k) news ≡ drop (suc k) olds
     pub order : AllByRecursion (IsInOrder p) (x ∷ drop (suc k) olds)
     pub room : AllByRecursion (λ (s : State). count ≤ s.count) (map (state_in p) (x ∷ drop (suc k) olds))
     pub covers : Covers p (flat_map refs_of (x ∷ drop (suc k) olds))
@@ -60,14 +60,14 @@ module _ (me count ltime : ℕ) where
           let new_front : drop k news ≡ get_or news k x ∷ drop (suc k) news = drop-cons news k x (omega arith) in
           let old_front : drop k olds ≡ get_or olds k x ∷ drop (suc k) olds = drop-cons olds k x within in
           let both : ◌≡◌ {A = List FileLayer} (get_or olds k x ∷ drop (suc k) olds) (x ∷ drop (suc k) news) =
-          sym old_front ∙ sym is.behind ∙ new_front ∙ ap (λ (y : FileLayer). y ∷ drop (suc k) news) (sym read) in
+          sym old_front ∙ sym is.following ∙ new_front ∙ ap (λ (y : FileLayer). y ∷ drop (suc k) news) (sym read) in
           let same : get_or olds k x ≡ x = cc in
           let rest : drop (suc k) news ≡ drop (suc k) olds = cc in
           let front : drop k olds ≡ x ∷ drop (suc k) olds = old_front ∙
           ap (λ (y : FileLayer). y ∷ drop (suc k) olds) same in record {
             front = front;
             old = same;
-            behind = rest;
+            following = rest;
             order = subst (λ (xs : List FileLayer). AllByRecursion (IsInOrder p) xs) front is.order;
             room = subst (λ (xs : List FileLayer).
                 AllByRecursion (λ (s : State). count ≤ s.count) (map (state_in p) xs))
@@ -89,7 +89,7 @@ module _ (me count ltime : ℕ) where
                 (sym olds_are)
                 (subst (λ (ys : List FileLayer). AreAgain me count ltime (take k olds ++ x ∷ []) ys) (sym news_are)
                 (again_more (take k olds) (take k news) x y is.again again));
-            behind = drop-set-lt (suc k) news k y (omega arith) ∙ next.behind;
+            following = drop-set-lt (suc k) news k y (omega arith) ∙ next.following;
             size = length-set news k y ∙ is.size;
             order = stays.0;
             room = subst (λ (states : List State). AllByRecursion (λ (s : State). count ≤ s.count) states) (sym stays.1)

@@ -20,7 +20,7 @@ use Rattle.member_laws.specs.Members.{IsView, IsChainedMember}
 use Rattle.member_laws.proofs.Members.{opened_is_chained}
 use Rattle.file_layer.specs.Layer.{state_in}
 use Rattle.file_layer.specs.declared.layer.FileLayer.{FileLayer}
-use Rattle.bypass_member.specs.Behind.{rank_of}
+use Rattle.bypass_member.specs.After.{rank_of}
 use Rattle.bypass_member.specs.Placed.{Placed}
 use Rattle.bypass_member.specs.Placing.{placed_member, IsMember}
 use Rattle.bypass_member.specs.Restarting.{AreAmong, IsAnew, IsRestarted}

@@ -12,7 +12,7 @@ use Rattle.pool_message.specs.Sent.{sent_refs, sent_seen, SentLie}
 use Rattle.pool_message.specs.declared.event.PoolEvent.{PoolEvent}
 use Rattle.stack_queue.specs.Pending.{task_seen}
 use Rattle.stack_queue.specs.Stages.{Stand, run_of}
-use Rattle.stack_queue.specs.Taken.{taken_behind}
+use Rattle.stack_queue.specs.Taken.{taken_after}
 use Rattle.stack_queue.specs.declared.tasks.PoolTask.{PoolTask}
 use Rattle.file_layer.specs.Layer.{place_of, tree_of, refs_of, taken_by, IsInOrder, state_in}
 use Rattle.file_layer.specs.declared.layer.FileLayer.{FileLayer}
@@ -32,7 +32,7 @@ pub record Ran (stack : List LayerTree) (old : Works) (first : PoolTask) (stages
   pub outs : sent_seen new.pool new.outs.items ≡ sent_seen old.pool old.outs.items ++ (work stack old first stages).outs
   pub predicted : result ≡ as_predicted (work stack old first stages).decided
   pub visits : after ≡ before + (work stack old first stages).visits
-  pub taken : map taken_by news ≡ taken_behind stack (map (state_in old.pool) stages) (task_seen old.pool first)
+  pub taken : map taken_by news ≡ taken_after stack (map (state_in old.pool) stages) (task_seen old.pool first)
       (map taken_by stages)
   pub moved : Moved old.pool new.pool (flat_map refs_of stages ++ (event_refs first.event ++ sent_refs old.outs.items))
       (flat_map refs_of news ++

@@ -7,9 +7,9 @@ use Rattle.std.specs.Option.{option_map_or}
 use Rattle.msg_core.specs.declared.packet.View.{View}
 use Rattle.stack_mean.specs.Plan.{Plan}
 use Rattle.chain_laws.specs.Runs.{AreChainedStates}
-use Rattle.run_mean.specs.Common.{is_common, plan_behind, short_from, with_plans}
+use Rattle.run_mean.specs.Common.{is_common, plan_after, short_from, with_plans}
 use Rattle.run_mean.specs.Member.{Member, inside, out, Entered, Output, announced_ranks, installed_member, Step}
-use Rattle.run_mean.specs.Member.{member_behind}
+use Rattle.run_mean.specs.Member.{member_following}
 use Rattle.member_laws.specs.Members.{IsEntered, IsChainedMember}
 use Rattle.member_laws.proofs.Members.{steps_keep_chains}
 use Rattle.step_outputs.specs.Gathered.{Gathered}
@@ -17,7 +17,7 @@ use Rattle.view_core.specs.Steps.{installed_change}
 use Rattle.view_core.specs.declared.step.Change.{Change}
 use Rattle.view_core.specs.declared.step.Change.TheVariants.{Into, Out}
 use Rattle.member_reads.specs.Shown.{member_in}
-use Rattle.bypass_member.specs.Behind.{view_behind}
+use Rattle.bypass_member.specs.After.{view_after}
 use Rattle.bypass_member.specs.Modes.{IsTakenSo}
 use Rattle.bypass_member.specs.Stepping.{stack_of, plans_in, mode_of, IsGround, step_over, taken_over, HasGone}
 use Rattle.bypass_member.specs.Stepping.{HasTaken}
@@ -30,7 +30,7 @@ use Rattle.bypass_member.specs.declared.works.Works.{Works}
 told_back : (plans : List Plan) (next : Option ℕ) (os : List Output) →
     map (λ (o : Output × Option ℕ). o.0) (with_plans plans next os) ≡ os
 told_back plans next [] = refl
-told_back plans next (o ∷ os) = ap (λ (rest : List Output). o ∷ rest) (told_back plans (plan_behind next o) os)
+told_back plans next (o ∷ os) = ap (λ (rest : List Output). o ∷ rest) (told_back plans (plan_after next o) os)
 
 module _ (g : Ground) (old : Works) (what : Entered) where
   abbrev its : Step
@@ -39,9 +39,9 @@ module _ (g : Ground) (old : Works) (what : Entered) where
   -- where the member is after the step, by what was announced
   pub record Moves (mid last : Works) (change : Option Change) : Type 0 where
     pub ready : IsReady (stack_of g) g.most last
-    pub members : (view : View) → view_behind g.here.now.view change ≡ Some view →
+    pub members : (view : View) → view_after g.here.now.view change ≡ Some view →
         HasMembers (stack_of g) g.most view g.id (states_in last)
-    pub member : member_in (view_behind g.here.now.view change) (states_in last) ≡ member_behind g.here.now.view its
+    pub member : member_in (view_after g.here.now.view change) (states_in last) ≡ member_following g.here.now.view its
     pub change_is : change ≡ installed_change its.installs
     pub taken : taken_in last ≡ taken_in mid
 
@@ -94,8 +94,8 @@ module _ (g : Ground) (old : Works) (what : Entered) where
   moves mid last None (Some change) first ready members are h = absurd h
   moves mid last (Some ranks) None first ready members are h = absurd h
 
-  is_at : (change : Option Change) (last : Works) (view : Option View) → view_behind g.here.now.view change ≡ view →
-      ((v : View) → view_behind g.here.now.view change ≡ Some v →
+  is_at : (change : Option Change) (last : Works) (view : Option View) → view_after g.here.now.view change ≡ view →
+      ((v : View) → view_after g.here.now.view change ≡ Some v →
       HasMembers (stack_of g) g.most v g.id (states_in last)) →
       IsChainedMember (stack_of g) (member_in view (states_in last)) →
       IsAt (stack_of g) g.most g.id view (states_in last)
@@ -126,7 +126,7 @@ module _ (g : Ground) (old : Works) (what : Entered) where
       let kept = steps_keep_chains (stack_of g) g.here.now g.id (states_in old) what ground.typed ground.here chained
       is_entered in record {
         ready = moved.ready;
-        at = is_at change last (view_behind g.here.now.view change) refl moved.members
+        at = is_at change last (view_after g.here.now.view change) refl moved.members
             (subst (λ (m : Member). IsChainedMember (stack_of g) m) (sym moved.member) kept.member);
         member = moved.member;
         outputs = gone.outputs;

@@ -16,7 +16,7 @@ use Rattle.run_mean.specs.Member.{inside, out, opened_member}
 use Rattle.chain_laws.proofs.Lists.{each_so}
 use Rattle.pool_laws.proofs.Views.{views_shrink}
 use Rattle.trace_laws.specs.Members.{AreOf}
-use Rattle.bypass_member.specs.Behind.{rank_of}
+use Rattle.bypass_member.specs.After.{rank_of}
 use Rattle.bypass_member.specs.Viewing.{input_at, HasMembers, Anew, ComesInto}
 use Rattle.bypass_member.specs.Working.{states_in, refs_in, IsReady}
 use Rattle.bypass_member.specs.declared.works.Works.{Works}
@@ -73,14 +73,14 @@ module _ (stack : List LayerTree) (most : ℕ) (view next : View) (id ranks me :
       IsReady stack most old → HasMembers stack most view id (states_in old) →
       Anew me count next.ltime old.pool new.pool old.layers.items new.layers.items →
       new.tasks ≡ old.tasks → new.outs ≡ old.outs → ComesInto stack most view id ranks next old new
-  comes_into count old new behind at same ready members anew tasks outs =
+  comes_into count old new following at same ready members anew tasks outs =
       let states : states_in new ≡ map (λ (layer : LayerTree). fresh layer me (member_count next) next.ltime) stack =
       anew.states new.pool
       ∙ ap (λ (layers : List LayerTree). map (λ (layer : LayerTree). fresh layer me count next.ltime) layers)
       ready.stand.layers
       ∙ ap (λ (n : ℕ). map (λ (layer : LayerTree). fresh layer me n next.ltime) stack) same in
-      let less = views_shrink view next ranks behind in let few = members.few in record {
-        member = ap (λ (o : Option View). option_map_or (λ n. opened_member stack n id) o out) behind ∙
+      let less = views_shrink view next ranks following in let few = members.few in record {
+        member = ap (λ (o : Option View). option_map_or (λ n. opened_member stack n id) o out) following ∙
             opened_is stack next id me at ∙ ap (inside next)
             (sym states);
         members = record {

@@ -9,7 +9,7 @@ pub mod Viewing
 pub mod Gathering
 pub mod Resetting
 pub mod Restarting
-pub mod Behind
+pub mod After
 pub mod Stepping
 pub mod Trying
 pub mod Making

@@ -11,15 +11,15 @@ use Rattle.run_mean.specs.Common.{is_common, as_sent}
 use Rattle.run_mean.specs.Report.{visit_count}
 use Rattle.run_mean.specs.Member.{Member, inside, out, Input, Refusal, is_out, Entered, entered_input, first_task}
 use Rattle.run_mean.specs.Member.{Output}
-use Rattle.run_mean.specs.Member.{Step, step_from, member_behind}
-use Rattle.stack_queue.specs.Taken.{taken_behind}
+use Rattle.run_mean.specs.Member.{Step, step_from, member_following}
+use Rattle.stack_queue.specs.Taken.{taken_after}
 use Rattle.view_core.specs.Refusals.{refusal_meant}
 use Rattle.view_core.specs.Steps.{installed_change}
 use Rattle.view_core.specs.declared.refusal.Refusal as refusal
 use Rattle.view_core.specs.declared.step.Change.{Change}
 use Rattle.view_core.specs.declared.step.Stepped.{Stepped}
 use Rattle.view_core.specs.declared.step.Stepped.TheVariants.{Taken, Refused}
-use Rattle.bypass_member.specs.Behind.{rank_of}
+use Rattle.bypass_member.specs.After.{rank_of}
 use Rattle.bypass_member.specs.Modes.{IsTakenSo}
 
 -- A member of a group: its stack with the plans of it, the mode in which it runs, its group and stamp, its id, how many
@@ -58,12 +58,12 @@ step_of p input = step_at p p.member input
 -- The member after a step that was taken.
 abbrev pub member_after : Member → Step → Member
 member_after out s = out
-member_after (inside view states) s = member_behind view s
+member_after (inside view states) s = member_following view s
 
 -- How many events each layer has taken after the run of what entered, of a member that is here.
 abbrev pub taken_at : Placed → Member → Entered → List ℕ
 taken_at p out what = p.taken
-taken_at p (inside view states) what = taken_behind p.stack states (first_task p.stack (here_in p view).rank what)
+taken_at p (inside view states) what = taken_after p.stack states (first_task p.stack (here_in p view).rank what)
     p.taken
 
 -- All but where a member is, and what lies in its pool, stays.

@@ -12,7 +12,7 @@ use Rattle.stack_shapes.specs.Shapes.{short_shapes}
 use Rattle.member_reads.specs.Shown.{member_in}
 use Rattle.packet_short.specs.Layouts.{AreLaidOut}
 use Rattle.bypass_codes.specs.Codes.{CodesTree}
-use Rattle.bypass_member.specs.Behind.{rank_of}
+use Rattle.bypass_member.specs.After.{rank_of}
 use Rattle.bypass_member.specs.Modes.{mode_with}
 use Rattle.bypass_member.specs.Placed.{Placed}
 use Rattle.bypass_member.specs.Serving.{AreCodes, IsSpare}

@@ -18,7 +18,7 @@ AreAgain me count ltime _ _ = ⊥
 pub record IsResetting (me count ltime k : ℕ) (start : List Held) (olds : List FileLayer) (p : List Held)
     (news : List FileLayer) : Type 0 where
   pub again : AreAgain me count ltime (take k olds) (take k news)
-  pub behind : drop k news ≡ drop k olds
+  pub following : drop k news ≡ drop k olds
   pub size : length news ≡ length olds
   pub order : AllByRecursion (IsInOrder p) (drop k olds)
   pub room : AllByRecursion (λ s. count ≤ s.count) (map (state_in p) (drop k olds))

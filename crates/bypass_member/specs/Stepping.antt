@@ -8,7 +8,7 @@ use Rattle.stack_mean.specs.Plans.{plans_of}
 use Rattle.run_mean.specs.Mode.{Mode}
 use Rattle.run_mean.specs.Common.{is_common, as_sent}
 use Rattle.run_mean.specs.Report.{visit_count}
-use Rattle.run_mean.specs.Member.{Entered, Output, Step, first_task, step_from, member_behind}
+use Rattle.run_mean.specs.Member.{Entered, Output, Step, first_task, step_from, member_following}
 use Rattle.chain_laws.specs.Runs.{TypedStack}
 use Rattle.member_laws.specs.Members.{IsHere}
 use Rattle.event_graph.specs.Answer.{stack_tree}
@@ -18,11 +18,11 @@ use Rattle.stack_shapes.specs.Shapes.{short_shapes}
 use Rattle.layer_eval.specs.Did.{as_predicted}
 use Rattle.layer_eval.specs.declared.predicted.Predicted.{Predicted}
 use Rattle.step_outputs.specs.Gathered.{Gathered}
-use Rattle.stack_queue.specs.Taken.{taken_behind}
+use Rattle.stack_queue.specs.Taken.{taken_after}
 use Rattle.view_core.specs.Steps.{installed_change}
 use Rattle.member_reads.specs.Shown.{member_in}
 use Rattle.bypass_codes.specs.Codes.{CodesTree}
-use Rattle.bypass_member.specs.Behind.{rank_of, view_behind}
+use Rattle.bypass_member.specs.After.{rank_of, view_after}
 use Rattle.bypass_member.specs.Modes.{mode_with, IsTakenSo}
 use Rattle.bypass_member.specs.Serving.{AreCodes}
 use Rattle.bypass_member.specs.Viewing.{HasMembers, IsAt}
@@ -63,7 +63,7 @@ step_over g states what = step_from (stack_of g) g.here.now g.id states what
 
 -- How many events each layer has taken after the run of that step.
 abbrev pub taken_over : Ground → List State → Entered → List ℕ → List ℕ
-taken_over g states what taken = taken_behind (stack_of g) states (first_task (stack_of g) g.here.now.rank what) taken
+taken_over g states what taken = taken_after (stack_of g) states (first_task (stack_of g) g.here.now.rank what) taken
 
 -- An output that isn't sent short.
 abbrev pub in_full : Output → Output × Option ℕ
@@ -101,9 +101,9 @@ pub record HasGone (g : Ground) (old : Works) (what : Entered) (new : Works) (ou
 pub record HasTaken (g : Ground) (old : Works) (what : Entered) (new : Works) (out : Gathered) (before after : ℕ)
     (result : Took) : Type 0 where
   pub ready : IsReady (stack_of g) g.most new
-  pub at : IsAt (stack_of g) g.most g.id (view_behind g.here.now.view result.change) (states_in new)
-  pub member : member_in (view_behind g.here.now.view result.change) (states_in new) ≡
-      member_behind g.here.now.view (step_over g (states_in old) what)
+  pub at : IsAt (stack_of g) g.most g.id (view_after g.here.now.view result.change) (states_in new)
+  pub member : member_in (view_after g.here.now.view result.change) (states_in new) ≡
+      member_following g.here.now.view (step_over g (states_in old) what)
   pub outputs : out.outputs ≡ as_sent (mode_of g) (stack_of g) (plans_in g) (step_over g (states_in old) what)
   pub here : out.here ≡ g.here.now
   pub common : result.common ≡ is_common (stack_of g) (plans_in g) (step_over g (states_in old) what)

@@ -16,7 +16,7 @@ use Rattle.file_layer.specs.Layer.{place_of, tree_of, refs_of, taken_by, IsInOrd
 use Rattle.file_layer.specs.declared.layer.FileLayer.{FileLayer}
 use Rattle.trace_mean.specs.Worth.{Input}
 use Rattle.trace_laws.specs.Members.{AreOf}
-use Rattle.bypass_member.specs.Behind.{rank_of}
+use Rattle.bypass_member.specs.After.{rank_of}
 use Rattle.bypass_member.specs.Working.{states_in, taken_in, IsReady}
 use Rattle.bypass_member.specs.declared.works.Works.{Works}
 

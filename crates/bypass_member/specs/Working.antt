@@ -20,7 +20,7 @@ use Rattle.pool_message.specs.Sent.{sent_refs, sent_seen, SentLie}
 use Rattle.pool_message.specs.declared.event.PoolEvent.{PoolEvent}
 use Rattle.stack_queue.specs.Pending.{task_seen}
 use Rattle.stack_queue.specs.Stages.{Stand, most_at_first}
-use Rattle.stack_queue.specs.Taken.{taken_behind}
+use Rattle.stack_queue.specs.Taken.{taken_after}
 use Rattle.stack_queue.specs.declared.tasks.PoolTask.{PoolTask}
 use Rattle.run_mean.specs.Member.{Output, most_turns}
 use Rattle.pool_laws.specs.Room.{slots_beyond}
@@ -89,7 +89,7 @@ pub record HasRun (stack : List LayerTree) (old : Works) (first : PoolTask) (bef
   pub outs : sent_seen new.pool new.outs.items ≡ (work_of stack old first).outs
   pub predicted : result ≡ as_predicted (work_of stack old first).decided
   pub visits : after ≡ before + (work_of stack old first).visits
-  pub taken : taken_in new ≡ taken_behind stack (states_in old) (task_seen old.pool first) (taken_in old)
+  pub taken : taken_in new ≡ taken_after stack (states_in old) (task_seen old.pool first) (taken_in old)
   pub stand : AreStanding stack new
   pub exact : Exact new.pool (refs_in new ++ sent_refs new.outs.items)
   pub lie : SentLie new.pool new.outs.items

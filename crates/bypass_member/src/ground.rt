@@ -4,7 +4,7 @@ ghost use Rattle.std.specs.Prelude.{◌≡◌, ◌<◌, Some, option_map};
 ghost use Rattle.std.specs.Rc.{rc_value};
 ghost use Rattle.msg_core.specs.View as members;
 ghost use Rattle.msg_core.specs.declared.packet.View.{View};
-ghost use Rattle.bypass_member.specs.Behind.{rank_of, view_behind};
+ghost use Rattle.bypass_member.specs.After.{rank_of, view_after};
 ghost use Rattle.bypass_member.specs.Placing.{IsRankIn};
 
 use bypass_codes::Codes;
@@ -54,7 +54,7 @@ pub(crate) fn rank_in(view: View, id: u8) -> u8
 /// The view that a member is in, and its rank in it, become those after a change, if there was one.
 #[inline(always)]
 pub(crate) fn follow(view: &mut Option<View>, rank: &mut u8, id: u8, change: Option<Change>)
-    ensures view { (before : View) → view.old ≡ Some before → view.new ≡ view_behind before change }
+    ensures view { (before : View) → view.old ≡ Some before → view.new ≡ view_after before change }
     ensures rank { IsRankIn view.old id rank.old → IsRankIn view.new id rank.new }
 {
     match change {

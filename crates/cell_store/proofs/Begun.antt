@@ -103,9 +103,9 @@ module _ {R : Type 0} where
   laid_more : (most at end end' : ℕ) (slots : List (StoredCell R)) (s : StoredCell R) → AreLaid most at end slots →
       end ≤ s.at →
       FitsFrame most s.frame s.count s.rings → s.at + s.count ≤ end' → AreLaid most at end' (slots ++ s ∷ [])
-  laid_more most at end end' [] s laid behind fits before = (omega (arith, laid, behind), (fits, before))
-  laid_more most at end end' (t ∷ rest) s laid behind fits before =
-      (laid.0, (laid.1.0, laid_more most (t.at + t.count) end end' rest s laid.1.1 behind fits before))
+  laid_more most at end end' [] s laid following fits before = (omega (arith, laid, following), (fits, before))
+  laid_more most at end end' (t ∷ rest) s laid following fits before =
+      (laid.0, (laid.1.0, laid_more most (t.at + t.count) end end' rest s laid.1.1 following fits before))
 
   laid_bound : (most at end : ℕ) (slots : List (StoredCell R)) → AreLaid most at end slots → at ≤ end
   laid_bound most at end [] laid = laid
@@ -255,9 +255,9 @@ module _ {R : Type 0} where
       ap₂ (λ x xs. x ∷ xs) (frame_of_form s.frame s.rings.capacity cell.form head) (frames_of_forms slots cells rest)
 
   -- one cell more begins again
-  same_behind : (xs ys : List (StoredCell R)) (i : ℕ) (d : StoredCell R) → drop i xs ≡ drop i ys →
+  same_after : (xs ys : List (StoredCell R)) (i : ℕ) (d : StoredCell R) → drop i xs ≡ drop i ys →
       slice_index_or xs i d ≡ slice_index_or ys i d
-  same_behind xs ys i d same =
+  same_after xs ys i d same =
       let place : i + 0 ≡ i = omega arith in
       ap (λ k. slice_index_or xs k d) (sym place) ∙ sym (get_or-drop i xs 0 d) ∙ ap (λ zs. slice_index_or zs 0 d) same ∙
       get_or-drop i ys 0 d
@@ -278,7 +278,7 @@ module _ {R : Type 0} where
       cell ≡ slice_index_or cells i cell →
       Before most i cell olds s
   before most end i cells cell slots olds s laid forms none left size within read within' read' =
-      let at = got olds i s (omega (arith, within, size)) (read ∙ same_behind slots olds i s left) in
+      let at = got olds i s (omega (arith, within, size)) (read ∙ same_after slots olds i s left) in
       record {
         form = sym (map_some slot_form olds i s (slot_form s) at) ∙ ap (λ fs. slice_index_or fs i (slot_form s)) forms
             ∙ map_some (λ (c : CellTree). tree_form c.form) (map cell_tree cells) i (cell_tree cell) (slot_form s)
@@ -306,9 +306,9 @@ module _ {R : Type 0} where
       filled
       (begins_again me n ltime most (length block) few s (form_tree cell.form) form fits)))
 
-  pub left_behind : (i : ℕ) (slots olds : List (StoredCell R)) (new : StoredCell R) → drop i slots ≡ drop i olds →
+  pub left_after : (i : ℕ) (slots olds : List (StoredCell R)) (new : StoredCell R) → drop i slots ≡ drop i olds →
       drop (i + 1) (slice_set slots i new) ≡ drop (i + 1) olds
-  left_behind i slots olds new left =
+  left_after i slots olds new left =
       drop-set-lt (i + 1) slots i new (omega arith) ∙ sym (drop-drop 1 i slots) ∙ ap (drop 1) left ∙ drop-drop 1 i olds
 
   pub all_first : (me n ltime most i : ℕ) (cells : List Cell) (block : List ℕ) (slots : List (StoredCell R)) →

@@ -57,11 +57,11 @@ module _ {R : Type 0} where
   pub laid_within : (most at end : ℕ) (slots : List (StoredCell R)) → AreLaid most at end slots → at ≤ end
   laid_within most at end [] laid = laid
   laid_within most at end (s ∷ rest) laid =
-      let behind = laid_within most (s.at + s.count) end rest laid.1.1 in omega (arith, behind, laid.0)
+      let following = laid_within most (s.at + s.count) end rest laid.1.1 in omega (arith, following, laid.0)
 
   -- a cell of them
   pub record Lies (most at end : ℕ) (s : StoredCell R) : Type 0 where
-    pub behind : at ≤ s.at
+    pub following : at ≤ s.at
     pub fits : FitsFrame most s.frame s.count s.rings
     pub before : s.at + s.count ≤ end
 
@@ -70,10 +70,10 @@ module _ {R : Type 0} where
       Lies most at end s
   lies most at end [] c s laid is = absurd (cc is)
   lies most at end (t ∷ rest) zero s laid is = subst (Lies most at end) (cc is)
-      record { behind = laid.0; fits = laid.1.0; before = laid_within most (t.at + t.count) end rest laid.1.1 }
+      record { following = laid.0; fits = laid.1.0; before = laid_within most (t.at + t.count) end rest laid.1.1 }
   lies most at end (t ∷ rest) (suc c) s laid is =
       let next = lies most (t.at + t.count) end rest c s laid.1.1 is in
-      record { behind = omega (arith, next.behind, laid.0); fits = next.fits; before = next.before }
+      record { following = omega (arith, next.following, laid.0); fits = next.fits; before = next.before }
 
   -- reading
   numbers_framed : (most count : ℕ) (frame : Frame) (ns : List ℕ) (qs : CellQueues R) → FitsFrame most frame count qs →
@@ -177,7 +177,7 @@ module _ {R : Type 0} where
       let next = lies most (t.at + t.count) end rest c s laid.1.1 is in
       ap₂ (λ x xs. x ∷ xs)
       (ap (λ ns. framed t.frame ns t.rings)
-      (part_untouched t.at t.count block (s.at + i) v (omega (arith, next.behind))))
+      (part_untouched t.at t.count block (s.at + i) v (omega (arith, next.following))))
       (number_written most (t.at + t.count) end block rest c i v s laid.1.1 is below)
 
   number_set_past : (most i v : ℕ) (block : List ℕ) (s : StoredCell R) → FitsFrame most s.frame s.count s.rings →

@@ -195,18 +195,18 @@ run_from_a_task stack most states first typed h task =
 
 -- chains are short
 
-behind_short : (ends : Bool) (above : List LayerTree) (place : ℕ) (hs : List Header) →
+after_short : (ends : Bool) (above : List LayerTree) (place : ℕ) (hs : List Header) →
     MatchBool ends (hs ≡ []) (IsChain above place hs) → (IsChain above place hs → length hs ≤ length above) →
     suc (length hs) ≤ suc (length above)
-behind_short true above place hs none short = rw none (omega arith)
-behind_short false above place hs on short = omega (arith, short on)
+after_short true above place hs none short = rw none (omega arith)
+after_short false above place hs on short = omega (arith, short on)
 
 chain_short : (above : List LayerTree) (place : ℕ) (hs : List Header) → IsChain above place hs →
     length hs ≤ length above
 chain_short [] place hs is = rw is (omega arith)
 chain_short (layer ∷ above) place [] is = absurd is
 chain_short (layer ∷ above) place (h ∷ hs) is = there (header_of_tag layer h.tag) _ is (λ d declares is_d.
-    behind_short d.ends above (suc place) hs is_d.2 (chain_short above (suc place) hs))
+    after_short d.ends above (suc place) hs is_d.2 (chain_short above (suc place) hs))
 
 pub chains_are_short : ChainsAreShort
 chains_are_short stack place hs is =

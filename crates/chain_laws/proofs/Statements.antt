@@ -49,7 +49,7 @@ pub record Popped (P : List Header → Type 0) (layer : LayerTree) (hs : List He
   pub are : hs ≡ first ∷ rest
   pub declares : header_of_tag layer first.tag ≡ Some declaration
   pub fields : Numbers first.fields
-  pub behind : HeadersOf P (sort_under declaration.ends) rest
+  pub following : HeadersOf P (sort_under declaration.ends) rest
 
 -- how the headers of a layer at a place stand before those of the layers above: P is of the layers above, and Q from
 -- this one on

@@ -25,7 +25,7 @@ use Rattle.layer_mean.specs.Tree.{CellTree, LayerTree, no_layer}
 use Rattle.layer_mean.specs.State.{State, size_of}
 use Rattle.layer_mean.specs.Value.{Scope, is_true, val}
 use Rattle.layer_mean.specs.Effect.{usual, unusual, Outcome, decides, in_order, acts}
-use Rattle.layer_mean.specs.Visit.{no_scope, bare_state, fresh_cell, fresh, Met, behind, met, is_for, handler_for}
+use Rattle.layer_mean.specs.Visit.{no_scope, bare_state, fresh_cell, fresh, Met, following, met, is_for, handler_for}
 use Rattle.layer_mean.specs.Visit.{entered_scope, none_header, Visited, sent_on, unhandled_visit, expecting}
 use Rattle.layer_mean.specs.Visit.{handled_visit, step}
 use Rattle.packet_mean.specs.Chained.{IsChain}
@@ -100,18 +100,19 @@ module _ (P Q : List Header → Type 0) (layer : LayerTree) (place : ℕ) (blank
   -- what is met
 
   up_met : (hs : List Header) (body : List ℕ) → IsBody body → Popped P layer hs →
-      IsMet P layer Up true (behind (first_of hs) (popped (record { headers = hs; body = body })))
+      IsMet P layer Up true (following (first_of hs) (popped (record { headers = hs; body = body })))
   up_met hs body is p = subst
-      (λ hs. IsMet P layer Up true (behind (first_of hs) (popped (record { headers = hs; body = body })))) (sym p.are)
+      (λ hs. IsMet P layer Up true (following (first_of hs) (popped (record { headers = hs; body = body }))))
+      (sym p.are)
       record {
         fields_are = p.fields;
-        messages_are = rw p.declares (record { headers = p.behind; body = is }, tt);
+        messages_are = rw p.declares (record { headers = p.following; body = is }, tt);
         passes = (
           refl,
           is,
           λ none.
               let e : p.declaration ≡ header_none = cc (ap (λ tag. header_of_tag layer tag) none, p.declares) in
-              subst (λ (d : HeaderTree). HeadersOf P (sort_under d.ends) p.rest) e p.behind,
+              subst (λ (d : HeaderTree). HeadersOf P (sort_under d.ends) p.rest) e p.following,
         );
       }
 
@@ -224,17 +225,17 @@ from_layer (first ∷ above) zero layer is = let e : first ≡ layer = cc is in 
 from_layer (first ∷ above) (suc place) layer is = from_layer above place layer is
 
 -- what stands after a header of a chain
-chain_behind : (ends : Bool) (stack : List LayerTree) (place : ℕ) (hs : List Header) →
+chain_after : (ends : Bool) (stack : List LayerTree) (place : ℕ) (hs : List Header) →
     HeadersOf (IsFrom stack place) (sort_under ends) hs →
     MatchBool ends (hs ≡ []) (IsChain (drop place stack) place hs) × AllByRecursion (λ h. Numbers h.fields) hs
-chain_behind true stack place hs h = (h, subst (λ hs. AllByRecursion (λ (h : Header). Numbers h.fields) hs) (sym h) tt)
-chain_behind false stack place hs h = (h.chain, h.fields)
+chain_after true stack place hs h = (h, subst (λ hs. AllByRecursion (λ (h : Header). Numbers h.fields) hs) (sym h) tt)
+chain_after false stack place hs h = (h.chain, h.fields)
 
-behind_chain : (ends : Bool) (stack : List LayerTree) (place : ℕ) (hs : List Header) →
+after_chain : (ends : Bool) (stack : List LayerTree) (place : ℕ) (hs : List Header) →
     MatchBool ends (hs ≡ []) (IsChain (drop place stack) place hs) → AllByRecursion (λ h. Numbers h.fields) hs →
     HeadersOf (IsFrom stack place) (sort_under ends) hs
-behind_chain true stack place hs h fields = h
-behind_chain false stack place hs h fields = record { chain = h; fields = fields }
+after_chain true stack place hs h fields = h
+after_chain false stack place hs h fields = record { chain = h; fields = fields }
 
 popped_from : (stack : List LayerTree) (place : ℕ) (layer : LayerTree) (hs : List Header) →
     IsChain (layer ∷ drop (suc place) stack) place hs → AllByRecursion (λ h. Numbers h.fields) hs →
@@ -247,7 +248,7 @@ popped_from stack place layer (h ∷ hs) is fields = there (header_of_tag layer 
   are = refl;
   declares = declares;
   fields = fields.0;
-  behind = behind_chain d.ends stack (suc place) hs is_d.2 fields.1;
+  following = after_chain d.ends stack (suc place) hs is_d.2 fields.1;
 })
 
 pub stands : (stack : List LayerTree) (place : ℕ) (blank : List Header) (layer : LayerTree) →
@@ -255,8 +256,8 @@ pub stands : (stack : List LayerTree) (place : ℕ) (blank : List Header) (layer
     IsFrom stack (suc place) blank → Stands (IsFrom stack (suc place)) (IsFrom stack place) layer place blank
 stands stack place blank layer listed is = record {
   blank_is = is;
-  push_is = λ h d hs at declares count small h_behind.
-      let on = chain_behind d.ends stack (suc place) hs h_behind in
+  push_is = λ h d hs at declares count small h_after.
+      let on = chain_after d.ends stack (suc place) hs h_after in
       record {
         chain = rw (from_layer stack place layer listed)
             (some_and (header_of_tag layer h.tag) _ d declares (at, count, on.0));

@@ -15,37 +15,37 @@ as_many_marks before (line ∷ lines) = ap suc (as_many_marks (before ++ line �
 
 -- the spelling of a byte before escaped text is escaped, by the tests that tell how it is spelled
 byte_escaped : (byte : ℕ) (rest : List ℕ) → is_escaped rest ≡ true → is_escaped (escaped_byte byte ++ rest) ≡ true
-byte_escaped byte rest behind = amp (byte == 38) refl where
+byte_escaped byte rest following = amp (byte == 38) refl where
   plain : (p : Bool) → (nat_le 32 byte && nat_le byte 126) ≡ p → (byte == 38) ≡ false → (byte == 60) ≡ false →
       (byte == 62) ≡ false → (byte == 34) ≡ false →
       is_escaped ((if p then byte ∷ [] else codes "&#65533;") ++ rest) ≡ true
-  plain true is a l g q = rw (is, a, l, g, q) behind
-  plain false is a l g q = behind
+  plain true is a l g q = rw (is, a, l, g, q) following
+  plain false is a l g q = following
 
   quot : (t : Bool) → (byte == 34) ≡ t → (byte == 38) ≡ false → (byte == 60) ≡ false → (byte == 62) ≡ false →
       is_escaped ((if t then codes "&quot;" else if nat_le 32 byte && nat_le byte 126 then byte ∷
       [] else codes "&#65533;") ++ rest) ≡ true
-  quot true is a l g = behind
+  quot true is a l g = following
   quot false is a l g = plain (nat_le 32 byte && nat_le byte 126) refl a l g is
 
   gt : (t : Bool) → (byte == 62) ≡ t → (byte == 38) ≡ false → (byte == 60) ≡ false →
       is_escaped ((if t then codes "&gt;" else if byte == 34 then codes "&quot;" else if nat_le 32 byte &&
       nat_le byte 126 then byte ∷ [] else codes "&#65533;") ++ rest) ≡ true
-  gt true is a l = behind
+  gt true is a l = following
   gt false is a l = quot (byte == 34) refl a l is
 
   lt : (t : Bool) → (byte == 60) ≡ t → (byte == 38) ≡ false →
       is_escaped ((if t then codes "&lt;" else if byte == 62 then codes "&gt;" else if byte ==
       34 then codes "&quot;" else if nat_le 32 byte && nat_le byte 126 then byte ∷ [] else codes "&#65533;") ++
       rest) ≡ true
-  lt true is a = behind
+  lt true is a = following
   lt false is a = gt (byte == 62) refl a is
 
   amp : (t : Bool) → (byte == 38) ≡ t →
       is_escaped ((if t then codes "&amp;" else if byte == 60 then codes "&lt;" else if byte ==
       62 then codes "&gt;" else if byte == 34 then codes "&quot;" else if nat_le 32 byte &&
       nat_le byte 126 then byte ∷ [] else codes "&#65533;") ++ rest) ≡ true
-  amp true is = behind
+  amp true is = following
   amp false is = lt (byte == 60) refl is
 
 pub all_escaped : (text : List ℕ) → is_escaped (escaped text) ≡ true

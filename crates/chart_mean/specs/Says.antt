@@ -70,11 +70,11 @@ out_line = do
 abbrev pub other_line : Word → Form Says
 other_line verb = do
   member ← a_member
-  λ behind. Some (other verb member, behind)
+  λ following. Some (other verb member, following)
 
 -- what stands after the first word of a line
-abbrev pub behind_first : Word → Form Says
-behind_first verb =
+abbrev pub after_first : Word → Form Says
+after_first verb =
     if bytes_eq verb (codes "deliver") then deliver_line
     else if bytes_eq verb (codes "packet") then packet_line
     else if bytes_eq verb (codes "view") then view_line
@@ -86,7 +86,7 @@ behind_first verb =
 abbrev pub any_line : Form Says
 any_line = do
   verb ← a_word
-  behind_first verb
+  after_first verb
 
 -- what a line says: one that is none of these is beside the members
 abbrev pub says_of : List ℕ → Says

@@ -14,7 +14,7 @@ use Rattle.stack_mean.specs.Acceptance.{largest, cost_in, weight, own_joins, mos
 use Rattle.stack_mean.specs.Emissions.{Repeated, emissions_in, handler_joins}
 use Rattle.stack_mean.specs.Graph.{Node, nodes, tags_of, keeps_headers, goes_down, content_tags, emission_tags}
 use Rattle.stack_mean.specs.Graph.{emission_arrow, handler_arrows, entered_handler, arrows}
-use Rattle.weight_laws.specs.Costs.{behind_arrows}
+use Rattle.weight_laws.specs.Costs.{after_arrows}
 use Rattle.weight_laws.specs.Nodes.{task_node}
 use Rattle.weight_laws.proofs.Costs.{follows}
 use Rattle.weight_laws.proofs.Visits.{largest_from, popped_is, sends_follow_arrows}
@@ -60,7 +60,7 @@ module _ (f : Node → ℕ) (worth : (n : Node) → 1 ≤ f n) where
 
   -- what some emissions lead to is worth as much as there are
   emissions_worth : (stack : List LayerTree) (node : Node) (rs : List Repeated) →
-      sum_by (λ (r : Repeated). r.times) rs ≤ behind_arrows f (map (emission_arrow stack node) rs)
+      sum_by (λ (r : Repeated). r.times) rs ≤ after_arrows f (map (emission_arrow stack node) rs)
   emissions_worth stack node [] = omega arith
   emissions_worth stack node (r ∷ rs) =
       let arrow = emission_arrow stack node r in
@@ -79,7 +79,7 @@ module _ (f : Node → ℕ) (worth : (n : Node) → 1 ≤ f n) where
       omega (arith, one, rest, here, there)
 
   places_worth : (stack : List LayerTree) (layout : Layout) (node : Node) (o : Option HandlerTree) (m : Met) →
-      (visit_need layout o m).places ≤ 1 + behind_arrows f (handler_arrows stack node o)
+      (visit_need layout o m).places ≤ 1 + after_arrows f (handler_arrows stack node o)
   places_worth stack layout node None m = omega arith
   places_worth stack layout node (Some h) m =
       let all = block_places 1 h.block in let worth_all = emissions_worth stack node (emissions_in 1 h.block) in
@@ -103,8 +103,8 @@ nodes_cover_needs stack layout s t off visit =
     ap (λ b. if b then option_map_or handler_joins (entered_handler stack node) 0 else 0) visit.place in
     let slots = slots_own layout handler m ∙ ap (λ o. option_map_or handler_joins o 0) same ∙ sym own in
     let places = places_worth (weight stack) (heavy stack) stack layout node handler m in
-    let through = ap (λ o. behind_arrows (weight stack) (handler_arrows stack node o)) same ∙
-    ap (behind_arrows (weight stack)) (sym here) in
+    let through = ap (λ o. after_arrows (weight stack) (handler_arrows stack node o)) same ∙
+    ap (after_arrows (weight stack)) (sym here) in
     record {
       slots = omega (
         arith,

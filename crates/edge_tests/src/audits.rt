@@ -25,7 +25,7 @@ view 1 1 3\ndeliver 1 cast 0 61\nend 0"
     let parted = b"deliver 0 cast 0 61\ndeliver 0 cast 0 61\ndeliver 1 cast 0 61\nview 0 1 3\n\
 view 1 1 3\nend 0"
         .as_slice();
-    let behind = b"view 1 1 3\ndeliver 0 cast 0 61\nview 0 1 3\nend 3\nvisits 0".as_slice();
+    let following = b"view 1 1 3\ndeliver 0 cast 0 61\nview 0 1 3\nend 3\nvisits 0".as_slice();
     let cases = [
         (crossed, Law::Total, Finding::Breach(1, 2)),
         (crossed, Law::Sender, Finding::Holds),
@@ -35,7 +35,7 @@ view 1 1 3\nend 0"
         (twice, Law::Same, Finding::Holds),
         (out, Law::Total, Finding::Holds),
         (parted, Law::Same, Finding::Breach(2, 5)),
-        (behind, Law::Same, Finding::Breach(2, 1)),
+        (following, Law::Same, Finding::Breach(2, 1)),
     ];
     for (text, law, expected) in cases {
         let found = audit(rt.alloc(), text, law)?;

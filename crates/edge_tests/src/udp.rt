@@ -100,8 +100,8 @@ fn sizes_pass<N: Links>(
     links.send(1, 2, b"it")?;
     let first = receive(clock, links, 2, into)? == Some(4);
     let second = receive(clock, links, 2, into)? == Some(2);
-    let behind = into.get(..4) == Some(b"itng".as_slice());
-    Ok(none && some && most && first && second && behind)
+    let following = into.get(..4) == Some(b"itng".as_slice());
+    Ok(none && some && most && first && second && following)
 }
 
 // Whether no member may listen at a place that is taken, a send to no port fails, members are heard that moved, and one

@@ -12,11 +12,11 @@ use Rattle.stack_mean.specs.Graph.{Node, same_node, nodes, Arrow, arrows, follow
 use Rattle.stack_mean.specs.Acceptance.{largest, cost, entries, held_at_most, own_joins}
 use Rattle.weight_laws.specs.Nodes.{IsNode}
 use Rattle.weight_laws.specs.Orderly.{IsOrderly}
-use Rattle.weight_laws.specs.Costs.{behind_arrows}
+use Rattle.weight_laws.specs.Costs.{after_arrows}
 use Rattle.weight_laws.specs.Tables.{HasFewHeaders, node_number, Vertex, vertex_at, edge_of, vertex_of, table_of}
 use Rattle.weight_laws.specs.Rounds.{with_edge, vertex_cost, one_task, joins_of_vertex, largest_entry}
 use Rattle.weight_laws.proofs.Members.{In, in_either, in_map}
-use Rattle.weight_laws.proofs.Reach.{behind, rank, rank_falls, reached_has, tells, unknown_sub, unknown_by}
+use Rattle.weight_laws.proofs.Reach.{reachable, rank, rank_falls, reached_has, tells, unknown_sub, unknown_by}
 use Rattle.weight_laws.proofs.Nodes.{listed, next_node}
 use Rattle.weight_laws.proofs.Costs.{sound, itself, cycle_is, cycle_free, follows}
 use Rattle.weight_laws.proofs.Visits.{at_most_largest}
@@ -36,16 +36,16 @@ none_passes p (x ∷ xs) h = ap (λ b. if b then Some x else find p xs) (h x (in
 
 -- a target's number is in the sum, where its arrow stands for one at least
 weighed : (f : Node → ℕ) (arrs : List Arrow) (t : Node) → ((a : Arrow) → In a arrs → 1 ≤ a.times) →
-    In t (flat_map (λ arrow. arrow.targets) arrs) → f t ≤ behind_arrows f arrs
+    In t (flat_map (λ arrow. arrow.targets) arrs) → f t ≤ after_arrows f arrs
 weighed f [] t often m = absurd m
 weighed f (a ∷ arrs) t often m =
     go (weighed f arrs t (λ b n. often b (inr n))) (in_either t a.targets (flat_map (λ arrow. arrow.targets) arrs) m)
   where
-    parts : behind_arrows f (a ∷ arrs) ≡ a.times * largest (map f a.targets) + behind_arrows f arrs
+    parts : after_arrows f (a ∷ arrs) ≡ a.times * largest (map f a.targets) + after_arrows f arrs
     parts = sum_by-cons (λ arrow. arrow.times * largest (map f arrow.targets)) a arrs
 
-    go : (In t (flat_map (λ arrow. arrow.targets) arrs) → f t ≤ behind_arrows f arrs) →
-        In t a.targets ⊎ In t (flat_map (λ arrow. arrow.targets) arrs) → f t ≤ behind_arrows f (a ∷ arrs)
+    go : (In t (flat_map (λ arrow. arrow.targets) arrs) → f t ≤ after_arrows f arrs) →
+        In t a.targets ⊎ In t (flat_map (λ arrow. arrow.targets) arrs) → f t ≤ after_arrows f (a ∷ arrs)
     go later (inl k) = omega (
       arith,
       parts,
@@ -78,7 +78,7 @@ module _ (stack : List LayerTree) (orderly : IsOrderly stack) (costs : List ℕ)
       go false e = e
       go true e =
           let there = tells same_node sound itself (following stack) n
-          (behind same_node (following stack) (nodes stack) n) (sym (cycle_is stack n) ∙ e) in
+          (reachable same_node (following stack) (nodes stack) n) (sym (cycle_is stack n) ∙ e) in
           let less = reached_has same_node sound itself (following stack)
           (λ (x : Node). IsNode stack x × (slice_index costs (node_number x) < slice_index costs (node_number n)))
           (λ x y h k. (next_node stack orderly x y h.0 k, omega (arith, h.1, falls x y h.0 k)))

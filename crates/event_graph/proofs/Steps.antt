@@ -82,12 +82,12 @@ found_at f p (x ∷ xs) (suc i) d within none passes =
       go true e later = absurd (cc e)
       go false e later = later e
 
-behind : {X Y : Type 0} (f : X → Y) (p : Y → Bool) (d : X) (xs : List X) (i : ℕ) → i < length xs →
+following : {X Y : Type 0} (f : X → Y) (p : Y → Bool) (d : X) (xs : List X) (i : ℕ) → i < length xs →
     find p (map f (take i xs)) ≡ None → p (f (get_or xs i d)) ≡ false → find p (map f (take (suc i) xs)) ≡ None
-behind f p d [] i within none fails = absurd (omega arith)
-behind f p d (x ∷ xs) zero within none fails = ap (λ b. if b then Some (f x) else None) fails
-behind f p d (x ∷ xs) (suc i) within none fails =
-    go (p (f x)) none (λ later. behind f p d xs i (omega arith) later fails) where
+following f p d [] i within none fails = absurd (omega arith)
+following f p d (x ∷ xs) zero within none fails = ap (λ b. if b then Some (f x) else None) fails
+following f p d (x ∷ xs) (suc i) within none fails =
+    go (p (f x)) none (λ later. following f p d xs i (omega arith) later fails) where
       go : (b : Bool) → (if b then Some (f x) else find p (map f (take i xs))) ≡ None →
           (find p (map f (take i xs)) ≡ None → find p (map f (take (suc i) xs)) ≡ None) →
           (if b then Some (f x) else find p (map f (take (suc i) xs))) ≡ None
@@ -96,7 +96,7 @@ behind f p d (x ∷ xs) (suc i) within none fails =
 
 pub none_yet : {X Y : Type 0} (f : X → Y) (p : Y → Bool) (xs : List X) (i : ℕ) (d : X) → i < length xs →
     find p (map f (take i xs)) ≡ None → p (f (get_or xs i d)) ≡ false → find p (map f (take (i + 1) xs)) ≡ None
-none_yet f p xs i d within none fails = ap (λ n. find p (map f (take n xs))) (add-one i) ∙ behind f p d xs i within
+none_yet f p xs i d within none fails = ap (λ n. find p (map f (take n xs))) (add-one i) ∙ following f p d xs i within
     none fails
 
 pub empty_is : {X : Type 0} (xs : List X) → length xs ≡ 0 → xs ≡ []

@@ -7,7 +7,7 @@ use std::alloc::{AllocError, Global};
 /// A number to be put into the order: after those that follow from it, or now, as they are in it.
 #[derive(Clone, Copy)]
 enum Open {
-    Behind(u32),
+    After(u32),
     Now(u32),
 }
 
@@ -24,7 +24,7 @@ impl Walk {
     fn open_targets(&mut self, edge: Edge) -> Result<(), AllocError> {
         for k in 0..edge.count {
             self.open
-                .push(Open::Behind(edge.first.saturating_add(u32::from(k))))?;
+                .push(Open::After(edge.first.saturating_add(u32::from(k))))?;
         }
         Ok(())
     }
@@ -60,7 +60,7 @@ impl Walk {
             match self.open.pop() {
                 None => return Ok(()),
                 Some(Open::Now(number)) => self.order.push(number)?,
-                Some(Open::Behind(number)) => self.meet(vertices, number)?,
+                Some(Open::After(number)) => self.meet(vertices, number)?,
             }
         }
         Ok(())

@@ -102,9 +102,9 @@ impl Search {
     }
 
     /// Sees what follows from some numbers.
-    fn see_behind(&mut self, vertices: &[Vertex], numbers: &[usize]) -> Result<(), AllocError>
+    fn see_after(&mut self, vertices: &[Vertex], numbers: &[usize]) -> Result<(), AllocError>
         ensures { OnOk result
-            (search_tree self.new ≡ search.see_behind (map vertex_tree vertices.now) (search_tree self.old)
+            (search_tree self.new ≡ search.see_after (map vertex_tree vertices.now) (search_tree self.old)
             numbers.now) }
     {
         for number in numbers {
@@ -127,7 +127,7 @@ impl Search {
             (search_tree self.new ≡ search.search_round (map vertex_tree vertices.now) (search_tree self.old)) }
     {
         let last = self.take_last(alloc);
-        self.see_behind(vertices, &last)
+        self.see_after(vertices, &last)
     }
 
     /// That many rounds; once one sees nothing, none is made.

@@ -78,8 +78,8 @@ module _ {F : Type 0} (key : F → List ℕ) where
   in_order found xs ys =
       regroup_some found (earliest key xs) (earliest key ys) ∙ ap (earlier key found) (sym (by_parts xs ys))
 
-contains-behind : {X : Type 0} (x : X) (xs : List X) (v : X) → Contains xs v → Contains (x ∷ xs) v
-contains-behind x xs v c = (suc c.0, omega (arith, c.1), c.2)
+contains-following : {X : Type 0} (x : X) (xs : List X) (v : X) → Contains xs v → Contains (x ∷ xs) v
+contains-following x xs v c = (suc c.0, omega (arith, c.1), c.2)
 
 contains-between : {X : Type 0} (x y : X) (ys : List X) (v : X) → Contains (x ∷ ys) v → Contains (x ∷ y ∷ ys) v
 contains-between {X} x y ys v c = by c.0 c.1 c.2
@@ -134,7 +134,7 @@ module _ {F : Type 0} (key : F → List ℕ) where
     where
       by : (b : Bool) → precedes key y x ≡ b → Contains (y ∷ ys) (fold (earlier_of key) y ys) →
           Contains (x ∷ ys) (fold (earlier_of key) x ys) → Contains (x ∷ y ∷ ys) (fold (earlier_of key) x (y ∷ ys))
-      by true e second one = rw e (contains-behind x (y ∷ ys) (fold (earlier_of key) y ys) second)
+      by true e second one = rw e (contains-following x (y ∷ ys) (fold (earlier_of key) y ys) second)
       by false e second one = rw e (contains-between x y ys (fold (earlier_of key) x ys) one)
 
   pub first : IsFirst key

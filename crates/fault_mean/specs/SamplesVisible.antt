@@ -30,8 +30,8 @@ InItsBound = IsJudged
     (Some (of_names (fault.unknown (at 2 32))))
 
 -- A local after its block.
-abbrev pub BehindItsBlock : Type 0
-BehindItsBlock = IsJudged
+abbrev pub AfterItsBlock : Type 0
+AfterItsBlock = IsJudged
     (small_text (codes "  down Timer(t) { if t { let x = 1; } let y = x; }" ∷ []))
     (Some (of_names (fault.unknown (at 2 47))))
 
@@ -50,8 +50,8 @@ LocalAsHeader = IsJudged
     (Some (of_names (fault.unknown (at 2 22))))
 
 -- A layer's own names are visible before their declaration.
-abbrev pub DeclaredBehind : Type 0
-DeclaredBehind = IsJudged
+abbrev pub DeclaredAfter : Type 0
+DeclaredAfter = IsJudged
     (small_text (codes "  state int k = late;" ∷ codes "  param late = 1;" ∷ []))
     None
 

@@ -49,8 +49,8 @@ abbrev pub popped_names : Option PoppedTree → List Name
 popped_names popped = option_map_or (λ p. names_in p.fields) popped []
 
 -- The sort of the message after a popped header: a part where the header ends.
-abbrev pub sort_behind : LayerTree → Option PoppedTree → Sort
-sort_behind layer popped = option_map_or (λ p. if declared_as is_end layer p.name.word then Part else Msg) popped Msg
+abbrev pub sort_after : LayerTree → Option PoppedTree → Sort
+sort_after layer popped = option_map_or (λ p. if declared_as is_end layer p.name.word then Part else Msg) popped Msg
 
 -- The names that a handler declares at its head, and the scope of its condition and block.
 abbrev pub head_names : HandlerTree → List Name
@@ -58,7 +58,7 @@ head_names handler = names_in (Some handler.names) ++ popped_names handler.poppe
 
 abbrev pub argument_sorts : LayerTree → HandlerTree → List Sort
 argument_sorts layer handler =
-    map (λ wanted. if allows wanted Msg then sort_behind layer handler.popped else Int) (arguments_of handler.kind)
+    map (λ wanted. if allows wanted Msg then sort_after layer handler.popped else Int) (arguments_of handler.kind)
 
 abbrev pub head_scope : LayerTree → HandlerTree → Scope
 head_scope layer handler = record {
@@ -68,9 +68,9 @@ head_scope layer handler = record {
 }
 
 -- The scope after a statement in its block: only `let` adds to it.
-abbrev pub scope_behind : Scope → StatementTree → Scope
-scope_behind scope (bind at name value) = with_locals scope (locals_as [] (name ∷ []))
-scope_behind scope _ = scope
+abbrev pub scope_after : Scope → StatementTree → Scope
+scope_after scope (bind at name value) = with_locals scope (locals_as [] (name ∷ []))
+scope_after scope _ = scope
 
 -- The scope in which a row that was taken off a queue has names.
 abbrev pub taken_scope : Scope → QueueTree → NamesTree → Scope
@@ -100,7 +100,7 @@ abbrev mutual
   standing_in scope none = []
   standing_in scope (more statement rest) =
       record { scope = scope; statement = statement }
-      ∷ (standing_inside scope statement ++ standing_in (scope_behind scope statement) rest)
+      ∷ (standing_inside scope statement ++ standing_in (scope_after scope statement) rest)
 
 -- The statements of a handler, and of a layer.
 abbrev pub handler_statements : LayerTree → HandlerTree → List Standing

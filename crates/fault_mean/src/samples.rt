@@ -2,8 +2,8 @@
 //! here.
 ghost use Rattle.fault_mean.specs.SamplesCounts.{Params, Cells, Headers, Handlers, Locals, Layers};
 ghost use Rattle.fault_mean.specs.SamplesLibrary.{FromLibrary, GivenToLibrary, FaultOfLibrary, HidesLibrary};
-ghost use Rattle.fault_mean.specs.SamplesVisible.{UnknownCell, BeforeLet, InItsLet, InItsBound, BehindItsBlock};
-ghost use Rattle.fault_mean.specs.SamplesVisible.{TakenElsewhere, LocalAsHeader, DeclaredBehind, UnknownLabel};
+ghost use Rattle.fault_mean.specs.SamplesVisible.{UnknownCell, BeforeLet, InItsLet, InItsBound, AfterItsBlock};
+ghost use Rattle.fault_mean.specs.SamplesVisible.{TakenElsewhere, LocalAsHeader, DeclaredAfter, UnknownLabel};
 ghost use Rattle.fault_mean.specs.SamplesVisible.{LabelOfNone, UnknownLayer, CellGiven};
 ghost use Rattle.fault_mean.specs.SamplesTwice.{LayerTwice, CellAndParam, LocalAndCell, ArgumentAndField, OtherBlocks};
 ghost use Rattle.fault_mean.specs.SamplesTwice.{LabelTwice, ParamTwice, HandlerTwice};
@@ -23,10 +23,10 @@ pub fn visible()
     ensures before_let { BeforeLet }
     ensures in_its_let { InItsLet }
     ensures in_its_bound { InItsBound }
-    ensures behind_its_block { BehindItsBlock }
+    ensures after_its_block { AfterItsBlock }
     ensures taken_elsewhere { TakenElsewhere }
     ensures local_as_header { LocalAsHeader }
-    ensures declared_behind { DeclaredBehind }
+    ensures declared_after { DeclaredAfter }
     ensures unknown_label { UnknownLabel }
     ensures label_of_none { LabelOfNone }
     ensures unknown_layer { UnknownLayer }

@@ -26,12 +26,12 @@ pub message_tree : (items : List Item) →
 message_tree = first_tree (λ (i : ItemTree). allows a_message i.sort)
 
 -- the first that has a name, where another doesn't have it
-pub label_behind : (word : List ℕ) (first : Item) (rest : List Item) (got : Option Sort) →
+pub label_after : (word : List ℕ) (first : Item) (rest : List Item) (got : Option Sort) →
     bytes_eq first.name.word word ≡ false →
     got ≡ option_map (λ (i : Item). i.sort) (find (λ (i : Item). bytes_eq i.name.word word) rest) →
     got ≡ option_map (λ (i : ItemTree). i.sort)
     (find (λ (i : ItemTree). bytes_eq i.name.word word) (item_tree first ∷ map item_tree rest))
-label_behind word first rest got other is =
+label_after word first rest got other is =
     is ∙ (sym (first_tree (λ (i : ItemTree). bytes_eq i.name.word word) rest)
     ∙ ap (λ b. option_map (λ (i : ItemTree). i.sort) (cond b (Some (item_tree first))
     (find (λ (i : ItemTree). bytes_eq i.name.word word) (map item_tree rest)))) (sym other))

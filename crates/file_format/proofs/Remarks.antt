@@ -22,13 +22,13 @@ none_seen (suc n) = omega arith
 pub at_first : (bytes : List ℕ) → Counting bytes 0 0 bytes
 at_first bytes = record { same = none_seen (comment_length bytes); size = omega arith; most = omega arith }
 
-module _ (bytes : List ℕ) (last seen first : ℕ) (rest behind : List ℕ) (split : rest ≡ first ∷ behind)
+module _ (bytes : List ℕ) (last seen first : ℕ) (rest following : List ℕ) (split : rest ≡ first ∷ following)
     (c : Counting bytes last seen rest) where
-  same_here : so_far last seen (comment_length (first ∷ behind)) ≡ comment_length bytes
+  same_here : so_far last seen (comment_length (first ∷ following)) ≡ comment_length bytes
   same_here = ap (λ xs. so_far last seen (comment_length xs)) (sym split) ∙ c.same
 
-  sizes : seen + (1 + length behind) ≡ length bytes
-  sizes = let e : length rest ≡ suc (length behind) = ap length split in omega (arith, e, c.size)
+  sizes : seen + (1 + length following) ≡ length bytes
+  sizes = let e : length rest ≡ suc (length following) = ap length split in omega (arith, e, c.size)
 
   after_blank : (n : ℕ) → so_far last (seen + 1) n ≡ so_far last seen (one_more true n)
   after_blank zero = refl
@@ -39,32 +39,32 @@ module _ (bytes : List ℕ) (last seen first : ℕ) (rest behind : List ℕ) (sp
   after_byte (suc n) = omega arith
 
   module _ (no_feed : nat_eq first 10 ≡ false) (next : ℕ) (next_is : next ≡ seen + 1) where
-    one_is : (t : Bool) → is_blank first ≡ t → so_far last seen (one_more t (comment_length behind)) ≡
+    one_is : (t : Bool) → is_blank first ≡ t → so_far last seen (one_more t (comment_length following)) ≡
         comment_length bytes
     one_is t is =
-        ap (λ t. so_far last seen (one_more t (comment_length behind))) (sym is)
-        ∙ (ap (λ e. so_far last seen (cond e 0 (one_more (is_blank first) (comment_length behind)))) (sym no_feed) ∙
+        ap (λ t. so_far last seen (one_more t (comment_length following))) (sym is)
+        ∙ (ap (λ e. so_far last seen (cond e 0 (one_more (is_blank first) (comment_length following)))) (sym no_feed) ∙
         same_here)
 
-    pub past_blank : is_blank first ≡ true → Counting bytes last next behind
+    pub past_blank : is_blank first ≡ true → Counting bytes last next following
     past_blank is = record {
-      same = ap (λ n. so_far last n (comment_length behind)) next_is ∙
-          (after_blank (comment_length behind) ∙ one_is true is);
+      same = ap (λ n. so_far last n (comment_length following)) next_is ∙
+          (after_blank (comment_length following) ∙ one_is true is);
       size = omega (arith, next_is, sizes);
       most = omega (arith, next_is, c.most);
     }
 
-    pub past_byte : is_blank first ≡ false → Counting bytes next next behind
+    pub past_byte : is_blank first ≡ false → Counting bytes next next following
     past_byte is = record {
-      same = ap (λ n. so_far n n (comment_length behind)) next_is ∙
-          (after_byte (comment_length behind) ∙ one_is false is);
+      same = ap (λ n. so_far n n (comment_length following)) next_is ∙
+          (after_byte (comment_length following) ∙ one_is false is);
       size = omega (arith, next_is, sizes);
       most = omega arith;
     }
 
   pub at_feed : nat_eq first 10 ≡ true → last ≡ comment_length bytes
   at_feed is =
-      ap (λ e. so_far last seen (cond e 0 (one_more (is_blank first) (comment_length behind)))) (sym is) ∙ same_here
+      ap (λ e. so_far last seen (cond e 0 (one_more (is_blank first) (comment_length following)))) (sym is) ∙ same_here
 
 pub at_end : (bytes : List ℕ) (last seen : ℕ) (rest : List ℕ) → Counting bytes last seen rest → length rest ≡ 0 →
     last ≡ comment_length bytes

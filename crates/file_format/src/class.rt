@@ -146,8 +146,8 @@ pub(crate) fn is_remark(class: Class) -> bool
 }
 
 /// What a token counts as for the next one.
-pub(crate) fn seen_behind(last: Class, next: Class) -> Class
-    ensures { result ≡ spec.seen_behind last next }
+pub(crate) fn seen_after(last: Class, next: Class) -> Class
+    ensures { result ≡ spec.seen_after last next }
 {
     match (last, next) {
         (Class::Queueing, Class::Plain) => Class::Apart,

@@ -5,7 +5,7 @@ ghost use Rattle.outside.specs.Lines.{Wrote};
 ghost use Rattle.outside.specs.Tells.{tells_of};
 ghost use Rattle.file_format.specs.Shown.{begun_of, piece_of};
 
-use crate::class::{are_joined, class_of, ends_statement, is_brace, is_remark, seen_behind};
+use crate::class::{are_joined, class_of, ends_statement, is_brace, is_remark, seen_after};
 use format_mean::{COMMENT_COLUMN, Class, DEEPEST, HANG, STEP, Stand};
 use outside::{Sink, SinkError, put_line};
 use std::alloc::{AllocError, Global};
@@ -47,9 +47,9 @@ impl LineCursor {
         let class = class_of(spelling);
         let feeds = feeds_before(is_bare(&self.bytes), self.stand, class, feeds);
         end_line(&mut self.bytes, feeds, out)?;
-        match put_behind(&mut self.bytes, self.stand, class, spelling) {
+        match put_after(&mut self.bytes, self.stand, class, spelling) {
             Ok(()) => {
-                self.stand = behind(self.stand, class);
+                self.stand = following(self.stand, class);
                 Ok(())
             }
             Err(AllocError) => Err(SinkError::Memory),
@@ -96,7 +96,7 @@ fn put_ended<O: Sink>(line: &mut Vec<u8>, feeds: usize, out: &mut O) -> Result<(
 }
 
 /// Puts a token or comment after what a line has.
-fn put_behind(
+fn put_after(
     line: &mut Vec<u8>,
     stand: Stand,
     class: Class,
@@ -196,18 +196,18 @@ fn blanks_apart(stand: Stand, column: usize, class: Class) -> usize
 }
 
 /// Where the next token or comment stands.
-fn behind(stand: Stand, class: Class) -> Stand
-    ensures { result ≡ spec.behind stand class }
+fn following(stand: Stand, class: Class) -> Stand
+    ensures { result ≡ spec.following stand class }
 {
     Stand {
-        depth: depth_behind(stand.depth, class),
-        in_layer: in_layer_behind(stand.in_layer, class),
-        last: seen_behind(stand.last, class),
+        depth: depth_after(stand.depth, class),
+        in_layer: in_layer_after(stand.in_layer, class),
+        last: seen_after(stand.last, class),
     }
 }
 
-fn depth_behind(depth: u8, class: Class) -> u8
-    ensures { result ≡ spec.depth_behind depth class }
+fn depth_after(depth: u8, class: Class) -> u8
+    ensures { result ≡ spec.depth_after depth class }
 {
     match class {
         Class::Opening if depth < DEEPEST => depth + 1,
@@ -216,8 +216,8 @@ fn depth_behind(depth: u8, class: Class) -> u8
     }
 }
 
-fn in_layer_behind(was: bool, class: Class) -> bool
-    ensures { result ≡ spec.in_layer_behind was class }
+fn in_layer_after(was: bool, class: Class) -> bool
+    ensures { result ≡ spec.in_layer_after was class }
 {
     match class {
         Class::Layer => true,

@@ -5,16 +5,16 @@ ghost use Rattle.layer_ast.specs.Spelling as spelling;
 ghost use Rattle.format_mean.specs.Pieces as spec;
 
 /// How many bytes of a comment, of a word or number, or of a sign stand after its first.
-pub(crate) fn length_behind(first: u8, behind: &[u8]) -> usize
-    ensures count { result ≡ spec.length_behind first behind.now }
-    ensures within { result ≤ length behind.now }
+pub(crate) fn length_after(first: u8, following: &[u8]) -> usize
+    ensures count { result ≡ spec.length_after first following.now }
+    ensures within { result ≤ length following.now }
 {
     if first == b'#' {
-        comment_length(behind)
+        comment_length(following)
     } else if is_word_byte(first) {
-        word_length(behind)
+        word_length(following)
     } else {
-        sign_length(first, behind)
+        sign_length(first, following)
     }
 }
 
@@ -26,12 +26,12 @@ fn comment_length(bytes: &[u8]) -> usize
     let mut length = 0;
     let mut seen = 0;
     let mut rest = bytes;
-    while let Some((first, behind)) = rest.split_first() {
+    while let Some((first, following)) = rest.split_first() {
         if is_feed(*first) {
             return length;
         }
         seen += 1;
-        rest = behind;
+        rest = following;
         if is_blank(*first) {
             continue;
         }
@@ -49,11 +49,11 @@ fn word_length(bytes: &[u8]) -> usize
 }
 
 /// How many bytes of a sign stand after its first: one, where an equals sign makes one sign with it.
-fn sign_length(first: u8, behind: &[u8]) -> usize
-    ensures count { result ≡ spec.sign_length first behind.now }
-    ensures within { result ≤ length behind.now }
+fn sign_length(first: u8, following: &[u8]) -> usize
+    ensures count { result ≡ spec.sign_length first following.now }
+    ensures within { result ≤ length following.now }
 {
-    match behind.split_first() {
+    match following.split_first() {
         Some((second, _)) if doubles(first) && *second == b'=' => 1,
         _ => 0,
     }

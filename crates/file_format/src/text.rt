@@ -6,7 +6,7 @@ ghost use Rattle.outside.specs.Lines.{Wrote};
 ghost use Rattle.outside.specs.Tells.{tells_of};
 
 use crate::line::LineCursor;
-use crate::marks::{is_blank, is_feed, length_behind};
+use crate::marks::{is_blank, is_feed, length_after};
 use outside::{Sink, SinkError};
 use std::alloc::Global;
 
@@ -17,24 +17,24 @@ pub fn lay_out<O: Sink>(alloc: Global, text: &[u8], out: &mut O) -> Result<(), S
     let mut line = LineCursor::first(alloc);
     let mut feeds = 0;
     let mut rest = text;
-    while let Some((first, behind)) = rest.split_first() {
+    while let Some((first, following)) = rest.split_first() {
         if is_feed(*first) {
             feeds = more_feeds(feeds);
-            rest = behind;
+            rest = following;
             continue;
         }
         if is_blank(*first) {
-            rest = behind;
+            rest = following;
             continue;
         }
-        let more = length_behind(*first, behind);
+        let more = length_after(*first, following);
         let spelling = front(rest, more);
         match line.put(feeds, spelling, out) {
             Ok(()) => {}
             Err(error) => return Err(error),
         }
         feeds = 0;
-        let (_, after) = behind.split_at(more);
+        let (_, after) = following.split_at(more);
         rest = after;
     }
     line.finish(out)

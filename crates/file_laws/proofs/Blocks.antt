@@ -12,7 +12,7 @@ use Rattle.fault_mean.specs.Scope.{Local, Scope, Standing, locals_as, visible, s
 use Rattle.fault_mean.specs.TypeFaults.{row_type_faults, row_sorts, statement_type_faults}
 use Rattle.fault_mean.specs.Uses.{arguments_in, statement_uses}
 use Rattle.file_mean.specs.Names.{Names, with_numbers}
-use Rattle.file_mean.specs.Statements.{with_taken, after_block, behind_all, statements_of}
+use Rattle.file_mean.specs.Statements.{with_taken, after_block, after_all, statements_of}
 use Rattle.file_mean.specs.Layers.{layer_of}
 use Rattle.chain_laws.specs.Typed.{TypedAll}
 use Rattle.file_laws.specs.Literals.{LiteralStatement}
@@ -38,10 +38,10 @@ pub record Under (names : Names) (locals : List Local) (sorts : List Sort) : Typ
   pub free : Free sorts names.taken.messages
 
 -- after a block as before it, with more slots taken
-under_behind : (names inner : Names) (locals : List Local) (sorts : List Sort) →
+under_after : (names inner : Names) (locals : List Local) (sorts : List Sort) →
     names.taken.messages ≤ inner.taken.messages →
     Under names locals sorts → Under (after_block names inner) locals sorts
-under_behind names inner locals sorts more u = record {
+under_after names inner locals sorts more u = record {
   placed = u.placed;
   rows = u.rows;
   agree = u.agree;
@@ -66,7 +66,7 @@ Block names sorts xs = TypedAll (layer_of names.place) names.place.blank sorts (
 
 pub block_typed : (xs : ast.StatementTrees) (names : Names) (locals : List Local) (sorts : List Sort) →
     Under names locals sorts →
-    (behind_all xs names).taken.messages ≤ length sorts →
+    (after_all xs names).taken.messages ≤ length sorts →
     AllByRecursion Good (standing_in (record { layer = names.place.layer; locals = locals }) xs) →
     TypedAll (layer_of names.place) names.place.blank sorts (statements_of names xs)
 block_typed ast.none names locals sorts u bound h = tt
@@ -85,14 +85,14 @@ block_typed (ast.more (ast.push at q items otherwise) rest) names locals sorts u
     let faults = nils (row_type_faults scope at q (length args))
     (arguments_faults scope (row_sorts names.place.layer q) args) h.0.types in
     let parts = each_parts Good (standing_in scope otherwise) (standing_in scope rest) h.1 in
-    let inner = behind_all otherwise names in
+    let inner = after_all otherwise names in
     let later = after_block names inner in
     let end = (grows_all rest later).messages in (
       (
         push_is names locals sorts u.agree u.rows u.placed at q args faults.0 faults.1 h.0.literal.1,
         block_typed otherwise names locals sorts u (omega (arith, end, bound)) parts.0,
       ),
-      block_typed rest later locals sorts (under_behind names inner locals sorts (grows_all otherwise names).messages u)
+      block_typed rest later locals sorts (under_after names inner locals sorts (grows_all otherwise names).messages u)
           bound
           parts.1,
     )
@@ -102,9 +102,9 @@ block_typed (ast.more (ast.take at q new block otherwise) rest) names locals sor
     let inner = with_taken q fresh_names names in
     let further = locals_as (map (λ (i : ast.ItemTree). i.sort) (row_of names.place.layer (queue_name q).word))
     fresh_names in
-    let first = behind_all block inner in
+    let first = after_all block inner in
     let between = after_block names first in
-    let second = behind_all otherwise between in
+    let second = after_all otherwise between in
     let later = after_block names second in
     let outer = each_parts Good (standing_in (record { layer = names.place.layer; locals = locals ++ further }) block ++
     standing_in scope otherwise)
@@ -127,19 +127,19 @@ block_typed (ast.more (ast.take at q new block otherwise) rest) names locals sor
             (record { placed = u.placed; rows = u.rows; agree = taken.agree; free = taken.free })
             (omega (arith, two, end, bound, taken.same_length)) parts.0,
         block_typed otherwise between locals sorts
-            (under_behind names first locals sorts (omega (arith, zero_le, one)) u) (omega (arith, end, bound)) parts.1,
+            (under_after names first locals sorts (omega (arith, zero_le, one)) u) (omega (arith, end, bound)) parts.1,
       ),
-      block_typed rest later locals sorts (under_behind names second locals sorts (omega (arith, zero_le, one, two)) u)
+      block_typed rest later locals sorts (under_after names second locals sorts (omega (arith, zero_le, one, two)) u)
           bound outer.1,
     )
 block_typed (ast.more (ast.when at likely e block) rest) names locals sorts u bound h =
     let scope = scope_of names locals in
     let parts = each_parts Good (standing_in scope block) (standing_in scope rest) h.1 in
-    let inner = behind_all block names in
+    let inner = after_all block names in
     let later = after_block names inner in
     let end = (grows_all rest later).messages in (
       (block_typed block names locals sorts u (omega (arith, end, bound)) parts.0, tt),
-      block_typed rest later locals sorts (under_behind names inner locals sorts (grows_all block names).messages u)
+      block_typed rest later locals sorts (under_after names inner locals sorts (grows_all block names).messages u)
           bound
           parts.1,
     )
@@ -147,19 +147,19 @@ block_typed (ast.more (ast.choose at likely e block otherwise) rest) names local
     let scope = scope_of names locals in
     let outer = each_parts Good (standing_in scope block ++ standing_in scope otherwise) (standing_in scope rest) h.1 in
     let parts = each_parts Good (standing_in scope block) (standing_in scope otherwise) outer.0 in
-    let first = behind_all block names in
+    let first = after_all block names in
     let between = after_block names first in
-    let second = behind_all otherwise between in
+    let second = after_all otherwise between in
     let later = after_block names second in
     let one = (grows_all block names).messages in
     let two = (grows_all otherwise between).messages in
     let end = (grows_all rest later).messages in (
       (
         block_typed block names locals sorts u (omega (arith, two, end, bound)) parts.0,
-        block_typed otherwise between locals sorts (under_behind names first locals sorts one u)
+        block_typed otherwise between locals sorts (under_after names first locals sorts one u)
             (omega (arith, end, bound)) parts.1,
       ),
-      block_typed rest later locals sorts (under_behind names second locals sorts (omega (arith, one, two)) u) bound
+      block_typed rest later locals sorts (under_after names second locals sorts (omega (arith, one, two)) u) bound
           outer.1,
     )
 block_typed (ast.more (ast.each at name below most block) rest) names locals sorts u bound h =
@@ -167,7 +167,7 @@ block_typed (ast.more (ast.each at name below most block) rest) names locals sor
     let inside = scope_of names (locals ++ locals_as [] (name ∷ [])) in
     let parts = each_parts Good (standing_in inside block) (standing_in scope rest) h.1 in
     let inner = with_numbers (name ∷ []) names in
-    let first = behind_all block inner in
+    let first = after_all block inner in
     let later = after_block names first in
     let end = (grows_all rest later).messages in (
       (
@@ -175,7 +175,7 @@ block_typed (ast.more (ast.each at name below most block) rest) names locals sor
         block_typed block inner (locals ++ locals_as [] (name ∷ [])) sorts (under_number names locals sorts name u)
             (omega (arith, end, bound)) parts.0,
       ),
-      block_typed rest later locals sorts (under_behind names first locals sorts (grows_all block inner).messages u)
+      block_typed rest later locals sorts (under_after names first locals sorts (grows_all block inner).messages u)
           bound
           parts.1,
     )

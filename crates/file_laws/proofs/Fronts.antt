@@ -67,10 +67,10 @@ cond_some : (b : Bool) (x : ℕ) (rest : Option ℕ) → is_some rest ≡ true �
 cond_some true x rest h = refl
 cond_some false x rest h = h
 
-lookup_behind : (p : Word → Bool) (new old : List (Word × ℕ)) → is_some (lookup p old) ≡ true →
+lookup_after : (p : Word → Bool) (new old : List (Word × ℕ)) → is_some (lookup p old) ≡ true →
     is_some (lookup p (new ++ old)) ≡ true
-lookup_behind p [] old h = h
-lookup_behind p (x ∷ new) old h = cond_some (p x.0) x.1 (lookup p (new ++ old)) (lookup_behind p new old h)
+lookup_after p [] old h = h
+lookup_after p (x ∷ new) old h = cond_some (p x.0) x.1 (lookup p (new ++ old)) (lookup_after p new old h)
 
 cond_first : (b : Bool) (x : ℕ) (rest : Option ℕ) → b ≡ true → is_some (cond b (Some x) rest) ≡ true
 cond_first true x rest h = refl
@@ -105,11 +105,11 @@ seen_found numbers name Int h = h
 seen_found numbers name Msg h = tt
 seen_found numbers name Part h = tt
 
-seen_behind : (new old : List (Word × ℕ)) (name : Name) (sort : Sort) → SeenAs sort (lookup (bytes_eq name.word) old) →
+seen_after : (new old : List (Word × ℕ)) (name : Name) (sort : Sort) → SeenAs sort (lookup (bytes_eq name.word) old) →
     SeenAs sort (lookup (bytes_eq name.word) (new ++ old))
-seen_behind new old name Int h = lookup_behind (bytes_eq name.word) new old h
-seen_behind new old name Msg h = tt
-seen_behind new old name Part h = tt
+seen_after new old name Int h = lookup_after (bytes_eq name.word) new old h
+seen_after new old name Msg h = tt
+seen_after new old name Part h = tt
 
 pub seen_all : (numbers : List (Word × ℕ)) (sorts : List Sort) (new : List Name) → AllByRecursion (Found numbers) new →
     AllByRecursion (Seen numbers) (locals_as sorts new)
@@ -163,7 +163,7 @@ sees_numbers names locals further new h more = record {
       (λ x less. omega (arith, less)) names.numbers h.below);
   seen = each_append _ locals further
       (each_so (Seen names.numbers) (Seen (in_slots names.taken.numbers new ++ names.numbers))
-      (λ l is. seen_behind (in_slots names.taken.numbers new) names.numbers l.name l.sort is) locals h.seen) more;
+      (λ l is. seen_after (in_slots names.taken.numbers new) names.numbers l.name l.sort is) locals h.seen) more;
 }
 
 -- all new names are numbers

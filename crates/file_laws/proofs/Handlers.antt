@@ -25,14 +25,14 @@ use Rattle.fault_mean.specs.Forms.{declared_as, is_end, items_of, labels_of, fie
 use Rattle.fault_mean.specs.Kinds.{allows, arguments_of}
 use Rattle.fault_mean.specs.Limits.{capacity_in, messages_inside, numbers_beyond}
 use Rattle.fault_mean.specs.NameFaults as naming
-use Rattle.fault_mean.specs.Scope.{Local, Standing, layer_scope, visible, locals_as, popped_names, sort_behind}
+use Rattle.fault_mean.specs.Scope.{Local, Standing, layer_scope, visible, locals_as, popped_names, sort_after}
 use Rattle.fault_mean.specs.Scope.{head_names, argument_sorts, head_scope, handler_statements}
 use Rattle.fault_mean.specs.Scope.{handler_names as all_names}
 use Rattle.fault_mean.specs.Uses as using
 use Rattle.fault_mean.specs.TypeFaults.{pushes, with_faults, statement_type_faults, expected_type_faults, takes_off}
 use Rattle.fault_mean.specs.TypeFaults.{handler_type_faults, declaration_type_faults, layer_type_faults}
 use Rattle.file_mean.specs.Names.{Placed, own_names, tag_of}
-use Rattle.file_mean.specs.Statements.{behind_all, statements_of}
+use Rattle.file_mean.specs.Statements.{after_all, statements_of}
 use Rattle.file_mean.specs.Layers.{popped_tag, handler_names, handler_of, cell_in, layer_of}
 use Rattle.chain_laws.specs.Typed.{TypedAll, met_sorts, TypedHandler, TypedForm, TypedLayer}
 use Rattle.chain_laws.proofs.Lists.{Where, each_map}
@@ -99,7 +99,7 @@ handler_from : (p : Placed) (h : ast.HandlerTree) (sorts : List Sort) → Litera
 unfolding handler_of
 handler_from p h sorts placed rows met count agree good =
     let entry = handler_names p h in
-    let end = behind_all h.block entry in
+    let end = after_all h.block entry in
     let room = end.taken.messages - entry.taken.messages in
     subst (λ m. TypedAll (layer_of p) p.blank (with_room room Int m) (statements_of entry h.block)) (sym met)
     (block_typed h.block entry (head_scope p.layer h).locals (with_room room Int sorts)
@@ -142,7 +142,7 @@ headed_sort p x head = rw (head.listed, head.ends) refl
 
 popped_met : (p : Placed) (h : ast.HandlerTree) (dir : Dir) (popped : Option ast.PoppedTree) → h.direction ≡ dir →
     option_map_or (λ x. with_faults p.layer h.at x.name (length (popped_names (Some x))) (takes_off h)) popped [] ≡ [] →
-    met_sorts (layer_of p) dir true (popped_tag p popped) ≡ sort_behind p.layer popped ∷ []
+    met_sorts (layer_of p) dir true (popped_tag p popped) ≡ sort_after p.layer popped ∷ []
 popped_met p h Down None down faults = refl
 popped_met p h Down (Some x) down faults =
     let a = unless (declared_as is_header p.layer x.name.word) (kind h.at) in
@@ -195,7 +195,7 @@ bare_entry p h is = record {
   agree = rw is (agree_numbers [] [] (head_scope p.layer h).locals [] (both_numbers
       (locals_as (argument_sorts p.layer h) (names_in (Some h.names))) (locals_as [] (popped_names h.popped))
       (ints_are_numbers (argument_sorts p.layer h) (names_in (Some h.names))
-      (no_messages h.kind (sort_behind p.layer h.popped) is))
+      (no_messages h.kind (sort_after p.layer h.popped) is))
       (locals_are_numbers (popped_names h.popped))) (λ word. tt));
 }
 
@@ -206,7 +206,7 @@ message_entry : (p : Placed) (h : ast.HandlerTree) (first : Name) (rest : List N
     [] → Entry p h
 message_entry p h first [] names is two faults = absurd (omega (arith, two))
 message_entry p h first (m ∷ []) names is two faults =
-    let s = sort_behind p.layer h.popped in
+    let s = sort_after p.layer h.popped in
     let args : argument_sorts p.layer h ≡ Int ∷ s ∷ [] =
     ap (map (λ wanted. if allows wanted Msg then s else Int)) (kind_arguments h.kind is) in
     record {

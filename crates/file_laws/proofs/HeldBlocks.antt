@@ -23,7 +23,7 @@ use Rattle.fault_mean.specs.Forms.{declared_as, fields_of, queue_name, row_of}
 use Rattle.fault_mean.specs.Declared.{is_header}
 use Rattle.fault_mean.specs.Kinds.{a_number, arguments_of}
 use Rattle.fault_mean.specs.ExpressionFaults.{argument_faults, arguments_faults, number_faults, queue_faults}
-use Rattle.fault_mean.specs.Scope.{Local, Scope, Standing, declared_names, layer_scope, locals_as, scope_behind}
+use Rattle.fault_mean.specs.Scope.{Local, Scope, Standing, declared_names, layer_scope, locals_as, scope_after}
 use Rattle.fault_mean.specs.Scope.{standing_in}
 use Rattle.fault_mean.specs.Scope.{standing_inside, taken_scope, with_locals}
 use Rattle.fault_mean.specs.Sorts.{size_at}
@@ -32,7 +32,7 @@ use Rattle.fault_mean.specs.TypeFaults.{row_type_faults, row_sorts, size_type_fa
 use Rattle.fault_mean.specs.Uses.{arguments_in}
 use Rattle.file_mean.specs.Names.{Names, Placed, capacity_declared, message_among, numbers_among, tag_of, with_numbers}
 use Rattle.file_mean.specs.Values.{argument_message, argument_number, queue_carries, queue_row}
-use Rattle.file_mean.specs.Statements.{after_block, behind, behind_all, emission_of, pushed_fields, pushed_tag}
+use Rattle.file_mean.specs.Statements.{after_block, following, after_all, emission_of, pushed_fields, pushed_tag}
 use Rattle.file_mean.specs.Statements.{statements_of, with_taken}
 use Rattle.file_laws.proofs.Lists.{nils, each_parts, unless_nil}
 use Rattle.file_laws.proofs.NamedBlocks.{range_below}
@@ -56,7 +56,7 @@ both xs ys =
 
 mutual
   adds : (x : ast.StatementTree) (names : Names) (scope : Scope) →
-      total (behind x names) ≡ total names + length (declared_names x) + declared_in (standing_inside scope x)
+      total (following x names) ≡ total names + length (declared_names x) + declared_in (standing_inside scope x)
   adds (ast.bind at name e) names scope = omega arith
   adds (ast.set at name index e) names scope = omega arith
   adds (ast.set_square at name row column e) names scope = omega arith
@@ -66,13 +66,13 @@ mutual
       let inside = taken_scope scope q new in
       let parts = split (is_some (queue_carries names q)) (names_in (Some new)) in
       let one = adds_all block inner inside in
-      let two = adds_all otherwise (after_block names (behind_all block inner)) scope in
+      let two = adds_all otherwise (after_block names (after_all block inner)) scope in
       let sum = both (standing_in inside block) (standing_in scope otherwise) in
       omega (arith, parts, one, two, sum)
   adds (ast.when at likely e block) names scope = let one = adds_all block names scope in omega (arith, one)
   adds (ast.choose at likely e block otherwise) names scope =
       let one = adds_all block names scope in
-      let two = adds_all otherwise (after_block names (behind_all block names)) scope in
+      let two = adds_all otherwise (after_block names (after_all block names)) scope in
       let sum = both (standing_in scope block) (standing_in scope otherwise) in
       omega (arith, one, two, sum)
   adds (ast.each at name below most block) names scope =
@@ -80,19 +80,19 @@ mutual
       omega (arith, one)
   adds (ast.emit at dir k arguments pushed) names scope = omega arith
 
-  pub adds_all : (xs : ast.StatementTrees) (names : Names) (scope : Scope) → total (behind_all xs names) ≡
+  pub adds_all : (xs : ast.StatementTrees) (names : Names) (scope : Scope) → total (after_all xs names) ≡
       total names + declared_in (standing_in scope xs)
   adds_all ast.none names scope = omega arith
   adds_all (ast.more x rest) names scope =
       let one = adds x names scope in
-      let two = adds_all rest (behind x names) (scope_behind scope x) in
+      let two = adds_all rest (following x names) (scope_after scope x) in
       let own = length-append (declared_names x)
       (flat_map (λ (s : Standing). declared_names s.statement)
-      (standing_inside scope x ++ standing_in (scope_behind scope x) rest)) in
-      let sum = both (standing_inside scope x) (standing_in (scope_behind scope x) rest) in
+      (standing_inside scope x ++ standing_in (scope_after scope x) rest)) in
+      let sum = both (standing_inside scope x) (standing_in (scope_after scope x) rest) in
       omega (arith, one, two, own, sum)
 
-grows : (xs : ast.StatementTrees) (names : Names) → total names ≤ total (behind_all xs names)
+grows : (xs : ast.StatementTrees) (names : Names) → total names ≤ total (after_all xs names)
 grows xs names = let sum = adds_all xs names (layer_scope names.place.layer) in omega (arith, sum)
 
 -- what is known of all that a layer declares
@@ -181,7 +181,7 @@ slot_held k None few = tt
 slot_held k (Some carried) few = omega (arith, few)
 
 pub block_held : (xs : ast.StatementTrees) (names : Names) (locals : List Local) → Bounded names.place →
-    total (behind_all xs names) ≤ 64 →
+    total (after_all xs names) ≤ 64 →
     AllByRecursion (Clean names.place) (standing_in (record { layer = names.place.layer; locals = locals }) xs) →
     HoldsBlock (statements_of names xs)
 block_held ast.none names locals b few h = tt
@@ -196,7 +196,7 @@ block_held (ast.more (ast.set_square at name row column e) rest) names locals b 
 block_held (ast.more (ast.push at q items otherwise) rest) names locals b few h =
     let scope : Scope = record { layer = names.place.layer; locals = locals } in
     let args = arguments_in (Some items) in
-    let inner = behind_all otherwise names in
+    let inner = after_all otherwise names in
     let later = after_block names inner in
     let end = grows rest later in
     let faults = nils (row_type_faults scope at q (length args))
@@ -222,8 +222,8 @@ block_held (ast.more (ast.take at q new block otherwise) rest) names locals b fe
     let further = locals_as (map (λ (i : ast.ItemTree). i.sort) (queue_row names q)) fresh in
     let inside : Scope = record { layer = names.place.layer; locals = locals ++ further } in
     let inner = with_taken q fresh names in
-    let between = after_block names (behind_all block inner) in
-    let later = after_block names (behind_all otherwise between) in
+    let between = after_block names (after_all block inner) in
+    let later = after_block names (after_all otherwise between) in
     let one = grows block inner in
     let two = grows otherwise between in
     let end = grows rest later in
@@ -241,7 +241,7 @@ block_held (ast.more (ast.take at q new block otherwise) rest) names locals b fe
     )
 block_held (ast.more (ast.when at likely e block) rest) names locals b few h =
     let scope : Scope = record { layer = names.place.layer; locals = locals } in
-    let later = after_block names (behind_all block names) in
+    let later = after_block names (after_all block names) in
     let end = grows rest later in
     let parts = each_parts (Clean names.place) (standing_in scope block) (standing_in scope rest) h.1 in (
       (block_held block names locals b (omega (arith, end, few)) parts.0, tt),
@@ -249,8 +249,8 @@ block_held (ast.more (ast.when at likely e block) rest) names locals b few h =
     )
 block_held (ast.more (ast.choose at likely e block otherwise) rest) names locals b few h =
     let scope : Scope = record { layer = names.place.layer; locals = locals } in
-    let between = after_block names (behind_all block names) in
-    let later = after_block names (behind_all otherwise between) in
+    let between = after_block names (after_all block names) in
+    let later = after_block names (after_all otherwise between) in
     let two = grows otherwise between in
     let end = grows rest later in
     let outer = each_parts (Clean names.place) (standing_in scope block ++ standing_in scope otherwise)
@@ -266,7 +266,7 @@ block_held (ast.more (ast.each at name below most block) rest) names locals b fe
     let scope : Scope = record { layer = names.place.layer; locals = locals } in
     let inside : Scope = record { layer = names.place.layer; locals = locals ++ locals_as [] (name ∷ []) } in
     let inner = with_numbers (name ∷ []) names in
-    let later = after_block names (behind_all block inner) in
+    let later = after_block names (after_all block inner) in
     let one = grows block inner in
     let end = grows rest later in
     let faults = nils (number_faults scope below) (size_type_faults names.place.layer (size_at most) most) h.0.0 in

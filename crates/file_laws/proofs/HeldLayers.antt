@@ -19,7 +19,7 @@ use Rattle.fault_mean.specs.Uses.{of_name}
 use Rattle.file_mean.specs.Layers.{handler_names, handler_of, popped_tag}
 use Rattle.file_mean.specs.Names.{Placed, capacity_declared, numbers_among}
 use Rattle.file_mean.specs.Stack.{blank_above}
-use Rattle.file_mean.specs.Statements.{behind_all}
+use Rattle.file_mean.specs.Statements.{after_all}
 use Rattle.file_laws.proofs.Lists.{nils, each_nil, each_both, find_where, map_nil}
 use Rattle.file_laws.proofs.NamedLayers.{Declared, Handled, Parts, handler_clean, layer_parts, size_is}
 use Rattle.file_laws.proofs.Files.{NamesLayer, file_parts, sizes_within}
@@ -117,7 +117,7 @@ handler_held p h b is =
     let numbers = length-append (numbers_among (carries h.kind) new) (popped_names h.popped) in
     let parts = split (carries h.kind) new in
     let sum = adds_all h.block entry (head_scope p.layer h) in
-    let end : total (behind_all h.block entry) ≤ 64 = omega (arith, few, head, all, numbers, parts, sum) in
+    let end : total (after_all h.block entry) ≤ 64 = omega (arith, few, head, all, numbers, parts, sum) in
     record {
       head = omega (arith, few, all);
       tag = popped_held p h.popped b;

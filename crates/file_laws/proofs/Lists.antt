@@ -97,9 +97,9 @@ first_stood p x kept made y true (Some z) is made_is here =
     record { below = rw here (omega arith); listed = rw here made_is }
 first_stood p x kept made y false o is made_is here = absurd (cc is)
 
-listed_behind : {B : Type 0} (z : B) (made : List B) (n : ℕ) (y : B) → slice_get made n ≡ Some y →
+listed_after : {B : Type 0} (z : B) (made : List B) (n : ℕ) (y : B) → slice_get made n ≡ Some y →
     slice_get (z ∷ made) (1 + n) ≡ Some y
-listed_behind z made n y h = let e : suc n ≡ 1 + n = omega arith in subst (λ k. slice_get (z ∷ made) k ≡ Some y) e h
+listed_after z made n y h = let e : suc n ≡ 1 + n = omega arith in subst (λ k. slice_get (z ∷ made) k ≡ Some y) e h
 
 more_stood : {A B : Type 0} (p : A → Bool) (x : A) (kept : List A) (made : List B) (y : B) (c : Bool) (o : Option B) →
     is_some o ≡ c →
@@ -109,7 +109,7 @@ more_stood p x kept made y true (Some z) same other h =
     record {
       below = rw other (omega (arith, h.below));
       listed =
-          rw other (listed_behind z made (position_or_len p kept) y h.listed);
+          rw other (listed_after z made (position_or_len p kept) y h.listed);
     }
 more_stood p x kept made y false None same other h = h
 more_stood p x kept made y false (Some z) same other h = absurd (cc same)

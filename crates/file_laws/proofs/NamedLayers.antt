@@ -23,7 +23,7 @@ use Rattle.fault_mean.specs.Faults.{kind, arity, direction, initial, twice, too_
 use Rattle.fault_mean.specs.Forms.{declared_as, is_numbers, is_end, fields_of, queue_name, items_of, labels_of}
 use Rattle.fault_mean.specs.Kinds.{allows, arguments_of}
 use Rattle.fault_mean.specs.NameFaults as naming
-use Rattle.fault_mean.specs.Scope.{Local, Scope, Standing, layer_scope, locals_as, popped_names, sort_behind}
+use Rattle.fault_mean.specs.Scope.{Local, Scope, Standing, layer_scope, locals_as, popped_names, sort_after}
 use Rattle.fault_mean.specs.Scope.{argument_sorts, head_scope, handler_statements, standing_in, visible}
 use Rattle.fault_mean.specs.Scope.{declared_names as brought_by, head_names, handler_names as all_names}
 use Rattle.fault_mean.specs.Scope.{layer_statements}
@@ -35,7 +35,7 @@ use Rattle.fault_mean.specs.TypeFaults.{statement_type_faults, expected_type_fau
 use Rattle.fault_mean.specs.TypeFaults.{declaration_type_faults, layer_type_faults}
 use Rattle.file_mean.specs.Names.{Names, Placed, own_names, in_slots, numbers_among, with_numbers, size_value}
 use Rattle.file_mean.specs.Values.{queue_row, queue_carries, number_of}
-use Rattle.file_mean.specs.Statements.{with_taken, after_block, behind_all, statements_of}
+use Rattle.file_mean.specs.Statements.{with_taken, after_block, after_all, statements_of}
 use Rattle.file_mean.specs.Layers.{popped_tag, expected_of, handler_names, handler_of, cell_in, layer_of}
 use Rattle.layer_ast.specs.declared.names.At.{At}
 use Rattle.fault_mean.specs.Limits.{LimitedSize, capacity_in, is_within, maximum_in, number_outside, sizes_in}
@@ -110,10 +110,10 @@ abbrev scope_of : Names → List Local → Scope
 scope_of names locals = record { layer = names.place.layer; locals = locals }
 
 -- after a block as before it
-sees_behind : (names inner : Names) (locals : List Local) → names.taken.numbers ≤ inner.taken.numbers →
+sees_after : (names inner : Names) (locals : List Local) → names.taken.numbers ≤ inner.taken.numbers →
     Sees names locals →
     Sees (after_block names inner) locals
-sees_behind names inner locals more h = record {
+sees_after names inner locals more h = record {
   below = each_so (λ x. x.1 < names.taken.numbers) (λ x. x.1 < inner.taken.numbers)
       (λ x less. omega (arith, less, more)) names.numbers h.below;
   seen = h.seen;
@@ -131,7 +131,7 @@ taken_sees names locals q new h same =
 
 block_named : (xs : ast.StatementTrees) (names : Names) (locals : List Local) (slots : ℕ) → Sees names locals →
     LastMessages names.place.layer →
-    (behind_all xs names).taken.numbers ≤ slots →
+    (after_all xs names).taken.numbers ≤ slots →
     AllByRecursion (Clean names.place) (standing_in (record { layer = names.place.layer; locals = locals }) xs) →
     NamedAll (layer_of names.place) slots (statements_of names xs)
 block_named ast.none names locals slots sees last bound h = tt
@@ -192,7 +192,7 @@ block_named (ast.more (ast.set_square at name row column e) rest) names locals s
 block_named (ast.more (ast.push at q items otherwise) rest) names locals slots sees last bound h =
     let scope = scope_of names locals in
     let args = arguments_in (Some items) in
-    let inner = behind_all otherwise names in
+    let inner = after_all otherwise names in
     let later = after_block names inner in
     let one = (grows_all otherwise names).numbers in
     let end = (grows_all rest later).numbers in
@@ -212,16 +212,16 @@ block_named (ast.more (ast.push at q items otherwise) rest) names locals slots s
         row_is.1,
         block_named otherwise names locals slots sees last (omega (arith, end, bound)) parts.0,
       ),
-      block_named rest later locals slots (sees_behind names inner locals one sees) last bound parts.1,
+      block_named rest later locals slots (sees_after names inner locals one sees) last bound parts.1,
     )
 block_named (ast.more (ast.take at q new block otherwise) rest) names locals slots sees last bound h =
     let scope = scope_of names locals in
     let fresh = names_in (Some new) in
     let inner = with_taken q fresh names in
     let further = locals_as (map (λ (i : ast.ItemTree). i.sort) (queue_row names q)) fresh in
-    let first = behind_all block inner in
+    let first = after_all block inner in
     let between = after_block names first in
-    let second = behind_all otherwise between in
+    let second = after_all otherwise between in
     let later = after_block names second in
     let zero_le = (grows (ast.take at q new ast.none ast.none) names).numbers in
     let one = (grows_all block inner).numbers in
@@ -245,15 +245,15 @@ block_named (ast.more (ast.take at q new block otherwise) rest) names locals slo
             (omega (arith, one, two, end, bound)),
         block_named block inner (locals ++ further) slots (taken_sees names locals q fresh sees count) last
             (omega (arith, two, end, bound)) parts.0,
-        block_named otherwise between locals slots (sees_behind names first locals (omega (arith, zero_le, one)) sees)
+        block_named otherwise between locals slots (sees_after names first locals (omega (arith, zero_le, one)) sees)
             last (omega (arith, end, bound)) parts.1,
       ),
-      block_named rest later locals slots (sees_behind names second locals (omega (arith, zero_le, one, two)) sees) last
+      block_named rest later locals slots (sees_after names second locals (omega (arith, zero_le, one, two)) sees) last
           bound outer.1,
     )
 block_named (ast.more (ast.when at likely e block) rest) names locals slots sees last bound h =
     let scope = scope_of names locals in
-    let inner = behind_all block names in
+    let inner = after_all block names in
     let later = after_block names inner in
     let one = (grows_all block names).numbers in
     let end = (grows_all rest later).numbers in
@@ -263,13 +263,13 @@ block_named (ast.more (ast.when at likely e block) rest) names locals slots sees
         block_named block names locals slots sees last (omega (arith, end, bound)) parts.0,
         tt,
       ),
-      block_named rest later locals slots (sees_behind names inner locals one sees) last bound parts.1,
+      block_named rest later locals slots (sees_after names inner locals one sees) last bound parts.1,
     )
 block_named (ast.more (ast.choose at likely e block otherwise) rest) names locals slots sees last bound h =
     let scope = scope_of names locals in
-    let first = behind_all block names in
+    let first = after_all block names in
     let between = after_block names first in
-    let second = behind_all otherwise between in
+    let second = after_all otherwise between in
     let later = after_block names second in
     let one = (grows_all block names).numbers in
     let two = (grows_all otherwise between).numbers in
@@ -280,17 +280,17 @@ block_named (ast.more (ast.choose at likely e block otherwise) rest) names local
       (
         number_named names locals slots sees (omega (arith, one, two, end, bound)) e h.0.0,
         block_named block names locals slots sees last (omega (arith, two, end, bound)) parts.0,
-        block_named otherwise between locals slots (sees_behind names first locals one sees) last
+        block_named otherwise between locals slots (sees_after names first locals one sees) last
             (omega (arith, end, bound)) parts.1,
       ),
-      block_named rest later locals slots (sees_behind names second locals (omega (arith, one, two)) sees) last bound
+      block_named rest later locals slots (sees_after names second locals (omega (arith, one, two)) sees) last bound
           outer.1,
     )
 block_named (ast.more (ast.each at name below most block) rest) names locals slots sees last bound h =
     let scope = scope_of names locals in
     let inside = scope_of names (locals ++ locals_as [] (name ∷ [])) in
     let inner = with_numbers (name ∷ []) names in
-    let first = behind_all block inner in
+    let first = after_all block inner in
     let later = after_block names first in
     let one = (grows_all block inner).numbers in
     let end = (grows_all rest later).numbers in
@@ -303,7 +303,7 @@ block_named (ast.more (ast.each at name below most block) rest) names locals slo
         block_named block inner (locals ++ locals_as [] (name ∷ [])) slots (sees_all names locals [] (name ∷ []) sees)
             last (omega (arith, end, bound)) parts.0,
       ),
-      block_named rest later locals slots (sees_behind names first locals (omega (arith, one)) sees) last bound parts.1,
+      block_named rest later locals slots (sees_after names first locals (omega (arith, one)) sees) last bound parts.1,
     )
 block_named (ast.more (ast.emit at dir k arguments pushed) rest) names locals slots sees last bound h =
     let end = (grows_all rest names).numbers in (
@@ -314,10 +314,10 @@ block_named (ast.more (ast.emit at dir k arguments pushed) rest) names locals sl
 
 -- handlers
 
-behind_message : (layer : ast.LayerTree) (popped : Option ast.PoppedTree) →
-    IsMessageSort (Some (sort_behind layer popped))
-behind_message layer None = tt
-behind_message layer (Some x) = go (declared_as is_end layer x.name.word) where
+after_message : (layer : ast.LayerTree) (popped : Option ast.PoppedTree) →
+    IsMessageSort (Some (sort_after layer popped))
+after_message layer None = tt
+after_message layer (Some x) = go (declared_as is_end layer x.name.word) where
   go : (b : Bool) → IsMessageSort (Some (if b then Part else Msg))
   go true = tt
   go false = tt
@@ -326,9 +326,9 @@ head_last : (layer : ast.LayerTree) (h : ast.HandlerTree) (b : Bool) → carries
     LastSort b (argument_sorts layer h)
 head_last layer h false is = tt
 head_last layer h true is =
-    subst (λ wanted. LastSort true (map (λ w. if allows w Msg then sort_behind layer h.popped else Int) wanted))
+    subst (λ wanted. LastSort true (map (λ w. if allows w Msg then sort_after layer h.popped else Int) wanted))
     (sym (kind_arguments h.kind is))
-    (behind_message layer h.popped)
+    (after_message layer h.popped)
 
 head_seen : (numbers : List (Word × ℕ)) (sorts : List Sort) (new : List Name) (b : Bool) → length sorts ≡ length new →
     LastSort b sorts →
@@ -346,7 +346,7 @@ head_sees p h count =
     let numbers = in_slots 0 (kept ++ fields) ++ [] in
     let all = each_parts (Found numbers) kept fields (found_new 0 (kept ++ fields) []) in
     let same : length (argument_sorts p.layer h) ≡ length new =
-    length-map (arguments_of h.kind) (λ wanted. if allows wanted Msg then sort_behind p.layer h.popped else Int) ∙
+    length-map (arguments_of h.kind) (λ wanted. if allows wanted Msg then sort_after p.layer h.popped else Int) ∙
     sym count in
     let is = sees_numbers (own_names p) [] (head_scope p.layer h).locals (kept ++ fields)
     (record { below = tt; seen = tt })
@@ -438,7 +438,7 @@ unfolding handler_of
 handler_named p h last is =
     let head = handler_head p h is in
     let entry = handler_names p h in
-    let end = behind_all h.block entry in
+    let end = after_all h.block entry in
     let sees = head_sees p h head.names_are in
     let kept = numbers_among (carries h.kind) (names_in (Some h.names)) in
     let fields = popped_names h.popped in

@@ -17,7 +17,7 @@ use Rattle.layer_ast.specs.declared.syntax.Likely.{Likely}
 use Rattle.layer_ast.specs.declared.syntax.Likely.TheVariants as likely_word
 use Rattle.layer_ast.specs.declared.syntax.Shape.{Shape}
 use Rattle.layer_ast.specs.declared.syntax.Shape.TheVariants.{One, Array, Square}
-use Rattle.layer_ast.specs.Cut.{Piece, gap, one, bad, word_piece, number_piece, symbol_piece, piece, place_behind}
+use Rattle.layer_ast.specs.Cut.{Piece, gap, one, bad, word_piece, number_piece, symbol_piece, piece, place_after}
 use Rattle.layer_ast.specs.Cut.{Tokens, is_numeral, with_piece, cut_from, text_tokens}
 use Rattle.layer_ast.specs.Print as print
 use Rattle.layer_ast.specs.Printed.{Printed}
@@ -29,7 +29,7 @@ use Rattle.layer_ast.specs.Tree.{ArgumentsTree, PoppedTree, PushedTree, SizeTree
 use Rattle.layer_ast.specs.Tree.{Expected, HandlerTree, ItemTree, ItemsTree, DeclarationTree, LayerTree, GivenTree}
 use Rattle.layer_ast.specs.Tree.{PlaceTree, FileTree}
 use Rattle.packet_mean.specs.ChainedState.{IsNumber}
-use Rattle.fault_mean.specs.Scope.{Scope, Standing, head_scope, scope_behind, taken_scope, with_locals, locals_as}
+use Rattle.fault_mean.specs.Scope.{Scope, Standing, head_scope, scope_after, taken_scope, with_locals, locals_as}
 use Rattle.fault_mean.specs.Scope.{standing_inside, standing_in}
 use Rattle.fault_mean.specs.Uses.{arguments_in}
 use Rattle.file_mean.specs.Library.{SpellsLayer}
@@ -48,7 +48,7 @@ SmallToken (token.Number n) = IsNumber n
 SmallToken _ = Unit {0}
 
 abbrev SmallPiece : Piece → Type 0
-SmallPiece (one t behind) = SmallToken t
+SmallPiece (one t following) = SmallToken t
 SmallPiece _ = Unit {0}
 
 abbrev Lexes : List Lexed → Type 0
@@ -83,30 +83,30 @@ number_small b bs = let n : ℕ = prefix_len is_ascii_digit bs in
     (λ e. let le : number_of (b ∷ take n bs) ≤ 4294967295 = leb-true (number_of (b ∷ take n bs)) 4294967295 e in
     omega (arith, le)) tt)
 
-piece_small : (behind_number : Bool) (b : ℕ) (bs : List ℕ) → SmallPiece (piece behind_number b bs)
+piece_small : (after_number : Bool) (b : ℕ) (bs : List ℕ) → SmallPiece (piece after_number b bs)
 unfolding piece
-piece_small behind_number b bs = either_piece (is_blank b) (gap 0) _ (λ _. tt)
+piece_small after_number b bs = either_piece (is_blank b) (gap 0) _ (λ _. tt)
     (either_piece (nat_eq b 35) (gap (prefix_len (λ c. not (nat_eq c 10)) bs)) _ (λ _. tt)
-    (either_piece (is_ascii_alphabetic b) (if behind_number then bad else word_piece b bs) _
-    (λ _. either_piece behind_number bad (word_piece b bs) (λ _. tt)
+    (either_piece (is_ascii_alphabetic b) (if after_number then bad else word_piece b bs) _
+    (λ _. either_piece after_number bad (word_piece b bs) (λ _. tt)
     (either_piece (nat_le (prefix_len is_word_byte bs) 31)
     (one (word_token (b ∷ take (prefix_len is_word_byte bs) bs)) (prefix_len is_word_byte bs)) bad
     (λ _. word_small (b ∷ take (prefix_len is_word_byte bs) bs)) tt))
     (either_piece (is_ascii_digit b) (number_piece b bs) (symbol_piece (b ∷ bs)) (λ _. number_small b bs)
     (symbol_small (symbol_at (b ∷ bs))))))
 
-behind_piece : (p : Piece) (at : At) (rest : Bool → ℕ → Tokens) → SmallPiece p →
+after_piece : (p : Piece) (at : At) (rest : Bool → ℕ → Tokens) → SmallPiece p →
     ((b : Bool) (n : ℕ) → Lexes (rest b n).tokens) →
     Lexes (with_piece p at rest).tokens
-behind_piece (gap behind) at rest h all = all false behind
-behind_piece (one t behind) at rest h all = (h, all (is_numeral t) behind)
-behind_piece bad at rest h all = tt
+after_piece (gap following) at rest h all = all false following
+after_piece (one t following) at rest h all = (h, all (is_numeral t) following)
+after_piece bad at rest h all = tt
 
 cut_small : (b : Bool) (inside : ℕ) (bs : List ℕ) (at : At) → Lexes (cut_from b inside bs at).tokens
 cut_small b inside [] at = tt
-cut_small b zero (x ∷ bs) at = behind_piece (piece b x bs) at _ (piece_small b x bs)
-    (λ number behind. cut_small number behind bs (place_behind x at))
-cut_small b (suc inside) (x ∷ bs) at = cut_small b inside bs (place_behind x at)
+cut_small b zero (x ∷ bs) at = after_piece (piece b x bs) at _ (piece_small b x bs)
+    (λ number following. cut_small number following bs (place_after x at))
+cut_small b (suc inside) (x ∷ bs) at = cut_small b inside bs (place_after x at)
 
 -- printed tokens are those of a text
 
@@ -282,8 +282,8 @@ mutual
   block_said tree.none scope k h = (tt, h)
   block_said (tree.more x rest) scope k h =
       let a = statement_said x scope _ h in
-      let b = block_said rest (scope_behind scope x) k a.2 in
-      ((a.0, each_append _ (standing_inside scope x) (standing_in (scope_behind scope x) rest) a.1 b.0), b.1)
+      let b = block_said rest (scope_after scope x) k a.2 in
+      ((a.0, each_append _ (standing_inside scope x) (standing_in (scope_after scope x) rest) a.1 b.0), b.1)
 
 popped_said : (p : Option PoppedTree) (k : List Printed) → Said (print.popped p k) → Said k
 popped_said None k h = h

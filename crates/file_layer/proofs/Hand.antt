@@ -15,7 +15,7 @@ use Rattle.pool_message.specs.declared.message.PoolMessage.{PoolMessage}
 use Rattle.pool_message.proofs.Stays.{message_stays}
 use Rattle.file_layer.specs.Stock.{Stock, laid, StockLies}
 use Rattle.file_layer.specs.Steps.{InPool, TakesOut}
-use Rattle.file_layer.proofs.Lists.{all-append, all-front, all-behind, last_first}
+use Rattle.file_layer.proofs.Lists.{all-append, all-front, all-following, last_first}
 use Rattle.file_layer.proofs.Parts.{hand_out}
 use Rattle.file_layer.proofs.Steps.{rest_stays, stepped}
 
@@ -115,7 +115,7 @@ module _ (b : Begun) (p : List Held) (s : Stock) (is : InPool b p s) where
       InPool b p (record s { hand = rest ++ y ∷ [] }) ×
       (laid p (record s { hand = rest ++ y ∷ [] }) ≡ front_changed f (laid p s))
   changed_step f rest x y at made =
-      let lies = all-behind (Lies p) rest (x ∷ []) (subst (AllByRecursion (Lies p)) at is.lies.hand) in
+      let lies = all-following (Lies p) rest (x ∷ []) (subst (AllByRecursion (Lies p)) at is.lies.hand) in
       let same : refs x ++ [] ≡ refs y ++ [] = ap (λ r. r ++ []) (sym made.slots) in
       let step = hand_step b p p s is rest (x ∷ []) (y ∷ []) at
       (subst (Moved p p (refs x ++ [])) same (moved-same p (refs x ++ []))) (made.lies p lies.0, tt) in

@@ -19,9 +19,9 @@ module _ {A : Type 0} (P : A → Type 0) where
   all-front [] ys a = tt
   all-front (x ∷ xs) ys a = (a.0, all-front xs ys a.1)
 
-  pub all-behind : (xs ys : List A) → AllByRecursion P (xs ++ ys) → AllByRecursion P ys
-  all-behind [] ys a = a
-  all-behind (x ∷ xs) ys a = all-behind xs ys a.1
+  pub all-following : (xs ys : List A) → AllByRecursion P (xs ++ ys) → AllByRecursion P ys
+  all-following [] ys a = a
+  all-following (x ∷ xs) ys a = all-following xs ys a.1
 
   pub all-set : (xs : List A) (k : ℕ) (x : A) → AllByRecursion P xs → P x → AllByRecursion P (set xs k x)
   all-set [] k x a one = tt

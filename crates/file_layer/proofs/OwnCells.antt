@@ -312,8 +312,8 @@ pub room_kept : (k : Kept PoolRow) (c i : ℕ) →
     keeps_room k c i (kept_capacity k c) ≡ true
 room_kept k c i room = sym (room_seen (row_seen []) k c i (kept_capacity k c)) ∙ room []
 
-pub room_behind : (k : Kept PoolRow) (c i : ℕ) (o : Option PoolRow) →
+pub room_after : (k : Kept PoolRow) (c i : ℕ) (o : Option PoolRow) →
     IfSome o (λ row. keeps_room k c i (kept_capacity k c) ≡ true) →
     IfSome o (λ row. (p : List Held) → has_room (state_of (row_seen p) k) c i (kept_capacity k c) ≡ true)
-room_behind k c i None room = tt
-room_behind k c i (Some row) room = λ p. room_seen (row_seen p) k c i (kept_capacity k c) ∙ room
+room_after k c i None room = tt
+room_after k c i (Some row) room = λ p. room_seen (row_seen p) k c i (kept_capacity k c) ∙ room

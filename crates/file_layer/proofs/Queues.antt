@@ -29,7 +29,7 @@ use Rattle.pool_message.proofs.Stays.{message_stays}
 use Rattle.file_layer.specs.Stock.{Stock, laid, StockLies}
 use Rattle.file_layer.specs.Steps.{InPool, TakesOut}
 use Rattle.file_layer.proofs.Hand.{laid_top}
-use Rattle.file_layer.proofs.Lists.{all-append, all-front, all-behind, all-set, item_there, set-set}
+use Rattle.file_layer.proofs.Lists.{all-append, all-front, all-following, all-set, item_there, set-set}
 use Rattle.file_layer.proofs.Parts.{none_out, both_out, hand_out, message_out, kept_out}
 use Rattle.file_layer.proofs.Rows.{last_times, first_times, rows_lie, rows_set_lie}
 use Rattle.file_layer.proofs.Steps.{covered, rest_stays, stepped}
@@ -153,7 +153,7 @@ module _ (b : Begun) (p : List Held) (s : Stock) (is : InPool b p s) (c i : ℕ)
         sent = is.lies.sent;
       } in
       let step = queued_step (record s { hand = rest }) (refs m) out left within
-      (record { numbers = ns; message = Some m }) refl (all-behind (Lies p) rest (m ∷ []) lie).0 in
+      (record { numbers = ns; message = Some m }) refl (all-following (Lies p) rest (m ∷ []) lie).0 in
       let before : laid p s ≡ lifted (content_seen p m) (laid p (record s { hand = rest })) =
       ap (λ hand. laid p (record s { hand = hand })) at ∙ laid_top p s rest m in
       (step.0, step.1 ∙ ap (queued_first c i ns) (sym before))

@@ -19,7 +19,7 @@ use Rattle.pool_message.specs.declared.message.PoolMessage.{PoolMessage}
 use Rattle.file_layer.specs.Stock.{Stock, stock_refs, laid}
 use Rattle.file_layer.specs.Steps.{InPool}
 use Rattle.file_layer.specs.Fits.{IsShort, StockFits}
-use Rattle.file_layer.proofs.Lists.{all-append, all-at, all-front, all-behind, seen_at, seen_none, times-at}
+use Rattle.file_layer.proofs.Lists.{all-append, all-at, all-front, all-following, seen_at, seen_none, times-at}
 use Rattle.file_layer.proofs.Hand.{bare_step, changed_step, joined_step, gone_step, lifted_step}
 use Rattle.file_layer.proofs.Parts.{hand_out, messages_within}
 use Rattle.file_layer.proofs.Steps.{covered}
@@ -55,7 +55,7 @@ module _ (b : Begun) (p q : List Held) (s : Stock) (is : InPool b p s) (fits : S
       InPool b p (record s { hand = hand }) × StockFits b.layout (record s { hand = hand })
   changed_fits f rest x y hand at new made few =
       let short = subst (AllByRecursion IsShort) at fits.hand_short in
-      let one : IsShort x = (all-behind IsShort rest (x ∷ []) short).0 in
+      let one : IsShort x = (all-following IsShort rest (x ∷ []) short).0 in
       let headers = ap (λ (c : Content). length c.headers) (made.shows []) in
       let long = ap length at in let all = fits.hand in
       subst (λ hand. InPool b p (record s { hand = hand }) × StockFits b.layout (record s { hand = hand })) (sym new) (
@@ -129,8 +129,8 @@ module _ (b : Begun) (p q : List Held) (s : Stock) (is : InPool b p s) (fits : S
     pub two_lie : Lies p part × Lies p m
     two_lie =
         let lie = subst (AllByRecursion (Lies p)) at is.lies.hand in (
-          (all-behind (Lies p) rest (part ∷ []) (all-front (Lies p) (rest ++ part ∷ []) (m ∷ []) lie)).0,
-          (all-behind (Lies p) (rest ++ part ∷ []) (m ∷ []) lie).0,
+          (all-following (Lies p) rest (part ∷ []) (all-front (Lies p) (rest ++ part ∷ []) (m ∷ []) lie)).0,
+          (all-following (Lies p) (rest ++ part ∷ []) (m ∷ []) lie).0,
         )
 
     shorts : AllByRecursion IsShort ((rest ++ part ∷ []) ++ m ∷ [])
@@ -143,7 +143,7 @@ module _ (b : Begun) (p q : List Held) (s : Stock) (is : InPool b p s) (fits : S
         (laid q (record s { hand = hand }) ≡ front_joined (laid p s))
     joined_fits x hand new made =
         let step = joined_step b p q s is rest part m x at made in
-        let one : IsShort m = (all-behind IsShort (rest ++ part ∷ []) (m ∷ []) shorts).0 in
+        let one : IsShort m = (all-following IsShort (rest ++ part ∷ []) (m ∷ []) shorts).0 in
         let headers = ap (λ (c : Content). length c.headers) made.shows in let same =
         ap length (join_headers (content_seen p part) (content_seen p m)) in
         let long = ap length at in let all = fits.hand in

@@ -23,7 +23,7 @@ use Rattle.pool_message.specs.declared.row.PoolRow.{PoolRow}
 use Rattle.file_layer.specs.Stock.{Stock, cell_refs, kept_refs, laid, CellLies}
 use Rattle.file_layer.specs.Steps.{InPool, TakesOut}
 use Rattle.file_layer.specs.Fits.{IsShort, IsShortIf, QueueFits, CellFits, StockFits}
-use Rattle.file_layer.proofs.Lists.{all-append, all-behind, all-front, all-get, all-set}
+use Rattle.file_layer.proofs.Lists.{all-append, all-following, all-front, all-get, all-set}
 use Rattle.file_layer.proofs.Parts.{none_out, kept_out}
 use Rattle.file_layer.proofs.Queues.{cell_seen, room_seen, queued_alone, queued_top}
 use Rattle.file_layer.proofs.Ready.{fits_hand}
@@ -177,7 +177,7 @@ module _ (b : Begun) (p : List Held) (s : Stock) (is : InPool b p s) (fits : Sto
       (sym new) (
         step.0,
         last_fits b.layout (record s { hand = rest }) c i (record { numbers = ns; message = Some m }) left
-            there.1 (all-behind IsShort rest (m ∷ []) short).0,
+            there.1 (all-following IsShort rest (m ∷ []) short).0,
         step.1,
       )
 

@@ -20,7 +20,7 @@ use Rattle.pool_message.specs.Piled.{pile_refs}
 use Rattle.pool_message.specs.Seen.{bodiless, refs, content_seen}
 use Rattle.pool_message.specs.declared.event.PoolEvent.{PoolEvent}
 use Rattle.pool_message.specs.declared.message.PoolMessage.{PoolMessage}
-use Rattle.pool_message.specs.Sent.{sent_refs, sent_behind, pool_event}
+use Rattle.pool_message.specs.Sent.{sent_refs, sent_after, pool_event}
 use Rattle.file_layer.specs.Scope.{without_messages}
 use Rattle.file_layer.specs.Sent.{TakesLast}
 use Rattle.file_layer.specs.Stock.{Stock, laid}
@@ -81,7 +81,7 @@ alone_fits b p s is fits dir e places =
 module _ (b : Begun) (p : List Held) (s : Stock) (is : InPool b p s) (fits : StockFits b.layout s) (dir : Dir)
     (e : Envelope) (header : Header)
     (places : length s.sent + 1 ≤ b.layout.places) where
-  first_goes : (rest : List PoolMessage) (o : Option PoolMessage) → TakesLast (sent_behind dir header) s.hand rest o →
+  first_goes : (rest : List PoolMessage) (o : Option PoolMessage) → TakesLast (sent_after dir header) s.hand rest o →
       InPool b p (record s { hand = rest; sent = s.sent ++ (dir, pool_event e o) ∷ [] }) ×
       (length s.hand ≡ length rest + 1) ×
       (AllByRecursion IsShort s.hand → AllByRecursion IsShort rest) ×
@@ -99,7 +99,7 @@ module _ (b : Begun) (p : List Held) (s : Stock) (is : InPool b p s) (fits : Sto
       )
 
   pub first_fits : (rest : List PoolMessage) (o : Option PoolMessage) →
-      TakesLast (sent_behind dir header) s.hand rest o →
+      TakesLast (sent_after dir header) s.hand rest o →
       InPool b p (record s { hand = rest; sent = s.sent ++ (dir, pool_event e o) ∷ [] }) ×
       StockFits b.layout (record s { hand = rest; sent = s.sent ++ (dir, pool_event e o) ∷ [] }) ×
       (length s.hand ≡ length rest + 1) ×
@@ -116,13 +116,13 @@ module _ (b : Begun) (p : List Held) (s : Stock) (is : InPool b p s) (fits : Sto
       )
 
   -- The message that arrived is sent on.
-  pub on_fits : (m : Option PoolMessage) → m ≡ option_map (sent_behind dir header) s.arrived →
+  pub on_fits : (m : Option PoolMessage) → m ≡ option_map (sent_after dir header) s.arrived →
       InPool b p (record s { arrived = None; sent = s.sent ++ (dir, pool_event e m) ∷ [] }) ×
       StockFits b.layout (record s { arrived = None; sent = s.sent ++ (dir, pool_event e m) ∷ [] }) ×
       (laid p (record s { arrived = None; sent = s.sent ++ (dir, pool_event e m) ∷ [] }) ≡
       passes_on dir e header (laid p s))
   on_fits m made =
-      let step = passed_on b p s is dir e header (option_map (sent_behind dir header) s.arrived)
+      let step = passed_on b p s is dir e header (option_map (sent_after dir header) s.arrived)
       (same_refs dir header s.arrived)
       (still_lies p dir header s.arrived is.lies.arrived) (shows_sent p dir header s.arrived) in
       subst (λ m. InPool b p (record s { arrived = None; sent = s.sent ++ (dir, pool_event e m) ∷ [] }) ×
@@ -131,38 +131,38 @@ module _ (b : Begun) (p : List Held) (s : Stock) (is : InPool b p s) (fits : Sto
       passes_on dir e header (laid p s))) (sym made) (
         step.0,
         longer_fits b.layout s fits places None
-            (dir, pool_event e (option_map (sent_behind dir header) s.arrived)),
+            (dir, pool_event e (option_map (sent_after dir header) s.arrived)),
         step.1,
       )
 
   -- A message of the scope is sent once more; where there is none, one without bytes.
   pub local_fits : (q : List Held) (k : ℕ) (m : PoolMessage) → slice_get s.messages k ≡ Some m → Kept p q (refs m) →
-      InPool b q (record s { sent = s.sent ++ (dir, pool_event e (Some (sent_behind dir header m))) ∷ [] }) ×
-      StockFits b.layout (record s { sent = s.sent ++ (dir, pool_event e (Some (sent_behind dir header m))) ∷ [] }) ×
-      (laid q (record s { sent = s.sent ++ (dir, pool_event e (Some (sent_behind dir header m))) ∷ [] }) ≡
+      InPool b q (record s { sent = s.sent ++ (dir, pool_event e (Some (sent_after dir header m))) ∷ [] }) ×
+      StockFits b.layout (record s { sent = s.sent ++ (dir, pool_event e (Some (sent_after dir header m))) ∷ [] }) ×
+      (laid q (record s { sent = s.sent ++ (dir, pool_event e (Some (sent_after dir header m))) ∷ [] }) ≡
       sends dir (event_in e (Some (sent_as dir header (get_or (map (content_seen p) s.messages) k (plain [])))))
       (laid p s))
   local_fits q k m there kept =
       let own = scope_there b p q s is fits k m there in
       let step = kept_sent b p s is q dir e header m own.0 own.1 kept in (
         step.0,
-        longer_fits b.layout s fits places s.arrived (dir, pool_event e (Some (sent_behind dir header m))),
+        longer_fits b.layout s fits places s.arrived (dir, pool_event e (Some (sent_after dir header m))),
         step.1 ∙ ap (λ c. sends dir (event_in e (Some (sent_as dir header c))) (laid p s))
             (sym (seen_at (content_seen p) s.messages k m (plain []) there)),
       )
 
   pub nothing_fits : (k : ℕ) → slice_get s.messages k ≡ None →
-      InPool b p (record s { sent = s.sent ++ (dir, pool_event e (Some (sent_behind dir header (bodiless [])))) ∷ [] })
+      InPool b p (record s { sent = s.sent ++ (dir, pool_event e (Some (sent_after dir header (bodiless [])))) ∷ [] })
       ×
       StockFits b.layout (record s
-      { sent = s.sent ++ (dir, pool_event e (Some (sent_behind dir header (bodiless [])))) ∷ [] }) ×
-      (laid p (record s { sent = s.sent ++ (dir, pool_event e (Some (sent_behind dir header (bodiless [])))) ∷ [] }) ≡
+      { sent = s.sent ++ (dir, pool_event e (Some (sent_after dir header (bodiless [])))) ∷ [] }) ×
+      (laid p (record s { sent = s.sent ++ (dir, pool_event e (Some (sent_after dir header (bodiless [])))) ∷ [] }) ≡
       sends dir (event_in e (Some (sent_as dir header (get_or (map (content_seen p) s.messages) k (plain [])))))
       (laid p s))
   nothing_fits k there =
       let step = bare_sent b p s is dir e header in (
         step.0,
-        longer_fits b.layout s fits places s.arrived (dir, pool_event e (Some (sent_behind dir header (bodiless [])))),
+        longer_fits b.layout s fits places s.arrived (dir, pool_event e (Some (sent_after dir header (bodiless [])))),
         step.1 ∙ ap (λ c. sends dir (event_in e (Some (sent_as dir header c))) (laid p s))
             (sym (seen_none (content_seen p) s.messages k (plain []) there)),
       )
@@ -172,12 +172,12 @@ module _ (b : Begun) (p : List Held) (s : Stock) (is : InPool b p s) (fits : Sto
       Returned p q (pile_refs (set s.messages k (bodiless []))) →
       InPool b q (record s {
         messages = [];
-        sent = s.sent ++ (dir, pool_event e (Some (sent_behind dir header m))) ∷
+        sent = s.sent ++ (dir, pool_event e (Some (sent_after dir header m))) ∷
             [];
       }) ×
       StockFits b.layout (record s
-      { messages = []; sent = s.sent ++ (dir, pool_event e (Some (sent_behind dir header m))) ∷ [] }) ×
-      (laid q (record s { messages = []; sent = s.sent ++ (dir, pool_event e (Some (sent_behind dir header m))) ∷ [] })
+      { messages = []; sent = s.sent ++ (dir, pool_event e (Some (sent_after dir header m))) ∷ [] }) ×
+      (laid q (record s { messages = []; sent = s.sent ++ (dir, pool_event e (Some (sent_after dir header m))) ∷ [] })
       ≡
       without_messages (sends dir
       (event_in e (Some (sent_as dir header (get_or (map (content_seen p) s.messages) k (plain []))))) (laid p s)))
@@ -185,12 +185,12 @@ module _ (b : Begun) (p : List Held) (s : Stock) (is : InPool b p s) (fits : Sto
       let u : Stock = record s {
         messages = set s.messages k (bodiless []);
         sent = s.sent ++
-            (dir, pool_event e (Some (sent_behind dir header m))) ∷ [];
+            (dir, pool_event e (Some (sent_after dir header m))) ∷ [];
       } in
       let goes = scope_sent b p s is dir e header k m there in
       let step = messages_gone b p q u goes.0 gone in
       let longer = longer_fits b.layout s fits places s.arrived
-      (dir, pool_event e (Some (sent_behind dir header m))) in (
+      (dir, pool_event e (Some (sent_after dir header m))) in (
         step.0,
         record {
           rows = fits.rows;

@@ -159,8 +159,8 @@ module _ (b : Begun) (p q : List Held) (s : Stock) (is : InPool b p s) (fits : S
     abbrev bound : Stock
     bound = record fewer { messages = set s.messages k m }
 
-    abbrev Behind : Stock → Type 0
-    Behind u = InPool b q u × (laid q u ≡
+    abbrev After : Stock → Type 0
+    After u = InPool b q u × (laid q u ≡
         record (laid p s) {
           state = without_front (laid p s).state c i;
           scope =
@@ -170,7 +170,7 @@ module _ (b : Begun) (p q : List Held) (s : Stock) (is : InPool b p s) (fits : S
     seen_message : content_seen p m ≡ message_in carried (Some (row_seen p row))
     seen_message = message_is p carried row m row.message refl is_message
 
-    bound_step : Returned p q (refs (get_or s.messages k m)) → Behind bound
+    bound_step : Returned p q (refs (get_or s.messages k m)) → After bound
     bound_step gone = elim (below_or_not k (length s.messages)) [
       | inl lt ↦
           let step = row_bound b p q s is c i within row (drop 1 (kept_rows s.kept c i)) at k (get_or s.messages k m) m

@@ -18,14 +18,14 @@ use Rattle.pool_message.specs.Seen.{bodiless, refs, content_seen, Lies, refs_if,
 use Rattle.pool_message.specs.Seen.{event_seen}
 use Rattle.pool_message.specs.Seen.{EventLies}
 use Rattle.pool_message.specs.Moves.{Kept, Derived}
-use Rattle.pool_message.specs.Sent.{sent_behind, pool_event}
+use Rattle.pool_message.specs.Sent.{sent_after, pool_event}
 use Rattle.pool_message.specs.declared.event.PoolEvent.{PoolEvent}
 use Rattle.pool_message.specs.declared.message.PoolMessage.{PoolMessage}
 use Rattle.pool_message.proofs.Stays.{message_stays}
 use Rattle.file_layer.specs.Stock.{Stock, laid, StockLies}
 use Rattle.file_layer.specs.Steps.{InPool, TakesOut}
 use Rattle.file_layer.proofs.Hand.{laid_top}
-use Rattle.file_layer.proofs.Lists.{all-append, all-at, all-front, all-behind, all-set, item_there}
+use Rattle.file_layer.proofs.Lists.{all-append, all-at, all-front, all-following, all-set, item_there}
 use Rattle.file_layer.proofs.Parts.{none_out, hand_out, message_out, arrived_out, sent_out}
 use Rattle.file_layer.proofs.Sent.{is_derived}
 use Rattle.file_layer.proofs.Steps.{rest_stays, stepped}
@@ -65,26 +65,26 @@ module _ (b : Begun) (p : List Held) (s : Stock) (is : InPool b p s) where
 
   -- An event is sent with a message without bytes.
   pub bare_sent : (dir : Dir) (e : Envelope) (header : Header) →
-      InPool b p (record s { sent = s.sent ++ (dir, pool_event e (Some (sent_behind dir header (bodiless [])))) ∷ [] })
+      InPool b p (record s { sent = s.sent ++ (dir, pool_event e (Some (sent_after dir header (bodiless [])))) ∷ [] })
       ×
-      (laid p (record s { sent = s.sent ++ (dir, pool_event e (Some (sent_behind dir header (bodiless [])))) ∷ [] }) ≡
+      (laid p (record s { sent = s.sent ++ (dir, pool_event e (Some (sent_after dir header (bodiless [])))) ∷ [] }) ≡
       sends dir (event_in e (Some (sent_as dir header (plain [])))) (laid p s))
   bare_sent dir e header =
-      let made : Derived (sent_as dir header) (bodiless []) (sent_behind dir header (bodiless [])) =
+      let made : Derived (sent_as dir header) (bodiless []) (sent_after dir header (bodiless [])) =
       is_derived dir header (bodiless []) in
-      let step = sent_step s [] (none_out s) is.lies dir (pool_event e (Some (sent_behind dir header (bodiless []))))
+      let step = sent_step s [] (none_out s) is.lies dir (pool_event e (Some (sent_after dir header (bodiless []))))
       made.slots (made.lies p tt) in
       (step.0, step.1 ∙ ap (λ c. sends dir (event_in e (Some c)) (laid p s)) (made.shows p))
 
   -- An event is sent with a message that lies in the pool, and is kept.
   pub kept_sent : (q : List Held) (dir : Dir) (e : Envelope) (header : Header) (m : PoolMessage) → Covers p (refs m) →
       Lies p m → Kept p q (refs m) →
-      InPool b q (record s { sent = s.sent ++ (dir, pool_event e (Some (sent_behind dir header m))) ∷ [] }) ×
-      (laid q (record s { sent = s.sent ++ (dir, pool_event e (Some (sent_behind dir header m))) ∷ [] }) ≡
+      InPool b q (record s { sent = s.sent ++ (dir, pool_event e (Some (sent_after dir header m))) ∷ [] }) ×
+      (laid q (record s { sent = s.sent ++ (dir, pool_event e (Some (sent_after dir header m))) ∷ [] }) ≡
       sends dir (event_in e (Some (sent_as dir header (content_seen p m)))) (laid p s))
   kept_sent q dir e header m covers lies kept =
-      let made : Derived (sent_as dir header) m (sent_behind dir header m) = is_derived dir header m in
-      let event : PoolEvent = pool_event e (Some (sent_behind dir header m)) in
+      let made : Derived (sent_as dir header) m (sent_after dir header m) = is_derived dir header m in
+      let event : PoolEvent = pool_event e (Some (sent_after dir header m)) in
       let stays = message_stays p q [] (refs m) kept.moved m covers lies in
       let rest = rest_stays b p q s s [] (refs m) is (none_out s) is.lies kept.moved in (
         stepped b p q s s (record s { sent = s.sent ++ (dir, event) ∷ [] }) [] (refs m) is (none_out s)
@@ -109,17 +109,17 @@ module _ (b : Begun) (p : List Held) (s : Stock) (is : InPool b p s) where
       InPool b p (record s {
         messages = set s.messages k (bodiless []);
         sent = s.sent ++
-            (dir, pool_event e (Some (sent_behind dir header m))) ∷ [];
+            (dir, pool_event e (Some (sent_after dir header m))) ∷ [];
       }) ×
       (laid p (record s {
         messages = set s.messages k (bodiless []);
         sent = s.sent ++
-            (dir, pool_event e (Some (sent_behind dir header m))) ∷ [];
+            (dir, pool_event e (Some (sent_after dir header m))) ∷ [];
       }) ≡
       sends dir (event_in e (Some (sent_as dir header (content_seen p m))))
       (laid p (record s { messages = set s.messages k (bodiless []) })))
   scope_sent dir e header k m there =
-      let made : Derived (sent_as dir header) m (sent_behind dir header m) = is_derived dir header m in
+      let made : Derived (sent_as dir header) m (sent_after dir header m) = is_derived dir header m in
       let item = item_there s.messages k m there in
       let t : Stock = record s { messages = set s.messages k (bodiless []) } in
       let out : TakesOut s t (refs m) =
@@ -133,7 +133,7 @@ module _ (b : Begun) (p : List Held) (s : Stock) (is : InPool b p s) where
         hand = is.lies.hand;
         sent = is.lies.sent;
       } in
-      let step = sent_step t (refs m) out left dir (pool_event e (Some (sent_behind dir header m))) made.slots
+      let step = sent_step t (refs m) out left dir (pool_event e (Some (sent_after dir header m))) made.slots
       (made.lies p (all-at (Lies p) s.messages k m there is.lies.messages)) in
       (step.0, step.1 ∙ ap (λ c. sends dir (event_in e (Some c)) (laid p t)) (made.shows p))
 
@@ -161,7 +161,7 @@ module _ (b : Begun) (p : List Held) (s : Stock) (is : InPool b p s) where
         sent = is.lies.sent;
       } in
       let step = sent_step (record s { hand = rest }) (refs y) out left dir (pool_event e (Some y)) refl
-      (made.lies p (all-behind (Lies p) rest (x ∷ []) lie).0) in
+      (made.lies p (all-following (Lies p) rest (x ∷ []) lie).0) in
       let before : laid p s ≡ lifted (content_seen p x) (laid p (record s { hand = rest })) =
       ap (λ hand. laid p (record s { hand = hand })) at ∙ laid_top p s rest x in (
         step.0,

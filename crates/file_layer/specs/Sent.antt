@@ -7,9 +7,9 @@ use Rattle.pool_message.specs.Piled.{with_header_last}
 use Rattle.pool_message.specs.declared.message.PoolMessage.{PoolMessage}
 
 -- The last of a list as it is sent: going up as it is, and going down after a header.
-abbrev pub last_behind : Dir → Header → List PoolMessage → List PoolMessage
-last_behind Up header ms = ms
-last_behind Down header ms = with_header_last header ms
+abbrev pub last_after : Dir → Header → List PoolMessage → List PoolMessage
+last_after Up header ms = ms
+last_after Down header ms = with_header_last header ms
 
 -- The last of a list was taken out, and became another.
 pub record LastAs (f : PoolMessage → PoolMessage) (old new : List PoolMessage) (y : PoolMessage) : Type 0 where

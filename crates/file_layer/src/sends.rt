@@ -11,11 +11,11 @@ ghost use Rattle.layer_mean.specs.Headers.{said_tag, said_fields};
 ghost use Rattle.layer_desk.specs.Need.{one_place, headers_of, passing_need};
 ghost use Rattle.layer_desk.specs.Spent.{Spent, SpentAtMost};
 ghost use Rattle.pool_message.specs.Seen.{seen_if, bodiless};
-ghost use Rattle.pool_message.specs.Sent.{sent_behind};
+ghost use Rattle.pool_message.specs.Sent.{sent_after};
 ghost use Rattle.pool_message.specs.Tray.{also_sent};
 ghost use Rattle.file_layer.specs.Fits.{IsShort, IsShortIf};
 ghost use Rattle.file_layer.specs.Scope.{without_messages};
-ghost use Rattle.file_layer.specs.Sent.{last_behind};
+ghost use Rattle.file_layer.specs.Sent.{last_after};
 ghost use Rattle.file_layer.specs.Stock.{laid};
 ghost use Rattle.file_layer.specs.Ready.{stock_of, room_of, IsReady};
 
@@ -29,9 +29,9 @@ use pool_message::{MessagePlace, Messages, PoolMessage, Tray};
 use slot_pool::Pool;
 
 /// The newest message in hand becomes as it is sent, where it lies: going down it gets a header.
-fn put_last_behind(direction: Dir, header: Header, hand: &mut Messages)
+fn put_last_after(direction: Dir, header: Header, hand: &mut Messages)
     requires { AllByRecursion IsShort hand.old.items }
-    ensures { hand.new ≡ buffer (last_behind direction header hand.old.items) hand.old.capacity }
+    ensures { hand.new ≡ buffer (last_after direction header hand.old.items) hand.old.capacity }
 {
     match direction {
         Dir::Up => {}
@@ -40,9 +40,9 @@ fn put_last_behind(direction: Dir, header: Header, hand: &mut Messages)
 }
 
 /// A message that arrived becomes as it is sent, where it lies.
-fn put_behind(direction: Dir, header: Header, tray: &mut Tray)
+fn put_after(direction: Dir, header: Header, tray: &mut Tray)
     requires { IsShortIf tray.old.arrived }
-    ensures { tray.new ≡ record tray.old { arrived = option_map (sent_behind direction header) tray.old.arrived } }
+    ensures { tray.new ≡ record tray.old { arrived = option_map (sent_after direction header) tray.old.arrived } }
 {
     match direction {
         Dir::Up => {}
@@ -91,14 +91,14 @@ pub(crate) fn send_first<K: Start>(
     if desk.hand.is_empty() {
         return Ok(());
     }
-    put_last_behind(direction, header, &mut desk.hand);
+    put_last_after(direction, header, &mut desk.hand);
     desk.tray.send_last(direction, envelope, &mut desk.hand);
     Ok(())
 }
 
 /// A message without bytes, going down after a header.
-fn nothing_behind(direction: Dir, header: Header) -> PoolMessage
-    ensures { result ≡ sent_behind direction header (bodiless []) }
+fn nothing_after(direction: Dir, header: Header) -> PoolMessage
+    ensures { result ≡ sent_after direction header (bodiless []) }
 {
     let mut message = PoolMessage::nothing();
     match direction {
@@ -112,9 +112,9 @@ fn nothing_behind(direction: Dir, header: Header) -> PoolMessage
 #[inline(never)]
 fn send_nothing(tray: &mut Tray, direction: Dir, envelope: Envelope, header: Header)
     requires { length tray.old.sent.items < tray.old.sent.capacity }
-    ensures { tray.new ≡ also_sent direction envelope (Some (sent_behind direction header (bodiless []))) tray.old }
+    ensures { tray.new ≡ also_sent direction envelope (Some (sent_after direction header (bodiless []))) tray.old }
 {
-    let mut message = nothing_behind(direction, header);
+    let mut message = nothing_after(direction, header);
     let mut place = MessagePlace::empty();
     place.fill(&mut message);
     message.close();
@@ -271,7 +271,7 @@ pub(crate) fn pass_on<K: Start>(
     if arrived_headers(desk, pool) > MOST_ABOVE {
         return Err(NoRoom::Headers);
     }
-    put_behind(direction, header, &mut desk.tray);
+    put_after(direction, header, &mut desk.tray);
     desk.tray.send_arrived(direction, envelope);
     Ok(())
 }

@@ -8,7 +8,7 @@ ghost use Rattle.layer_mean.specs.Visit.{step};
 ghost use Rattle.typed_layer.specs.View.{layer_tree};
 ghost use Rattle.layer_desk.specs.Need.{most_above};
 ghost use Rattle.layer_eval.specs.Did.{as_predicted};
-ghost use Rattle.layer_stage.specs.Front.{first_way, first_seen, behind_first};
+ghost use Rattle.layer_stage.specs.Front.{first_way, first_seen, after_first};
 ghost use Rattle.layer_stage.specs.Room.{slots_needed, places_needed, headers_met, most_counted, CountsWithin};
 ghost use Rattle.cell_store.specs.Kept.{state_of};
 ghost use Rattle.pool_message.specs.Seen.{row_seen, event_refs, EventLies};
@@ -31,9 +31,9 @@ fn begin(desk: &mut FileDesk, events: &mut Events) -> (Dir, Envelope)
     requires idle { (desk.old.tray.arrived ≡ None) × (desk.old.tray.messages.items ≡ []) }
     ensures desk { desk.new ≡
         begins (first_sent events.old.items).1.message
-        (buffer (behind_first events.old.items) (events.old.capacity - 1)) desk.old }
+        (buffer (after_first events.old.items) (events.old.capacity - 1)) desk.old }
     ensures events { events.new ≡ buffer desk.old.tray.sent.items (desk.old.tray.sent.capacity + 1) }
-    ensures within { length (behind_first events.old.items) ≤ events.old.capacity - 1 }
+    ensures within { length (after_first events.old.items) ≤ events.old.capacity - 1 }
     ensures few { events.old.capacity - 1 ≤ most_sent }
     ensures first { result ≡ (first_way events.old.items, envelope_of (first_sent events.old.items).1) }
 {
@@ -66,9 +66,9 @@ pub(crate) fn visit(
     requires some { 0 < length events.old.items }
     requires rest { IsAtRest (layer_tree layer.now) pool.old desk.old }
     requires event { EventLies pool.old (first_sent events.old.items).1 }
-    requires out { SentLie pool.old (behind_first events.old.items) }
+    requires out { SentLie pool.old (after_first events.old.items) }
     requires covered { Covers pool.old (kept_refs desk.old.cells
-        ++ (event_refs (first_sent events.old.items).1 ++ sent_refs (behind_first events.old.items))) }
+        ++ (event_refs (first_sent events.old.items).1 ++ sent_refs (after_first events.old.items))) }
     requires counts { CountsWithin most_counted pool.old }
     requires headers { headers_met (first_way events.old.items) (first_seen pool.old events.old.items) ≤ most_above }
     requires slots { slots_needed (layer_tree layer.now) (first_way events.old.items)
@@ -79,7 +79,7 @@ pub(crate) fn visit(
     ensures state { state_of (row_seen pool.new) desk.new.cells ≡
         (step place (layer_tree layer.now) (state_of (row_seen pool.old) desk.old.cells) (first_way events.old.items)
         (first_seen pool.old events.old.items)).state }
-    ensures sent { sent_seen pool.new events.new.items ≡ sent_seen pool.old (behind_first events.old.items)
+    ensures sent { sent_seen pool.new events.new.items ≡ sent_seen pool.old (after_first events.old.items)
         ++ (step place (layer_tree layer.now) (state_of (row_seen pool.old) desk.old.cells) (first_way events.old.items)
         (first_seen pool.old events.old.items)).sent }
     ensures predicted { result ≡ as_predicted
@@ -87,7 +87,7 @@ pub(crate) fn visit(
         (first_seen pool.old events.old.items)).decided }
     ensures moved { Moved pool.old pool.new
         (kept_refs desk.old.cells ++
-        (event_refs (first_sent events.old.items).1 ++ sent_refs (behind_first events.old.items)))
+        (event_refs (first_sent events.old.items).1 ++ sent_refs (after_first events.old.items)))
         (kept_refs desk.new.cells ++ sent_refs events.new.items) }
     ensures spent { spare pool.old ≤ spare pool.new
         + slots_needed (layer_tree layer.now) (first_way events.old.items) (first_seen pool.old events.old.items) }

@@ -6,29 +6,29 @@ use Rattle.layer_ast.specs.View as written
 use Rattle.layer_ast.specs.declared.syntax.Statement as rust
 use Rattle.layer_mean.specs.Tree.{StatementTree, none, more}
 use Rattle.file_mean.specs.Names.{Names}
-use Rattle.file_mean.specs.Statements.{behind, behind_all, statement_of, statements_of}
+use Rattle.file_mean.specs.Statements.{following, after_all, statement_of, statements_of}
 use Rattle.typed_layer.specs.View.{statement_tree, trees}
 use Rattle.typed_layer.specs.declared.tree.Statement.{Statement}
 use Rattle.file_laws.specs.Bounds.{HoldsBlock, HoldsStatement}
 use Rattle.file_numbers.proofs.Lists.{trees_more}
 
-trees_behind : (xs : List ast.StatementTree) (x : ast.StatementTree) (names : Names) →
-    behind_all (written.trees (xs ++ x ∷ [])) names ≡ behind x (behind_all (written.trees xs) names)
-trees_behind [] x names = refl
-trees_behind (y ∷ xs) x names = trees_behind xs x (behind y names)
+trees_after : (xs : List ast.StatementTree) (x : ast.StatementTree) (names : Names) →
+    after_all (written.trees (xs ++ x ∷ [])) names ≡ following x (after_all (written.trees xs) names)
+trees_after [] x names = refl
+trees_after (y ∷ xs) x names = trees_after xs x (following y names)
 
-made_behind : (xs : List ast.StatementTree) (x : ast.StatementTree) (names : Names) (made : List StatementTree)
+made_after : (xs : List ast.StatementTree) (x : ast.StatementTree) (names : Names) (made : List StatementTree)
     (m : StatementTree) →
-    trees made ≡ statements_of names (written.trees xs) → m ≡ statement_of (behind_all (written.trees xs) names) x →
+    trees made ≡ statements_of names (written.trees xs) → m ≡ statement_of (after_all (written.trees xs) names) x →
     trees (made ++ m ∷ []) ≡ statements_of names (written.trees (xs ++ x ∷ []))
-made_behind [] x names [] m so_far is = ap (λ s. more s none) is
-made_behind [] x names (n ∷ made) m so_far is = absurd (cc so_far)
-made_behind (y ∷ xs) x names [] m so_far is = absurd (cc so_far)
-made_behind (y ∷ xs) x names (n ∷ made) m so_far is =
+made_after [] x names [] m so_far is = ap (λ s. more s none) is
+made_after [] x names (n ∷ made) m so_far is = absurd (cc so_far)
+made_after (y ∷ xs) x names [] m so_far is = absurd (cc so_far)
+made_after (y ∷ xs) x names (n ∷ made) m so_far is =
     let first : n ≡ statement_of names y = cc so_far in
-    let rest : trees made ≡ statements_of (behind y names) (written.trees xs) = cc so_far in
+    let rest : trees made ≡ statements_of (following y names) (written.trees xs) = cc so_far in
     ap (λ s. more s (trees (made ++ m ∷ []))) first
-    ∙ ap (more (statement_of names y)) (made_behind xs x (behind y names) made m rest is)
+    ∙ ap (more (statement_of names y)) (made_after xs x (following y names) made m rest is)
 
 drop_at : {X : Type 0} (xs : List X) (k : ℕ) (x : X) → k < length xs → x ≡ get_or xs k x →
     drop k xs ≡ x ∷ drop (suc k) xs
@@ -41,7 +41,8 @@ pub holds_next : (all : List rust.Statement) (i : ℕ) (s : rust.Statement) (nam
     s ≡ get_or all i s →
     HoldsBlock (statements_of names (written.statement_trees (drop i all))) →
     HoldsStatement (statement_of names (written.statement_tree s))
-    × HoldsBlock (statements_of (behind (written.statement_tree s) names) (written.statement_trees (drop (suc i) all)))
+    × HoldsBlock (statements_of (following (written.statement_tree s) names)
+    (written.statement_trees (drop (suc i) all)))
 holds_next all i s names within is holds =
     subst (λ l. HoldsBlock (statements_of names (written.statement_trees l))) (drop_at all i s within is) holds
 
@@ -50,12 +51,13 @@ pub statements_next : (all : List rust.Statement) (i : ℕ) (s : rust.Statement)
     (made pushed : List Statement) (m : Statement) → i < length all → s ≡ get_or all i s →
     HoldsBlock (statements_of names (written.statement_trees (drop i all))) →
     trees (map statement_tree made) ≡ statements_of outer (written.statement_trees (take i all)) →
-    names ≡ behind_all (written.statement_trees (take i all)) outer →
-    statement_tree m ≡ statement_of names (written.statement_tree s) → after ≡ behind (written.statement_tree s) names →
+    names ≡ after_all (written.statement_trees (take i all)) outer →
+    statement_tree m ≡ statement_of names (written.statement_tree s) →
+    after ≡ following (written.statement_tree s) names →
     pushed ≡ made ++ m ∷ [] →
     HoldsBlock (statements_of after (written.statement_trees (drop (i + 1) all)))
     × (trees (map statement_tree pushed) ≡ statements_of outer (written.statement_trees (take (i + 1) all)))
-    × (after ≡ behind_all (written.statement_trees (take (i + 1) all)) outer)
+    × (after ≡ after_all (written.statement_trees (take (i + 1) all)) outer)
 statements_next all i s outer names after made pushed m within is holds so_far names_are made_is after_is push =
     let one : suc i ≡ i + 1 = omega arith in
     let before = map written.statement_tree (take i all) in
@@ -67,12 +69,12 @@ statements_next all i s outer names after made pushed m within is holds so_far n
           (holds_next all i s names within is holds).1),
       ap (λ l. trees (map statement_tree l)) push
           ∙ (ap trees (map_snoc made m)
-          ∙ (made_behind before x outer (map statement_tree made) (statement_tree m) so_far
+          ∙ (made_after before x outer (map statement_tree made) (statement_tree m) so_far
           (made_is ∙ ap (λ n. statement_of n x) names_are)
           ∙ ap (λ l. statements_of outer (written.trees l)) (sym more_trees))),
       after_is
-          ∙ (ap (behind x) names_are
-          ∙ (sym (trees_behind before x outer) ∙ ap (λ l. behind_all (written.trees l) outer) (sym more_trees))),
+          ∙ (ap (following x) names_are
+          ∙ (sym (trees_after before x outer) ∙ ap (λ l. after_all (written.trees l) outer) (sym more_trees))),
     )
   where
     map_snoc : (xs : List Statement) (y : Statement) → map statement_tree (xs ++ y ∷ []) ≡ map statement_tree xs ++

@@ -1,5 +1,5 @@
 mod Views
 mod Rows
-mod Behind
+mod After
 mod Blocks
 mod Stacks

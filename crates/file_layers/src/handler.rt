@@ -9,7 +9,7 @@ ghost use Rattle.fault_mean.specs.Declared.{names_in};
 ghost use Rattle.fault_mean.specs.Scope as scope;
 ghost use Rattle.file_mean.specs.Layers as spec;
 ghost use Rattle.file_mean.specs.Names.{message_among, numbers_among, own_names, with_messages, with_numbers};
-ghost use Rattle.file_mean.specs.Statements.{behind_all, statements_of};
+ghost use Rattle.file_mean.specs.Statements.{after_all, statements_of};
 ghost use Rattle.typed_layer.specs.Table.{IsTagged};
 ghost use Rattle.typed_layer.specs.View.{block_tree, expected_tree, handler_tree};
 ghost use Rattle.file_laws.specs.Bounds.{HoldsBlock, HoldsHandler, IsByte};
@@ -116,17 +116,17 @@ fn whole_block(
     b: &ast::Block,
 ) -> Result<Entered, AllocError>
     requires numbers { IsByte
-        ((behind_all (written.block_tree b.now) (names_of names.old)).taken.numbers -
+        ((after_all (written.block_tree b.now) (names_of names.old)).taken.numbers -
         (names_of names.old).taken.numbers) }
     requires messages { IsByte
-        ((behind_all (written.block_tree b.now) (names_of names.old)).taken.messages -
+        ((after_all (written.block_tree b.now) (names_of names.old)).taken.messages -
         (names_of names.old).taken.messages) }
     requires block { HoldsBlock (statements_of (names_of names.old) (written.block_tree b.now)) }
     ensures numbers { IfOk result (λ x. x.numbers
-        ≡ (behind_all (written.block_tree b.now) (names_of names.old)).taken.numbers -
+        ≡ (after_all (written.block_tree b.now) (names_of names.old)).taken.numbers -
         (names_of names.old).taken.numbers) }
     ensures messages { IfOk result (λ x. x.messages
-        ≡ (behind_all (written.block_tree b.now) (names_of names.old)).taken.messages -
+        ≡ (after_all (written.block_tree b.now) (names_of names.old)).taken.messages -
         (names_of names.old).taken.messages) }
     ensures block { IfOk result
         (λ x. block_tree x.block ≡ statements_of (names_of names.old) (written.block_tree b.now)) }

@@ -12,7 +12,7 @@ ghost use Rattle.file_mean.specs.Values as values;
 ghost use Rattle.file_mean.specs.Statements as spec;
 ghost use Rattle.typed_layer.specs.View.{block_tree, expression_tree, statement_tree, taken_tree, trees};
 ghost use Rattle.file_laws.specs.Bounds.{HoldsBlock, HoldsContent, HoldsSlot, HoldsStatement, IsByte};
-ghost use Rattle.file_layers.specs.Behind.{past};
+ghost use Rattle.file_layers.specs.After.{past};
 ghost use Rattle.file_numbers.specs.Scope.{names_of};
 ghost use Rattle.msg_core.specs.Headers.{most_fields};
 
@@ -151,7 +151,7 @@ fn statements(
         (λ made. trees (map statement_tree made.items) ≡
         spec.statements_of (names_of names.old) (written.statement_trees all.now)) }
     ensures names { OnOk result
-        (names_of names.new ≡ spec.behind_all (written.statement_trees all.now) (names_of names.old)) }
+        (names_of names.new ≡ spec.after_all (written.statement_trees all.now) (names_of names.old)) }
 {
     let mut made = Vec::with_capacity(alloc, all.len())?;
     for s in all {
@@ -170,7 +170,8 @@ fn statement(
     requires { HoldsStatement (spec.statement_of (names_of names.old) (written.statement_tree s.now)) }
     ensures is { IfOk result
         (λ x. statement_tree x ≡ spec.statement_of (names_of names.old) (written.statement_tree s.now)) }
-    ensures names { OnOk result (names_of names.new ≡ spec.behind (written.statement_tree s.now) (names_of names.old)) }
+    ensures names { OnOk result
+        (names_of names.new ≡ spec.following (written.statement_tree s.now) (names_of names.old)) }
 {
     match s {
         ast::Statement::Let { name, value, .. } => bind(alloc, names, name, value),

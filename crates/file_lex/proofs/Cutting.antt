@@ -12,17 +12,17 @@ use Rattle.layer_ast.specs.declared.tokens.Kind.{Kind}
 use Rattle.layer_ast.specs.declared.tokens.Sign.{Sign}
 use Rattle.layer_ast.specs.declared.tokens.Token.TheVariants as token
 use Rattle.layer_ast.specs.Cut.{is_numeral, Piece, gap, one, bad, Tokens, piece, word_piece, number_piece, symbol_piece}
-use Rattle.layer_ast.specs.Cut.{with_piece, cut_from, place_behind}
+use Rattle.layer_ast.specs.Cut.{with_piece, cut_from, place_after}
 use Rattle.layer_ast.specs.Spelling.{is_blank, word_token, beside, reserved, kinds}
-use Rattle.file_lex.specs.Pieces.{GoesOn, in_front, more_of, is_number, is_flat, past}
+use Rattle.file_lex.specs.Pieces.{GoesOn, with_front, more_of, is_number, is_flat, past}
 use Rattle.file_lex.proofs.Flat.{past_flat}
 
 -- what the loop keeps: the whole is the tokens so far and then those of what is left, the place has not run ahead, and
 -- no token was added without a byte
-pub record Cutting (whole : Tokens) (most size : ℕ) (rest : List ℕ) (behind_number : Bool) (at : At)
+pub record Cutting (whole : Tokens) (most size : ℕ) (rest : List ℕ) (after_number : Bool) (at : At)
     (front : List Lexed) : Type 0
   where
-    pub same : in_front front (cut_from behind_number 0 rest at) ≡ whole
+    pub same : with_front front (cut_from after_number 0 rest at) ≡ whole
     pub line : at.line + length rest ≤ most
     pub col : at.col + length rest ≤ most
     pub fewer : length rest + length front ≤ size
@@ -32,23 +32,23 @@ passed : (number : Bool) (n : ℕ) (bytes : List ℕ) (at : At) → n ≤ length
     cut_from number n bytes at ≡ cut_from number 0 (drop n bytes) (past (take n bytes) at)
 passed number zero bytes at le = refl
 passed number (suc n) [] at le = absurd (omega arith)
-passed number (suc n) (b ∷ bytes) at le = passed number n bytes (place_behind b at) (omega arith)
+passed number (suc n) (b ∷ bytes) at le = passed number n bytes (place_after b at) (omega arith)
 
 -- a piece that is taken stands before the tokens after it
 taken : (p : Piece) (at : At) (old new : List Lexed) (n : ℕ) (rest : Bool → ℕ → Tokens) → GoesOn p at old new (Some n) →
-    in_front old (with_piece p at rest) ≡ in_front new (rest (is_number p) n)
-taken (gap behind) at old new n rest h = let e : n ≡ behind = cc in rw (h.0, e) refl
-taken (one token behind) at old new n rest h = let e : n ≡ behind = cc in rw (h.0, e, append_assoc) refl
+    with_front old (with_piece p at rest) ≡ with_front new (rest (is_number p) n)
+taken (gap following) at old new n rest h = let e : n ≡ following = cc in rw (h.0, e) refl
+taken (one token following) at old new n rest h = let e : n ≡ following = cc in rw (h.0, e, append_assoc) refl
 taken bad at old new n rest h = cc
 
 -- a byte moves the place by at most one line and one column
-place_line : (b : ℕ) (at : At) → (place_behind b at).line ≤ at.line + 1
+place_line : (b : ℕ) (at : At) → (place_after b at).line ≤ at.line + 1
 place_line b at =
     elim (nat_eq b 10) as
     (λ t. (cond t (record { line = at.line + 1; col = 1 }) (record at { col = at.col + 1 })).line ≤ at.line + 1)
     [ true ↦ omega arith | false ↦ omega arith ]
 
-place_col : (b : ℕ) (at : At) → (place_behind b at).col ≤ at.col + 1
+place_col : (b : ℕ) (at : At) → (place_after b at).col ≤ at.col + 1
 place_col b at =
     elim (nat_eq b 10) as
     (λ t. (cond t (record { line = at.line + 1; col = 1 }) (record at { col = at.col + 1 })).col ≤ at.col + 1)
@@ -57,59 +57,59 @@ place_col b at =
 -- bytes move it by at most as many
 past_line : (bytes : List ℕ) (at : At) → (past bytes at).line ≤ at.line + length bytes
 past_line [] at = omega arith
-past_line (b ∷ bytes) at = omega (arith, past_line bytes (place_behind b at), place_line b at)
+past_line (b ∷ bytes) at = omega (arith, past_line bytes (place_after b at), place_line b at)
 
 past_col : (bytes : List ℕ) (at : At) → (past bytes at).col ≤ at.col + length bytes
 past_col [] at = omega arith
-past_col (b ∷ bytes) at = omega (arith, past_col bytes (place_behind b at), place_col b at)
+past_col (b ∷ bytes) at = omega (arith, past_col bytes (place_after b at), place_col b at)
 
 -- a piece adds at most one token
 one_more : (p : Piece) (at : At) (old new : List Lexed) (more : Option ℕ) → GoesOn p at old new more →
     length new ≤ suc (length old)
-one_more (gap behind) at old new more h = let same : length new ≡ length old = ap length h.0 in omega (arith, same)
-one_more (one token behind) at old new more h =
+one_more (gap following) at old new more h = let same : length new ≡ length old = ap length h.0 in omega (arith, same)
+one_more (one token following) at old new more h =
     let same : length new ≡ length (old ++ record { token = token; at = at } ∷ []) = ap length h.0 in
     omega (arith, same, length-append old (record { token = token; at = at } ∷ []))
 one_more bad at old new more h = let same : length new ≡ length old = ap length h.0 in omega (arith, same)
 
-module _ (whole : Tokens) (most size : ℕ) (first : ℕ) (behind : List ℕ) (behind_number : Bool) (at : At)
+module _ (whole : Tokens) (most size : ℕ) (first : ℕ) (following : List ℕ) (after_number : Bool) (at : At)
     (old new : List Lexed) (p : Piece)
-    (is : p ≡ piece behind_number first behind) (c : Cutting whole most size (first ∷ behind) behind_number at old)
+    (is : p ≡ piece after_number first following) (c : Cutting whole most size (first ∷ following) after_number at old)
   where
     -- a piece that is taken goes on
-    pub goes_on : (n : ℕ) → n ≤ length behind → GoesOn p at old new (Some n) →
-        Cutting whole most size (drop n behind) (is_number p) (past (take n behind) (place_behind first at)) new
+    pub goes_on : (n : ℕ) → n ≤ length following → GoesOn p at old new (Some n) →
+        Cutting whole most size (drop n following) (is_number p) (past (take n following) (place_after first at)) new
     goes_on n le h =
-        let next = place_behind first at in
-        let bytes = take n behind in
-        let rest : Bool → ℕ → Tokens = λ number more. cut_from number more behind next in
+        let next = place_after first at in
+        let bytes = take n following in
+        let rest : Bool → ℕ → Tokens = λ number more. cut_from number more following next in
         record {
           same =
-              ap (in_front new) (sym (passed (is_number p) n behind next le))
-              ∙ (sym (taken p at old new n rest h) ∙ (ap (λ q. in_front old (with_piece q at rest)) is ∙ c.same));
+              ap (with_front new) (sym (passed (is_number p) n following next le))
+              ∙ (sym (taken p at old new n rest h) ∙ (ap (λ q. with_front old (with_piece q at rest)) is ∙ c.same));
           line = omega (
             arith,
             c.line,
             past_line bytes next,
             place_line first at,
-            length-take-le n behind le,
-            length-drop n behind,
+            length-take-le n following le,
+            length-drop n following,
           );
           col = omega (
             arith,
             c.col,
             past_col bytes next,
             place_col first at,
-            length-take-le n behind le,
-            length-drop n behind,
+            length-take-le n following le,
+            length-drop n following,
           );
-          fewer = omega (arith, c.fewer, length-drop n behind, one_more p at old new (Some n) h);
+          fewer = omega (arith, c.fewer, length-drop n following, one_more p at old new (Some n) h);
         }
 
 -- a piece that is taken has its own length
 more_is : (p : Piece) (at : At) (old new : List Lexed) (n : ℕ) → GoesOn p at old new (Some n) → n ≡ more_of p
-more_is (gap behind) at old new n h = cc
-more_is (one token behind) at old new n h = cc
+more_is (gap following) at old new n h = cc
+more_is (one token following) at old new n h = cc
 more_is bad at old new n h = cc
 
 -- the token of a word is no number
@@ -134,44 +134,46 @@ blank_is number b bs is =
     else symbol_piece (b ∷ bs)) (sym is)
 
 -- a turn of the loop at a blank
-pub past_blank : (whole : Tokens) (most size : ℕ) (rest : List ℕ) (first : ℕ) (behind : List ℕ) (behind_number : Bool)
+pub past_blank : (whole : Tokens) (most size : ℕ) (rest : List ℕ) (first : ℕ) (following : List ℕ) (after_number : Bool)
     (at next : At) (old : List Lexed) →
-    Cutting whole most size rest behind_number at old → rest ≡ first ∷ behind → is_blank first ≡ true →
-    next ≡ place_behind first at →
-    Cutting whole most size behind false next old
-past_blank whole most size rest first behind behind_number at next old c split blank next_is =
-    let c' : Cutting whole most size (first ∷ behind) behind_number at old = rw split at c in
+    Cutting whole most size rest after_number at old → rest ≡ first ∷ following → is_blank first ≡ true →
+    next ≡ place_after first at →
+    Cutting whole most size following false next old
+past_blank whole most size rest first following after_number at next old c split blank next_is =
+    let c' : Cutting whole most size (first ∷ following) after_number at old = rw split at c in
     rw next_is (
-    goes_on whole most size first behind behind_number at old old (gap 0) (blank_is behind_number first behind blank) c'
+    goes_on whole most size first following after_number at old old (gap 0)
+    (blank_is after_number first following blank) c'
     0 (omega arith) (refl, refl)
     )
 
 -- a turn of the loop at another piece, which stands in one line
-pub turn : (whole : Tokens) (most size : ℕ) (rest : List ℕ) (first : ℕ) (behind after : List ℕ)
-    (behind_number number : Bool) (at next past_it : At)
+pub turn : (whole : Tokens) (most size : ℕ) (rest : List ℕ) (first : ℕ) (following after : List ℕ)
+    (after_number number : Bool) (at next past_it : At)
     (old new : List Lexed) (p : Piece) (more : Option ℕ) (n : ℕ) →
-    Cutting whole most size rest behind_number at old → rest ≡ first ∷ behind → p ≡ piece behind_number first behind →
-    more_of p ≤ length behind → is_flat (take (more_of p) behind) ≡ true → number ≡ is_number p →
+    Cutting whole most size rest after_number at old → rest ≡ first ∷ following →
+    p ≡ piece after_number first following →
+    more_of p ≤ length following → is_flat (take (more_of p) following) ≡ true → number ≡ is_number p →
     GoesOn p at old new more →
-    more ≡ Some n → next ≡ place_behind first at → past_it ≡ record next { col = next.col + n } →
-    after ≡ drop n behind →
+    more ≡ Some n → next ≡ place_after first at → past_it ≡ record next { col = next.col + n } →
+    after ≡ drop n following →
     Cutting whole most size after number past_it new
-turn whole most size rest first behind after behind_number number at next past_it old new p more n c split is within
+turn whole most size rest first following after after_number number at next past_it old new p more n c split is within
     flat number_is goes
     some next_is past_is after_is =
-    let c' : Cutting whole most size (first ∷ behind) behind_number at old = rw split at c in
+    let c' : Cutting whole most size (first ∷ following) after_number at old = rw split at c in
     let h : GoesOn p at old new (Some n) = rw some at goes in
     let own : n ≡ more_of p = more_is p at old new n h in
-    let le : n ≤ length behind = subst (λ m. m ≤ length behind) (sym own) within in
-    let straight : past (take n behind) next ≡ past_it =
-    past_flat (take n behind) next (subst (λ m. is_flat (take m behind) ≡ true) (sym own) flat)
-    ∙ (ap (λ m. record next { col = next.col + m }) (length-take-le n behind le) ∙ sym past_is) in
+    let le : n ≤ length following = subst (λ m. m ≤ length following) (sym own) within in
+    let straight : past (take n following) next ≡ past_it =
+    past_flat (take n following) next (subst (λ m. is_flat (take m following) ≡ true) (sym own) flat)
+    ∙ (ap (λ m. record next { col = next.col + m }) (length-take-le n following le) ∙ sym past_is) in
     rw (after_is, number_is, sym straight, next_is) (
-    goes_on whole most size first behind behind_number at old new p is c' n le h
+    goes_on whole most size first following after_number at old new p is c' n le h
     )
 
 -- after a byte that is no blank the column is the next one
-pub next_column : (b : ℕ) (at : At) → is_blank b ≡ false → record at { col = at.col + 1 } ≡ place_behind b at
+pub next_column : (b : ℕ) (at : At) → is_blank b ≡ false → record at { col = at.col + 1 } ≡ place_after b at
 next_column b at no_blank = no_feed (nat_eq b 10) refl
   where
     no_feed : (t : Bool) → nat_eq b 10 ≡ t → record at { col = at.col + 1 } ≡

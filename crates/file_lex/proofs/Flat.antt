@@ -4,7 +4,7 @@ use Rattle.std.proofs.Common.{refl, sym, ap, ◌∙◌, arith, eqb-true, true≢
 use Rattle.std.specs.Char.{is_ascii_digit}
 use Rattle.std.specs.List.{prefix_len}
 use Rattle.layer_ast.specs.declared.names.At.{At}
-use Rattle.layer_ast.specs.Cut.{place_behind}
+use Rattle.layer_ast.specs.Cut.{place_after}
 use Rattle.layer_ast.specs.Spelling.{is_word_byte}
 use Rattle.file_lex.specs.Pieces.{past, is_flat}
 
@@ -54,7 +54,7 @@ pub past_flat : (bytes : List ℕ) (at : At) → is_flat bytes ≡ true →
 past_flat [] at flat = ap (λ n. record at { col = n }) (omega arith)
 past_flat (b ∷ bytes) at flat =
     let h = both_true (not (nat_eq b 10)) (is_flat bytes) flat in
-    let next : place_behind b at ≡ record at { col = at.col + 1 } =
+    let next : place_after b at ≡ record at { col = at.col + 1 } =
     ap (λ t. cond t (record { line = at.line + 1; col = 1 }) (record at { col = at.col + 1 }))
     (not_true (nat_eq b 10) h.0) in
     ap (past bytes) next

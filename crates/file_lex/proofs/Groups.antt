@@ -54,14 +54,14 @@ beside_starting [] b bs = refl
 beside_starting (entry ∷ table) b bs =
     one_more (first_is b entry.0) entry (starting b table) table b bs refl (beside_starting table b bs)
 
-any_behind : {A : Type 0} (p : A → Bool) (x : A) (xs : List A) (t : Bool) → cond t (Some x) (find p xs) ≡ None →
+any_after : {A : Type 0} (p : A → Bool) (x : A) (xs : List A) (t : Bool) → cond t (Some x) (find p xs) ≡ None →
     (find p xs ≡ None → list_any p xs ≡ false) → (t || list_any p xs) ≡ false
-any_behind p x xs true none behind = cc
-any_behind p x xs false none behind = behind none
+any_after p x xs true none following = cc
+any_after p x xs false none following = following none
 
 any_none : {A : Type 0} (p : A → Bool) (xs : List A) → find p xs ≡ None → list_any p xs ≡ false
 any_none p [] none = refl
-any_none p (x ∷ xs) none = any_behind p x xs (p x) none (any_none p xs)
+any_none p (x ∷ xs) none = any_after p x xs (p x) none (any_none p xs)
 
 -- no group has the byte: no entry that is covered begins with it
 none_begins : {X : Type 0} (groups : List (ℕ × List (List ℕ × X))) (b c : ℕ) (begins : Bool) → nat_eq c b ≡ begins →
@@ -90,7 +90,7 @@ beside_none groups (entry ∷ table) b bs none covered =
     (skips b bs entry.0 (first_none groups entry.0 b none h.0))
     ∙ beside_none groups table b bs none h.1
 
-found_behind : {X : Type 0} (x : ℕ × List (List ℕ × X)) (groups : List (ℕ × List (List ℕ × X)))
+found_after : {X : Type 0} (x : ℕ × List (List ℕ × X)) (groups : List (ℕ × List (List ℕ × X)))
     (table : List (List ℕ × X)) (b : ℕ)
     (group : ℕ × List (List ℕ × X)) (t : Bool) → nat_eq b x.0 ≡ t →
     (x.1 ∷ map (λ g. g.1) groups) ≡ (starting x.0 table ∷ map (λ g. starting g.0 table) groups) →
@@ -98,12 +98,12 @@ found_behind : {X : Type 0} (x : ℕ × List (List ℕ × X)) (groups : List (�
     (map (λ g. g.1) groups ≡ map (λ g. starting g.0 table) groups → find (λ g. nat_eq b g.0) groups ≡ Some group →
     group.1 ≡ starting b table) →
     group.1 ≡ starting b table
-found_behind x groups table b group true is same found behind =
+found_after x groups table b group true is same found following =
     let e : x ≡ group = cc in
     let h : x.1 ≡ starting x.0 table = cc in
     ap (λ g. g.1) (sym e) ∙ (h ∙ ap (λ c. starting c table) (sym (eqb-true b x.0 is)))
-found_behind x groups table b group false is same found behind =
-    behind (ap list_tail same) found
+found_after x groups table b group false is same found following =
+    following (ap list_tail same) found
 
 -- a group has the entries that begin with its byte
 found_group : {X : Type 0} (groups : List (ℕ × List (List ℕ × X))) (table : List (List ℕ × X)) (b : ℕ)
@@ -111,7 +111,7 @@ found_group : {X : Type 0} (groups : List (ℕ × List (List ℕ × X))) (table 
     map (λ g. g.1) groups ≡ map (λ g. starting g.0 table) groups → find (λ g. nat_eq b g.0) groups ≡ Some group →
     group.1 ≡ starting b table
 found_group [] table b group same is = cc
-found_group (x ∷ groups) table b group same is = found_behind x groups table b group (nat_eq b x.0) refl same is
+found_group (x ∷ groups) table b group same is = found_after x groups table b group (nat_eq b x.0) refl same is
     (found_group groups table b group)
 
 grouped_found : {X : Type 0} (groups : List (ℕ × List (List ℕ × X))) (table : List (List ℕ × X)) →

@@ -8,10 +8,10 @@ use Rattle.std.proofs.Math.Seq.{take-append_seam, drop-append_seam}
 use Rattle.std.specs.List.{list_all, prefix_len}
 use Rattle.layer_ast.specs.declared.names.At.{At}
 use Rattle.layer_ast.specs.declared.tokens.Lexed.{Lexed}
-use Rattle.layer_ast.specs.Cut.{Piece, gap, one, bad, Tokens, piece, with_piece, cut_from, place_behind}
+use Rattle.layer_ast.specs.Cut.{Piece, gap, one, bad, Tokens, piece, with_piece, cut_from, place_after}
 use Rattle.file_lex.specs.declared.Left.{Left}
 use Rattle.file_lex.specs.Parts.{begins_part, part_length, unless_bad, CutsPart}
-use Rattle.file_lex.specs.Pieces.{GoesOn, in_front, begins_at, left_of, IsBehind, StopsBefore, StopsBad}
+use Rattle.file_lex.specs.Pieces.{GoesOn, with_front, begins_at, left_of, IsAfter, StopsBefore, StopsBad}
 use Rattle.file_lex.proofs.Cutting.{Cutting}
 
 -- no part begins at any of these tokens
@@ -62,34 +62,35 @@ abbrev Ends : List Lexed → List Lexed → Type 0
 Ends added [] = Unit {0}
 Ends added (l ∷ _) = (begins_part l.token ≡ true) × (0 < length added)
 
-prefix_is : (inner behind : List Lexed) → begin_none inner ≡ true → (l : Lexed) → Ends (l ∷ inner) behind →
-    prefix_len (λ l. not (begins_part l.token)) (inner ++ behind) ≡ length inner
+prefix_is : (inner following : List Lexed) → begin_none inner ≡ true → (l : Lexed) → Ends (l ∷ inner) following →
+    prefix_len (λ l. not (begins_part l.token)) (inner ++ following) ≡ length inner
 prefix_is [] [] none l ends = refl
 prefix_is [] (b ∷ bs) none l ends = rw ends.0 refl
-prefix_is (a ∷ inner) behind none l ends =
-    by_token (begins_part a.token) refl none (λ all. prefix_is inner behind all l (same_ends behind ends))
+prefix_is (a ∷ inner) following none l ends =
+    by_token (begins_part a.token) refl none (λ all. prefix_is inner following all l (same_ends following ends))
   where
-    same_ends : (behind : List Lexed) → Ends (l ∷ a ∷ inner) behind → Ends (l ∷ inner) behind
+    same_ends : (following : List Lexed) → Ends (l ∷ a ∷ inner) following → Ends (l ∷ inner) following
     same_ends [] ends = tt
     same_ends (b ∷ bs) ends = (ends.0, omega arith)
 
     by_token : (b : Bool) → begins_part a.token ≡ b → (not b && begin_none inner) ≡ true →
-        (begin_none inner ≡ true → prefix_len (λ l. not (begins_part l.token)) (inner ++ behind) ≡ length inner) →
-        cond (not (begins_part a.token)) (1 + prefix_len (λ l. not (begins_part l.token)) (inner ++ behind)) 0 ≡
+        (begin_none inner ≡ true → prefix_len (λ l. not (begins_part l.token)) (inner ++ following) ≡ length inner) →
+        cond (not (begins_part a.token)) (1 + prefix_len (λ l. not (begins_part l.token)) (inner ++ following)) 0 ≡
         suc (length inner)
     by_token true is none then = cc
     by_token false is none then =
-        ap (λ t. cond (not t) (1 + prefix_len (λ l. not (begins_part l.token)) (inner ++ behind)) 0) is ∙
+        ap (λ t. cond (not t) (1 + prefix_len (λ l. not (begins_part l.token)) (inner ++ following)) 0) is ∙
         omega (arith, then none)
 
-part_is : (added behind : List Lexed) → begin_none (drop 1 added) ≡ true → Ends added behind →
-    part_length (added ++ behind) ≡ length added
+part_is : (added following : List Lexed) → begin_none (drop 1 added) ≡ true → Ends added following →
+    part_length (added ++ following) ≡ length added
 part_is [] [] inner ends = refl
 part_is [] (b ∷ bs) inner ends = absurd (omega (arith, ends.1))
-part_is (a ∷ rest) behind inner ends = ap suc (prefix_is rest behind inner a ends)
+part_is (a ∷ rest) following inner ends = ap suc (prefix_is rest following inner a ends)
 
 -- the part is whole
-part_cut : (old now added : List Lexed) (t whole : Tokens) → now ≡ old ++ added → in_front now t ≡ in_front old whole →
+part_cut : (old now added : List Lexed) (t whole : Tokens) → now ≡ old ++ added →
+    with_front now t ≡ with_front old whole →
     begin_none (drop 1 added) ≡ true → Ends added t.tokens → CutsPart old now whole (unless_bad t.tokens t.bad_at)
 part_cut old now added t whole grown same inner ends =
     let tokens : added ++ t.tokens ≡ whole.tokens =
@@ -123,14 +124,14 @@ begins_next bad at rest added begins lt = cc
 module _ (to_end : Bool) (old now : List Lexed) (left : Left) where
   -- the whole of what is left, its tokens after the old ones
   abbrev whole : Tokens
-  whole = in_front old (left_of left)
+  whole = with_front old (left_of left)
 
   abbrev size : ℕ
   size = length left.text.now + length old
 
-  behind : (next : Left) → Cutting whole 4294967295 size next.text.now next.behind_number next.at now →
-      ((left_of next).tokens ≡ [] → next.text.now ≡ []) → IsBehind old now left next
-  behind next c ended = record {
+  following : (next : Left) → Cutting whole 4294967295 size next.text.now next.after_number next.at now →
+      ((left_of next).tokens ≡ [] → next.text.now ≡ []) → IsAfter old now left next
+  following next c ended = record {
     room = record { line = omega (arith, c.line); col = omega (arith, c.col) };
     fewer = c.fewer;
     ended = ended;
@@ -138,17 +139,17 @@ module _ (to_end : Bool) (old now : List Lexed) (left : Left) where
 
   -- before the next part
   pub at_next : (next : Left) (first : ℕ) (after : List ℕ) (p : Piece) →
-      Cutting whole 4294967295 size next.text.now next.behind_number next.at now → InPart to_end old now →
-      next.text.now ≡ first ∷ after → p ≡ piece next.behind_number first after → begins_at p ≡ true →
+      Cutting whole 4294967295 size next.text.now next.after_number next.at now → InPart to_end old now →
+      next.text.now ≡ first ∷ after → p ≡ piece next.after_number first after → begins_at p ≡ true →
       length old < length now →
       to_end ≡ false → StopsBefore old now left to_end next
   at_next next first after p c so_far split is begins longer part =
       let count : length now ≡ length old + length so_far.added = ap length so_far.grown ∙
       length-append old so_far.added in
       let some : 0 < length so_far.added = omega (arith, count, longer) in
-      let rest : Bool → ℕ → Tokens = λ number n. cut_from number n after (place_behind first next.at) in
+      let rest : Bool → ℕ → Tokens = λ number n. cut_from number n after (place_after first next.at) in
       let shown : with_piece p next.at rest ≡ left_of next =
-      ap (λ q. with_piece q next.at rest) is ∙ ap (λ bytes. cut_from next.behind_number 0 bytes next.at) (sym split) in
+      ap (λ q. with_piece q next.at rest) is ∙ ap (λ bytes. cut_from next.after_number 0 bytes next.at) (sym split) in
       let facts = begins_next p next.at rest so_far.added begins some in
       let ends : Ends so_far.added (left_of next).tokens = subst (λ (t : Tokens). Ends so_far.added t.tokens) shown
       facts.0 in
@@ -158,25 +159,25 @@ module _ (to_end : Bool) (old now : List Lexed) (left : Left) where
         all = λ to_the_end. cc;
         part = λ _. subst (CutsPart old now (left_of left)) good
             (part_cut old now so_far.added (left_of next) (left_of left) so_far.grown c.same (so_far.inner part) ends);
-        behind = behind next c (λ none. absurd (facts.2 (ap (λ (t : Tokens). t.tokens) shown ∙ none)));
+        following = following next c (λ none. absurd (facts.2 (ap (λ (t : Tokens). t.tokens) shown ∙ none)));
       }
 
   -- at the end of the text
-  pub at_end : (next : Left) → Cutting whole 4294967295 size next.text.now next.behind_number next.at now →
+  pub at_end : (next : Left) → Cutting whole 4294967295 size next.text.now next.after_number next.at now →
       InPart to_end old now →
       length next.text.now ≡ 0 → StopsBefore old now left to_end next
   at_end next c so_far is =
       let none : next.text.now ≡ [] = nil_from_length next.text.now is in
       let shown : left_of next ≡ record { tokens = []; bad_at = None } =
-      ap (λ bytes. cut_from next.behind_number 0 bytes next.at) none in
-      let same : in_front now record { tokens = []; bad_at = None } ≡ in_front old (left_of left) =
-      ap (in_front now) (sym shown) ∙ c.same in
+      ap (λ bytes. cut_from next.after_number 0 bytes next.at) none in
+      let same : with_front now record { tokens = []; bad_at = None } ≡ with_front old (left_of left) =
+      ap (with_front now) (sym shown) ∙ c.same in
       record {
         all = λ _. same;
         part = λ part. subst (λ t. CutsPart old now (left_of left) (Some t)) (sym shown)
             (part_cut old now so_far.added record { tokens = []; bad_at = None } (left_of left) so_far.grown same
             (so_far.inner part) tt);
-        behind = behind next c (λ _. none);
+        following = following next c (λ _. none);
       }
 
   -- at a bad token
@@ -186,17 +187,17 @@ module _ (to_end : Bool) (old now : List Lexed) (left : Left) where
       p ≡ piece number first after →
       GoesOn p at now new more → more ≡ None → StopsBad old new left to_end at
   at_bad new bytes number at first after p more c so_far split is goes none =
-      by_piece p goes (ap (λ q. with_piece q at (λ number n. cut_from number n after (place_behind first at))) is
+      by_piece p goes (ap (λ q. with_piece q at (λ number n. cut_from number n after (place_after first at))) is
       ∙ ap (λ bytes. cut_from number 0 bytes at) (sym split))
     where
       by_piece : (p : Piece) → GoesOn p at now new more →
-          with_piece p at (λ number n. cut_from number n after (place_behind first at)) ≡ cut_from number 0 bytes at →
+          with_piece p at (λ number n. cut_from number n after (place_after first at)) ≡ cut_from number 0 bytes at →
           StopsBad old new left to_end at
       by_piece (gap n) h shown = cc
       by_piece (one token n) h shown = cc
       by_piece bad h shown =
-          let same : in_front now record { tokens = []; bad_at = Some at } ≡ in_front old (left_of left) =
-          ap (in_front now) shown ∙ c.same in
+          let same : with_front now record { tokens = []; bad_at = Some at } ≡ with_front old (left_of left) =
+          ap (with_front now) shown ∙ c.same in
           rw h.0 record {
             all = same;
             part = λ part. part_cut old now so_far.added record { tokens = []; bad_at = Some at } (left_of left)
@@ -211,15 +212,15 @@ not_bad [] None t is = cc
 not_bad (l ∷ tokens) bad_at t is = cc
 
 -- a part and what stands after it make up the whole
-pub made_up : (old new : List Lexed) (whole behind : Tokens) → CutsPart old new whole (Some behind) →
-    in_front new behind ≡ in_front old whole
-made_up old new whole behind c =
+pub made_up : (old new : List Lexed) (whole following : Tokens) → CutsPart old new whole (Some following) →
+    with_front new following ≡ with_front old whole
+made_up old new whole following c =
     let n = part_length whole.tokens in
-    let is : behind ≡ record { tokens = drop n whole.tokens; bad_at = whole.bad_at } =
-    not_bad (drop n whole.tokens) whole.bad_at behind c.rest in
+    let is : following ≡ record { tokens = drop n whole.tokens; bad_at = whole.bad_at } =
+    not_bad (drop n whole.tokens) whole.bad_at following c.rest in
     let all : (old ++ take n whole.tokens) ++ drop n whole.tokens ≡ old ++ whole.tokens =
     append_assoc old (take n whole.tokens) (drop n whole.tokens) ∙
     ap (λ ts. old ++ ts) (take-append-drop n whole.tokens) in
-    ap (in_front new) is
+    ap (with_front new) is
     ∙ (ap (λ ts. record { tokens = ts ++ drop n whole.tokens; bad_at = whole.bad_at }) c.added
     ∙ ap (λ ts. record { tokens = ts; bad_at = whole.bad_at }) all)

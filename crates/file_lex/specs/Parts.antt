@@ -29,10 +29,10 @@ unless_bad [] (Some _) = None
 unless_bad tokens bad_at = Some record { tokens = tokens; bad_at = bad_at }
 
 -- what stands after the first part, or none where that has a bad token
-abbrev pub behind_part : Tokens → Option Tokens
-behind_part t = unless_bad (drop (part_length t.tokens) t.tokens) t.bad_at
+abbrev pub after_part : Tokens → Option Tokens
+after_part t = unless_bad (drop (part_length t.tokens) t.tokens) t.bad_at
 
 -- the first part of some tokens was added to others, and this is what stands after it
-pub record CutsPart (old new : List Lexed) (whole : Tokens) (behind : Option Tokens) : Type 0 where
+pub record CutsPart (old new : List Lexed) (whole : Tokens) (following : Option Tokens) : Type 0 where
   pub added : new ≡ old ++ first_part whole
-  pub rest : behind ≡ behind_part whole
+  pub rest : following ≡ after_part whole

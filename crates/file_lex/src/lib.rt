@@ -2,12 +2,12 @@
 #![tactic(auto)]
 
 ghost use Rattle.std.specs.Prelude.{◌≡◌, ℕ, List, [], ◌∷◌, ◌+◌, ◌<◌, ◌≤◌, length, nat_eq, true, None, IfOk, IfSome};
-ghost use Rattle.layer_ast.specs.Cut.{text_tokens as cut_of, place_behind as next_place};
+ghost use Rattle.layer_ast.specs.Cut.{text_tokens as cut_of, place_after as next_place};
 ghost use Rattle.layer_ast.specs.Stops.{end_of as end};
 ghost use Rattle.std.specs.Option.{option_map};
 ghost use Rattle.file_lex.specs.Parts.{CutsPart};
 ghost use Rattle.file_lex.specs.Pieces.{found, tokens_of, begins_at, is_number as is_number_piece, past, left_of};
-ghost use Rattle.file_lex.specs.Pieces.{GoesOn, IsFront, HasRoom, IsBehind, Stops};
+ghost use Rattle.file_lex.specs.Pieces.{GoesOn, IsFront, HasRoom, IsAfter, Stops};
 
 mod pieces;
 mod words;
@@ -33,7 +33,7 @@ pub struct Tokens {
 pub struct Left<'a> {
     text: &'a [u8],
     at: At,
-    behind_number: bool,
+    after_number: bool,
 }
 
 impl<'a> Left<'a> {
@@ -47,7 +47,7 @@ impl<'a> Left<'a> {
         Left {
             text,
             at: At { line: 1, col: 1 },
-            behind_number: false,
+            after_number: false,
         }
     }
 
@@ -88,7 +88,8 @@ pub fn cut_part<'a>(tokens: &mut Vec<Lexed>, left: Left<'a>) -> Result<Option<Le
     requires { HasRoom left }
     ensures part { IfOk result
         (λ o. CutsPart tokens.old.items tokens.new.items (left_of left.entry) (option_map left_of o)) }
-    ensures behind { IfOk result (λ o. IfSome o (λ next. IsBehind tokens.old.items tokens.new.items left.entry next)) }
+    ensures following { IfOk result
+        (λ o. IfSome o (λ next. IsAfter tokens.old.items tokens.new.items left.entry next)) }
 {
     match cut_on(tokens, left, false)? {
         Stop::Before(next) => Ok(Some(next)),
@@ -103,24 +104,24 @@ fn cut_on<'a>(tokens: &mut Vec<Lexed>, left: Left<'a>, to_end: bool) -> Result<S
 {
     let before = tokens.len();
     let mut at = left.at;
-    let mut behind_number = left.behind_number;
+    let mut after_number = left.after_number;
     let mut rest = left.text;
-    while let Some((first, behind)) = rest.split_first() {
+    while let Some((first, following)) = rest.split_first() {
         if is_blank(*first) {
-            behind_number = false;
-            at = place_behind(*first, at);
-            rest = behind;
+            after_number = false;
+            at = place_after(*first, at);
+            rest = following;
             continue;
         }
-        let piece = piece_at(behind_number, *first, behind, rest);
+        let piece = piece_at(after_number, *first, following, rest);
         if !to_end && begins_part(&piece, rest) && tokens.len() > before {
             return Ok(Stop::Before(Left {
                 text: rest,
                 at,
-                behind_number,
+                after_number,
             }));
         }
-        behind_number = is_number(&piece);
+        after_number = is_number(&piece);
         let Some(more) = take_piece(tokens, piece, at, rest)? else {
             return Ok(Stop::Bad(at));
         };
@@ -128,13 +129,13 @@ fn cut_on<'a>(tokens: &mut Vec<Lexed>, left: Left<'a>, to_end: bool) -> Result<S
             line: at.line,
             col: at.col + 1 + more as u32,
         };
-        let (_, after) = behind.split_at(more);
+        let (_, after) = following.split_at(more);
         rest = after;
     }
     Ok(Stop::Before(Left {
         text: rest,
         at,
-        behind_number,
+        after_number,
     }))
 }
 
@@ -144,7 +145,7 @@ fn begins_part(piece: &Piece, text: &[u8]) -> bool
     ensures { result ≡ begins_at (found text.now piece.now) }
 {
     match piece {
-        Piece::Word { behind } => is_part_word(front(text, *behind)),
+        Piece::Word { following } => is_part_word(front(text, *following)),
         Piece::Gap { .. } => false,
         Piece::Number { .. } => false,
         Piece::Symbol { .. } => false,
@@ -164,20 +165,20 @@ fn take_piece(
     ensures { IfOk result (λ more. GoesOn (found text.now piece) at tokens.old.items tokens.new.items more) }
 {
     match piece {
-        Piece::Gap { behind } => Ok(Some(behind)),
-        Piece::Word { behind } => {
-            push_word(tokens, front(text, behind), at)?;
-            Ok(Some(behind))
+        Piece::Gap { following } => Ok(Some(following)),
+        Piece::Word { following } => {
+            push_word(tokens, front(text, following), at)?;
+            Ok(Some(following))
         }
-        Piece::Number { value, behind } => {
+        Piece::Number { value, following } => {
             let token = Token::Number(value);
             tokens.push(Lexed { token, at })?;
-            Ok(Some(behind))
+            Ok(Some(following))
         }
-        Piece::Symbol { sign, behind } => {
+        Piece::Symbol { sign, following } => {
             let token = Token::Sign(sign);
             tokens.push(Lexed { token, at })?;
-            Ok(Some(behind))
+            Ok(Some(following))
         }
         Piece::Bad => Ok(None),
     }
@@ -205,7 +206,7 @@ fn place_past(bytes: &[u8], at: At) -> At
 {
     let mut at = at;
     for byte in bytes {
-        at = place_behind(*byte, at);
+        at = place_after(*byte, at);
     }
     at
 }
@@ -218,7 +219,7 @@ pub fn end_of(text: &[u8]) -> At
     place_past(text, At { line: 1, col: 1 })
 }
 
-fn place_behind(byte: u8, at: At) -> At
+fn place_after(byte: u8, at: At) -> At
     requires line { at.line < 4294967295 }
     requires col { at.col < 4294967295 }
     ensures place { result ≡ next_place byte at }

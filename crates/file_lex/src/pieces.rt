@@ -12,40 +12,40 @@ use layer_ast::{LONGEST_WORD, Sign};
 /// What a text begins with, and how many bytes of it stand after its first.
 #[derive(Clone, Copy)]
 pub enum Piece {
-    Gap { behind: usize },
-    Word { behind: usize },
-    Number { value: u32, behind: usize },
-    Symbol { sign: Sign, behind: usize },
+    Gap { following: usize },
+    Word { following: usize },
+    Number { value: u32, following: usize },
+    Symbol { sign: Sign, following: usize },
     Bad,
 }
 
 /// The piece that a text begins with, given also as its first byte, which is no blank, and the bytes after that. It
 /// stands in one line.
 #[tactic(auto, unfolding(layer_ast::specs::Cut::piece), using(crate::proofs::Flat::line_flat))]
-pub fn piece_at(behind_number: bool, first: u8, behind: &[u8], text: &[u8]) -> Piece
-    requires text { text.now ≡ first ∷ behind.now }
+pub fn piece_at(after_number: bool, first: u8, following: &[u8], text: &[u8]) -> Piece
+    requires text { text.now ≡ first ∷ following.now }
     requires no_blank { is_gap first ≡ false }
-    ensures piece { found text.now result ≡ piece_of behind_number first behind.now }
+    ensures piece { found text.now result ≡ piece_of after_number first following.now }
     ensures front { IsFront text.now result }
-    ensures within { more_of (found text.now result) ≤ length behind.now }
-    ensures flat { is_flat (take (more_of (found text.now result)) behind.now) ≡ true }
+    ensures within { more_of (found text.now result) ≤ length following.now }
+    ensures flat { is_flat (take (more_of (found text.now result)) following.now) ≡ true }
 {
     if first == b'#' {
         return Piece::Gap {
-            behind: line_length(behind),
+            following: line_length(following),
         };
     }
     if first.is_ascii_alphabetic() {
-        return if behind_number {
+        return if after_number {
             Piece::Bad
         } else {
-            word(first, behind, text)
+            word(first, following, text)
         };
     }
     if first.is_ascii_digit() {
-        return number(first, behind, text);
+        return number(first, following, text);
     }
-    symbol(first, behind)
+    symbol(first, following)
 }
 
 pub fn is_blank(byte: u8) -> bool
@@ -102,36 +102,36 @@ pub fn front(text: &[u8], more: usize) -> &[u8]
 }
 
 #[tactic(auto, using(crate::proofs::Flat::word_flat))]
-fn word(first: u8, behind: &[u8], text: &[u8]) -> Piece
-    requires { text.now ≡ first ∷ behind.now }
-    ensures piece { found text.now result ≡ word_piece first behind.now }
+fn word(first: u8, following: &[u8], text: &[u8]) -> Piece
+    requires { text.now ≡ first ∷ following.now }
+    ensures piece { found text.now result ≡ word_piece first following.now }
     ensures front { IsFront text.now result }
-    ensures within { more_of (found text.now result) ≤ length behind.now }
-    ensures flat { is_flat (take (more_of (found text.now result)) behind.now) ≡ true }
+    ensures within { more_of (found text.now result) ≤ length following.now }
+    ensures flat { is_flat (take (more_of (found text.now result)) following.now) ≡ true }
 {
-    let more = word_length(behind);
+    let more = word_length(following);
     if more >= LONGEST_WORD {
         return Piece::Bad;
     }
-    Piece::Word { behind: more }
+    Piece::Word { following: more }
 }
 
 #[tactic(auto, using(crate::proofs::Flat::number_flat))]
-fn number(first: u8, behind: &[u8], text: &[u8]) -> Piece
-    requires { text.now ≡ first ∷ behind.now }
-    ensures piece { found text.now result ≡ number_piece first behind.now }
+fn number(first: u8, following: &[u8], text: &[u8]) -> Piece
+    requires { text.now ≡ first ∷ following.now }
+    ensures piece { found text.now result ≡ number_piece first following.now }
     ensures front { IsFront text.now result }
-    ensures within { more_of (found text.now result) ≤ length behind.now }
-    ensures flat { is_flat (take (more_of (found text.now result)) behind.now) ≡ true }
+    ensures within { more_of (found text.now result) ≤ length following.now }
+    ensures flat { is_flat (take (more_of (found text.now result)) following.now) ≡ true }
 {
-    let more = digits_length(behind);
+    let more = digits_length(following);
     if first == b'0' && more > 0 {
         return Piece::Bad;
     }
     match value(front(text, more)) {
         Some(value) => Piece::Number {
             value,
-            behind: more,
+            following: more,
         },
         None => Piece::Bad,
     }
@@ -153,13 +153,13 @@ fn value(digits: &[u8]) -> Option<u32>
 }
 
 #[tactic(auto, unfolding(layer_ast::specs::Spelling::symbol_at, layer_ast::specs::Spelling::symbols))]
-fn symbol(first: u8, behind: &[u8]) -> Piece
-    ensures piece { (text : List ℕ) → found text result ≡ symbol_piece (first ∷ behind.now) }
+fn symbol(first: u8, following: &[u8]) -> Piece
+    ensures piece { (text : List ℕ) → found text result ≡ symbol_piece (first ∷ following.now) }
     ensures front { (text : List ℕ) → IsFront text result }
-    ensures within { (text : List ℕ) → more_of (found text result) ≤ length behind.now }
-    ensures flat { (text : List ℕ) → is_flat (take (more_of (found text result)) behind.now) ≡ true }
+    ensures within { (text : List ℕ) → more_of (found text result) ≤ length following.now }
+    ensures flat { (text : List ℕ) → is_flat (take (more_of (found text result)) following.now) ≡ true }
 {
-    let doubled = behind.starts_with(b"=");
+    let doubled = following.starts_with(b"=");
     match first {
         b'=' if doubled => symbol_of(Sign::Equal, 1),
         b'!' if doubled => symbol_of(Sign::NotEqual, 1),
@@ -188,8 +188,8 @@ fn symbol(first: u8, behind: &[u8]) -> Piece
     }
 }
 
-fn symbol_of(sign: Sign, behind: usize) -> Piece
-    ensures { result ≡ Piece.Symbol sign behind }
+fn symbol_of(sign: Sign, following: usize) -> Piece
+    ensures { result ≡ Piece.Symbol sign following }
 {
-    Piece::Symbol { sign, behind }
+    Piece::Symbol { sign, following }
 }

@@ -7,4 +7,4 @@ pub lookup_found : (name : List ℕ) (layers : List (Bor (List ℕ) × Bor (List
     → option_map (λ layer. layer.1.now) (find (λ layer. bytes_eq name layer.0.now) layers)
     ≡ lookup (bytes_eq name) (map (λ layer. (layer.0.now, layer.1.now)) layers)
 lookup_found name [] = refl
-lookup_found name (layer ∷ behind) = grind (arith, lookup_found name behind)
+lookup_found name (layer ∷ following) = grind (arith, lookup_found name following)

@@ -4,4 +4,4 @@ use Rattle.std.specs.Prelude.{ℕ, List, [], ◌∷◌, ◌++◌}
 -- the lines one after the other, each ended by a line feed (10)
 abbrev pub lines : List (List ℕ) → List ℕ
 lines [] = []
-lines (line ∷ behind) = line ++ 10 ∷ lines behind
+lines (line ∷ following) = line ++ 10 ∷ lines following

@@ -11,7 +11,7 @@ use Rattle.fault_mean.specs.Scope.{popped_names}
 use Rattle.file_mean.specs.Names.{Placed, Names, own_names, with_numbers, with_messages, tag_of, size_value}
 use Rattle.file_mean.specs.Names.{numbers_among, message_among, carried_in}
 use Rattle.file_mean.specs.Values.{number_of}
-use Rattle.file_mean.specs.Statements.{behind_all, statements_of}
+use Rattle.file_mean.specs.Statements.{after_all, statements_of}
 
 -- The header that a handler takes off, by its tag: without one it is `none`, which has tag 0.
 abbrev pub popped_tag : Placed → Option ast.PoppedTree → ℕ
@@ -35,7 +35,7 @@ expected_of names ast.rare = rare
 unfoldable pub handler_of : Placed → ast.HandlerTree → HandlerTree
 handler_of p h =
     let entry = handler_names p h in
-    let end = behind_all h.block entry in
+    let end = after_all h.block entry in
     record {
       direction = h.direction;
       kind = h.kind;

@@ -67,23 +67,23 @@ after_block names inner = record names { taken = inner.taken }
 abbrev mutual
   -- The names after a statement: those that it declares for the rest of its block are visible, and of all that it
   -- declares the slots are taken.
-  pub behind : ast.StatementTree → Names → Names
-  behind (ast.bind at name value) names = with_numbers (name ∷ []) names
-  behind (ast.push at q items otherwise) names = after_block names (behind_all otherwise names)
-  behind (ast.take at q new block otherwise) names =
-      after_block names (behind_all otherwise
-      (after_block names (behind_all block (with_taken q (names_in (Some new)) names))))
-  behind (ast.when at likely condition block) names = after_block names (behind_all block names)
-  behind (ast.choose at likely condition block otherwise) names =
-      after_block names (behind_all otherwise (after_block names (behind_all block names)))
-  behind (ast.each at name below most block) names =
-      after_block names (behind_all block (with_numbers (name ∷ []) names))
-  behind _ names = names
+  pub following : ast.StatementTree → Names → Names
+  following (ast.bind at name value) names = with_numbers (name ∷ []) names
+  following (ast.push at q items otherwise) names = after_block names (after_all otherwise names)
+  following (ast.take at q new block otherwise) names =
+      after_block names (after_all otherwise
+      (after_block names (after_all block (with_taken q (names_in (Some new)) names))))
+  following (ast.when at likely condition block) names = after_block names (after_all block names)
+  following (ast.choose at likely condition block otherwise) names =
+      after_block names (after_all otherwise (after_block names (after_all block names)))
+  following (ast.each at name below most block) names =
+      after_block names (after_all block (with_numbers (name ∷ []) names))
+  following _ names = names
 
   -- The names after the statements of a block.
-  pub behind_all : ast.StatementTrees → Names → Names
-  behind_all ast.none names = names
-  behind_all (ast.more statement rest) names = behind_all rest (behind statement names)
+  pub after_all : ast.StatementTrees → Names → Names
+  after_all ast.none names = names
+  after_all (ast.more statement rest) names = after_all rest (following statement names)
 
 -- The cell and the index that an assignment writes; a cell of one number has index 0.
 abbrev pub index_of : Names → Option ast.ExpressionTree → ExpressionTree
@@ -104,12 +104,12 @@ abbrev mutual
       let inner = with_taken q (names_in (Some new)) names in
       take (queue_cell names q) (queue_index names q) (taken_row names q (names_in (Some new)))
       (statements_of inner block)
-      (statements_of (after_block names (behind_all block inner)) otherwise)
+      (statements_of (after_block names (after_all block inner)) otherwise)
   statement_of names (ast.when at likely condition block) =
       branch likely (number_of names condition) (statements_of names block) none
   statement_of names (ast.choose at likely condition block otherwise) =
       branch likely (number_of names condition) (statements_of names block)
-      (statements_of (after_block names (behind_all block names)) otherwise)
+      (statements_of (after_block names (after_all block names)) otherwise)
   statement_of names (ast.each at name below most block) = each names.taken.numbers (number_of names below)
       (size_value names.place most) (statements_of (with_numbers (name ∷ []) names) block)
   statement_of names (ast.emit at direction kind arguments pushed) =
@@ -119,4 +119,4 @@ abbrev mutual
   pub statements_of : Names → ast.StatementTrees → StatementTrees
   statements_of names ast.none = none
   statements_of names (ast.more statement rest) =
-      more (statement_of names statement) (statements_of (behind statement names) rest)
+      more (statement_of names statement) (statements_of (following statement names) rest)

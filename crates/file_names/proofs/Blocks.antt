@@ -16,11 +16,11 @@ use Rattle.fault_mean.specs.Forms.{queue_name, row_of}
 use Rattle.fault_mean.specs.Faults.{NameFault}
 use Rattle.fault_mean.specs.Limits.{maximum_in}
 use Rattle.fault_mean.specs.NameFaults.{size_faults, statement_name_faults, twice_among, uses_faults}
-use Rattle.fault_mean.specs.Scope.{Scope, Local, declared_names, locals_as, scope_behind, standing_in, standing_inside}
+use Rattle.fault_mean.specs.Scope.{Scope, Local, declared_names, locals_as, scope_after, standing_in, standing_inside}
 use Rattle.fault_mean.specs.Scope.{visible, with_locals}
 use Rattle.fault_mean.specs.Uses.{statement_uses}
 use Rattle.file_names.specs.Blocks.{block_faults, inner_faults, statement_faults}
-use Rattle.file_scope.specs.Scope.{scope_behind_all}
+use Rattle.file_scope.specs.Scope.{scope_after_all}
 use Rattle.file_names.specs.Found.{Finds, name_shown}
 use Rattle.file_names.specs.Scope.{Declares}
 use Rattle.file_scope.specs.declared.found.Found.{Found}
@@ -31,27 +31,27 @@ use Rattle.file_scope.proofs.Standing.{left_is, names_of_locals, standing_more}
 pub block_more : (outer scope inner : Scope) (a b c : Found) (xs : List Statement) (i : ℕ) (x : Statement) →
     i < length xs → x ≡ get_or xs i x →
     Finds a (block_faults outer (trees (map statement_tree (take i xs)))) b →
-    scope ≡ scope_behind_all outer (map statement_tree (take i xs)) →
-    Finds b (statement_faults scope (statement_tree x)) c → inner ≡ scope_behind scope (statement_tree x) →
+    scope ≡ scope_after_all outer (map statement_tree (take i xs)) →
+    Finds b (statement_faults scope (statement_tree x)) c → inner ≡ scope_after scope (statement_tree x) →
     Finds a (block_faults outer (trees (map statement_tree (take (i + 1) xs)))) c
-    × (inner ≡ scope_behind_all outer (map statement_tree (take (i + 1) xs)))
+    × (inner ≡ scope_after_all outer (map statement_tree (take (i + 1) xs)))
 block_more outer scope inner a b c xs i x within is so_far scope_is now then_ =
     let before = map statement_tree (take i xs) in
-    let behind = scope_behind_all outer before in
+    let following = scope_after_all outer before in
     let more = trees_more statement_tree xs i x within is in
     let s = statement_tree x in
-    let this : List NameFault = statement_faults behind s in (
+    let this : List NameFault = statement_faults following s in (
       subst (λ l. Finds a (block_faults outer (trees l)) c) (sym more)
           (subst (λ l. Finds a l c)
           (sym (ap (flat_map statement_name_faults) (standing_more outer before s)
           ∙ (flat_map-append statement_name_faults (standing_in outer (trees before)) _
           ∙ ap (λ l. block_faults outer (trees before) ++
-          (statement_name_faults (record { scope = behind; statement = s }) ++ flat_map statement_name_faults l))
-          (append-nil (standing_inside behind s)))))
+          (statement_name_faults (record { scope = following; statement = s }) ++ flat_map statement_name_faults l))
+          (append-nil (standing_inside following s)))))
           (finds_both name_shown a b c (block_faults outer (trees before)) this so_far
           (subst (λ z. Finds b (statement_faults z s) c) scope_is now))),
-      then_ ∙ (ap (λ z. scope_behind z s) scope_is
-          ∙ (sym (fold-append scope_behind outer before (s ∷ [])) ∙ ap (scope_behind_all outer) (sym more))),
+      then_ ∙ (ap (λ z. scope_after z s) scope_is
+          ∙ (sym (fold-append scope_after outer before (s ∷ [])) ∙ ap (scope_after_all outer) (sym more))),
     )
 
 -- a statement's uses, what it declares, and what is inside it
@@ -136,7 +136,7 @@ choose_inner outer scope scope' at likely condition blk other a b c first kept s
 
 pub let_inner : (outer inner : Scope) (at : At) (name : Name) (e : ast.ExpressionTree) (a b : Found) →
     Declares outer a (record { name = name; sort = Int } ∷ []) b inner →
-    Finds a (inner_faults outer (ast.bind at name e)) b × (inner ≡ scope_behind outer (ast.bind at name e))
+    Finds a (inner_faults outer (ast.bind at name e)) b × (inner ≡ scope_after outer (ast.bind at name e))
 let_inner outer inner at name e a b declares = (
   subst (λ l. Finds a l b)
       (sym (append-nil (twice_among (visible outer) (name ∷ []) ++ []) ∙

@@ -9,7 +9,7 @@ use Rattle.layer_ast.specs.Tree.{StatementTree, StatementTrees}
 use Rattle.layer_ast.specs.View.{statement_tree, trees}
 use Rattle.layer_ast.specs.declared.names.Name.{Name}
 use Rattle.layer_ast.specs.declared.syntax.Statement.{Statement}
-use Rattle.fault_mean.specs.Scope.{Standing, Scope, declared_names, scope_behind, standing_in, standing_inside}
+use Rattle.fault_mean.specs.Scope.{Standing, Scope, declared_names, scope_after, standing_in, standing_inside}
 use Rattle.fault_mean.specs.Scope.{taken_scope}
 use Rattle.fault_mean.specs.Scope.{with_locals, locals_as}
 use Rattle.file_names.specs.Gathered.{Gathers, maximum_words, noted_words, statements_in, statements_inside}
@@ -92,8 +92,8 @@ mutual
   same_in scope ast.none = refl
   same_in scope (ast.more s rest) =
       ap (λ l. s ∷ l)
-      (map-append (λ (x : Standing). x.statement) (standing_inside scope s) (standing_in (scope_behind scope s) rest)
-      ∙ ap₂ (λ a b. a ++ b) (same_inside scope s) (same_in (scope_behind scope s) rest))
+      (map-append (λ (x : Standing). x.statement) (standing_inside scope s) (standing_in (scope_after scope s) rest)
+      ∙ ap₂ (λ a b. a ++ b) (same_inside scope s) (same_in (scope_after scope s) rest))
 
 -- what the statements of a block say, with their scopes or without
 pub said_in : {A : Type 0} (f : StatementTree → List A) (scope : Scope) (b : StatementTrees) →

@@ -34,10 +34,10 @@ there-passes test word (w ∷ words) is =
           same true false c e = refl
           same true true c e = e
       go false e None is rest = absurd (cc is)
-      go false e (Some k) is rest = behind (test w) (list_all test words) (test word) (rest refl) where
-        behind : (a b c : Bool) → b ≡ (b && c) → (a && b) ≡ ((a && b) && c)
-        behind false b c e = refl
-        behind true b c e = e
+      go false e (Some k) is rest = following (test w) (list_all test words) (test word) (rest refl) where
+        following : (a b c : Bool) → b ≡ (b && c) → (a && b) ≡ ((a && b) && c)
+        following false b c e = refl
+        following true b c e = e
 
 noted_once : (test : List ℕ → Bool) (words : List (List ℕ)) (word : List ℕ) →
     list_all test (noted_words words word) ≡ (list_all test words && test word)

@@ -6,7 +6,7 @@ ghost use Rattle.fault_mean.specs.NameFaults.{twice_among};
 ghost use Rattle.fault_mean.specs.Scope as spec;
 ghost use Rattle.file_names.specs.Blocks.{block_faults, inner_faults, statement_faults};
 ghost use Rattle.file_names.specs.Found.{Finds};
-ghost use Rattle.file_scope.specs.Scope.{locals_of, scope_of, scope_behind_all};
+ghost use Rattle.file_scope.specs.Scope.{locals_of, scope_of, scope_after_all};
 
 use crate::found::Found;
 use crate::scope::{Local, Scope, bring, declare};
@@ -41,7 +41,7 @@ fn statements(
     all: &[Statement],
 ) -> Result<(), AllocError>
     ensures { OnOk result (Finds found.old (block_faults (scope_of scope.old) (statement_trees all.now)) found.new ×
-        (scope_of scope.new ≡ scope_behind_all (scope_of scope.old) (map statement_tree all.now))) }
+        (scope_of scope.new ≡ scope_after_all (scope_of scope.old) (map statement_tree all.now))) }
 {
     for s in all {
         statement(alloc, found, scope, s)?;
@@ -58,7 +58,7 @@ fn statement(
     s: &Statement,
 ) -> Result<(), AllocError>
     ensures { OnOk result (Finds found.old (statement_faults (scope_of scope.old) (statement_tree s.now)) found.new ×
-        (scope_of scope.new ≡ spec.scope_behind (scope_of scope.old) (statement_tree s.now))) }
+        (scope_of scope.new ≡ spec.scope_after (scope_of scope.old) (statement_tree s.now))) }
 {
     uses::statement(found, scope, s);
     inside(alloc, found, scope, s)?;
@@ -74,7 +74,7 @@ fn inside(
     s: &Statement,
 ) -> Result<(), AllocError>
     ensures { OnOk result (Finds found.old (inner_faults (scope_of scope.old) (statement_tree s.now)) found.new ×
-        (scope_of scope.new ≡ spec.scope_behind (scope_of scope.old) (statement_tree s.now))) }
+        (scope_of scope.new ≡ spec.scope_after (scope_of scope.old) (statement_tree s.now))) }
 {
     match s {
         Statement::Let { name, .. } => {

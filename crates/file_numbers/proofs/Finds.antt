@@ -94,9 +94,9 @@ pub position_within : {X : Type 0} (p : X → Bool) (xs : List X) (k : ℕ) → 
 position_within p xs k e = place_within p xs k (sym (e ∙ place_is p xs))
 
 -- the place of an element after another
-pub position_behind : {X : Type 0} (p : X → Bool) (x : X) (xs : List X) → p x ≡ false →
+pub position_after : {X : Type 0} (p : X → Bool) (x : X) (xs : List X) → p x ≡ false →
     position p (x ∷ xs) ≡ option_map (λ k. suc k) (position p xs)
-position_behind p x xs fails =
+position_after p x xs fails =
     place_is p (x ∷ xs)
     ∙ (ap (λ b. cond b (Some 0) (option_map (λ k. suc k) (place_where p xs))) fails
     ∙ ap (option_map (λ k. suc k)) (sym (place_is p xs)))

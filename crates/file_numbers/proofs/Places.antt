@@ -16,7 +16,7 @@ use Rattle.file_mean.specs.Names.{Placed, cell_of, tag_of, item_number}
 use Rattle.file_laws.specs.Bounds.{HoldsDeclaration}
 use Rattle.file_scope.specs.Words.{place_of}
 use Rattle.file_numbers.specs.Placed.{HoldDeclarations, words_of}
-use Rattle.file_numbers.proofs.Finds.{place_where, place_is, place_within, position_behind, position_map}
+use Rattle.file_numbers.proofs.Finds.{place_where, place_is, place_within, position_after, position_map}
 use Rattle.file_numbers.proofs.Finds.{position_within, found_holds}
 use Rattle.file_numbers.proofs.Lists.{last_there, trees_more}
 
@@ -140,7 +140,7 @@ item_there first rest label k fails is =
     let at : Some k ≡ position test (map item_tree rest) = is ∙ sym (position_map item_tree test rest) in
     let one : k + 1 ≡ suc k = omega arith in
     one ∙ (ap (λ o. unwrap_or (option_map (λ j. suc j) o) 0) at
-    ∙ ap (λ o. unwrap_or o 0) (sym (position_behind test (item_tree first) (map item_tree rest) (sym fails))))
+    ∙ ap (λ o. unwrap_or o 0) (sym (position_after test (item_tree first) (map item_tree rest) (sym fails))))
 
 pub item_nowhere : (first : Item) (rest : List Item) (label : Name) → false ≡ bytes_eq first.name.word label.word →
     None ≡ position (λ (i : Item). bytes_eq i.name.word label.word) rest →
@@ -149,7 +149,7 @@ item_nowhere first rest label fails is =
     let test : ItemTree → Bool = λ i. bytes_eq i.name.word label.word in
     let at : None ≡ position test (map item_tree rest) = is ∙ sym (position_map item_tree test rest) in
     ap (λ o. unwrap_or (option_map (λ j. suc j) o) 0) at
-    ∙ ap (λ o. unwrap_or o 0) (sym (position_behind test (item_tree first) (map item_tree rest) (sym fails)))
+    ∙ ap (λ o. unwrap_or o 0) (sym (position_after test (item_tree first) (map item_tree rest) (sym fails)))
 
 -- a declaration that members can keep has few fields
 pub few_labels : (p : Placed) (d : DeclarationTree) → HoldsDeclaration p d → length (labels_of d) ≤ 4

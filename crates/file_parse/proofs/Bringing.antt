@@ -224,11 +224,11 @@ none_yet layers = record { spelled = tt; known = λ word some. refl }
 
 -- one place more in the loop
 pub next_place : (layers : List LayerTree) (places : List Place) (i : ℕ) (p : Place) (seen later : List Word)
-    (before behind : List LayerTree) → i < length places → p ≡ get_or places i p →
+    (before following : List LayerTree) → i < length places → p ≡ get_or places i p →
     Brought layers (map (λ place. place.name.word) (map place_tree (take i places))) seen before →
-    BringsFor layers p.name.word seen later before behind →
-    Brought layers (map (λ place. place.name.word) (map place_tree (take (i + 1) places))) later behind
-next_place layers places i p seen later before behind within is so_far brings =
+    BringsFor layers p.name.word seen later before following →
+    Brought layers (map (λ place. place.name.word) (map place_tree (take (i + 1) places))) later following
+next_place layers places i p seen later before following within is so_far brings =
     rw (
       map_more place_tree places i p within,
       ← is,

@@ -2,7 +2,7 @@
 use Rattle.std.proofs.Common.{◌≡◌, ℕ, suc, nat_eq, true, false, List, [], ◌∷◌, length, Option, Some, None, refl}
 use Rattle.std.proofs.Common.{true≢false, sym, ap, ◌∙◌, ◌<◌, arith, eqb-true}
 use Rattle.layer_ast.specs.declared.tokens.Lexed.{Lexed}
-use Rattle.layer_ast.specs.Depth.{room_behind}
+use Rattle.layer_ast.specs.Depth.{room_after}
 use Rattle.layer_ast.specs.declared.tokens.Sign.TheVariants as sign
 use Rattle.layer_ast.specs.Print as print
 use Rattle.layer_ast.specs.Printed.{plain}
@@ -30,14 +30,14 @@ ends_here (t ∷ rest) room is = absurd (omega (arith, eqb-true (length (t ∷ r
 pub ends_later : (rest : List Lexed) (room : ℕ) → nat_eq (length rest) 0 ≡ false →
     run room [] rest ≡ refused (length rest)
 ends_later [] room is = absurd (true≢false is)
-ends_later (t ∷ rest) room is = no_stack (room_behind t.token room) _ _
+ends_later (t ∷ rest) room is = no_stack (room_after t.token room) _ _
 
 -- the parts of the stack at the end of a file, one after the other
-module _ (tokens behind_stack inside_stack behind_places rest : List Lexed) (inside : ℕ) (ps : List PlaceTree)
-    (b : ReadsFlat (λ p k. p ∷ k) (one sign.Stack ∷ []) (λ room. room) tokens (plain sign.Stack) behind_stack)
-    (c : ReadsOpening sign.LeftBrace 100 behind_stack inside inside_stack)
-    (d : Reads print.places (a_place ∷ places ∷ []) inside inside_stack ps behind_places)
-    (e : ReadsFlat (λ p k. p ∷ k) (one sign.RightBrace ∷ []) suc behind_places (plain sign.RightBrace) rest) where
+module _ (tokens after_stack inside_stack after_places rest : List Lexed) (inside : ℕ) (ps : List PlaceTree)
+    (b : ReadsFlat (λ p k. p ∷ k) (one sign.Stack ∷ []) (λ room. room) tokens (plain sign.Stack) after_stack)
+    (c : ReadsOpening sign.LeftBrace 100 after_stack inside inside_stack)
+    (d : Reads print.places (a_place ∷ places ∷ []) inside inside_stack ps after_places)
+    (e : ReadsFlat (λ p k. p ∷ k) (one sign.RightBrace ∷ []) suc after_places (plain sign.RightBrace) rest) where
   stack_goes_on : run 100 last_part tokens ≡ run (suc inside) [] rest
   stack_goes_on =
       b.goes_on 100 (one sign.LeftBrace ∷ a_place ∷ places ∷ one sign.RightBrace ∷ [])

@@ -2,7 +2,7 @@
 use Rattle.std.proofs.Common.{◌≡◌, ℕ, suc, List, ◌∷◌, length, Err, ap}
 use Rattle.layer_ast.specs.declared.tokens.Lexed.{Lexed}
 use Rattle.layer_ast.specs.declared.tokens.Token.{Token}
-use Rattle.layer_ast.specs.Depth.{room_behind}
+use Rattle.layer_ast.specs.Depth.{room_after}
 use Rattle.layer_ast.specs.Printed.{Printed}
 use Rattle.grammar_laws.specs.Machine.{Symbol, feed, step, run}
 use Rattle.file_parse.specs.Reading.{Stops, ParsesAll}
@@ -13,9 +13,9 @@ use Rattle.file_parse.specs.declared.readers.Fault.TheVariants.{Refused, Memory}
 pub starts : (s : Symbol) (first : Lexed) (t : Token) (rest : List Lexed) (room : ℕ) (stack : List Symbol) →
     first.token ≡ t →
     run room (s ∷ stack) (first ∷ rest)
-    ≡ step (room_behind t room) (feed (s ∷ stack) t) (suc (length rest)) (λ left expected. run left expected rest)
+    ≡ step (room_after t room) (feed (s ∷ stack) t) (suc (length rest)) (λ left expected. run left expected rest)
 starts s first t rest room stack is =
-    ap (λ u. step (room_behind u room) (feed (s ∷ stack) u) (suc (length rest))
+    ap (λ u. step (room_after u room) (feed (s ∷ stack) u) (suc (length rest))
     (λ left expected. run left expected rest)) is
 
 -- a fault of a part is that of the whole, where a refusal of the part is one of the whole

@@ -47,11 +47,11 @@ arguments-append (x ∷ all) a k =
     ap (λ printed. plain Comma ∷ print.argument (argument_tree x) printed) (arguments-append all a k)
 
 -- a comma and an argument are one more argument
-pub argument_gathered : (room : ℕ) (tokens rest behind last : List Lexed) (all : List Argument) (a : Argument) →
-    Gathers print.more_arguments more_arguments room tokens (map argument_tree all) rest → Passes Comma rest behind →
-    Reads print.argument (an_argument ∷ []) room behind (argument_tree a) last →
+pub argument_gathered : (room : ℕ) (tokens rest following last : List Lexed) (all : List Argument) (a : Argument) →
+    Gathers print.more_arguments more_arguments room tokens (map argument_tree all) rest → Passes Comma rest following →
+    Reads print.argument (an_argument ∷ []) room following (argument_tree a) last →
     Gathers print.more_arguments more_arguments room tokens (map argument_tree (all ++ a ∷ [])) last
-argument_gathered room tokens rest behind last all a so_far comma read =
+argument_gathered room tokens rest following last all a so_far comma read =
     gathered print.more_arguments more_arguments room tokens rest last (map argument_tree all)
     (map argument_tree (all ++ a ∷ [])) (λ k. plain Comma ∷ print.argument (argument_tree a) k)
     (arguments-append all a) so_far (λ k h. comma.spelled _ (read.spelled k h))
@@ -65,11 +65,11 @@ names-append [] n k = refl
 names-append (x ∷ all) n k = ap (λ printed. plain Comma ∷ name x ∷ printed) (names-append all n k)
 
 -- a comma and a name are one more name
-pub name_gathered : (tokens rest behind last : List Lexed) (all : List Name) (n : Name) →
-    GathersFlat print.more_names (more_names ∷ []) more_names tokens all rest → Passes Comma rest behind →
-    ReadsFlat (λ t k. name t ∷ k) (a_name ∷ []) (λ room. room) behind n last →
+pub name_gathered : (tokens rest following last : List Lexed) (all : List Name) (n : Name) →
+    GathersFlat print.more_names (more_names ∷ []) more_names tokens all rest → Passes Comma rest following →
+    ReadsFlat (λ t k. name t ∷ k) (a_name ∷ []) (λ room. room) following n last →
     GathersFlat print.more_names (more_names ∷ []) more_names tokens (all ++ n ∷ []) last
-name_gathered tokens rest behind last all n so_far comma read = record {
+name_gathered tokens rest following last all n so_far comma read = record {
   spelled = λ k h.
       subst (λ printed. Fits printed tokens) (sym (names-append all n k))
       (so_far.spelled (plain Comma ∷ name n ∷ k) (comma.spelled (name n ∷ k) (read.spelled k h)));
@@ -87,12 +87,12 @@ items-append (y ∷ all) x k =
     ap (λ printed. plain Comma ∷ print.item (item_tree y) printed) (items-append all x k)
 
 -- a comma and an item are one more item
-pub item_gathered : (tokens rest behind last : List Lexed) (all : List Item) (x : Item) →
+pub item_gathered : (tokens rest following last : List Lexed) (all : List Item) (x : Item) →
     GathersFlat print.more_items (more_items ∷ []) more_items tokens (map item_tree all) rest →
-    Passes Comma rest behind →
-    ReadsFlat print.item an_item (λ room. room) behind (item_tree x) last →
+    Passes Comma rest following →
+    ReadsFlat print.item an_item (λ room. room) following (item_tree x) last →
     GathersFlat print.more_items (more_items ∷ []) more_items tokens (map item_tree (all ++ x ∷ [])) last
-item_gathered tokens rest behind last all x so_far comma read = record {
+item_gathered tokens rest following last all x so_far comma read = record {
   spelled = λ k h.
       subst (λ printed. Fits printed tokens) (sym (items-append all x k))
       (so_far.spelled _ (comma.spelled _ (read.spelled k h)));
@@ -124,11 +124,11 @@ given_none first tokens = record {
 }
 
 -- a comma and a given param are one more
-pub given_gathered : (first : GivenTree) (tokens rest behind last : List Lexed) (all : List Given) (x : Given) →
-    GathersGiven first tokens (map given_tree all) rest → Passes Comma rest behind →
-    ReadsFlat print.given a_given (λ room. room) behind (given_tree x) last →
+pub given_gathered : (first : GivenTree) (tokens rest following last : List Lexed) (all : List Given) (x : Given) →
+    GathersGiven first tokens (map given_tree all) rest → Passes Comma rest following →
+    ReadsFlat print.given a_given (λ room. room) following (given_tree x) last →
     GathersGiven first tokens (map given_tree (all ++ x ∷ [])) last
-given_gathered first tokens rest behind last all x so_far comma read = record {
+given_gathered first tokens rest following last all x so_far comma read = record {
   more = so_far.more ++ given_tree x ∷ [];
   is = map-append given_tree all (x ∷ []) ∙ ap (λ list. list ++ given_tree x ∷ []) so_far.is;
   read = record {
@@ -155,13 +155,13 @@ given_ends first tokens all rest so_far unseen = record {
 }
 
 -- a parenthesis, a first param, those after it and a parenthesis are all params of a place
-pub given_read : (room inside : ℕ) (tokens behind behind_first behind_all rest : List Lexed) (first : GivenTree)
-    (all : List GivenTree) → Passes LeftParen tokens behind → room ≡ suc inside →
-    ReadsFlat print.given a_given (λ left. left) behind first behind_first →
-    ReadsGiven first behind_first all behind_all →
-    ReadsFlat (λ p k. p ∷ k) (one RightParen ∷ []) suc behind_all (plain RightParen) rest →
+pub given_read : (room inside : ℕ) (tokens following after_first after_all rest : List Lexed) (first : GivenTree)
+    (all : List GivenTree) → Passes LeftParen tokens following → room ≡ suc inside →
+    ReadsFlat print.given a_given (λ left. left) following first after_first →
+    ReadsGiven first after_first all after_all →
+    ReadsFlat (λ p k. p ∷ k) (one RightParen ∷ []) suc after_all (plain RightParen) rest →
     Reads print.all_given (some_given ∷ []) room tokens all rest
-given_read room inside tokens behind behind_first behind_all rest first all opens within read more closes =
+given_read room inside tokens following after_first after_all rest first all opens within read more closes =
     rw (within, more.is) record {
       spelled = λ k h. opens.spelled _ (read.spelled _ (more.read.spelled _ (closes.spelled k h)));
       goes_on = λ stack.

@@ -10,12 +10,12 @@ use Rattle.layer_ast.specs.Tree.{LayerTree, PlaceTree}
 use Rattle.layer_ast.specs.View.{layer_tree}
 use Rattle.file_lex.specs.declared.Left.{Left}
 use Rattle.file_lex.specs.Parts.{CutsPart}
-use Rattle.file_lex.specs.Pieces.{in_front, left_of, HasRoom, IsBehind}
+use Rattle.file_lex.specs.Pieces.{with_front, left_of, HasRoom, IsAfter}
 use Rattle.file_lex.proofs.Parting.{made_up}
 use Rattle.grammar_laws.specs.Machine.{a_layer}
 use Rattle.grammar_laws.proofs.Runs.{accepted_takes, goes_within}
-use Rattle.grammar_laws.specs.Behind.{tokens_in, Stands}
-use Rattle.grammar_laws.proofs.Behind.{layers_then}
+use Rattle.grammar_laws.specs.After.{tokens_in, Stands}
+use Rattle.grammar_laws.proofs.After.{layers_then}
 use Rattle.file_parse.specs.Reading.{print_stack, last_part as stack_symbols, Reads, ReadsStack, IsLayer, IsStack}
 use Rattle.file_parse.proofs.Ending.{nothing_fits, ends_here}
 use Rattle.file_parse.proofs.Gathered.{layers-append}
@@ -24,43 +24,43 @@ use Rattle.file_parse.proofs.Gathered.{layers-append}
 pub record Apart (text : List ℕ) (all : List LayerTree) (tokens : List Lexed) (left : Left) : Type 0 where
   pub done : List Lexed
   pub stands : Stands 100 (print.layers all []) done
-  pub same : in_front (done ++ tokens) (left_of left) ≡ text_tokens text
+  pub same : with_front (done ++ tokens) (left_of left) ≡ text_tokens text
   pub room : HasRoom left
 
 -- before the first
 pub first_part : (text : List ℕ) (all : List LayerTree) (old tokens : List Lexed) (whole left : Left) → all ≡ [] →
     old ≡ [] →
     left_of whole ≡ text_tokens text → CutsPart old tokens (left_of whole) (Some (left_of left)) →
-    IsBehind old tokens whole left →
+    IsAfter old tokens whole left →
     Apart text all tokens left
 unfolding Fits
-first_part text all old tokens whole left no_layers no_tokens is part behind = record {
+first_part text all old tokens whole left no_layers no_tokens is part following = record {
   done = [];
   stands = rw no_layers (record { fits = tt; within = tt });
   same = made_up old tokens (left_of whole) (left_of left) part ∙
-      (ap (λ ts. in_front ts (left_of whole)) no_tokens ∙ is);
-  room = behind.room;
+      (ap (λ ts. with_front ts (left_of whole)) no_tokens ∙ is);
+  room = following.room;
 }
 
-more_tokens : (a b : List Lexed) (t : Tokens) → in_front (a ++ b) t ≡ in_front a (in_front b t)
+more_tokens : (a b : List Lexed) (t : Tokens) → with_front (a ++ b) t ≡ with_front a (with_front b t)
 more_tokens a b t = ap (λ ts. record { tokens = ts; bad_at = t.bad_at }) (append_assoc a b t.tokens)
 
 -- one more layer
 pub next_part : (text : List ℕ) (all : List Layer) (l : Layer) (tokens old more : List Lexed) (left next : Left) →
     Apart text (map layer_tree all) tokens left → IsLayer tokens (layer_tree l) → old ≡ [] →
-    CutsPart old more (left_of left) (Some (left_of next)) → IsBehind old more left next →
+    CutsPart old more (left_of left) (Some (left_of next)) → IsAfter old more left next →
     Apart text (map layer_tree (all ++ l ∷ [])) more next
-next_part text all l tokens old more left next so_far is none part behind = record {
+next_part text all l tokens old more left next so_far is none part following = record {
   done = so_far.done ++ tokens;
   stands =
       subst (λ printed. Stands 100 printed (so_far.done ++ tokens)) (sym (layers-append all l []))
       (layers_then tokens (map layer_tree all) 100 (print.layer (layer_tree l) []) so_far.done so_far.stands is.stands);
   same =
       more_tokens (so_far.done ++ tokens) more (left_of next)
-      ∙ (ap (in_front (so_far.done ++ tokens))
-      (made_up old more (left_of left) (left_of next) part ∙ ap (λ ts. in_front ts (left_of left)) none)
+      ∙ (ap (with_front (so_far.done ++ tokens))
+      (made_up old more (left_of left) (left_of next) part ∙ ap (λ ts. with_front ts (left_of left)) none)
       ∙ so_far.same);
-  room = behind.room;
+  room = following.room;
 }
 
 -- the stack at the end
@@ -69,8 +69,8 @@ pub last_part : (text : List ℕ) (all library : List LayerTree) (ps : List Plac
     Apart text all tokens left → IsStack tokens ps → left_of left ≡ record { tokens = []; bad_at = None } →
     Spells text record { layers = all; places = ps; library = library }
 last_part text all library ps tokens left so_far is none =
-    let whole : in_front (so_far.done ++ tokens) record { tokens = []; bad_at = None } ≡ text_tokens text =
-    ap (in_front (so_far.done ++ tokens)) (sym none) ∙ so_far.same in
+    let whole : with_front (so_far.done ++ tokens) record { tokens = []; bad_at = None } ≡ text_tokens text =
+    ap (with_front (so_far.done ++ tokens)) (sym none) ∙ so_far.same in
     let same : so_far.done ++ tokens ≡ (text_tokens text).tokens =
     sym (append-nil (so_far.done ++ tokens)) ∙ ap (λ (t : Tokens). t.tokens) whole in
     let stands =

@@ -9,7 +9,7 @@ use Rattle.layer_ast.specs.declared.tokens.Sign.TheVariants.{LeftBrace, RightBra
 use Rattle.layer_ast.specs.declared.tokens.Sign.TheVariants.{RightBracket}
 use Rattle.layer_ast.specs.declared.tokens.Token.{Token}
 use Rattle.layer_ast.specs.declared.tokens.Token.TheVariants as token
-use Rattle.layer_ast.specs.Depth.{room_inside, room_behind}
+use Rattle.layer_ast.specs.Depth.{room_inside, room_after}
 use Rattle.layer_ast.specs.Printed.{plain}
 use Rattle.file_parse.proofs.Fit.{fits_first}
 use Rattle.grammar_laws.specs.Machine.{Symbol, one, is_sign, eats, refuses, stack_after, feed, step, run, Outcome}
@@ -21,7 +21,7 @@ sign_is want (token.Name w) is = cc
 sign_is want (token.Number n) is = cc
 sign_is want (token.Kind k) is = cc
 
-plain_room : (want : Sign) (room : ℕ) → IsPlain want → room_behind (token.Sign want) room ≡ Some room
+plain_room : (want : Sign) (room : ℕ) → IsPlain want → room_after (token.Sign want) room ≡ Some room
 plain_room LeftBrace room p = absurd p
 plain_room RightBrace room p = absurd p
 plain_room LeftParen room p = absurd p
@@ -30,26 +30,26 @@ plain_room LeftBracket room p = absurd p
 plain_room RightBracket room p = absurd p
 plain_room _ room p = refl
 
-closing_room : (want : Sign) (room : ℕ) → IsClosing want → room_behind (token.Sign want) room ≡ Some (suc room)
+closing_room : (want : Sign) (room : ℕ) → IsClosing want → room_after (token.Sign want) room ≡ Some (suc room)
 closing_room RightBrace room p = refl
 closing_room RightParen room p = refl
 closing_room RightBracket room p = refl
 closing_room _ room p = absurd p
 
-opening_room : (want : Sign) (room : ℕ) → IsOpening want → room_behind (token.Sign want) room ≡ room_inside room
+opening_room : (want : Sign) (room : ℕ) → IsOpening want → room_after (token.Sign want) room ≡ room_inside room
 opening_room LeftBrace room p = refl
 opening_room LeftParen room p = refl
 opening_room LeftBracket room p = refl
 opening_room _ room p = absurd p
 
 -- one step of the machine over the sign that it expects
-taken : (want : Sign) (t : Token) (room : ℕ) (behind : Option ℕ) (stack : List Symbol) (n : ℕ)
+taken : (want : Sign) (t : Token) (room : ℕ) (following : Option ℕ) (stack : List Symbol) (n : ℕ)
     (go : ℕ → List Symbol → Outcome) →
-    is_sign want t ≡ true → room_behind (token.Sign want) room ≡ behind →
-    step (room_behind t room) (feed (one want ∷ stack) t) n go ≡ step behind (Some stack) n go
-taken want t room behind stack n go is same =
-    ap (λ b. step (room_behind t room) (stack_after (if b then eats [] else refuses) stack (feed stack t)) n go) is
-    ∙ ap (λ o. step o (Some stack) n go) (ap (λ u. room_behind u room) (sign_is want t is) ∙ same)
+    is_sign want t ≡ true → room_after (token.Sign want) room ≡ following →
+    step (room_after t room) (feed (one want ∷ stack) t) n go ≡ step following (Some stack) n go
+taken want t room following stack n go is same =
+    ap (λ b. step (room_after t room) (stack_after (if b then eats [] else refuses) stack (feed stack t)) n go) is
+    ∙ ap (λ o. step o (Some stack) n go) (ap (λ u. room_after u room) (sign_is want t is) ∙ same)
 
 module _ (want : Sign) (tokens rest : List Lexed) (first : Lexed) (split : tokens ≡ first ∷ rest)
     (is : is_sign want first.token ≡ true) where
@@ -80,7 +80,7 @@ module _ (want : Sign) (tokens rest : List Lexed) (first : Lexed) (split : token
   sign_passes = rw split record {
     spelled = λ k h. fits_first (plain want) k first rest (sign_is want first.token is) tt h;
     steps = λ room expected stack.
-        ap (λ t. step (room_behind t room) (feed (expected ∷ stack) t) (suc (length rest))
+        ap (λ t. step (room_after t room) (feed (expected ∷ stack) t) (suc (length rest))
         (λ left next. run left next rest))
         (sign_is want first.token is);
     shorter = refl;

@@ -4,17 +4,17 @@ use Rattle.std.proofs.Common.{None, Result, Ok, Err, refl, ◌∙◌}
 use Rattle.std.specs.Borrow.{Bor}
 use Rattle.layer_ast.specs.declared.tokens.Lexed.{Lexed}
 use Rattle.layer_ast.specs.declared.tokens.Sign.{Sign}
-use Rattle.layer_ast.specs.Depth.{room_behind}
+use Rattle.layer_ast.specs.Depth.{room_after}
 use Rattle.layer_ast.specs.Printed.{Printed}
 use Rattle.grammar_laws.specs.Machine.{Symbol, one, is_sign, eats, refuses, stack_after, feed, step, run, Outcome}
 use Rattle.file_parse.specs.Reading.{Begins, ParsesAll}
 use Rattle.file_parse.specs.declared.readers.Fault.{Fault}
 use Rattle.file_parse.specs.declared.readers.Fault.TheVariants.{Refused, Memory}
 
-step_same : (behind : Option ℕ) (is : Bool) (x y : List Symbol) (f g : Option (List Symbol)) (n : ℕ)
+step_same : (following : Option ℕ) (is : Bool) (x y : List Symbol) (f g : Option (List Symbol)) (n : ℕ)
     (go : ℕ → List Symbol → Outcome) → ((room : ℕ) → go room x ≡ go room y) →
-    step behind (stack_after (if is then eats [] else refuses) x f) n go
-    ≡ step behind (stack_after (if is then eats [] else refuses) y g) n go
+    step following (stack_after (if is then eats [] else refuses) x f) n go
+    ≡ step following (stack_after (if is then eats [] else refuses) y g) n go
 step_same None is x y f g n go same = refl
 step_same (Some room) true x y f g n go same = same room
 step_same (Some room) false x y f g n go same = refl
@@ -24,7 +24,7 @@ pub under : (want : Sign) (s : Symbol) (expected : List Symbol) (t : Lexed) (res
     (room : ℕ) (stack : List Symbol) →
     run room (one want ∷ s ∷ stack) (t ∷ rest) ≡ run room (one want ∷ expected ++ stack) (t ∷ rest)
 under want s expected t rest same room stack =
-    step_same (room_behind t.token room) (is_sign want t.token) (s ∷ stack) (expected ++ stack)
+    step_same (room_after t.token room) (is_sign want t.token) (s ∷ stack) (expected ++ stack)
     (feed (s ∷ stack) t.token)
     (feed (expected ++ stack) t.token) (suc (length rest)) (λ left symbols. run left symbols rest)
     (λ left. same.begins left stack)

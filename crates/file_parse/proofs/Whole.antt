@@ -6,7 +6,7 @@ use Rattle.file_mean.specs.Library.{SpellsLayer}
 use Rattle.layer_ast.specs.declared.names.At.{At}
 use Rattle.layer_ast.specs.declared.tokens.Lexed.{Lexed}
 use Rattle.layer_ast.specs.Cut.{text_tokens, Tokens}
-use Rattle.layer_ast.specs.Depth.{room_behind}
+use Rattle.layer_ast.specs.Depth.{room_after}
 use Rattle.layer_ast.specs.Print as print
 use Rattle.layer_ast.specs.Spells.{Fits, Spells}
 use Rattle.layer_ast.specs.Stops.{end_of, StopsBad, StopsInside, StopsAtEnd}
@@ -26,7 +26,7 @@ nothing_left : (rest : List Lexed) (room : ℕ) → run room [] rest ≡ accepte
 unfolding Fits
 nothing_left [] room is = tt
 nothing_left (t ∷ rest) room is =
-    let stuck : refused (suc (length rest)) ≡ accepted = sym (no_stack (room_behind t.token room) _ _) ∙ is in
+    let stuck : refused (suc (length rest)) ≡ accepted = sym (no_stack (room_after t.token room) _ _) ∙ is in
     absurd (cc stuck)
 
 -- what the lexer cut of a text

@@ -33,7 +33,7 @@ pub record Brought (layers : List LayerTree) (words seen : List Word) (brought :
   pub known : (word : Word) → library_text word ≢ None → has seen word ≡ has words word
 
 -- one more word is dealt with
-pub record BringsFor (layers : List LayerTree) (word : Word) (seen_before seen_behind : List Word)
-    (before behind : List LayerTree) : Type 0 where
+pub record BringsFor (layers : List LayerTree) (word : Word) (seen_before seen_after : List Word)
+    (before following : List LayerTree) : Type 0 where
   pub brings : (words : List Word) → Brought layers words seen_before before →
-      Brought layers (words ++ word ∷ []) seen_behind behind
+      Brought layers (words ++ word ∷ []) seen_after following

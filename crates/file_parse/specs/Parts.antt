@@ -80,8 +80,8 @@ abbrev pub some_arguments_within : Option ArgumentsTree → List Printed → Lis
 some_arguments_within es k = plain LeftParen ∷ some_arguments es (plain RightParen ∷ k)
 
 -- `else` and statements in braces
-abbrev pub block_behind_else : StatementTrees → List Printed → List Printed
-block_behind_else b k = plain Else ∷ block b k
+abbrev pub block_after_else : StatementTrees → List Printed → List Printed
+block_after_else b k = plain Else ∷ block b k
 
 -- what is assigned, to the end of a statement
 abbrev pub print_assigned : ExpressionTree → List Printed → List Printed

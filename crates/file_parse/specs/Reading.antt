@@ -8,7 +8,7 @@ use Rattle.layer_ast.specs.declared.tokens.Sign.{Sign}
 use Rattle.layer_ast.specs.declared.tokens.Sign.TheVariants.{Stack, LeftBrace, RightBrace, LeftParen, RightParen}
 use Rattle.layer_ast.specs.declared.tokens.Sign.TheVariants.{LeftBracket, RightBracket, Comma, With, Star, Assign, Else}
 use Rattle.layer_ast.specs.declared.tokens.Token.TheVariants as token
-use Rattle.layer_ast.specs.Depth.{room_behind}
+use Rattle.layer_ast.specs.Depth.{room_after}
 use Rattle.layer_ast.specs.Print.{file, layer, places as print_places}
 use Rattle.layer_ast.specs.Printed.{Printed, plain}
 use Rattle.layer_ast.specs.Spells.{Fits, HasPlace}
@@ -18,7 +18,7 @@ use Rattle.layer_ast.specs.declared.syntax.File.{File}
 use Rattle.grammar_laws.specs.Machine.{Symbol, one, an_index, a_shape, a_square, an_initial, more_arguments, more_names}
 use Rattle.grammar_laws.specs.Machine.{more_items, more_given, some_given, a_pushed, a_popped, an_otherwise, a_place}
 use Rattle.grammar_laws.specs.Machine.{places, accepted, refused, feed, step, run, start}
-use Rattle.grammar_laws.specs.Behind.{Stands}
+use Rattle.grammar_laws.specs.After.{Stands}
 use Rattle.file_parse.specs.declared.readers.Fault.{Fault}
 use Rattle.file_parse.specs.declared.readers.Fault.TheVariants.{Refused, Memory}
 
@@ -100,7 +100,7 @@ pub record Passes (s : Sign) (tokens rest : List Lexed) : Type 0 where
   pub spelled : (k : List Printed) → Fits k rest → Fits (plain s ∷ k) tokens
   pub steps : (room : ℕ) (expected : Symbol) (stack : List Symbol) →
       run room (expected ∷ stack) tokens
-      ≡ step (room_behind (token.Sign s) room) (feed (expected ∷ stack) (token.Sign s)) (length tokens)
+      ≡ step (room_after (token.Sign s) room) (feed (expected ∷ stack) (token.Sign s)) (length tokens)
       (λ left stack. run left stack rest)
   pub shorter : suc (length rest) ≡ length tokens
 

@@ -29,10 +29,10 @@ pub fn by_layers(alloc: Global, text: &[u8]) -> Result<Option<File>, AllocError>
         };
         layers.push(next)?;
         tokens.clear();
-        let Some(behind) = cut_part(&mut tokens, left)? else {
+        let Some(following) = cut_part(&mut tokens, left)? else {
             return Ok(None);
         };
-        left = behind;
+        left = following;
     }
     if !left.is_at_end() {
         return Ok(None);

@@ -5,7 +5,7 @@ ghost use Rattle.layer_ast.specs.Print as print;
 ghost use Rattle.layer_ast.specs.View.{argument_tree, arguments_tree};
 ghost use Rattle.layer_ast.specs.declared.tokens.Sign.TheVariants.{LeftParen, RightParen};
 ghost use Rattle.grammar_laws.specs.Machine.{one, an_expression, a_built, an_argument};
-ghost use Rattle.grammar_laws.specs.Machine.{more_arguments as arguments_behind, some_arguments as one_or_no_arguments};
+ghost use Rattle.grammar_laws.specs.Machine.{more_arguments as arguments_after, some_arguments as one_or_no_arguments};
 ghost use Rattle.file_parse.specs.Parts.{arguments_within, some_arguments_within};
 ghost use Rattle.file_parse.specs.Reading.{Parses, ParsesAll, SeesPart, SeesOneOf};
 
@@ -21,7 +21,7 @@ pub fn arguments_in_parentheses(
     tokens: &[Lexed],
 ) -> Result<(Arguments, &[Lexed]), Fault>
     ensures { ParsesAll arguments_within
-        arguments_tree (one LeftParen ∷ an_argument ∷ arguments_behind ∷ one RightParen ∷ []) room tokens.now result }
+        arguments_tree (one LeftParen ∷ an_argument ∷ arguments_after ∷ one RightParen ∷ []) room tokens.now result }
 {
     let (inside, rest) = read!(open(room, Sign::LeftParen, tokens));
     let (arguments, rest) = read!(arguments(alloc, inside, rest));
@@ -61,7 +61,7 @@ fn some_arguments(
 
 /// Whether the next token begins an argument.
 fn begins_argument(tokens: &[Lexed]) -> bool
-    ensures { SeesPart one_or_no_arguments (an_argument ∷ arguments_behind ∷ []) tokens.now result }
+    ensures { SeesPart one_or_no_arguments (an_argument ∷ arguments_after ∷ []) tokens.now result }
 {
     let Some((first, _)) = tokens.split_first() else {
         return false;
@@ -78,7 +78,7 @@ fn begins_argument(tokens: &[Lexed]) -> bool
 
 /// Reads arguments with commas between them.
 fn arguments(alloc: Global, room: u32, tokens: &[Lexed]) -> Result<(Arguments, &[Lexed]), Fault>
-    ensures { ParsesAll print.arguments arguments_tree (an_argument ∷ arguments_behind ∷ []) room tokens.now result }
+    ensures { ParsesAll print.arguments arguments_tree (an_argument ∷ arguments_after ∷ []) room tokens.now result }
 {
     let (first, rest) = read!(argument(alloc, room, tokens));
     let (more, rest) = read!(more_arguments(alloc, room, rest), first);
@@ -91,14 +91,14 @@ fn more_arguments(
     room: u32,
     tokens: &[Lexed],
 ) -> Result<(Vec<Argument>, &[Lexed]), Fault>
-    ensures { Parses print.more_arguments (λ v. map argument_tree v.items) arguments_behind room tokens.now result }
+    ensures { Parses print.more_arguments (λ v. map argument_tree v.items) arguments_after room tokens.now result }
 {
     let mut all = Vec::new(alloc);
     let mut rest = tokens;
-    while let Some(behind) = past(Sign::Comma, rest) {
-        let (next, behind) = read!(argument(alloc, room, behind));
+    while let Some(following) = past(Sign::Comma, rest) {
+        let (next, following) = read!(argument(alloc, room, following));
         push_item(&mut all, next)?;
-        rest = behind;
+        rest = following;
     }
     Ok((all, rest))
 }

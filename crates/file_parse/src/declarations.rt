@@ -5,7 +5,7 @@ ghost use Rattle.layer_ast.specs.View.{expression_tree, item_tree, items_tree, d
 ghost use Rattle.layer_ast.specs.declared.tokens.Sign.TheVariants.{N, Of, LeftBracket, RightBracket, LeftParen};
 ghost use Rattle.layer_ast.specs.declared.tokens.Sign.TheVariants.{RightParen, Colon, Semicolon};
 ghost use Rattle.grammar_laws.specs.Machine.{one, a_name, a_sort, a_size, a_square, a_shape, an_initial, a_capacity};
-ghost use Rattle.grammar_laws.specs.Machine.{an_item, more_items as items_behind, a_declaration};
+ghost use Rattle.grammar_laws.specs.Machine.{an_item, more_items as items_after, a_declaration};
 ghost use Rattle.grammar_laws.specs.Machine.{declarations as more_declarations};
 ghost use Rattle.file_parse.specs.Parts.{QueuePrints, print_square, print_capacity, capacity_tree, print_items};
 ghost use Rattle.file_parse.specs.Reading.{Parses, ParsesAll, ParsesFlat, ParsesAllFlat, SeesPart, SeesOneOf};
@@ -36,9 +36,9 @@ pub fn declarations(
     let mut all = Vec::new(alloc);
     let mut rest = tokens;
     while begins_declaration(rest) {
-        let (next, behind) = read!(declaration(alloc, room, rest));
+        let (next, following) = read!(declaration(alloc, room, rest));
         all.push(next)?;
-        rest = behind;
+        rest = following;
     }
     Ok((all, rest))
 }
@@ -226,10 +226,10 @@ fn capacity(room: u32, tokens: &[Lexed]) -> Result<(QueueCapacity, &[Lexed]), Fa
     ensures { ParsesAll print_capacity capacity_tree (one LeftBracket ∷ a_capacity ∷ one RightBracket ∷ []) room
         tokens.now result }
 {
-    let Some((_, behind)) = tokens.split_first() else {
+    let Some((_, following)) = tokens.split_first() else {
         return Err(Fault::Refused(0));
     };
-    if begins_array(behind) {
+    if begins_array(following) {
         capacity_of_array(room, tokens)
     } else {
         capacity_of_one(room, tokens)
@@ -276,7 +276,7 @@ fn begins_array(tokens: &[Lexed]) -> bool
 /// Reads the items of a queue's rows to the end of its declaration.
 fn items(alloc: Global, room: u32, tokens: &[Lexed]) -> Result<(Items, &[Lexed]), Fault>
     ensures { ParsesAll print_items items_tree
-        (one Of ∷ one LeftParen ∷ a_name ∷ one Colon ∷ a_sort ∷ items_behind ∷ one RightParen ∷ one Semicolon ∷ []) room
+        (one Of ∷ one LeftParen ∷ a_name ∷ one Colon ∷ a_sort ∷ items_after ∷ one RightParen ∷ one Semicolon ∷ []) room
         tokens.now result }
 {
     let rest = read!(sign(Sign::Of, tokens));
@@ -290,14 +290,14 @@ fn items(alloc: Global, room: u32, tokens: &[Lexed]) -> Result<(Items, &[Lexed])
 
 /// Reads items, each after a comma, as long as there is a comma.
 fn more_items(alloc: Global, tokens: &[Lexed]) -> Result<(Vec<Item>, &[Lexed]), Fault>
-    ensures { ParsesFlat print.more_items (λ v. map item_tree v.items) items_behind tokens.now result }
+    ensures { ParsesFlat print.more_items (λ v. map item_tree v.items) items_after tokens.now result }
 {
     let mut all = Vec::new(alloc);
     let mut rest = tokens;
-    while let Some(behind) = past(Sign::Comma, rest) {
-        let (next, behind) = read!(item(behind));
+    while let Some(following) = past(Sign::Comma, rest) {
+        let (next, following) = read!(item(following));
         all.push(next)?;
-        rest = behind;
+        rest = following;
     }
     Ok((all, rest))
 }

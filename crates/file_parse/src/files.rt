@@ -23,9 +23,9 @@ fn layers(alloc: Global, room: u32, tokens: &[Lexed]) -> Result<(Vec<Layer>, &[L
     let mut all = Vec::new(alloc);
     let mut rest = tokens;
     while begins_layer(rest) {
-        let (next, behind) = layer(alloc, room, rest)?;
+        let (next, following) = layer(alloc, room, rest)?;
         all.push(next)?;
-        rest = behind;
+        rest = following;
     }
     Ok((all, rest))
 }
@@ -93,9 +93,9 @@ fn places(alloc: Global, room: u32, tokens: &[Lexed]) -> Result<(Vec<Place>, &[L
     let mut all = Vec::new(alloc);
     all.push(first)?;
     while begins_place(rest) {
-        let (next, behind) = read!(place(alloc, room, rest));
+        let (next, following) = read!(place(alloc, room, rest));
         all.push(next)?;
-        rest = behind;
+        rest = following;
     }
     Ok((all, rest))
 }
@@ -167,10 +167,10 @@ fn more_given(
     let mut all = Vec::new(alloc);
     all.push(first)?;
     let mut rest = tokens;
-    while let Some(behind) = past(Sign::Comma, rest) {
-        let (next, behind) = read!(given(behind));
+    while let Some(following) = past(Sign::Comma, rest) {
+        let (next, following) = read!(given(following));
         all.push(next)?;
-        rest = behind;
+        rest = following;
     }
     Ok((all, rest))
 }

@@ -24,9 +24,9 @@ pub fn handlers(
     let mut all = Vec::new(alloc);
     let mut rest = tokens;
     while begins_handler(rest) {
-        let (next, behind) = read!(handler(alloc, room, rest));
+        let (next, following) = read!(handler(alloc, room, rest));
         all.push(next)?;
-        rest = behind;
+        rest = following;
     }
     Ok((all, rest))
 }

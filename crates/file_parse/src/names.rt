@@ -3,7 +3,7 @@ ghost use Rattle.std.specs.Option.{option_map};
 ghost use Rattle.layer_ast.specs.Print as print;
 ghost use Rattle.layer_ast.specs.View.{names_tree};
 ghost use Rattle.layer_ast.specs.declared.tokens.Sign.TheVariants.{LeftParen, RightParen};
-ghost use Rattle.grammar_laws.specs.Machine.{one, a_name, more_names as names_behind, some_names as one_or_no_names};
+ghost use Rattle.grammar_laws.specs.Machine.{one, a_name, more_names as names_after, some_names as one_or_no_names};
 ghost use Rattle.std.specs.Prelude.{[], ◌∷◌};
 ghost use Rattle.file_parse.specs.Parts.{names_within, some_names_within};
 ghost use Rattle.file_parse.specs.Reading.{ParsesAll, ParsesFlat, ParsesAllFlat, SeesPart};
@@ -14,21 +14,21 @@ use std::alloc::Global;
 
 /// Reads names, each after a comma, as long as there is a comma.
 fn more_names(alloc: Global, tokens: &[Lexed]) -> Result<(Vec<Name>, &[Lexed]), Fault>
-    ensures { ParsesFlat print.more_names (λ v. v.items) names_behind tokens.now result }
+    ensures { ParsesFlat print.more_names (λ v. v.items) names_after tokens.now result }
 {
     let mut all = Vec::new(alloc);
     let mut rest = tokens;
-    while let Some(behind) = past(Sign::Comma, rest) {
-        let (next, behind) = read!(name(behind));
+    while let Some(following) = past(Sign::Comma, rest) {
+        let (next, following) = read!(name(following));
         push_item(&mut all, next)?;
-        rest = behind;
+        rest = following;
     }
     Ok((all, rest))
 }
 
 /// Reads names with commas between them.
 fn names(alloc: Global, tokens: &[Lexed]) -> Result<(Names, &[Lexed]), Fault>
-    ensures { ParsesAllFlat print.names names_tree (a_name ∷ names_behind ∷ []) tokens.now result }
+    ensures { ParsesAllFlat print.names names_tree (a_name ∷ names_after ∷ []) tokens.now result }
 {
     let (first, rest) = read!(name(tokens));
     let (more, rest) = more_names(alloc, rest)?;
@@ -41,7 +41,7 @@ pub fn names_in_parentheses(
     room: u32,
     tokens: &[Lexed],
 ) -> Result<(Names, &[Lexed]), Fault>
-    ensures { ParsesAll names_within names_tree (one LeftParen ∷ a_name ∷ names_behind ∷ one RightParen ∷ []) room
+    ensures { ParsesAll names_within names_tree (one LeftParen ∷ a_name ∷ names_after ∷ one RightParen ∷ []) room
         tokens.now result }
 {
     let (_, rest) = open(room, Sign::LeftParen, tokens)?;
@@ -78,7 +78,7 @@ fn some_names(alloc: Global, tokens: &[Lexed]) -> Result<(Option<Names>, &[Lexed
 
 /// Whether the next token is a name.
 fn begins_name(tokens: &[Lexed]) -> bool
-    ensures { SeesPart one_or_no_names (a_name ∷ names_behind ∷ []) tokens.now result }
+    ensures { SeesPart one_or_no_names (a_name ∷ names_after ∷ []) tokens.now result }
 {
     let Some((first, _)) = tokens.split_first() else {
         return false;

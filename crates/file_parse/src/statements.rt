@@ -7,7 +7,7 @@ ghost use Rattle.layer_ast.specs.declared.tokens.Sign.TheVariants.{Assign, Else,
 ghost use Rattle.grammar_laws.specs.Machine.{one, an_expression, a_likely, a_pushed, an_otherwise, a_statement};
 ghost use Rattle.grammar_laws.specs.Machine.{statements as more_statements, a_block};
 ghost use Rattle.grammar_laws.specs.Parts.{otherwise as print_otherwise};
-ghost use Rattle.file_parse.specs.Parts.{AssignmentPrints, DecisionPrints, block_behind_else, print_assigned};
+ghost use Rattle.file_parse.specs.Parts.{AssignmentPrints, DecisionPrints, block_after_else, print_assigned};
 ghost use Rattle.file_parse.specs.Reading.{Parses, ParsesAll, ReadsFlat, SeesPart};
 
 use crate::arguments::{arguments_in_parentheses, some_arguments_in_parentheses};
@@ -40,9 +40,9 @@ fn statements(
     let mut all = Vec::new(alloc);
     let mut rest = tokens;
     while begins_statement(rest) {
-        let (next, behind) = statement(alloc, room, rest)?;
+        let (next, following) = statement(alloc, room, rest)?;
         push_item(&mut all, next)?;
-        rest = behind;
+        rest = following;
     }
     Ok((all, rest))
 }
@@ -234,7 +234,7 @@ fn take(
 /// Reads the other way of a push or a take.
 #[cycle(statement)]
 fn else_block(alloc: Global, room: u32, tokens: &[Lexed]) -> Result<(Block, &[Lexed]), Fault>
-    ensures { ParsesAll block_behind_else block_tree (one Else ∷ a_block) room tokens.now result }
+    ensures { ParsesAll block_after_else block_tree (one Else ∷ a_block) room tokens.now result }
 {
     let rest = sign(Sign::Else, tokens)?;
     block(alloc, room, rest)

@@ -73,9 +73,9 @@ next_added sorts first rest k x old all sort n within is count so_far is_sort =
     (sym (take_more rest k x within ∙ ap (λ y. take k rest ++ y ∷ []) (sym is)))))))
 
 -- the locals of the arguments with those of the fields after them
-pub behind : (arguments fields : List Local) (first second : List names.Local) →
+pub following : (arguments fields : List Local) (first second : List names.Local) →
     locals_of arguments ≡ first → locals_of fields ≡ second → locals_of (arguments ++ fields) ≡ first ++ second
-behind arguments fields first second one two =
+following arguments fields first second one two =
     map-append local_of arguments fields ∙ ap₂ (λ a b. a ++ b) one two
 
 -- the sorts of a row's items by place
@@ -83,17 +83,17 @@ pub first_sort : (row : ItemsTree) (place : ℕ) → place ≡ 0 →
     row.first.sort ≡ slice_index_or (map (λ i. i.sort) (items_in row)) place Int
 first_sort row place is = ap (λ k. slice_index_or (map (λ (i : ItemTree). i.sort) (items_in row)) k Int) (sym is)
 
-behind_first : (rest : List Item) (k : ℕ) (i : Item) → k < length rest → i ≡ get_or rest k i →
+after_first : (rest : List Item) (k : ℕ) (i : Item) → k < length rest → i ≡ get_or rest k i →
     i.sort ≡ slice_index_or (map (λ (x : ItemTree). x.sort) (map item_tree rest)) k Int
-behind_first [] k i within is = absurd (omega (arith, within))
-behind_first (x ∷ rest) zero i within is = ap (λ (y : Item). y.sort) is
-behind_first (x ∷ rest) (suc k) i within is = behind_first rest k i (omega (arith, within)) is
+after_first [] k i within is = absurd (omega (arith, within))
+after_first (x ∷ rest) zero i within is = ap (λ (y : Item). y.sort) is
+after_first (x ∷ rest) (suc k) i within is = after_first rest k i (omega (arith, within)) is
 
 pub rest_sort : (row : Items) (place k : ℕ) (i : Item) → place ≡ k + 1 → k < length row.rest.items →
     i ≡ get_or row.rest.items k i →
     i.sort ≡ slice_index_or (map (λ i. i.sort) (items_in (items_tree row))) place Int
 rest_sort row place k i is within at =
-    behind_first row.rest.items k i within at
+    after_first row.rest.items k i within at
     ∙ ap (λ p. slice_index_or (map (λ (i : ItemTree). i.sort) (items_in (items_tree row))) p Int)
     (let e : suc k ≡ place = omega (arith, is) in e)
 

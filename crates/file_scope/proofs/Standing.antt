@@ -7,47 +7,47 @@ use Rattle.layer_ast.specs.Tree.{StatementTree, StatementTrees}
 use Rattle.layer_ast.specs.View.{trees}
 use Rattle.layer_ast.specs.declared.names.Name.{Name}
 use Rattle.layer_ast.specs.declared.syntax.Sort.{Sort}
-use Rattle.fault_mean.specs.Scope.{Scope, Standing, Local, locals_as, scope_behind, standing_in, standing_inside}
+use Rattle.fault_mean.specs.Scope.{Scope, Standing, Local, locals_as, scope_after, standing_in, standing_inside}
 use Rattle.fault_mean.specs.Scope.{with_locals}
 use Rattle.file_scope.specs.declared.scope.Local as rust
-use Rattle.file_scope.specs.Scope.{local_of, locals_of, scope_behind_all}
+use Rattle.file_scope.specs.Scope.{local_of, locals_of, scope_after_all}
 use Rattle.file_scope.proofs.Lists.{trees_more}
 
 -- one statement further
 pub standing_more : (scope : Scope) (xs : List StatementTree) (x : StatementTree) →
     standing_in scope (trees (xs ++ x ∷ [])) ≡
     standing_in scope (trees xs)
-    ++ record { scope = scope_behind_all scope xs; statement = x } ∷
-    (standing_inside (scope_behind_all scope xs) x ++ [])
+    ++ record { scope = scope_after_all scope xs; statement = x } ∷
+    (standing_inside (scope_after_all scope xs) x ++ [])
 standing_more scope [] x = refl
 standing_more scope (y ∷ xs) x =
     ap (λ l. record { scope = scope; statement = y } ∷ (standing_inside scope y ++ l))
-    (standing_more (scope_behind scope y) xs x)
+    (standing_more (scope_after scope y) xs x)
     ∙ ap (λ l. record { scope = scope; statement = y } ∷ l)
-    (sym (append_assoc (standing_inside scope y) (standing_in (scope_behind scope y) (trees xs)) _))
+    (sym (append_assoc (standing_inside scope y) (standing_in (scope_after scope y) (trees xs)) _))
 
 unchanged : (scope : Scope) → scope ≡ with_locals scope []
 unchanged scope = ap (λ (m : List Local). record { layer = scope.layer; locals = m }) (sym (append-nil scope.locals))
 
 -- what a block leaves is what was there before, and its locals
-behind-more : (scope : Scope) (x : StatementTree) →
-    (more : List Local) × (scope_behind scope x ≡ with_locals scope more)
-behind-more scope (ast.bind at name value) = (locals_as [] (name ∷ []), refl)
-behind-more scope (ast.set at name index value) = ([], unchanged scope)
-behind-more scope (ast.set_square at name row column value) = ([], unchanged scope)
-behind-more scope (ast.push at q items otherwise) = ([], unchanged scope)
-behind-more scope (ast.take at q names block otherwise) = ([], unchanged scope)
-behind-more scope (ast.when at likely condition block) = ([], unchanged scope)
-behind-more scope (ast.choose at likely condition block otherwise) = ([], unchanged scope)
-behind-more scope (ast.each at name below most block) = ([], unchanged scope)
-behind-more scope (ast.emit at direction kind arguments pushed) = ([], unchanged scope)
+following-more : (scope : Scope) (x : StatementTree) →
+    (more : List Local) × (scope_after scope x ≡ with_locals scope more)
+following-more scope (ast.bind at name value) = (locals_as [] (name ∷ []), refl)
+following-more scope (ast.set at name index value) = ([], unchanged scope)
+following-more scope (ast.set_square at name row column value) = ([], unchanged scope)
+following-more scope (ast.push at q items otherwise) = ([], unchanged scope)
+following-more scope (ast.take at q names block otherwise) = ([], unchanged scope)
+following-more scope (ast.when at likely condition block) = ([], unchanged scope)
+following-more scope (ast.choose at likely condition block otherwise) = ([], unchanged scope)
+following-more scope (ast.each at name below most block) = ([], unchanged scope)
+following-more scope (ast.emit at direction kind arguments pushed) = ([], unchanged scope)
 
 all-more : (scope : Scope) (xs : List StatementTree) →
-    (more : List Local) × (scope_behind_all scope xs ≡ with_locals scope more)
+    (more : List Local) × (scope_after_all scope xs ≡ with_locals scope more)
 all-more scope [] = ([], unchanged scope)
 all-more scope (x ∷ xs) =
-    let one = behind-more scope x in
-    let rest = all-more (scope_behind scope x) xs in (
+    let one = following-more scope x in
+    let rest = all-more (scope_after scope x) xs in (
       one.0 ++ rest.0,
       rest.1 ∙ (ap (λ s. with_locals s rest.0) one.1
           ∙ ap (λ (m : List Local). record { layer = scope.layer; locals = m })
@@ -68,7 +68,7 @@ left_is outer scope left more n count is leaves =
     ∙ ap (λ (m : List Local). record { layer = outer.layer; locals = m }) (take-first outer.locals more)))
 
 pub block_left : (outer scope left : Scope) (xs : List StatementTree) (n : ℕ) → n ≡ length outer.locals →
-    scope ≡ scope_behind_all outer xs → left ≡ record scope { locals = take n scope.locals } → left ≡ outer
+    scope ≡ scope_after_all outer xs → left ≡ record scope { locals = take n scope.locals } → left ≡ outer
 block_left outer scope left xs n count is leaves =
     let more = all-more outer xs in left_is outer scope left more.0 n count (is ∙ more.1) leaves
 
@@ -81,15 +81,15 @@ names_of_locals (s ∷ sorts) (x ∷ xs) = ap (λ l. x ∷ l) (names_of_locals s
 pub faults_more : {F : Type 0} (f : Standing → List F) (outer : Scope) (xs : List StatementTree) (x : StatementTree) →
     flat_map f (standing_in outer (trees (xs ++ x ∷ []))) ≡
     flat_map f (standing_in outer (trees xs))
-    ++ (f (record { scope = scope_behind_all outer xs; statement = x }) ++
-    flat_map f (standing_inside (scope_behind_all outer xs) x))
+    ++ (f (record { scope = scope_after_all outer xs; statement = x }) ++
+    flat_map f (standing_inside (scope_after_all outer xs) x))
 faults_more f outer xs x =
-    let behind = scope_behind_all outer xs in
+    let following = scope_after_all outer xs in
     ap (flat_map f) (standing_more outer xs x)
     ∙ (flat_map-append f (standing_in outer (trees xs)) _
     ∙ ap (λ l. flat_map f (standing_in outer (trees xs)) ++
-    (f (record { scope = behind; statement = x }) ++ flat_map f l))
-    (append-nil (standing_inside behind x)))
+    (f (record { scope = following; statement = x }) ++ flat_map f l))
+    (append-nil (standing_inside following x)))
 
 -- no local, and one local more
 pub no_locals : (scope : Scope) → scope ≡ with_locals scope []

@@ -18,5 +18,5 @@ abbrev pub scope_of : Scope → names.Scope
 scope_of s = record { layer = layer_tree s.layer.now; locals = locals_of s.locals.items }
 
 -- The scope after statements that stand one after the other.
-abbrev pub scope_behind_all : names.Scope → List StatementTree → names.Scope
-scope_behind_all = fold names.scope_behind
+abbrev pub scope_after_all : names.Scope → List StatementTree → names.Scope
+scope_after_all = fold names.scope_after

@@ -15,8 +15,8 @@ use layer_ast::{Handler, Kind, Name, Popped, Sort};
 use std::alloc::{AllocError, Global};
 
 /// The sort of the message after a popped header.
-fn sort_behind(scope: &Scope, popped: &Option<Popped>) -> Sort
-    ensures { result ≡ spec.sort_behind (scope_of scope.now).layer (option_map popped_tree popped.now) }
+fn sort_after(scope: &Scope, popped: &Option<Popped>) -> Sort
+    ensures { result ≡ spec.sort_after (scope_of scope.now).layer (option_map popped_tree popped.now) }
 {
     match popped {
         None => Sort::Msg,
@@ -35,7 +35,7 @@ fn argument_sorts(scope: &Scope, handler: &Handler) -> Sorts
     ensures { sorts_of result ≡ spec.argument_sorts (scope_of scope.now).layer (handler_tree handler.now) }
 {
     match handler.kind {
-        Kind::Cast | Kind::Send => Sorts::two(Sort::Int, sort_behind(scope, &handler.popped)),
+        Kind::Cast | Kind::Send => Sorts::two(Sort::Int, sort_after(scope, &handler.popped)),
         Kind::Stable | Kind::Ack => Sorts::two(Sort::Int, Sort::Int),
         _ => Sorts::one(Sort::Int),
     }

@@ -28,19 +28,19 @@ pub second_missing : (first : ArgumentTree) (xs : List Argument) → length xs �
 second_missing first [] few = refl
 second_missing first (x ∷ xs) few = absurd (omega (arith, few))
 
-pub one_behind : (scope : Scope) (wanted : List Sort) (xs : List Argument) (x : Argument) (a b : Found) →
+pub one_after : (scope : Scope) (wanted : List Sort) (xs : List Argument) (x : Argument) (a b : Found) →
     0 < length xs → x ≡ get_or xs 0 x →
     Finds a (argument_faults scope wanted (argument_tree x)) b →
     Finds a (arguments_faults scope (wanted ∷ []) (map argument_tree xs)) b
-one_behind scope wanted [] x a b within is finds = absurd (omega (arith, within))
-one_behind scope wanted (y ∷ xs) x a b within is finds =
+one_after scope wanted [] x a b within is finds = absurd (omega (arith, within))
+one_after scope wanted (y ∷ xs) x a b within is finds =
     subst (λ l. Finds a l b) (sym (append-nil (argument_faults scope wanted (argument_tree y))))
     (subst (λ z. Finds a (argument_faults scope wanted (argument_tree z)) b) is finds)
 
-pub none_behind : (scope : Scope) (wanted : List Sort) (xs : List Argument) (a : Found) → length xs ≤ 0 →
+pub none_after : (scope : Scope) (wanted : List Sort) (xs : List Argument) (a : Found) → length xs ≤ 0 →
     Finds a (arguments_faults scope (wanted ∷ []) (map argument_tree xs)) a
-none_behind scope wanted [] a few = finds_none type_shown a
-none_behind scope wanted (x ∷ xs) a few = absurd (omega (arith, few))
+none_after scope wanted [] a few = finds_none type_shown a
+none_after scope wanted (x ∷ xs) a few = absurd (omega (arith, few))
 
 pub event_parts : (scope : Scope) (wanted more : List (List Sort)) (first : ArgumentTree) (rest : List ArgumentTree)
     (a b c : Found) →

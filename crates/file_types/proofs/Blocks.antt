@@ -9,10 +9,10 @@ use Rattle.layer_ast.specs.declared.syntax.Likely.{Likely}
 use Rattle.layer_ast.specs.declared.syntax.Statement.{Statement}
 use Rattle.fault_mean.specs.Declared.{names_in}
 use Rattle.fault_mean.specs.Forms.{queue_name, row_of}
-use Rattle.fault_mean.specs.Scope.{Scope, Local, locals_as, scope_behind, standing_in, with_locals}
+use Rattle.fault_mean.specs.Scope.{Scope, Local, locals_as, scope_after, standing_in, with_locals}
 use Rattle.file_scope.specs.declared.found.Found.{Found}
 use Rattle.file_scope.proofs.Finds.{finds_both, finds_row}
-use Rattle.file_scope.specs.Scope.{scope_behind_all}
+use Rattle.file_scope.specs.Scope.{scope_after_all}
 use Rattle.file_scope.proofs.Lists.{trees_more}
 use Rattle.file_scope.proofs.Standing.{faults_more, left_is}
 use Rattle.file_expressions.specs.Found.{Finds, type_shown}
@@ -21,10 +21,10 @@ use Rattle.file_types.specs.Blocks.{block_faults, inner_faults, standing_faults,
 pub block_more : (outer scope inner : Scope) (a b c : Found) (xs : List Statement) (i : ℕ) (x : Statement) →
     i < length xs → x ≡ get_or xs i x →
     Finds a (block_faults outer (trees (map statement_tree (take i xs)))) b →
-    scope ≡ scope_behind_all outer (map statement_tree (take i xs)) →
-    Finds b (statement_faults scope (statement_tree x)) c → inner ≡ scope_behind scope (statement_tree x) →
+    scope ≡ scope_after_all outer (map statement_tree (take i xs)) →
+    Finds b (statement_faults scope (statement_tree x)) c → inner ≡ scope_after scope (statement_tree x) →
     Finds a (block_faults outer (trees (map statement_tree (take (i + 1) xs)))) c
-    × (inner ≡ scope_behind_all outer (map statement_tree (take (i + 1) xs)))
+    × (inner ≡ scope_after_all outer (map statement_tree (take (i + 1) xs)))
 block_more outer scope inner a b c xs i x within is so_far scope_is now then_ =
     let before = map statement_tree (take i xs) in
     let more = trees_more statement_tree xs i x within is in
@@ -32,10 +32,10 @@ block_more outer scope inner a b c xs i x within is so_far scope_is now then_ =
       subst (λ l. Finds a l c)
           (sym (ap (λ l. block_faults outer (trees l)) more ∙ faults_more standing_faults outer before s))
           (finds_both type_shown a b c (block_faults outer (trees before))
-          (statement_faults (scope_behind_all outer before) s) so_far
+          (statement_faults (scope_after_all outer before) s) so_far
           (subst (λ z. Finds b (statement_faults z s) c) scope_is now)),
-      then_ ∙ (ap (λ z. scope_behind z s) scope_is
-          ∙ (sym (fold-append scope_behind outer before (s ∷ [])) ∙ ap (scope_behind_all outer) (sym more))),
+      then_ ∙ (ap (λ z. scope_after z s) scope_is
+          ∙ (sym (fold-append scope_after outer before (s ∷ [])) ∙ ap (scope_after_all outer) (sym more))),
     )
 
 -- a block in which further locals are visible

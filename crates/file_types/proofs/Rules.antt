@@ -1,10 +1,10 @@
 -- Lemmas that go together, for the functions whose goals want them.
 use Rattle.file_scope.proofs.Finds.{finds_none, part_more}
-use Rattle.file_types.proofs.Arguments.{one_behind, none_behind, item_more, items_end}
+use Rattle.file_types.proofs.Arguments.{one_after, none_after, item_more, items_end}
 use Rattle.file_scope.proofs.Layers.{made_within, made_at}
 
--- For `behind_first`.
-pub ruleset of_behind_first = (finds_none, one_behind, none_behind)
+-- For `after_first`.
+pub ruleset of_after_first = (finds_none, one_after, none_after)
 
 -- For `written`.
 pub ruleset of_written = (finds_none, part_more, made_within, made_at)

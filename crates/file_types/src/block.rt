@@ -6,7 +6,7 @@ ghost use Rattle.layer_ast.specs.declared.syntax.Sort.TheVariants.{Int};
 ghost use Rattle.fault_mean.specs.Scope as spec;
 ghost use Rattle.file_expressions.specs.Found.{Finds};
 ghost use Rattle.file_types.specs.Blocks.{block_faults, inner_faults, statement_faults};
-ghost use Rattle.file_scope.specs.Scope.{local_of, locals_of, scope_behind_all, scope_of};
+ghost use Rattle.file_scope.specs.Scope.{local_of, locals_of, scope_after_all, scope_of};
 
 use crate::statement;
 use file_scope::{Found, Local, Scope, row_locals};
@@ -39,7 +39,7 @@ fn statements(
     all: &[Statement],
 ) -> Result<(), AllocError>
     ensures { OnOk result (Finds found.old (block_faults (scope_of scope.old) (statement_trees all.now)) found.new ×
-        (scope_of scope.new ≡ scope_behind_all (scope_of scope.old) (map statement_tree all.now))) }
+        (scope_of scope.new ≡ scope_after_all (scope_of scope.old) (map statement_tree all.now))) }
 {
     for s in all {
         one(alloc, found, scope, s)?;
@@ -51,7 +51,7 @@ fn statements(
 #[cycle(blocks)]
 fn one(alloc: Global, found: &mut Found, scope: &mut Scope, s: &Statement) -> Result<(), AllocError>
     ensures { OnOk result (Finds found.old (statement_faults (scope_of scope.old) (statement_tree s.now)) found.new ×
-        (scope_of scope.new ≡ spec.scope_behind (scope_of scope.old) (statement_tree s.now))) }
+        (scope_of scope.new ≡ spec.scope_after (scope_of scope.old) (statement_tree s.now))) }
 {
     statement::statement(found, scope, s);
     inside(alloc, found, scope, s)?;
@@ -67,7 +67,7 @@ fn inside(
     s: &Statement,
 ) -> Result<(), AllocError>
     ensures { OnOk result (Finds found.old (inner_faults (scope_of scope.old) (statement_tree s.now)) found.new ×
-        (scope_of scope.new ≡ spec.scope_behind (scope_of scope.old) (statement_tree s.now))) }
+        (scope_of scope.new ≡ spec.scope_after (scope_of scope.old) (statement_tree s.now))) }
 {
     match s {
         Statement::Let { name, .. } => {

@@ -13,7 +13,7 @@ use layer_ast::{Arguments, Names};
 pub enum Count {
     Nothing,
     /// One, and this many after it.
-    Behind(usize),
+    After(usize),
 }
 
 /// Whether two lists have as many things.
@@ -23,11 +23,11 @@ pub fn is_same_count(a: Count, b: Count) -> bool
     match a {
         Count::Nothing => match b {
             Count::Nothing => true,
-            Count::Behind(_) => false,
+            Count::After(_) => false,
         },
-        Count::Behind(j) => match b {
+        Count::After(j) => match b {
             Count::Nothing => false,
-            Count::Behind(k) => j == k,
+            Count::After(k) => j == k,
         },
     }
 }
@@ -38,7 +38,7 @@ pub fn count_names(names: &Option<Names>) -> Count
 {
     match names {
         None => Count::Nothing,
-        Some(names) => Count::Behind(names.rest.len()),
+        Some(names) => Count::After(names.rest.len()),
     }
 }
 
@@ -49,6 +49,6 @@ pub fn count_arguments(arguments: &Option<Arguments>) -> Count
 {
     match arguments {
         None => Count::Nothing,
-        Some(arguments) => Count::Behind(arguments.rest.len()),
+        Some(arguments) => Count::After(arguments.rest.len()),
     }
 }

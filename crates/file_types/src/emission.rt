@@ -32,7 +32,7 @@ pub struct Sending {
 fn has_arity(kind: Kind, arguments: &Arguments) -> bool
     ensures { result ≡ (length (arguments_in (Some (arguments_tree arguments.now))) == length (arguments_of kind)) }
 {
-    is_same_count(Count::Behind(arguments.rest.len()), argument_count(kind))
+    is_same_count(Count::After(arguments.rest.len()), argument_count(kind))
 }
 
 /// The second argument, where there is one.
@@ -49,8 +49,8 @@ fn second(arguments: &Arguments) -> Option<&Argument>
 }
 
 /// The argument after the first, for which something is wanted or nothing.
-#[tactic(auto, using(crate::proofs::Rules::of_behind_first))]
-fn behind_first(found: &mut Found, scope: &Scope, wanted: Option<Wanted>, rest: &[Argument])
+#[tactic(auto, using(crate::proofs::Rules::of_after_first))]
+fn after_first(found: &mut Found, scope: &Scope, wanted: Option<Wanted>, rest: &[Argument])
     ensures { Finds found.old
         (arguments_faults (scope_of scope.now) (map sorts_of (option_to_list wanted)) (map argument_tree rest.now))
         found.new }
@@ -70,7 +70,7 @@ fn event_arguments(found: &mut Found, scope: &Scope, kind: Kind, arguments: &Arg
         found.new }
 {
     argument(found, scope, NUMBER, &arguments.first);
-    behind_first(found, scope, second_wanted(kind), &arguments.rest);
+    after_first(found, scope, second_wanted(kind), &arguments.rest);
 }
 
 /// A header that is put on.

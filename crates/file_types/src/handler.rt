@@ -47,7 +47,7 @@ fn arity(found: &mut Found, handler: &Handler)
         (unless (length (names_in (Some (handler_tree handler.now).names)) == length (arguments_of handler.now.kind))
         (fault.arity handler.now.at)) found.new }
 {
-    let count = Count::Behind(handler.names.rest.len());
+    let count = Count::After(handler.names.rest.len());
     let holds = is_same_count(count, argument_count(handler.kind));
     note_unless(found, holds, Cause::Arity, handler.at);
 }

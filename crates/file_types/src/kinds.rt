@@ -26,8 +26,8 @@ pub fn argument_count(kind: Kind) -> Count
     ensures { count_of result ≡ length (arguments_of kind) }
 {
     match kind {
-        Kind::Cast | Kind::Send | Kind::Stable | Kind::Ack => Count::Behind(1),
-        _ => Count::Behind(0),
+        Kind::Cast | Kind::Send | Kind::Stable | Kind::Ack => Count::After(1),
+        _ => Count::After(0),
     }
 }
 

@@ -23,7 +23,7 @@ fn declared_items(d: &Declaration) -> Count
     ensures { count_of result ≡ length (items_of (declaration_tree d.now)) }
 {
     match d {
-        Declaration::Queue { items, .. } | Declaration::Queues { items, .. } => Count::Behind(
+        Declaration::Queue { items, .. } | Declaration::Queues { items, .. } => Count::After(
             items.rest.len(),
         ),
         _ => Count::Nothing,

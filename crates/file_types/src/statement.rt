@@ -109,7 +109,7 @@ fn push(found: &mut Found, scope: &Scope, at: At, q: &Queue, items: &Arguments)
         arguments_faults (scope_of scope.now) (spec.row_sorts (scope_of scope.now).layer (queue_tree q.now))
         (arguments_in (Some (arguments_tree items.now)))) found.new }
 {
-    row(found, scope, at, q, Count::Behind(items.rest.len()));
+    row(found, scope, at, q, Count::After(items.rest.len()));
     row_arguments(found, scope, q, items);
 }
 
@@ -119,7 +119,7 @@ fn take(found: &mut Found, scope: &Scope, at: At, q: &Queue, names: &Names)
         (spec.row_type_faults (scope_of scope.now) at (queue_tree q.now)
         (length (names_in (Some (names_tree names.now))))) found.new }
 {
-    row(found, scope, at, q, Count::Behind(names.rest.len()));
+    row(found, scope, at, q, Count::After(names.rest.len()));
 }
 
 /// The head of a loop.

@@ -16,12 +16,12 @@ use Rattle.layer_ast.specs.declared.tokens.Sign.TheVariants as sign
 use Rattle.layer_ast.specs.declared.tokens.Token.{Token}
 use Rattle.layer_ast.specs.declared.tokens.Token.TheVariants as token
 use Rattle.layer_ast.specs.Cut.{Piece as Cut, gap, one, bad, Tokens, is_numeral, piece, word_piece, number_piece}
-use Rattle.layer_ast.specs.Cut.{symbol_piece, with_piece, cut_from, text_tokens, place_behind}
+use Rattle.layer_ast.specs.Cut.{symbol_piece, with_piece, cut_from, text_tokens, place_after}
 use Rattle.layer_ast.specs.Spelling.{is_blank, is_word_byte, word_token, number_of, symbols, symbol_at}
 use Rattle.format_mean.specs.Laws.{unless_bad, good_tokens}
 use Rattle.format_mean.specs.Layout.{formatted}
 use Rattle.format_mean.specs.Pieces.{Piece, feed, blank, whole, one_more, comment_length, doubles, sign_length}
-use Rattle.format_mean.specs.Pieces.{length_behind, front, more_feeds, with_front, pieces_from, marks}
+use Rattle.format_mean.specs.Pieces.{length_after, front, more_feeds, with_front, pieces_from, marks}
 use Rattle.format_mean.proofs.Round.{keeps_marks}
 
 -- a piece of the language that has all of these bytes
@@ -176,9 +176,9 @@ calm_true (c ∷ cs) = by_test (is_word_byte c) refl (calm_true cs)
         subst (λ n. Calm true n (c ∷ cs)) (sym e) later
     by_test false is later = no_letter c is
 
-calm_behind : (bs : List ℕ) (number : Bool) → Calm number (prefix_len is_word_byte bs) bs
-calm_behind bs true = calm_true bs
-calm_behind bs false = tt
+calm_after : (bs : List ℕ) (number : Bool) → Calm number (prefix_len is_word_byte bs) bs
+calm_after bs true = calm_true bs
+calm_after bs false = tt
 
 -- the blanks at the end of a comment's line say nothing
 comment_same : (f : ℕ) (bs : List ℕ) →
@@ -199,8 +199,8 @@ comment_same f (c ∷ cs) =
       where
         here : is_blank c ≡ true → front c cs ≡ blank
         here is =
-            ap (λ e. cond e feed (cond (is_blank c) blank (whole (length_behind c cs)))) e_is
-            ∙ ap (λ t. cond t blank (whole (length_behind c cs))) is
+            ap (λ e. cond e feed (cond (is_blank c) blank (whole (length_after c cs)))) e_is
+            ∙ ap (λ t. cond t blank (whole (length_after c cs))) is
 
         by_blank : (t : Bool) (n : ℕ) → is_blank c ≡ t →
             pieces_from f n cs ≡ pieces_from f (prefix_len (λ c. not (nat_eq c 10)) cs) cs →
@@ -256,12 +256,12 @@ lost : (bs : List ℕ) (at : At) → nat_eq (prefix_len is_ascii_digit bs) (pref
     good_tokens (cut_from true (prefix_len is_ascii_digit bs) bs at) ≡ None
 lost [] at less = absurd (true≢false less)
 lost (c ∷ cs) at less =
-    by_tests (is_ascii_digit c) (is_word_byte c) refl refl less (lost cs (place_behind c at))
+    by_tests (is_ascii_digit c) (is_word_byte c) refl refl less (lost cs (place_after c at))
   where
     by_tests : (d w : Bool) → is_ascii_digit c ≡ d → is_word_byte c ≡ w →
         nat_eq (cond d (1 + prefix_len is_ascii_digit cs) 0) (cond w (1 + prefix_len is_word_byte cs) 0) ≡ false →
         (nat_eq (prefix_len is_ascii_digit cs) (prefix_len is_word_byte cs) ≡ false →
-        good_tokens (cut_from true (prefix_len is_ascii_digit cs) cs (place_behind c at)) ≡ None) →
+        good_tokens (cut_from true (prefix_len is_ascii_digit cs) cs (place_after c at)) ≡ None) →
         good_tokens (cut_from true (cond d (1 + prefix_len is_ascii_digit cs) 0) (c ∷ cs) at) ≡ None
     by_tests true true d_is w_is less ih =
         let n = prefix_len is_ascii_digit cs in
@@ -271,7 +271,7 @@ lost (c ∷ cs) at less =
         ap (λ k. good_tokens (cut_from true k (c ∷ cs) at)) e ∙ ih apart
     by_tests true false d_is w_is less ih = absurd (true≢false (sym (digit_word c d_is) ∙ w_is))
     by_tests false true d_is w_is less ih =
-        ap (λ p. good_tokens (with_piece p at (λ number n. cut_from number n cs (place_behind c at))))
+        ap (λ p. good_tokens (with_piece p at (λ number n. cut_from number n cs (place_after c at))))
         (inside_word c cs w_is d_is)
     by_tests false false d_is w_is less ih = absurd (true≢false less)
 
@@ -401,9 +401,9 @@ signs b (c ∷ cs) = by_tests (doubles b) (nat_eq c 61) refl refl
 -- one turn of both
 module _ (number : Bool) (b : ℕ) (bs : List ℕ) (at : At) (feeds : ℕ)
     (later : (number : Bool) (inside feeds : ℕ) → Calm number inside bs →
-    good_tokens (cut_from number inside bs (place_behind b at)) ≡ tokens_in (pieces_from feeds inside bs)) where
+    good_tokens (cut_from number inside bs (place_after b at)) ≡ tokens_in (pieces_from feeds inside bs)) where
   abbrev rest : Bool → ℕ → Tokens
-  rest = λ number n. cut_from number n bs (place_behind b at)
+  rest = λ number n. cut_from number n bs (place_after b at)
 
   -- a word, a number or a sign that the language finds as it is found here
   same_turn : (calm : Bool → Type 0) (p : Cut) (m : ℕ) → nat_eq b 35 ≡ false → piece number b bs ≡ p →
@@ -418,9 +418,9 @@ module _ (number : Bool) (b : ℕ) (bs : List ℕ) (at : At) (feeds : ℕ)
       ∙ sym (ap (λ t. cond t (tokens_in (pieces_from 0 m bs))
       (with_token (token_of b (take m bs)) (tokens_in (pieces_from 0 m bs)))) no_comment))))
 
-  behind_as : (r w : Bool) → nat_eq b 35 ≡ r → is_word_byte b ≡ w →
-      length_behind b bs ≡ cond r (comment_length bs) (cond w (prefix_len is_word_byte bs) (sign_length b bs))
-  behind_as r w r_is w_is =
+  after_as : (r w : Bool) → nat_eq b 35 ≡ r → is_word_byte b ≡ w →
+      length_after b bs ≡ cond r (comment_length bs) (cond w (prefix_len is_word_byte bs) (sign_length b bs))
+  after_as r w r_is w_is =
       ap (λ t. cond t (comment_length bs) (cond (is_word_byte b) (prefix_len is_word_byte bs) (sign_length b bs))) r_is
       ∙ ap (λ t. cond r (comment_length bs) (cond t (prefix_len is_word_byte bs) (sign_length b bs))) w_is
 
@@ -432,14 +432,14 @@ module _ (number : Bool) (b : ℕ) (bs : List ℕ) (at : At) (feeds : ℕ)
       feeds b bs (λ feeds inside. pieces_from feeds inside bs))
   front_as e t r w e_is t_is r_is w_is =
       ap (λ f. tokens_in (with_front f feeds b bs (λ feeds inside. pieces_from feeds inside bs)))
-      (ap (λ e. cond e feed (cond (is_blank b) blank (whole (length_behind b bs)))) e_is
-      ∙ (ap (λ t. cond e feed (cond t blank (whole (length_behind b bs)))) t_is
-      ∙ ap (λ n. cond e feed (cond t blank (whole n))) (behind_as r w r_is w_is)))
+      (ap (λ e. cond e feed (cond (is_blank b) blank (whole (length_after b bs)))) e_is
+      ∙ (ap (λ t. cond e feed (cond t blank (whole (length_after b bs)))) t_is
+      ∙ ap (λ n. cond e feed (cond t blank (whole n))) (after_as r w r_is w_is)))
 
-  not_behind : (number : Bool) → Calm number zero (b ∷ bs) → is_ascii_alphabetic b ≡ true →
+  not_after : (number : Bool) → Calm number zero (b ∷ bs) → is_ascii_alphabetic b ≡ true →
       cond number bad (word_piece b bs) ≡ word_piece b bs
-  not_behind true calm letter = absurd (true≢false (sym letter ∙ calm))
-  not_behind false calm letter = refl
+  not_after true calm letter = absurd (true≢false (sym letter ∙ calm))
+  not_after false calm letter = refl
 
   abbrev word_of : ℕ → List ℕ → Cut
   word_of = λ n ys. cond (nat_le n 31) (one (word_token (b ∷ ys)) n) bad
@@ -458,7 +458,7 @@ module _ (number : Bool) (b : ℕ) (bs : List ℕ) (at : At) (feeds : ℕ)
       let m = prefix_len is_word_byte bs in
       let again = fronts is_word_byte is_word_byte (λ c is. is) bs in
       same_turn (λ number. Calm number m bs) (word_piece b bs) m r_is
-      (piece_as false false true d number b bs t_is r_is a_is d_is ∙ not_behind number calm a_is)
+      (piece_as false false true d number b bs t_is r_is a_is d_is ∙ not_after number calm a_is)
       (piece_as false false true d false b (take m bs) t_is r_is a_is d_is
       ∙ (ap (λ k. word_of k (take k (take m bs))) again.0 ∙ ap (word_of m) again.1))
       (length-prefix_len is_word_byte bs) (own (nat_le m 31)) (λ number is. is)
@@ -467,7 +467,7 @@ module _ (number : Bool) (b : ℕ) (bs : List ℕ) (at : At) (feeds : ℕ)
           IsOwn (λ number. Calm number (prefix_len is_word_byte bs) bs)
           (cond t (one (word_token (b ∷ take (prefix_len is_word_byte bs) bs)) (prefix_len is_word_byte bs)) bad)
           (prefix_len is_word_byte bs)
-      own true = (refl, calm_behind bs (is_numeral (word_token (b ∷ take (prefix_len is_word_byte bs) bs))))
+      own true = (refl, calm_after bs (is_numeral (word_token (b ∷ take (prefix_len is_word_byte bs) bs))))
       own false = tt
 
   number_turn : is_blank b ≡ false → nat_eq b 35 ≡ false → is_ascii_alphabetic b ≡ false → is_ascii_digit b ≡ true →
@@ -489,7 +489,7 @@ module _ (number : Bool) (b : ℕ) (bs : List ℕ) (at : At) (feeds : ℕ)
           (cond z bad (cond y (one (token.Number v) (prefix_len is_ascii_digit bs)) bad))
           (prefix_len is_word_byte bs)
       own true y v same = tt
-      own false true v same = (same, calm_behind bs true)
+      own false true v same = (same, calm_after bs true)
       own false false v same = tt
 
       none_left : (z y : Bool) (v : ℕ) (later : Option (List Token)) →
@@ -502,7 +502,7 @@ module _ (number : Bool) (b : ℕ) (bs : List ℕ) (at : At) (feeds : ℕ)
       none_left false false v later less = refl
       none_left false true v later less =
           good_more (record { token = token.Number v; at = at }) (rest true (prefix_len is_ascii_digit bs))
-          ∙ (ap (with_token (Some (token.Number v))) (lost bs (place_behind b at) less)
+          ∙ (ap (with_token (Some (token.Number v))) (lost bs (place_after b at) less)
           ∙ sym (ap (λ t. with_token (cond t (Some (token.Number v)) None) later) less))
 
       by_length : (s : Bool) → nat_eq (prefix_len is_ascii_digit bs) (prefix_len is_word_byte bs) ≡ s →
@@ -611,9 +611,9 @@ cuts : (number : Bool) (inside : ℕ) (text : List ℕ) (at : At) (feeds : ℕ) 
     good_tokens (cut_from number inside text at) ≡ tokens_in (pieces_from feeds inside text)
 cuts number inside [] at feeds calm = refl
 cuts number (suc inside) (b ∷ bs) at feeds calm =
-    cuts number inside bs (place_behind b at) feeds (calm_tail number inside b bs calm)
+    cuts number inside bs (place_after b at) feeds (calm_tail number inside b bs calm)
 cuts number zero (b ∷ bs) at feeds calm =
-    turn number b bs at feeds (λ number inside feeds calm. cuts number inside bs (place_behind b at) feeds calm)
+    turn number b bs at feeds (λ number inside feeds calm. cuts number inside bs (place_after b at) feeds calm)
     (nat_eq b 10) (is_blank b)
     (nat_eq b 35) (is_word_byte b) (is_ascii_alphabetic b) (is_ascii_digit b) refl refl refl refl refl refl calm
 

@@ -7,7 +7,7 @@ use Rattle.layer_ast.specs.Spelling.{is_word_byte}
 use Rattle.format_mean.specs.declared.stand.Class.{Class}
 use Rattle.format_mean.specs.declared.stand.Class.TheVariants as class
 use Rattle.format_mean.specs.Classes.{is_one_of, declaring, going, queueing, apart, word_class, sign_class, class_of}
-use Rattle.format_mean.specs.Classes.{holds_next, holds_last, calls, are_joined, seen_behind}
+use Rattle.format_mean.specs.Classes.{holds_next, holds_last, calls, are_joined, seen_after}
 use Rattle.format_mean.specs.Layout.{is_remark}
 use Rattle.format_mean.specs.Pieces.{doubles}
 use Rattle.format_mean.proofs.Whole.{stops}
@@ -107,11 +107,11 @@ no_remark b bs none = by_byte (nat_eq b 35) refl
         absurd (true≢false there)
 
 -- what a token counts as is a comment or holds the next one where the token does
-pub seen_remark : (x c : Class) → is_remark (seen_behind x c) ≡ is_remark c
+pub seen_remark : (x c : Class) → is_remark (seen_after x c) ≡ is_remark c
 seen_remark class.Queueing class.Plain = refl
 seen_remark x c = refl
 
-pub seen_holds : (x c : Class) → holds_next (seen_behind x c) ≡ holds_next c
+pub seen_holds : (x c : Class) → holds_next (seen_after x c) ≡ holds_next c
 seen_holds class.Queueing class.Plain = refl
 seen_holds x c = refl
 
@@ -154,9 +154,9 @@ blank_stops b rest none = by_tests (nat_eq b 35) (is_word_byte b) (doubles b) no
 
 -- whether two tokens are joined so that one stops where the other begins
 pub joined_stops : (b : ℕ) (bs : List ℕ) (c : ℕ) (cs : List ℕ) (x : Class) (rest : List ℕ) → nat_eq b 35 ≡ false →
-    are_joined (seen_behind x (class_of (b ∷ bs))) (class_of (c ∷ cs)) ≡ true → stops b ((c ∷ cs) ++ rest) ≡ true
+    are_joined (seen_after x (class_of (b ∷ bs))) (class_of (c ∷ cs)) ≡ true → stops b ((c ∷ cs) ++ rest) ≡ true
 joined_stops b bs c cs x rest none is =
-    by_holding (holds_next (seen_behind x (class_of (b ∷ bs)))) refl is
+    by_holding (holds_next (seen_after x (class_of (b ∷ bs)))) refl is
   where
     by_tests : (r w d : Bool) → r ≡ false → (w ≡ false) × (d ≡ false) →
         cond r (nat_eq c 10) (cond w (not (is_word_byte c)) (not (d && nat_eq c 61))) ≡ true
@@ -174,8 +174,8 @@ joined_stops b bs c cs x rest none is =
     by_next false false true false false none h = refl
     by_next false false false false false none h = refl
 
-    by_holding : (t : Bool) → holds_next (seen_behind x (class_of (b ∷ bs))) ≡ t →
-        (t || (holds_last (class_of (c ∷ cs)) || calls (seen_behind x (class_of (b ∷ bs))) (class_of (c ∷ cs)))) ≡
+    by_holding : (t : Bool) → holds_next (seen_after x (class_of (b ∷ bs))) ≡ t →
+        (t || (holds_last (class_of (c ∷ cs)) || calls (seen_after x (class_of (b ∷ bs))) (class_of (c ∷ cs)))) ≡
         true →
         stops b ((c ∷ cs) ++ rest) ≡ true
     by_holding true holds is =
@@ -183,4 +183,4 @@ joined_stops b bs c cs x rest none is =
         (closed b bs (sym (seen_holds x (class_of (b ∷ bs))) ∙ holds))
     by_holding false holds is =
         by_next (nat_eq b 35) (is_word_byte b) (doubles b) (is_word_byte c) (nat_eq c 61) none
-        (opened c cs (joined_follows (seen_behind x (class_of (b ∷ bs))) (class_of (c ∷ cs)) is))
+        (opened c cs (joined_follows (seen_after x (class_of (b ∷ bs))) (class_of (c ∷ cs)) is))

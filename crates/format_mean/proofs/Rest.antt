@@ -6,10 +6,10 @@ use Rattle.format_mean.specs.declared.stand.Class.{Class}
 use Rattle.format_mean.specs.declared.stand.Class.TheVariants as class
 use Rattle.format_mean.specs.declared.stand.Stand.{Stand}
 use Rattle.format_mean.specs.declared.stand.TheConstants.{COMMENT_COLUMN}
-use Rattle.format_mean.specs.Classes.{class_of, are_joined, seen_behind}
+use Rattle.format_mean.specs.Classes.{class_of, are_joined, seen_after}
 use Rattle.format_mean.specs.Pieces.{Piece, pieces_from, pieces}
 use Rattle.format_mean.specs.Layout.{Begun, is_bare, is_remark, leads, begins_line, at_least_one, blanks_apart}
-use Rattle.format_mean.specs.Layout.{blanks_before, feeds_before, line_at_feeds, left_of, put_behind, lines_at}
+use Rattle.format_mean.specs.Layout.{blanks_before, feeds_before, line_at_feeds, left_of, put_after, lines_at}
 use Rattle.format_mean.specs.Layout.{begun_at}
 use Rattle.format_mean.specs.Layout.{last_line, lines_from, beginning}
 use Rattle.format_mean.proofs.Whole.{stops, IsMark, IsPiece, found, past_blanks, past_feeds}
@@ -50,19 +50,19 @@ text_is t (p ∷ ps) has all =
     by_feeds (feeds_before t p) (text_is next ps begun all.1)
   where
     by_feeds : (n : ℕ) →
-        concat (lines_from (put_behind t.stand (left_of t.line n) p.spelling) ps)
-        ≡ (put_behind t.stand (left_of t.line n) p.spelling).line ++
-        rest_of (put_behind t.stand (left_of t.line n) p.spelling) ps →
-        concat (line_at_feeds t.line n ++ lines_from (put_behind t.stand (left_of t.line n) p.spelling) ps)
+        concat (lines_from (put_after t.stand (left_of t.line n) p.spelling) ps)
+        ≡ (put_after t.stand (left_of t.line n) p.spelling).line ++
+        rest_of (put_after t.stand (left_of t.line n) p.spelling) ps →
+        concat (line_at_feeds t.line n ++ lines_from (put_after t.stand (left_of t.line n) p.spelling) ps)
         ≡ t.line ++ (replicate n 10 ++ (replicate (blanks_before t.stand (left_of t.line n) (class_of p.spelling)) 32
-        ++ (p.spelling ++ rest_of (put_behind t.stand (left_of t.line n) p.spelling) ps)))
+        ++ (p.spelling ++ rest_of (put_after t.stand (left_of t.line n) p.spelling) ps)))
     by_feeds zero ih =
         let blanks = replicate (blanks_before t.stand t.line (class_of p.spelling)) 32 in
-        let rest = rest_of (put_behind t.stand t.line p.spelling) ps in
+        let rest = rest_of (put_after t.stand t.line p.spelling) ps in
         ih ∙ (append_assoc (t.line ++ blanks) p.spelling rest ∙ append_assoc t.line blanks (p.spelling ++ rest))
     by_feeds (suc n) ih =
         let blanks = replicate (blanks_before t.stand [] (class_of p.spelling)) 32 in
-        let rest = rest_of (put_behind t.stand [] p.spelling) ps in
+        let rest = rest_of (put_after t.stand [] p.spelling) ps in
         ap (λ text. (t.line ++ replicate (suc n) 10) ++ text) (ih ∙ append_assoc blanks p.spelling rest)
         ∙ append_assoc t.line (replicate (suc n) 10) (blanks ++ (p.spelling ++ rest))
 
@@ -96,14 +96,14 @@ no_blank s column c none = by_test (are_joined s.last c) none
 
 -- what is after a token or comment doesn't go on with it
 stops_here : (t : Begun) (ps : List Piece) (b : ℕ) (bs : List ℕ) (x : Class) →
-    t.stand.last ≡ seen_behind x (class_of (b ∷ bs)) →
+    t.stand.last ≡ seen_after x (class_of (b ∷ bs)) →
     is_bare t.line ≡ false → AllByRecursion IsPiece ps → stops b (rest_of t ps) ≡ true
 stops_here t [] b bs x last has all = feed_stops b []
 stops_here t (p ∷ ps) b bs x last has all =
     by_feeds (feeds_before t p) (rest_of (begun_at t p) ps) refl
   where
     joined : (spelling rest : List ℕ) → IsMark spelling → nat_eq b 35 ≡ false →
-        are_joined (seen_behind x (class_of (b ∷ bs))) (class_of spelling) ≡ true → stops b (spelling ++ rest) ≡ true
+        are_joined (seen_after x (class_of (b ∷ bs))) (class_of spelling) ≡ true → stops b (spelling ++ rest) ≡ true
     joined [] rest m none is = absurd m
     joined (d ∷ ds) rest m none is = joined_stops b bs d ds x rest none is
 
@@ -144,9 +144,9 @@ piece_read : (n k : ℕ) (spelling rest : List ℕ) (later : List Piece) → n �
     ((b : ℕ) (bs : List ℕ) → spelling ≡ b ∷ bs → (stops b rest ≡ true) × (pieces_from 0 0 rest ≡ later)) →
     pieces_from 0 0 (replicate n 10 ++ (replicate k 32 ++ (spelling ++ rest))) ≡
     record { feeds = n; spelling = spelling } ∷ later
-piece_read n k [] rest later few m behind = absurd m
-piece_read n k (b ∷ bs) rest later few m behind =
-    let h = behind b bs refl in
+piece_read n k [] rest later few m following = absurd m
+piece_read n k (b ∷ bs) rest later few m following =
+    let h = following b bs refl in
     past_feeds n (replicate k 32 ++ ((b ∷ bs) ++ rest)) few
     ∙ (past_blanks n k ((b ∷ bs) ++ rest)
     ∙ (found n b bs rest m h.0 ∙ ap (λ ps. record { feeds = n; spelling = b ∷ bs } ∷ ps) h.1))
@@ -160,7 +160,7 @@ reads t (p ∷ ps) has all =
     let begun : is_bare next.line ≡ false = not_bare _ p.spelling (mark_is p.spelling all.0.1) in
     piece_read (feeds_before t p) _ p.spelling (rest_of next ps) (settled next ps) (few_feeds t p all.0.0) all.0.1
     (λ b bs is. (
-      stops_here next ps b bs t.stand.last (ap (λ w. seen_behind t.stand.last (class_of w)) is) begun all.1,
+      stops_here next ps b bs t.stand.last (ap (λ w. seen_after t.stand.last (class_of w)) is) begun all.1,
       reads next ps begun all.1,
     ))
 
@@ -176,7 +176,7 @@ read_back (p ∷ ps) all =
     ∙ piece_read 0 k p.spelling (rest_of next ps) (settled next ps) (omega arith) all.0.1
     (λ b bs is. (
       stops_here next ps b bs beginning.stand.last
-          (ap (λ w. seen_behind beginning.stand.last (class_of w)) is) begun all.1,
+          (ap (λ w. seen_after beginning.stand.last (class_of w)) is) begun all.1,
       reads next ps begun all.1,
     ))
 
@@ -196,7 +196,7 @@ laid_again t (p ∷ ps) =
     let n = feeds_before t p in
     let again : feeds_before t (record { feeds = n; spelling = p.spelling }) ≡ n =
     same_feeds (is_bare t.line) (begins_line t.stand (class_of p.spelling)) p.feeds in
-    ap (λ m. line_at_feeds t.line m ++ lines_from (put_behind t.stand (left_of t.line m) p.spelling)
+    ap (λ m. line_at_feeds t.line m ++ lines_from (put_after t.stand (left_of t.line m) p.spelling)
     (settled (begun_at t p) ps)) again
     ∙ ap (λ lines. lines_at t p ++ lines) (laid_again (begun_at t p) ps)
 

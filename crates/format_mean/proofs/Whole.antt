@@ -5,7 +5,7 @@ use Rattle.std.proofs.Math.Seq.{take-append_seam}
 use Rattle.std.specs.List.{AllByRecursion, prefix_len}
 use Rattle.layer_ast.specs.Spelling.{is_blank, is_word_byte}
 use Rattle.format_mean.specs.Pieces.{Piece, feed, blank, whole, one_more, comment_length, doubles, sign_length}
-use Rattle.format_mean.specs.Pieces.{length_behind, front, more_feeds, with_front, pieces_from}
+use Rattle.format_mean.specs.Pieces.{length_after, front, more_feeds, with_front, pieces_from}
 
 -- whether what is after a token or comment that begins with this byte doesn't go on with it
 abbrev pub stops_by : (remark word : Bool) → ℕ → List ℕ → Bool
@@ -16,15 +16,15 @@ stops_by remark word b (c ∷ cs) =
 abbrev pub stops : ℕ → List ℕ → Bool
 stops b rest = stops_by (nat_eq b 35) (is_word_byte b) b rest
 
-abbrev behind_by : (remark word : Bool) → ℕ → List ℕ → ℕ
-behind_by remark word b bs = cond remark (comment_length bs) (cond word (prefix_len is_word_byte bs) (sign_length b bs))
+abbrev after_by : (remark word : Bool) → ℕ → List ℕ → ℕ
+after_by remark word b bs = cond remark (comment_length bs) (cond word (prefix_len is_word_byte bs) (sign_length b bs))
 
 -- bytes that are found whole as one piece
 abbrev pub IsMark : List ℕ → Type 0
 IsMark [] = ⊥
 IsMark (b ∷ bs) =
     (nat_eq b 10 ≡ false) × (is_blank b ≡ false)
-    × ((rest : List ℕ) → stops b rest ≡ true → length_behind b (bs ++ rest) ≡ length bs)
+    × ((rest : List ℕ) → stops b rest ≡ true → length_after b (bs ++ rest) ≡ length bs)
 
 abbrev pub IsPiece : Piece → Type 0
 IsPiece p = (p.feeds ≤ 2) × IsMark p.spelling
@@ -98,14 +98,14 @@ sign_again b rest none (c ∷ cs) = by_byte (doubles b && nat_eq c 61) refl
     by_byte false is = (none, refl)
 
 by_kind : (remark word : Bool) (b : ℕ) (bs rest : List ℕ) → stops_by remark word b rest ≡ true →
-    Again (behind_by remark word b) bs rest (behind_by remark word b bs)
+    Again (after_by remark word b) bs rest (after_by remark word b bs)
 by_kind true word b bs rest stop = comment_again rest (comment_none word b rest stop) bs
 by_kind false true b bs rest stop = word_again rest (word_none b rest stop) bs
 by_kind false false b bs rest stop = sign_again b rest (sign_none b rest stop) bs
 
 -- what is found at the front of a text is found again
 again : (b : ℕ) (bs rest : List ℕ) → stops b rest ≡ true →
-    length_behind b (take (length_behind b bs) bs ++ rest) ≡ length (take (length_behind b bs) bs)
+    length_after b (take (length_after b bs) bs ++ rest) ≡ length (take (length_after b bs) bs)
 again b bs rest stop =
     let h = by_kind (nat_eq b 35) (is_word_byte b) b bs rest stop in
     h.0 ∙ sym h.1
@@ -124,11 +124,11 @@ all_pieces feeds zero (b ∷ bs) few =
     by_front : (e t : Bool) → nat_eq b 10 ≡ e → is_blank b ≡ t →
         ((f i : ℕ) → f ≤ 2 → AllByRecursion IsPiece (pieces_from f i bs)) →
         AllByRecursion IsPiece
-        (with_front (cond e feed (cond t blank (whole (length_behind b bs)))) feeds b bs (λ f i. pieces_from f i bs))
+        (with_front (cond e feed (cond t blank (whole (length_after b bs)))) feeds b bs (λ f i. pieces_from f i bs))
     by_front true t is_feed is later = later (more_feeds feeds) 0 (at_most_two feeds)
     by_front false true is_feed is later = later feeds 0 few
     by_front false false is_feed is later =
-        (((few, (is_feed, is, again b bs))), later 0 (length_behind b bs) (omega arith))
+        (((few, (is_feed, is, again b bs))), later 0 (length_after b bs) (omega arith))
 
 -- bytes that belong to a piece before them are passed over
 past : (feeds : ℕ) (bs rest : List ℕ) → pieces_from feeds (length bs) (bs ++ rest) ≡ pieces_from feeds 0 rest
@@ -140,8 +140,8 @@ pub found : (k b : ℕ) (bs rest : List ℕ) → IsMark (b ∷ bs) → stops b r
     pieces_from k 0 ((b ∷ bs) ++ rest) ≡ record { feeds = k; spelling = b ∷ bs } ∷ pieces_from 0 0 rest
 found k b bs rest m stop =
     let here : front b (bs ++ rest) ≡ whole (length bs) =
-    ap (λ e. cond e feed (cond (is_blank b) blank (whole (length_behind b (bs ++ rest))))) m.0
-    ∙ (ap (λ t. cond t blank (whole (length_behind b (bs ++ rest)))) m.1 ∙ ap whole (m.2 rest stop)) in
+    ap (λ e. cond e feed (cond (is_blank b) blank (whole (length_after b (bs ++ rest))))) m.0
+    ∙ (ap (λ t. cond t blank (whole (length_after b (bs ++ rest)))) m.1 ∙ ap whole (m.2 rest stop)) in
     ap (λ f. with_front f k b (bs ++ rest) (λ feeds inside. pieces_from feeds inside (bs ++ rest))) here
     ∙ (ap (λ xs. record { feeds = k; spelling = b ∷ xs } ∷ pieces_from 0 (length bs) (bs ++ rest))
     (take-append_seam bs rest)

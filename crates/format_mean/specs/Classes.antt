@@ -95,6 +95,6 @@ is_brace class.Closing = true
 is_brace _ = false
 
 -- what a token counts as for the next one: a queue that is pushed to or taken from isn't called
-abbrev pub seen_behind : Class → Class → Class
-seen_behind class.Queueing class.Plain = class.Apart
-seen_behind _ next = next
+abbrev pub seen_after : Class → Class → Class
+seen_after class.Queueing class.Plain = class.Apart
+seen_after _ next = next

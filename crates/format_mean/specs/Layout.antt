@@ -6,28 +6,28 @@ use Rattle.format_mean.specs.declared.stand.Class.{Class}
 use Rattle.format_mean.specs.declared.stand.Class.TheVariants as class
 use Rattle.format_mean.specs.declared.stand.Stand.{Stand}
 use Rattle.format_mean.specs.declared.stand.TheConstants.{DEEPEST, STEP, HANG, COMMENT_COLUMN}
-use Rattle.format_mean.specs.Classes.{class_of, are_joined, ends_statement, is_brace, seen_behind}
+use Rattle.format_mean.specs.Classes.{class_of, are_joined, ends_statement, is_brace, seen_after}
 use Rattle.format_mean.specs.Pieces.{Piece, pieces}
 
 -- how many braces are open after a token or comment; one that closes none closes none
-abbrev pub depth_behind : ℕ → Class → ℕ
-depth_behind depth class.Opening = if nat_lt depth DEEPEST then depth + 1 else depth
-depth_behind depth class.Closing = depth - 1
-depth_behind depth _ = depth
+abbrev pub depth_after : ℕ → Class → ℕ
+depth_after depth class.Opening = if nat_lt depth DEEPEST then depth + 1 else depth
+depth_after depth class.Closing = depth - 1
+depth_after depth _ = depth
 
 -- whether one is in a layer after it
-abbrev pub in_layer_behind : Bool → Class → Bool
-in_layer_behind was class.Layer = true
-in_layer_behind was class.Stack = false
-in_layer_behind was _ = was
+abbrev pub in_layer_after : Bool → Class → Bool
+in_layer_after was class.Layer = true
+in_layer_after was class.Stack = false
+in_layer_after was _ = was
 
 -- where the next one stands
-abbrev pub behind : Stand → Class → Stand
-behind s c = record {
-  depth = depth_behind s.depth c;
-  in_layer = in_layer_behind s.in_layer c;
+abbrev pub following : Stand → Class → Stand
+following s c = record {
+  depth = depth_after s.depth c;
+  in_layer = in_layer_after s.in_layer c;
   last =
-      seen_behind s.last c;
+      seen_after s.last c;
 }
 
 -- what begins a line wherever it stands: a layer, the stack, a declaration, a handler, and the end of a layer
@@ -97,17 +97,17 @@ left_of line zero = line
 left_of line (suc n) = []
 
 -- a piece is put after what a line has
-abbrev pub put_behind : Stand → List ℕ → List ℕ → Begun
-put_behind s line spelling =
+abbrev pub put_after : Stand → List ℕ → List ℕ → Begun
+put_after s line spelling =
     let c = class_of spelling in
-    record { stand = behind s c; line = line ++ replicate (blanks_before s line c) 32 ++ spelling }
+    record { stand = following s c; line = line ++ replicate (blanks_before s line c) 32 ++ spelling }
 
 -- the line that a piece ends, and the one that it goes on with or begins
 abbrev pub lines_at : Begun → Piece → List (List ℕ)
 lines_at t p = line_at_feeds t.line (feeds_before t p)
 
 abbrev pub begun_at : Begun → Piece → Begun
-begun_at t p = put_behind t.stand (left_of t.line (feeds_before t p)) p.spelling
+begun_at t p = put_after t.stand (left_of t.line (feeds_before t p)) p.spelling
 
 -- the last line
 abbrev pub last_line : List ℕ → List (List ℕ)

@@ -36,14 +36,14 @@ sign_length b [] = 0
 sign_length b (c ∷ cs) = if doubles b && nat_eq c 61 then 1 else 0
 
 -- how many bytes of a comment, of a word or number, or of a sign stand after its first
-abbrev pub length_behind : ℕ → List ℕ → ℕ
-length_behind b bs =
+abbrev pub length_after : ℕ → List ℕ → ℕ
+length_after b bs =
     if nat_eq b 35 then comment_length bs
     else if is_word_byte b then prefix_len is_word_byte bs
     else sign_length b bs
 
 abbrev pub front : ℕ → List ℕ → Front
-front b bs = if nat_eq b 10 then feed else if is_blank b then blank else whole (length_behind b bs)
+front b bs = if nat_eq b 10 then feed else if is_blank b then blank else whole (length_after b bs)
 
 -- one more line feed, of which two count
 abbrev pub more_feeds : ℕ → ℕ

@@ -236,16 +236,16 @@ back_or first second whole t at skips n into onto b c = back_as second whole t a
 back_or first second whole t at refuses n into onto b c = back_as second whole t at n onto c
 
 -- an optional part that begins as another
-back_begun : (part whole : Symbol) (behind : List Symbol) (t : Token) (at : At) (m : Move) →
-    ((p l k : List Printed) → Phrase part p l → Chain behind l k → Phrase whole p k) →
+back_begun : (part whole : Symbol) (following : List Symbol) (t : Token) (at : At) (m : Move) →
+    ((p l k : List Printed) → Phrase part p l → Chain following l k → Phrase whole p k) →
     ((k : List Printed) → Phrase whole k k) →
-    Back part t at m → Back whole t at (begun behind m)
-back_begun part whole behind t at (eats new) joined skip b =
+    Back part t at m → Back whole t at (begun following m)
+back_begun part whole following t at (eats new) joined skip b =
     λ p k chain.
-    let (l, first, rest) = chain_split new behind p k chain in
+    let (l, first, rest) = chain_split new following p k chain in
     let (q, e, place, here) = b p l first in (q, e, place, joined _ _ _ here rest)
-back_begun part whole behind t at skips joined skip b = skip
-back_begun part whole behind t at refuses joined skip b = skip
+back_begun part whole following t at skips joined skip b = skip
+back_begun part whole following t at refuses joined skip b = skip
 
 back_message : (t : Token) (at : At) → Back a_message t at (message_move t)
 back_message t at =

@@ -46,14 +46,14 @@ use Rattle.grammar_laws.proofs.Signs.{operator_ends}
 abbrev pub toks : List Printed → List Token
 toks printed = map (λ p. p.token) printed
 
-abbrev pub accepts_behind : Option (List Symbol) → (List Symbol → Bool) → Bool
-accepts_behind None go = false
-accepts_behind (Some stack) go = go stack
+abbrev pub accepts_after : Option (List Symbol) → (List Symbol → Bool) → Bool
+accepts_after None go = false
+accepts_after (Some stack) go = go stack
 
 -- whether the machine, with room for any number of brackets, takes the tokens to the end
 abbrev pub accepts : List Symbol → List Token → Bool
 accepts stack [] = all_optional stack
-accepts stack (t ∷ tokens) = accepts_behind (feed stack t) (λ expected. accepts expected tokens)
+accepts stack (t ∷ tokens) = accepts_after (feed stack t) (λ expected. accepts expected tokens)
 
 abbrev pub IsSkip : Move → Type 0
 IsSkip skips = Unit {0}
@@ -74,7 +74,7 @@ pub left_out : (s : Symbol) (stack : List Symbol) (k : List Printed) → IsLeftO
     accepts (s ∷ stack) (toks k) ≡ accepts stack (toks k)
 left_out s stack [] free = absurd free
 left_out s stack (p ∷ k) free =
-    ap (λ o. accepts_behind o (λ expected. accepts expected (toks k)))
+    ap (λ o. accepts_after o (λ expected. accepts expected (toks k)))
     (moved_skip (move s p.token) stack (feed stack p.token) free)
 
 -- an operator's sign is taken, and no index can stand there
@@ -170,10 +170,10 @@ mutual
   expression_drives (size at m) stack k free =
       message_drives m (one sign.RightParen ∷ stack) (plain sign.RightParen ∷ k)
   expression_drives (binary at left operator right) stack k free =
-      let behind = print.expression right (plain sign.RightParen ∷ k) in
+      let following = print.expression right (plain sign.RightParen ∷ k) in
       expression_drives left (an_operator ∷ an_expression ∷ one sign.RightParen ∷ stack)
-      (plain (operator_sign operator) ∷ behind) (operator_skips operator)
-      ∙ (operator_drives operator (an_expression ∷ one sign.RightParen ∷ stack) (toks behind)
+      (plain (operator_sign operator) ∷ following) (operator_skips operator)
+      ∙ (operator_drives operator (an_expression ∷ one sign.RightParen ∷ stack) (toks following)
       ∙ expression_drives right (one sign.RightParen ∷ stack) (plain sign.RightParen ∷ k) tt)
   expression_drives (apply at function x) stack k free =
       function_begins function stack
@@ -181,10 +181,10 @@ mutual
       ∙ expression_drives x (one sign.RightParen ∷ stack) (plain sign.RightParen ∷ k) tt
   expression_drives (pick at condition first second) stack k free =
       let last = print.expression second (plain sign.RightParen ∷ k) in
-      let behind = print.expression first (plain sign.Comma ∷ last) in
+      let following = print.expression first (plain sign.Comma ∷ last) in
       expression_drives condition
       (one sign.Comma ∷ an_expression ∷ one sign.Comma ∷ an_expression ∷ one sign.RightParen ∷ stack)
-      (plain sign.Comma ∷ behind) tt
+      (plain sign.Comma ∷ following) tt
       ∙ (expression_drives first (one sign.Comma ∷ an_expression ∷ one sign.RightParen ∷ stack)
       (plain sign.Comma ∷ last) tt
       ∙ expression_drives second (one sign.RightParen ∷ stack) (plain sign.RightParen ∷ k) tt)
@@ -459,10 +459,10 @@ mutual
       tt
       ∙ (size_drives m (a_block ++ stack) (print.block b k) ∙ statements_drive b (one sign.RightBrace ∷ stack) k)
   statement_drives (emit at direction what es p) stack k free =
-      let behind = print.pushed p (plain sign.Semicolon ∷ k) in
+      let following = print.pushed p (plain sign.Semicolon ∷ k) in
       emission_begins direction stack
-      (toks (kind what ∷ plain sign.LeftParen ∷ print.arguments es (plain sign.RightParen ∷ behind)))
-      ∙ (arguments_drive es (one sign.RightParen ∷ a_pushed ∷ one sign.Semicolon ∷ stack) behind
+      (toks (kind what ∷ plain sign.LeftParen ∷ print.arguments es (plain sign.RightParen ∷ following)))
+      ∙ (arguments_drive es (one sign.RightParen ∷ a_pushed ∷ one sign.Semicolon ∷ stack) following
       ∙ pushed_drives p (one sign.Semicolon ∷ stack) k)
 
   pub statements_drive : (b : StatementTrees) (stack : List Symbol) (k : List Printed) →
@@ -470,9 +470,9 @@ mutual
       ≡ accepts stack (toks (plain sign.RightBrace ∷ k))
   statements_drive none stack k = refl
   statements_drive (more s rest) stack k =
-      let behind = print.statements rest (plain sign.RightBrace ∷ k) in
-      statements_go_on s stack behind
-      ∙ (statement_drives s (statements ∷ stack) behind (statements_over rest k) ∙ statements_drive rest stack k)
+      let following = print.statements rest (plain sign.RightBrace ∷ k) in
+      statements_go_on s stack following
+      ∙ (statement_drives s (statements ∷ stack) following (statements_over rest k) ∙ statements_drive rest stack k)
 
 expected_drives : (e : Expected) (stack : List Symbol) (k : List Printed) →
     accepts (an_expected ∷ stack) (toks (print.expected e (plain sign.LeftBrace ∷ k)))
@@ -511,9 +511,9 @@ handlers_drive : (hs : List HandlerTree) (stack : List Symbol) (k : List Printed
     ≡ accepts stack (toks (plain sign.RightBrace ∷ k))
 handlers_drive [] stack k = refl
 handlers_drive (h ∷ rest) stack k =
-    let behind = print.handlers rest (plain sign.RightBrace ∷ k) in
-    handlers_go_on h.direction stack (toks (handling_of h behind))
-    ∙ (handling_drives h (handlers ∷ stack) behind ∙ handlers_drive rest stack k)
+    let following = print.handlers rest (plain sign.RightBrace ∷ k) in
+    handlers_go_on h.direction stack (toks (handling_of h following))
+    ∙ (handling_drives h (handlers ∷ stack) following ∙ handlers_drive rest stack k)
 
 -- the forms of cells
 initial_end : (v : Option ExpressionTree) (k : List Printed) →
@@ -548,18 +548,18 @@ more_items_drive (i ∷ rest) stack k =
     ∙ more_items_drive rest stack k
 
 -- what follows the capacity of a queue
-abbrev behind_capacity : List Symbol
-behind_capacity =
+abbrev after_capacity : List Symbol
+after_capacity =
     one sign.RightBracket ∷ one sign.Of ∷ one sign.LeftParen ∷ a_name ∷ one sign.Colon ∷ a_sort ∷ more_items
     ∷ one sign.RightParen ∷ one sign.Semicolon ∷ []
 
-abbrev rows_behind : ItemsTree → List Printed → List Printed
-rows_behind is k =
+abbrev rows_after : ItemsTree → List Printed → List Printed
+rows_after is k =
     plain sign.RightBracket ∷ plain sign.Of ∷ plain sign.LeftParen
     ∷ print.item is.first (print.more_items is.rest (plain sign.RightParen ∷ plain sign.Semicolon ∷ k))
 
 items_drive : (is : ItemsTree) (stack : List Symbol) (k : List Printed) →
-    accepts (behind_capacity ++ stack) (toks (rows_behind is k)) ≡ accepts stack (toks k)
+    accepts (after_capacity ++ stack) (toks (rows_after is k)) ≡ accepts stack (toks k)
 items_drive is stack k =
     sort_drives is.first.sort (more_items ∷ one sign.RightParen ∷ one sign.Semicolon ∷ stack)
     (toks (print.more_items is.rest (plain sign.RightParen ∷ plain sign.Semicolon ∷ k)))
@@ -583,9 +583,9 @@ declaration_drives (int at n s v) stack k =
     (initial_end v k)
     ∙ initial_drives v (one sign.Semicolon ∷ stack) k
 declaration_drives (rows_cell at n capacity is) stack k =
-    capacity_drives capacity (behind_capacity ++ stack) (rows_behind is k) ∙ items_drive is stack k
+    capacity_drives capacity (after_capacity ++ stack) (rows_after is k) ∙ items_drive is stack k
 declaration_drives (rows_array at n capacity is) stack k =
-    size_drives capacity (behind_capacity ++ stack) (rows_behind is k) ∙ items_drive is stack k
+    size_drives capacity (after_capacity ++ stack) (rows_after is k) ∙ items_drive is stack k
 declaration_drives (header at n fields ending) stack k =
     some_names_drive fields (one sign.RightParen ∷ an_ending ∷ one sign.Semicolon ∷ stack)
     (plain (ending_sign ending) ∷ plain sign.Semicolon ∷ k)
@@ -615,9 +615,9 @@ declarations_drive : (ds : List DeclarationTree) (hs : List HandlerTree) (stack 
 declarations_drive [] hs stack k =
     left_out declarations stack (print.handlers hs (plain sign.RightBrace ∷ k)) (declarations_end hs k)
 declarations_drive (d ∷ rest) hs stack k =
-    let behind = print.declarations rest (print.handlers hs (plain sign.RightBrace ∷ k)) in
-    declarations_go_on d stack behind
-    ∙ (declaration_drives d (declarations ∷ stack) behind ∙ declarations_drive rest hs stack k)
+    let following = print.declarations rest (print.handlers hs (plain sign.RightBrace ∷ k)) in
+    declarations_go_on d stack following
+    ∙ (declaration_drives d (declarations ∷ stack) following ∙ declarations_drive rest hs stack k)
 
 -- what follows the first word of a layer
 abbrev layer_of : LayerTree → List Printed → List Printed

@@ -1,4 +1,4 @@
-pub mod Behind
+pub mod After
 pub mod Arguments
 pub mod Begins
 pub mod Declarations

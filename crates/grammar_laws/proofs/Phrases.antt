@@ -100,14 +100,15 @@ Phrases (s ∷ stack) p = (k : List Printed) × Phrase s p k × Phrases stack k
 pub split : (new stack : List Symbol) (p : List Printed) → Phrases (new ++ stack) p →
     (k : List Printed) × Chain new p k × Phrases stack k
 split [] stack p h = (p, refl, h)
-split (s ∷ new) stack p (l, here, h) = let (k, chain, behind) = split new stack l h in (k, (l, here, chain), behind)
+split (s ∷ new) stack p (l, here, h) = let (k, chain, following) = split new stack l h in
+    (k, (l, here, chain), following)
 
 -- the same of symbols before others
-pub chain_split : (new behind : List Symbol) (p k : List Printed) → Chain (new ++ behind) p k →
-    (l : List Printed) × Chain new p l × Chain behind l k
-chain_split [] behind p k h = (p, refl, h)
-chain_split (s ∷ new) behind p k (m, here, h) =
-    let (l, chain, rest) = chain_split new behind m k h in (l, (m, here, chain), rest)
+pub chain_split : (new following : List Symbol) (p k : List Printed) → Chain (new ++ following) p k →
+    (l : List Printed) × Chain new p l × Chain following l k
+chain_split [] following p k h = (p, refl, h)
+chain_split (s ∷ new) following p k (m, here, h) =
+    let (l, chain, rest) = chain_split new following m k h in (l, (m, here, chain), rest)
 
 -- an optional symbol may be left out
 pub leave : (s : Symbol) (k : List Printed) → is_optional s ≡ true → Phrase s k k
@@ -217,4 +218,4 @@ some_phrase places k = (k, leave places k refl)
 pub some_phrases : (stack : List Symbol) → (p : List Printed) × Phrases stack p
 some_phrases [] = ([], refl)
 some_phrases (s ∷ stack) =
-    let (k, behind) = some_phrases stack in let (p, here) = some_phrase s k in (p, (k, here, behind))
+    let (k, following) = some_phrases stack in let (p, here) = some_phrase s k in (p, (k, here, following))

@@ -4,14 +4,14 @@ use Rattle.std.proofs.Common.{take, map, slice_get, Option, Some, None, IfSome, 
 use Rattle.layer_ast.specs.declared.names.At.{At}
 use Rattle.layer_ast.specs.declared.tokens.Lexed.{Lexed}
 use Rattle.layer_ast.specs.declared.tokens.Token.{Token}
-use Rattle.layer_ast.specs.Depth.{room_behind, WithRoom, IsWithin}
+use Rattle.layer_ast.specs.Depth.{room_after, WithRoom, IsWithin}
 use Rattle.layer_ast.specs.Printed.{Printed}
 use Rattle.layer_ast.specs.Spells.{Fits}
 use Rattle.grammar_laws.specs.Machine.{Symbol, Move, eats, skips, refuses, move, stack_after, feed, all_optional}
 use Rattle.grammar_laws.specs.Machine.{accepted}
 use Rattle.grammar_laws.specs.Machine.{refused, step, run}
 use Rattle.grammar_laws.proofs.Back.{Back, back}
-use Rattle.grammar_laws.proofs.Complete.{toks, accepts, accepts_behind}
+use Rattle.grammar_laws.proofs.Complete.{toks, accepts, accepts_after}
 use Rattle.grammar_laws.proofs.Phrases.{Phrases, split, leave_all, some_phrases}
 
 -- the tokens of what was cut
@@ -27,23 +27,23 @@ tokens_fit (p ∷ printed) [] h = absurd h
 tokens_fit (p ∷ printed) (l ∷ lexed) h = let rest = tokens_fit printed lexed h.2 in let token = h.0 in cc
 
 -- the machine goes on after a token
-abbrev GoesBehind : Option ℕ → Option (List Symbol) → (ℕ → List Symbol → Type 0) → Type 0
-GoesBehind None fed go = ⊥
-GoesBehind (Some room) None go = ⊥
-GoesBehind (Some room) (Some stack) go = go room stack
+abbrev GoesAfter : Option ℕ → Option (List Symbol) → (ℕ → List Symbol → Type 0) → Type 0
+GoesAfter None fed go = ⊥
+GoesAfter (Some room) None go = ⊥
+GoesAfter (Some room) (Some stack) go = go room stack
 
 -- the machine goes on after all tokens
 abbrev pub Goes : ℕ → List Symbol → List Token → Type 0
 Goes room stack [] = Unit {0}
-Goes room stack (t ∷ tokens) = GoesBehind (room_behind t room) (feed stack t) (λ left next. Goes left next tokens)
+Goes room stack (t ∷ tokens) = GoesAfter (room_after t room) (feed stack t) (λ left next. Goes left next tokens)
 
 -- one step of a run that has room goes as one without brackets counted
-run_steps : (behind : Option ℕ) (fed : Option (List Symbol)) (n : ℕ) (lexed : List Lexed) →
+run_steps : (following : Option ℕ) (fed : Option (List Symbol)) (n : ℕ) (lexed : List Lexed) →
     ((room : ℕ) (stack : List Symbol) → accepts stack (tokens_in lexed) ≡ true → IsWithin room (tokens_in lexed) →
     run room stack lexed ≡ accepted) →
-    accepts_behind fed (λ expected. accepts expected (tokens_in lexed)) ≡ true →
-    WithRoom behind (λ left. IsWithin left (tokens_in lexed)) →
-    step behind fed n (λ left stack. run left stack lexed) ≡ accepted
+    accepts_after fed (λ expected. accepts expected (tokens_in lexed)) ≡ true →
+    WithRoom following (λ left. IsWithin left (tokens_in lexed)) →
+    step following fed n (λ left stack. run left stack lexed) ≡ accepted
 run_steps None fed n lexed go takes within = absurd within
 run_steps (Some room) None n lexed go takes within = cc
 run_steps (Some room) (Some stack) n lexed go takes within = go room stack takes within
@@ -53,15 +53,15 @@ pub run_accepts : (lexed : List Lexed) (room : ℕ) (stack : List Symbol) → ac
     IsWithin room (tokens_in lexed) → run room stack lexed ≡ accepted
 run_accepts [] room stack takes within = ap (λ b. if b then accepted else refused 0) takes
 run_accepts (l ∷ lexed) room stack takes within =
-    run_steps (room_behind l.token room) (feed stack l.token) _ lexed (run_accepts lexed) takes within
+    run_steps (room_after l.token room) (feed stack l.token) _ lexed (run_accepts lexed) takes within
 
 -- and what is accepted the machine takes, and goes on after
-accepted_steps : (behind : Option ℕ) (fed : Option (List Symbol)) (n : ℕ) (lexed : List Lexed) →
+accepted_steps : (following : Option ℕ) (fed : Option (List Symbol)) (n : ℕ) (lexed : List Lexed) →
     ((room : ℕ) (stack : List Symbol) → run room stack lexed ≡ accepted →
     (accepts stack (tokens_in lexed) ≡ true) × Goes room stack (tokens_in lexed)) →
-    step behind fed n (λ left stack. run left stack lexed) ≡ accepted →
-    (accepts_behind fed (λ expected. accepts expected (tokens_in lexed)) ≡ true)
-    × GoesBehind behind fed (λ left next. Goes left next (tokens_in lexed))
+    step following fed n (λ left stack. run left stack lexed) ≡ accepted →
+    (accepts_after fed (λ expected. accepts expected (tokens_in lexed)) ≡ true)
+    × GoesAfter following fed (λ left next. Goes left next (tokens_in lexed))
 accepted_steps None fed n lexed go is = absurd (cc is)
 accepted_steps (Some room) None n lexed go is = absurd (cc is)
 accepted_steps (Some room) (Some stack) n lexed go is = go room stack is
@@ -74,12 +74,12 @@ pub accepted_takes : (lexed : List Lexed) (room : ℕ) (stack : List Symbol) →
     (accepts stack (tokens_in lexed) ≡ true) × Goes room stack (tokens_in lexed)
 accepted_takes [] room stack is = (accepted_end (all_optional stack) is, tt)
 accepted_takes (l ∷ lexed) room stack is =
-    accepted_steps (room_behind l.token room) (feed stack l.token) _ lexed (accepted_takes lexed) is
+    accepted_steps (room_after l.token room) (feed stack l.token) _ lexed (accepted_takes lexed) is
 
 -- where the machine goes on no bracket is too deep
-within_step : (behind : Option ℕ) (fed : Option (List Symbol)) (tokens : List Token) →
+within_step : (following : Option ℕ) (fed : Option (List Symbol)) (tokens : List Token) →
     ((room : ℕ) (stack : List Symbol) → Goes room stack tokens → IsWithin room tokens) →
-    GoesBehind behind fed (λ left next. Goes left next tokens) → WithRoom behind (λ left. IsWithin left tokens)
+    GoesAfter following fed (λ left next. Goes left next tokens) → WithRoom following (λ left. IsWithin left tokens)
 within_step None fed tokens all goes = absurd goes
 within_step (Some room) None tokens all goes = absurd goes
 within_step (Some room) (Some stack) tokens all goes = all room stack goes
@@ -87,14 +87,14 @@ within_step (Some room) (Some stack) tokens all goes = all room stack goes
 pub goes_within : (tokens : List Token) (room : ℕ) (stack : List Symbol) → Goes room stack tokens → IsWithin room tokens
 goes_within [] room stack goes = tt
 goes_within (t ∷ tokens) room stack goes =
-    within_step (room_behind t room) (feed stack t) tokens (goes_within tokens) goes
+    within_step (room_after t room) (feed stack t) tokens (goes_within tokens) goes
 
 -- the machine goes on after tokens that are nowhere too deep and with which tokens begin that it takes
-goes_step : (behind : Option ℕ) (fed : Option (List Symbol)) (tokens rest : List Token) →
+goes_step : (following : Option ℕ) (fed : Option (List Symbol)) (tokens rest : List Token) →
     ((room : ℕ) (stack : List Symbol) → accepts stack (tokens ++ rest) ≡ true → IsWithin room tokens →
     Goes room stack tokens) →
-    accepts_behind fed (λ expected. accepts expected (tokens ++ rest)) ≡ true →
-    WithRoom behind (λ left. IsWithin left tokens) → GoesBehind behind fed (λ left next. Goes left next tokens)
+    accepts_after fed (λ expected. accepts expected (tokens ++ rest)) ≡ true →
+    WithRoom following (λ left. IsWithin left tokens) → GoesAfter following fed (λ left next. Goes left next tokens)
 goes_step None fed tokens rest all takes within = absurd within
 goes_step (Some room) None tokens rest all takes within = absurd (cc takes)
 goes_step (Some room) (Some stack) tokens rest all takes within = all room stack takes within
@@ -103,7 +103,7 @@ pub goes_if : (tokens rest : List Token) (room : ℕ) (stack : List Symbol) → 
     IsWithin room tokens → Goes room stack tokens
 goes_if [] rest room stack takes within = tt
 goes_if (t ∷ tokens) rest room stack takes within =
-    goes_step (room_behind t room) (feed stack t) tokens rest (goes_if tokens rest) takes within
+    goes_step (room_after t room) (feed stack t) tokens rest (goes_if tokens rest) takes within
 
 -- one step back, for a whole stack
 abbrev BackFed : List Symbol → Lexed → Option (List Symbol) → Type 0
@@ -116,11 +116,11 @@ back_moved : (s : Symbol) (stack : List Symbol) (l : Lexed) (m : Move) (skipped 
     Back s l.token l.at m → BackFed stack l skipped → BackFed (s ∷ stack) l (stack_after m stack skipped)
 back_moved s stack l (eats new) skipped b h =
     λ p phrases.
-    let (k, chain, behind) = split new stack p phrases in
-    let (q, token, place, here) = b p k chain in (q, token, place, (k, here, behind))
+    let (k, chain, following) = split new stack p phrases in
+    let (q, token, place, here) = b p k chain in (q, token, place, (k, here, following))
 back_moved s stack l skips None b h = tt
 back_moved s stack l skips (Some next) b h =
-    λ p phrases. let (q, token, place, behind) = h p phrases in (q, token, place, (q ∷ p, b (q ∷ p), behind))
+    λ p phrases. let (q, token, place, following) = h p phrases in (q, token, place, (q ∷ p, b (q ∷ p), following))
 back_moved s stack l refuses skipped b h = tt
 
 back_fed : (stack : List Symbol) (l : Lexed) → BackFed stack l (feed stack l.token)
@@ -134,7 +134,7 @@ WholeOf stack lexed = (p : List Printed) × Phrases stack p × Fits p lexed
 
 whole_step : (stack : List Symbol) (l : Lexed) (lexed : List Lexed) (fed : Option (List Symbol)) → BackFed stack l fed →
     ((next : List Symbol) → accepts next (tokens_in lexed) ≡ true → WholeOf next lexed) →
-    accepts_behind fed (λ expected. accepts expected (tokens_in lexed)) ≡ true → WholeOf stack (l ∷ lexed)
+    accepts_after fed (λ expected. accepts expected (tokens_in lexed)) ≡ true → WholeOf stack (l ∷ lexed)
 unfolding Fits
 whole_step stack l lexed None b go takes = absurd (cc takes)
 whole_step stack l lexed (Some next) b go takes =
@@ -152,11 +152,11 @@ whole_of (l ∷ lexed) stack takes =
 abbrev pub BegunBy : List Symbol → List Token → Type 0
 BegunBy stack tokens = (p : List Printed) × Phrases stack p × (rest : List Token) × (toks p ≡ tokens ++ rest)
 
-begun_step : (stack : List Symbol) (t : Token) (tokens : List Token) (at : At) (behind : Option ℕ)
+begun_step : (stack : List Symbol) (t : Token) (tokens : List Token) (at : At) (following : Option ℕ)
     (fed : Option (List Symbol)) →
     BackFed stack (record { token = t; at = at }) fed →
     ((room : ℕ) (next : List Symbol) → Goes room next tokens → BegunBy next tokens) →
-    GoesBehind behind fed (λ left next. Goes left next tokens) → BegunBy stack (t ∷ tokens)
+    GoesAfter following fed (λ left next. Goes left next tokens) → BegunBy stack (t ∷ tokens)
 begun_step stack t tokens at None fed b go goes = absurd goes
 begun_step stack t tokens at (Some room) None b go goes = absurd goes
 begun_step stack t tokens at (Some room) (Some next) b go goes =
@@ -168,11 +168,11 @@ pub begun_by : (tokens : List Token) (room : ℕ) (stack : List Symbol) → Goes
 begun_by [] room stack goes = let (p, phrases) = some_phrases stack in (p, phrases, toks p, refl)
 begun_by (t ∷ tokens) room stack goes =
     let at : At = record { line = 1; col = 1 } in
-    begun_step stack t tokens at (room_behind t room) (feed stack t) (back_fed stack (record { token = t; at = at }))
+    begun_step stack t tokens at (room_after t room) (feed stack t) (back_fed stack (record { token = t; at = at }))
     (begun_by tokens) goes
 
 -- the machine goes on after that many tokens, and not after one more
-pub record StopsBehind (room : ℕ) (stack : List Symbol) (lexed : List Lexed) (left : ℕ) : Type 0 where
+pub record StopsAfter (room : ℕ) (stack : List Symbol) (lexed : List Lexed) (left : ℕ) : Type 0 where
   pub number : ℕ
   pub token : Lexed
   pub is : slice_get lexed number ≡ Some token
@@ -188,10 +188,10 @@ pub record StopsPast (room : ℕ) (stack : List Symbol) (lexed : List Lexed) : T
 -- what a run says that is refused with that many tokens left
 abbrev pub StopsWith : ℕ → List Symbol → List Lexed → ℕ → Type 0
 StopsWith room stack lexed zero = StopsPast room stack lexed
-StopsWith room stack lexed (suc left) = StopsBehind room stack lexed (suc left)
+StopsWith room stack lexed (suc left) = StopsAfter room stack lexed (suc left)
 
 module _ (room inside : ℕ) (stack next : List Symbol) (l : Lexed) (lexed : List Lexed)
-    (fits : room_behind l.token room ≡ Some inside) (fed : feed stack l.token ≡ Some next) where
+    (fits : room_after l.token room ≡ Some inside) (fed : feed stack l.token ≡ Some next) where
   goes_more : (tokens : List Token) → Goes inside next tokens → Goes room stack (l.token ∷ tokens)
   goes_more tokens goes = rw (fits, fed) goes
 
@@ -214,17 +214,17 @@ module _ (room inside : ℕ) (stack next : List Symbol) (l : Lexed) (lexed : Lis
 
 -- the machine is stuck at the first token
 stuck_here : (room : ℕ) (stack : List Symbol) (l : Lexed) (lexed : List Lexed) (left : ℕ) →
-    (GoesBehind (room_behind l.token room) (feed stack l.token) (λ inside next. Goes inside next []) → ⊥) →
+    (GoesAfter (room_after l.token room) (feed stack l.token) (λ inside next. Goes inside next []) → ⊥) →
     refused (suc (length lexed)) ≡ refused left → StopsWith room stack (l ∷ lexed) left
 stuck_here room stack l lexed zero stuck is = absurd (cc is)
 stuck_here room stack l lexed (suc left) stuck is =
     let same : suc (length lexed) ≡ suc left = cc is in
     record { number = 0; token = l; is = refl; count = omega (arith, same); goes = tt; stuck = stuck }
 
-stop_steps : (room : ℕ) (stack : List Symbol) (l : Lexed) (lexed : List Lexed) (left : ℕ) (behind : Option ℕ)
-    (fed : Option (List Symbol)) → room_behind l.token room ≡ behind → feed stack l.token ≡ fed →
+stop_steps : (room : ℕ) (stack : List Symbol) (l : Lexed) (lexed : List Lexed) (left : ℕ) (following : Option ℕ)
+    (fed : Option (List Symbol)) → room_after l.token room ≡ following → feed stack l.token ≡ fed →
     ((inside : ℕ) (next : List Symbol) → run inside next lexed ≡ refused left → StopsWith inside next lexed left) →
-    step behind fed (suc (length lexed)) (λ inside next. run inside next lexed) ≡ refused left →
+    step following fed (suc (length lexed)) (λ inside next. run inside next lexed) ≡ refused left →
     StopsWith room stack (l ∷ lexed) left
 stop_steps room stack l lexed left None fed fits takes go is =
     stuck_here room stack l lexed left (λ goes. rw fits at goes) is
@@ -245,5 +245,5 @@ pub stops_with : (lexed : List Lexed) (room : ℕ) (stack : List Symbol) (left :
     StopsWith room stack lexed left
 stops_with [] room stack left is = stop_end room stack left (all_optional stack) refl is
 stops_with (l ∷ lexed) room stack left is =
-    stop_steps room stack l lexed left (room_behind l.token room) (feed stack l.token) refl refl
+    stop_steps room stack l lexed left (room_after l.token room) (feed stack l.token) refl refl
     (λ inside next refuses. stops_with lexed inside next left refuses) is

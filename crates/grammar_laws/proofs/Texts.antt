@@ -6,7 +6,7 @@ use Rattle.layer_ast.specs.declared.names.At.{At}
 use Rattle.layer_ast.specs.declared.tokens.Lexed.{Lexed}
 use Rattle.layer_ast.specs.declared.tokens.Token.{Token}
 use Rattle.layer_ast.specs.Cut.{text_tokens}
-use Rattle.layer_ast.specs.Depth.{room_behind, WithRoom, IsWithin}
+use Rattle.layer_ast.specs.Depth.{room_after, WithRoom, IsWithin}
 use Rattle.layer_ast.specs.Print as print
 use Rattle.layer_ast.specs.Printed.{Printed}
 use Rattle.layer_ast.specs.Spells.{Fits, HasPlace, Spells}
@@ -121,7 +121,7 @@ module _ (text : List ℕ) where
         place = refl;
         before = goes_on (take number (tokens_of text))
             (subst (λ n. Goes 100 start (take n (tokens_of text))) same h.goes);
-        behind = λ may. h.stuck (subst (λ n. Goes 100 start (take n (tokens_of text))) one_more (goes_where _ may));
+        following = λ may. h.stuck (subst (λ n. Goes 100 start (take n (tokens_of text))) one_more (goes_where _ may));
       }
 
   -- what the machine makes of the tokens, and whether there is a bad one, decide
@@ -137,16 +137,16 @@ module _ (text : List ℕ) where
       (inside h.token.at, refused_inside left h.number h.token is h.count h.is)
 
 -- the front of tokens is nowhere deeper than they are
-less_behind : (behind : Option ℕ) (front whole : List Token) →
-    ((room : ℕ) → IsWithin room whole → IsWithin room front) → WithRoom behind (λ left. IsWithin left whole) →
-    WithRoom behind (λ left. IsWithin left front)
-less_behind None front whole less h = h
-less_behind (Some left) front whole less h = less left h
+less_after : (following : Option ℕ) (front whole : List Token) →
+    ((room : ℕ) → IsWithin room whole → IsWithin room front) → WithRoom following (λ left. IsWithin left whole) →
+    WithRoom following (λ left. IsWithin left front)
+less_after None front whole less h = h
+less_after (Some left) front whole less h = less left h
 
 within_less : (front rest : List Token) (room : ℕ) → IsWithin room (front ++ rest) → IsWithin room front
 within_less [] rest room h = tt
 within_less (t ∷ front) rest room h =
-    less_behind (room_behind t room) front (front ++ rest) (λ left. within_less front rest left) h
+    less_after (room_after t room) front (front ++ rest) (λ left. within_less front rest left) h
 
 -- the front of tokens that may go on to a file may
 front_may : (tokens : List Token) (n : ℕ) → MayGoOn tokens → MayGoOn (take n tokens)
@@ -171,7 +171,7 @@ antisym a b f g = omega (arith, f, g)
 module _ (text : List ℕ) where
   -- a text whose tokens may all go on to a file doesn't stop inside
   not_inside : (at : At) → MayGoOn (tokens_of text) → StopsInside text at → ⊥
-  not_inside at may stops = stops.behind (front_may (tokens_of text) (stops.number + 1) may)
+  not_inside at may stops = stops.following (front_may (tokens_of text) (stops.number + 1) may)
 
   spelled_may : SpellsSome text → MayGoOn (tokens_of text)
   spelled_may is = record {
@@ -188,7 +188,7 @@ module _ (text : List ℕ) where
   -- of two tokens that each are the first with which the tokens no longer go on, none stands before the other
   not_before : (a b : At) (h : StopsInside text a) (i : StopsInside text b) → h.number < i.number → ⊥
   not_before a b h i before =
-      h.behind (subst MayGoOn (take-take (h.number + 1) i.number (tokens_of text) (omega (arith, before)))
+      h.following (subst MayGoOn (take-take (h.number + 1) i.number (tokens_of text) (omega (arith, before)))
       (front_may (take i.number (tokens_of text)) (h.number + 1) i.before))
 
   inside_once : (a b : At) → StopsInside text a → StopsInside text b → a ≡ b

@@ -1,4 +1,4 @@
-pub mod Behind
+pub mod After
 pub mod Once
 pub mod Stopped
 pub mod Machine

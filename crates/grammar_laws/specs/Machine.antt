@@ -9,7 +9,7 @@ use Rattle.layer_ast.specs.declared.tokens.Sign.{Sign}
 use Rattle.layer_ast.specs.declared.tokens.Sign.TheVariants as sign
 use Rattle.layer_ast.specs.declared.tokens.Token.{Token}
 use Rattle.layer_ast.specs.declared.tokens.Token.TheVariants as token
-use Rattle.layer_ast.specs.Depth.{room_behind}
+use Rattle.layer_ast.specs.Depth.{room_after}
 
 -- what is expected: a given sign, a part of the grammar, an optional part, or a repetition
 pub data Symbol : Type 0 where
@@ -67,8 +67,8 @@ is_sign s _ = false
 
 -- an optional part that begins as another part and goes on with these symbols
 abbrev pub begun : List Symbol → Move → Move
-begun behind (eats expected) = eats (expected ++ behind)
-begun behind _ = skips
+begun following (eats expected) = eats (expected ++ following)
+begun following _ = skips
 
 -- one part or else another
 abbrev pub or_else : Move → Move → Move
@@ -441,7 +441,7 @@ step (Some room) (Some stack) left go = go room stack
 abbrev pub run : ℕ → List Symbol → List Lexed → Outcome
 run room stack [] = if all_optional stack then accepted else refused 0
 run room stack (t ∷ tokens) =
-    step (room_behind t.token room) (feed stack t.token) (suc (length tokens))
+    step (room_after t.token room) (feed stack t.token) (suc (length tokens))
     (λ left expected. run left expected tokens)
 
 -- the stack at the start of a file

@@ -56,9 +56,9 @@ get_before [] x k h = absurd (omega (arith, h))
 get_before (y ∷ xs) x zero h = refl
 get_before (y ∷ xs) x (suc k) h = get_before xs x k (omega (arith, h))
 
-pub get_behind : {A : Type 0} (xs : List A) (k : ℕ) → slice_get (drop 1 xs) k ≡ slice_get xs (suc k)
-get_behind [] k = refl
-get_behind (x ∷ xs) k = refl
+pub get_after : {A : Type 0} (xs : List A) (k : ℕ) → slice_get (drop 1 xs) k ≡ slice_get xs (suc k)
+get_after [] k = refl
+get_after (x ∷ xs) k = refl
 
 pub less_last : (k n : ℕ) → (k ≡ n → ⊥) → k < suc n → k < n
 less_last k n other h = go (cases_lt k n) where
@@ -509,8 +509,8 @@ module _ (i : Input) (kept : Kept) (ss : List State) where
         left : Bool → TraceNumber
         left t = if t then pick (is_put k' e k many) (part_of_put f xs b) deep else deep
 
-        behind : Bool → List Outline
-        behind t = if t && (ve == number_of i kept ss k') then before ++ new ∷ [] else before
+        following : Bool → List Outline
+        following t = if t && (ve == number_of i kept ss k') then before ++ new ∷ [] else before
 
         hit_here : (u w : Bool) → (u ≡ true → (vk == length before) ≡ w) →
             vk < length (if u then before ++ new ∷ [] else before) →
@@ -527,9 +527,9 @@ module _ (i : Input) (kept : Kept) (ss : List State) where
             rest other ∙ sym (ap (part_in f) (get_before before new vk other))
         hit_here false w is there rest = rest there
 
-        go : (t : Bool) → vk < length (behind t) → number_of i kept ss many ≡ length before →
+        go : (t : Bool) → vk < length (following t) → number_of i kept ss many ≡ length before →
             (vk < length before → number_of i kept ss deep ≡ part_in f (slice_get before vk)) →
-            number_of i kept ss (left t) ≡ part_in f (slice_get (behind t) vk)
+            number_of i kept ss (left t) ≡ part_in f (slice_get (following t) vk)
         go true there same rest =
             ap (λ (t : Bool). if t then number_of i kept ss (part_of_put f xs b) else number_of i kept ss deep)
             (put_worth k' e k many ∙ ap (λ n. (ve == number_of i kept ss k') && (vk == n)) same)
@@ -553,8 +553,8 @@ module _ (i : Input) (kept : Kept) (ss : List State) where
         left : Bool → TraceNumber
         left t = if t then deep_term log f p c e next else deep_term log f p c e k
 
-        behind : Bool → List Outline
-        behind t = if t && (ve == number_of i kept ss k') then drop 1 before else before
+        following : Bool → List Outline
+        following t = if t && (ve == number_of i kept ss k') then drop 1 before else before
 
         shifted : (u : Bool) (v : ℕ) → v ≡ wrapped (vk + of_bool u) → length before < 2 ^ 32 →
             vk < length (if u then drop 1 before else before) →
@@ -565,17 +565,17 @@ module _ (i : Input) (kept : Kept) (ss : List State) where
             let less : suc vk < length before = let l = length-drop 1 before in omega (arith, l, there) in
             let e : v ≡ suc vk = is ∙ ap wrapped (let e : vk + 1 ≡ suc vk = omega arith in e) ∙
             mod-eq_of_lt (omega (arith, less, small)) in
-            rest (omega (arith, e, less)) ∙ ap (part_in f) (ap (slice_get before) e ∙ sym (get_behind before vk))
+            rest (omega (arith, e, less)) ∙ ap (part_in f) (ap (slice_get before) e ∙ sym (get_after before vk))
         shifted false v is small there rest =
             let e : v ≡ vk = is ∙ ap wrapped (let e : vk + 0 ≡ vk = omega arith in e) ∙
             mod-eq_of_lt (omega (arith, there, small)) in
             rest (omega (arith, e, there)) ∙ ap (λ n. part_in f (slice_get before n)) e
 
-        go : (t : Bool) → is_here p c q d ≡ t → vk < length (behind t) →
+        go : (t : Bool) → is_here p c q d ≡ t → vk < length (following t) →
             (number_of i kept ss next < length before → number_of i kept ss (deep_term log f p c e next) ≡ part_in f
             (slice_get before (number_of i kept ss next))) →
             (vk < length before → number_of i kept ss (deep_term log f p c e k) ≡ part_in f (slice_get before vk)) →
-            number_of i kept ss (left t) ≡ part_in f (slice_get (behind t) vk)
+            number_of i kept ss (left t) ≡ part_in f (slice_get (following t) vk)
         go true is there rest other =
             let small : (j : ℕ) → length (logged_rows log p c j) < 2 ^ 32 =
             moved (λ p c. (j : ℕ) → length (logged_rows log p c j) < 2 ^ 32) p c q d is fits.1 in

@@ -45,16 +45,16 @@ module _ (sq : Squares) (i : Input) (ss : List State) where
         logged_rows i (only_values vs) ss h.log p c j
 
   -- whatever is made after these entry values
-  abbrev pub Behind : List TraceNumber → List ℕ → Type 0
-  Behind es vs = Grown (values_of i ss es) vs
+  abbrev pub After : List TraceNumber → List ℕ → Type 0
+  After es vs = Grown (values_of i ss es) vs
 
-  pub behind_more : (es fs : List TraceNumber) (vs : List ℕ) → Grown es fs → Behind fs vs → Behind es vs
-  behind_more es fs vs g b = grown_then (values_of i ss es) (values_of i ss fs) vs (values_grow i ss es fs g) b
+  pub after_more : (es fs : List TraceNumber) (vs : List ℕ) → Grown es fs → After fs vs → After es vs
+  after_more es fs vs g b = grown_then (values_of i ss es) (values_of i ss fs) vs (values_grow i ss es fs g) b
 
   abbrev pub Means : AtEntry → ℕ → Type 0
-  Means x n = (vs : List ℕ) → Behind x.values vs → number_of i (only_values vs) ss x.term ≡ n
+  Means x n = (vs : List ℕ) → After x.values vs → number_of i (only_values vs) ss x.term ≡ n
 
-  pub value_here : (es : List TraceNumber) (e : TraceNumber) (vs : List ℕ) → Behind (es ++ e ∷ []) vs →
+  pub value_here : (es : List TraceNumber) (e : TraceNumber) (vs : List ℕ) → After (es ++ e ∷ []) vs →
       slice_index vs (length es) ≡ number_of i (only_values (values_of i ss es)) ss e
   value_here es e vs b =
       let v : ℕ = number_of i (only_values (values_of i ss es)) ss e in
@@ -142,10 +142,10 @@ module _ (sq : Squares) (i : Input) (ss : List State) where
   same_join p q = λ j. if is_true (of_bool (nat_le (wrapped (p j + q j)) longest_body)) then wrapped (p j + q j) else q
       j
 
-  module _ (t : Trail) (h : Hoisting) (stands : (vs : List ℕ) → Behind h.values vs → Stands t h vs) where
+  module _ (t : Trail) (h : Hoisting) (stands : (vs : List ℕ) → After h.values vs → Stands t h vs) where
     -- what stands at these entry values, and after more
-    at_these : (es : List TraceNumber) (vs : List ℕ) → Grown h.values es → Behind es vs → Stands t h vs
-    at_these es vs g b = stands vs (behind_more h.values es vs g b)
+    at_these : (es : List TraceNumber) (vs : List ℕ) → Grown h.values es → After es vs → Stands t h vs
+    at_these es vs g b = stands vs (after_more h.values es vs g b)
 
     -- a row of a queue
     pub row_here : (vs : List ℕ) → Stands t h vs → (p c j k : ℕ) →
@@ -171,12 +171,12 @@ module _ (sq : Squares) (i : Input) (ss : List State) where
       back_means (atom (number n)) es g r = λ vs b. refl
       back_means (atom peer) es g r = λ vs b. refl
       back_means (atom (field k)) es g r = λ vs b. refl
-      back_means (atom (bound k)) es g r = λ vs b. let s = stands vs (behind_more h.values es vs g b) in
+      back_means (atom (bound k)) es g r = λ vs b. let s = stands vs (after_more h.values es vs g b) in
           sym (read_map (number_of i (only_values vs) ss) h.binds k zero_number) ∙ ap (λ l. slice_index l k) s.binds
       back_means (atom (taken_number j k)) es g r = named_means (at_entry es (taken_term h.taken j (number_part k))) _
-          (λ vs b. (stands vs (behind_more h.values es vs g b)).taken j (number_part k) ∙
+          (λ vs b. (stands vs (after_more h.values es vs g b)).taken j (number_part k) ∙
           sym (entry_number k (slice_index_or t.kept.rows j None)))
-      back_means (atom (value k)) es g r = λ vs b. let s = stands vs (behind_more h.values es vs g b) in
+      back_means (atom (value k)) es g r = λ vs b. let s = stands vs (after_more h.values es vs g b) in
           sym (ap (λ l. slice_index l k) s.none)
       back_means me es g r = λ vs b. refl
       back_means count es g r = λ vs b. refl
@@ -184,7 +184,7 @@ module _ (sq : Squares) (i : Input) (ss : List State) where
       back_means (element p c e) es g r =
           let x = back h e es in
           name_if_means (sets h.log p c) (at_entry x.values (element_term h.log p c x.term)) _ (λ vs b.
-          let s = stands vs (behind_more h.values x.values vs (grown_then h.values es x.values g (back_grows h e es)) b)
+          let s = stands vs (after_more h.values x.values vs (grown_then h.values es x.values g (back_grows h e es)) b)
           in
           element_line i (only_values vs) ss sq h.log p c x.term r.0 s.fits
           ∙ ap (logged_number i (only_values vs) ss h.log p c) (back_means e es g r.1 vs b) ∙
@@ -197,7 +197,7 @@ module _ (sq : Squares) (i : Input) (ss : List State) where
           let s = at_these y.values vs (grown_then h.values x.values y.values gx gy) b in
           square_line i (only_values vs) ss sq h.log p c x.term y.term reads.0 s.fits
           ∙ ap₂ (λ a d. logged_number i (only_values vs) ss h.log p c (flat_index i.count a d))
-          (back_means r es g reads.1 vs (behind_more x.values y.values vs gy b)) (back_means k x.values gx reads.2 vs b)
+          (back_means r es g reads.1 vs (after_more x.values y.values vs gy b)) (back_means k x.values gx reads.2 vs b)
           ∙ sym (s.numbers p c (flat_index i.count (number_of i t.kept t.states r) (number_of i t.kept t.states k))))
       back_means (rows p c e) es g r =
           let x = back h e es in
@@ -216,7 +216,7 @@ module _ (sq : Squares) (i : Input) (ss : List State) where
           let s = at_these y.values vs (grown_then h.values x.values y.values gx gy) b in
           part_line i (only_values vs) ss sq h.log (number_part f) p c x.term y.term s.fits
           ∙ ap₂ (λ a d. part_in (number_part f) (slice_get (logged_rows i (only_values vs) ss h.log p c a) d))
-          (back_means e es g r.0 vs (behind_more x.values y.values vs gy b)) (back_means k x.values gx r.1 vs b)
+          (back_means e es g r.0 vs (after_more x.values y.values vs gy b)) (back_means k x.values gx r.1 vs b)
           ∙ ap (part_in (number_part f))
           (row_here vs s p c (number_of i t.kept t.states e) (number_of i t.kept t.states k))
           ∙ sym (entry_number f
@@ -225,15 +225,15 @@ module _ (sq : Squares) (i : Input) (ss : List State) where
       back_means (binary o a b) es g r = λ vs there.
           let x = back h a es in let y = back h b x.values in
           let gx = grown_then h.values es x.values g (back_grows h a es) in
-          ap₂ (applied o) (back_means a es g r.0 vs (behind_more x.values y.values vs (back_grows h b x.values) there))
+          ap₂ (applied o) (back_means a es g r.0 vs (after_more x.values y.values vs (back_grows h b x.values) there))
           (back_means b x.values gx r.1 vs there)
       back_means (apply f a) es g r = λ vs b. ap (function_of f) (back_means a es g r vs b)
       back_means (pick c a b) es g r = λ vs there.
           let x = back h c es in let y = back h a x.values in let z = back h b y.values in
           let gx = grown_then h.values es x.values g (back_grows h c es) in
           let gy = grown_then h.values x.values y.values gx (back_grows h a x.values) in
-          let up = behind_more y.values z.values vs (back_grows h b y.values) there in
-          three_same (back_means c es g r.0 vs (behind_more x.values y.values vs (back_grows h a x.values) up))
+          let up = after_more y.values z.values vs (back_grows h b y.values) there in
+          three_same (back_means c es g r.0 vs (after_more x.values y.values vs (back_grows h a x.values) up))
           (back_means a x.values gx r.1 vs up) (back_means b y.values gy r.2 vs there)
 
       pub size_means : (m : TraceMessage) (es : List TraceNumber) → Grown h.values es → ReadsMessage sq i t m →
@@ -253,7 +253,7 @@ module _ (sq : Squares) (i : Input) (ss : List State) where
           let s = at_these y.values vs (grown_then h.values x.values y.values gx gy) b in
           part_line i (only_values vs) ss sq h.log size_part p c x.term y.term s.fits
           ∙ ap₂ (λ a d. part_in size_part (slice_get (logged_rows i (only_values vs) ss h.log p c a) d))
-          (back_means e es g r.0 vs (behind_more x.values y.values vs gy b)) (back_means k x.values gx r.1 vs b)
+          (back_means e es g r.0 vs (after_more x.values y.values vs gy b)) (back_means k x.values gx r.1 vs b)
           ∙ ap (part_in size_part) (row_here vs s p c (number_of i t.kept t.states e) (number_of i t.kept t.states k))
           ∙ held_size carried (row_at (state_of t.states p) c (number_of i t.kept t.states e)
           (number_of i t.kept t.states k)))
@@ -265,8 +265,8 @@ module _ (sq : Squares) (i : Input) (ss : List State) where
           let gy' = name_grows x.values (back h f x.values) (back_grows h f x.values) in
           let gz' = name_grows y.values (back h n y.values) (back_grows h n y.values) in
           let gy = grown_then h.values x.values y.values gx gy' in
-          let up = behind_more y.values z.values vs gz' there in
-          let ex = named_means (size_back h m es) _ (size_means m es g r.1) vs (behind_more x.values y.values vs gy' up)
+          let up = after_more y.values z.values vs gz' there in
+          let ex = named_means (size_back h m es) _ (size_means m es g r.1) vs (after_more x.values y.values vs gy' up)
           in
           let ey = named_means (back h f x.values) _ (back_means f x.values gx r.2) vs up in
           let ez = named_means (back h n y.values) _ (back_means n y.values gy r.3) vs there in
@@ -281,7 +281,7 @@ module _ (sq : Squares) (i : Input) (ss : List State) where
           let gx = grown_then h.values es x.values g (name_grows es (size_back h m es) (size_grows h m es)) in
           let gy' = name_grows x.values (back h f x.values) (back_grows h f x.values) in
           let ex = named_means (size_back h m es) _ (size_means m es g r.1) vs
-          (behind_more x.values y.values vs gy' there) in
+          (after_more x.values y.values vs gy' there) in
           let ey = named_means (back h f x.values) _ (back_means f x.values gx r.2) vs there in
           same_tail ex ey ∙ tail_worth (length (message_of i t.kept t.states m).body) (number_of i t.kept t.states f)
           r.0
@@ -291,12 +291,12 @@ module _ (sq : Squares) (i : Input) (ss : List State) where
           let gx = grown_then h.values es x.values g (name_grows es (size_back h a es) (size_grows h a es)) in
           let gy' = name_grows x.values (size_back h b x.values) (size_grows h b x.values) in
           let ex = named_means (size_back h a es) _ (size_means a es g r.2) vs
-          (behind_more x.values y.values vs gy' there) in
+          (after_more x.values y.values vs gy' there) in
           let ey = named_means (size_back h b x.values) _ (size_means b x.values gx r.3) vs there in
           same_join ex ey ∙ join_worth (message_of i t.kept t.states a) (message_of i t.kept t.states b) r.0 r.1
 
     abbrev pub MeansAll : List TraceNumber → List TraceNumber → List ℕ → Type 0
-    MeansAll es terms ns = (vs : List ℕ) → Behind es vs → map (number_of i (only_values vs) ss) terms ≡ ns
+    MeansAll es terms ns = (vs : List ℕ) → After es vs → map (number_of i (only_values vs) ss) terms ≡ ns
 
     pub all_means : (xs : List TraceNumber) (es : List TraceNumber) → Grown h.values es → ReadsAll sq i t xs →
         MeansAll (all_back h xs es).values (all_back h xs es).terms (map (number_of i t.kept t.states) xs)
@@ -305,7 +305,7 @@ module _ (sq : Squares) (i : Input) (ss : List State) where
         let y = back h x es in let z = all_back h xs y.values in
         let gy = grown_then h.values es y.values g (back_grows h x es) in
         ap₂ (λ n ns. n ∷ ns) (back_means x es g r.0 vs
-        (behind_more y.values z.values vs (all_grows h xs y.values) there))
+        (after_more y.values z.values vs (all_grows h xs y.values) there))
         (all_means xs y.values gy r.1 vs there)
 
     pub core_means : (m : Option Chained) (es : List TraceNumber) → Grown h.values es →

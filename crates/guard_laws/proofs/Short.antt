@@ -22,7 +22,7 @@ use Rattle.trace_mean.specs.Follow.{Trail, on, stopped_at, does}
 use Rattle.guard_laws.specs.Sound.{Squares, IsShort, Reads, ReadsMessage, ReadsAll, SoundAt, Sound}
 use Rattle.guard_laws.proofs.Premises.{IsShortRow, IsShortTrail, Fits, FitsMessage, FitsAll, FitsOperation, RoomAt}
 use Rattle.guard_laws.proofs.Premises.{Roomy, AllFit}
-use Rattle.guard_laws.proofs.Lines.{get_behind}
+use Rattle.guard_laws.proofs.Lines.{get_after}
 use Rattle.guard_laws.proofs.States.{queues_after, rows_after}
 
 module _ (i : Input) (t : Trail) (short : IsShortTrail i t) where
@@ -194,7 +194,7 @@ stays_short i t (take p c e) h r = record {
   held = λ q d j k. subst (λ l. IsShortRow (slice_get l k))
       (sym (rows_after t.states p c (number_of i t.kept t.states e) (drop 1 old) r.0 q d j))
       (either_way (λ l. IsShortRow (slice_get l k)) _ (drop 1 old) (rows_at (state_of t.states q) d j)
-      (subst IsShortRow (sym (get_behind old k)) (h.held p c (number_of i t.kept t.states e) (suc k)))
+      (subst IsShortRow (sym (get_after old k)) (h.held p c (number_of i t.kept t.states e) (suc k)))
       (h.held q d j k));
 } where
   old : List Row

@@ -196,15 +196,15 @@ and_assoc true b c = refl
 and_assoc false b c = refl
 
 module _ (i : Input) (ss : List State) where
-  abbrev Behind : List TraceNumber → List ℕ → Type 0
-  Behind es ws = Grown (values_of i ss es) ws
+  abbrev After : List TraceNumber → List ℕ → Type 0
+  After es ws = Grown (values_of i ss es) ws
 
   -- former values under their names
   record Going (vs : List ℕ) (l : Left) : Type 0 where
     lengths : length l.names ≡ length vs
-    named : (ws : List ℕ) → Behind l.values ws → (k : ℕ) →
+    named : (ws : List ℕ) → After l.values ws → (k : ℕ) →
         atom_at i (only_values ws) (slice_index_or l.names k (number 0)) ≡ slice_index vs k
-    made : (ws : List ℕ) → Behind l.values ws → (k : ℕ) (y : TraceNumber) → slice_get l.values k ≡ Some y →
+    made : (ws : List ℕ) → After l.values ws → (k : ℕ) (y : TraceNumber) → slice_get l.values k ≡ Some y →
         number_of i (only_values ws) ss y ≡ slice_index ws k
 
   name_more : (ws vs : List ℕ) (names : List Atom) (a : Atom) (v : ℕ) → length names ≡ length vs →
@@ -239,20 +239,20 @@ module _ (i : Input) (ss : List State) where
     v : ℕ
     v = number_of i (only_values vs) ss e
 
-    worth : (ws : List ℕ) → Behind l.values ws → number_of i (only_values ws) ss x ≡ v
+    worth : (ws : List ℕ) → After l.values ws → number_of i (only_values ws) ss x ≡ v
     worth ws b = reduced_worth i (only_values vs) ss ws l.names [] (so.named ws b) refl e
 
     more_lengths : (a : Atom) → length (l.names ++ a ∷ []) ≡ length (vs ++ v ∷ [])
     more_lengths a = length-append l.names (a ∷ []) ∙ ap (λ n. n + 1) so.lengths ∙ sym (length-append vs (v ∷ []))
 
-    first : Behind (l.values ++ x ∷ []) (values_of i ss (l.values ++ x ∷ []))
+    first : After (l.values ++ x ∷ []) (values_of i ss (l.values ++ x ∷ []))
     first = grown_same _
 
-    before : (ws : List ℕ) → Behind (l.values ++ x ∷ []) ws → Behind l.values ws
+    before : (ws : List ℕ) → After (l.values ++ x ∷ []) ws → After l.values ws
     before ws b = grown_then (values_of i ss l.values) (values_of i ss (l.values ++ x ∷ [])) ws
         (values_grow i ss l.values (l.values ++ x ∷ []) (grown_one l.values x)) b
 
-    new_here : (ws : List ℕ) → Behind (l.values ++ x ∷ []) ws → slice_index ws (length l.values) ≡ v
+    new_here : (ws : List ℕ) → After (l.values ++ x ∷ []) ws → slice_index ws (length l.values) ≡ v
     new_here ws b = value_here any_cell i ss l.values x ws b ∙
         worth (values_of i ss l.values) (grown_same (values_of i ss l.values))
 
@@ -272,7 +272,7 @@ module _ (i : Input) (ss : List State) where
           (new_here ws b);
       made = λ ws b k y got. made_more ws b k y got (get_push l.values x k);
     } where
-      made_more : (ws : List ℕ) → Behind (l.values ++ x ∷ []) ws → (k : ℕ) (y : TraceNumber) →
+      made_more : (ws : List ℕ) → After (l.values ++ x ∷ []) ws → (k : ℕ) (y : TraceNumber) →
           slice_get (l.values ++ x ∷ []) k ≡ Some y →
           ((slice_get (l.values ++ x ∷ []) k ≡ slice_get l.values k) × (k ≡ length l.values → ⊥)) ⊎
           ((k ≡ length l.values) × (slice_get (l.values ++ x ∷ []) k ≡ Some x)) →

@@ -27,7 +27,7 @@ use Rattle.guard_laws.proofs.States.{here, numbers_after, extents_after, queues_
 use Rattle.guard_laws.proofs.States.{rows_after}
 use Rattle.guard_laws.proofs.Grows.{grown_same, grown_then, back_grows, all_grows, put_grows, hoists_grow}
 use Rattle.guard_laws.proofs.Grows.{conjuncts_grow}
-use Rattle.guard_laws.proofs.Means.{Stands, Behind, behind_more, Means, named_means, back_means, size_means, all_means}
+use Rattle.guard_laws.proofs.Means.{Stands, After, after_more, Means, named_means, back_means, size_means, all_means}
 use Rattle.guard_laws.proofs.Means.{core_means, row_here}
 
 -- an index that is written as 0 is carried back as such
@@ -81,7 +81,7 @@ get_push xs x k = go (cases_order k (length xs)) where
 
 module _ (sq : Squares) (i : Input) (ss : List State) where
   abbrev pub Standing : Trail → Hoisting → Type 0
-  Standing t h = (vs : List ℕ) → Behind sq i ss h.values vs → Stands sq i ss t h vs
+  Standing t h = (vs : List ℕ) → After sq i ss h.values vs → Stands sq i ss t h vs
 
   abbrev pub all_hold : List ℕ → List TraceNumber → Bool
   all_hold vs es = list_all (holds_at i (only_values vs) ss) es
@@ -89,10 +89,10 @@ module _ (sq : Squares) (i : Input) (ss : List State) where
   -- a guard holds so far, or it doesn't
   pub record On (t : Trail) (h : Hoisting) : Type 0 where
     pub standing : Standing t h
-    pub passed : (vs : List ℕ) → Behind sq i ss h.values vs → all_hold vs h.conjuncts ≡ true
+    pub passed : (vs : List ℕ) → After sq i ss h.values vs → all_hold vs h.conjuncts ≡ true
 
   abbrev pub Failed : Hoisting → Type 0
-  Failed h = (vs : List ℕ) → Behind sq i ss h.values vs → all_hold vs h.conjuncts ≡ false
+  Failed h = (vs : List ℕ) → After sq i ss h.values vs → all_hold vs h.conjuncts ≡ false
 
   abbrev pub Claim : Followed → Hoisting → Type 0
   Claim (on t) h = On t h
@@ -104,16 +104,16 @@ module _ (sq : Squares) (i : Input) (ss : List State) where
       let g = conjuncts_grow h o in
       ap (all_hold vs) g.1 ∙ list_all-append (holds_at i (only_values vs) ss) h.conjuncts g.0
       ∙ ap (λ t. t && all_hold vs g.0)
-      (failed vs (behind_more sq i ss h.values (hoists h o).values vs (hoists_grow h o) b))
+      (failed vs (after_more sq i ss h.values (hoists h o).values vs (hoists_grow h o) b))
 
   still_passed : (t : Trail) (h : Hoisting) (o : Operation) → (hoists h o).conjuncts ≡ h.conjuncts → On t h →
-      (vs : List ℕ) → Behind sq i ss (hoists h o).values vs → all_hold vs (hoists h o).conjuncts ≡ true
+      (vs : List ℕ) → After sq i ss (hoists h o).values vs → all_hold vs (hoists h o).conjuncts ≡ true
   still_passed t h o same so vs b = ap (all_hold vs) same ∙
-      so.passed vs (behind_more sq i ss h.values (hoists h o).values vs (hoists_grow h o) b)
+      so.passed vs (after_more sq i ss h.values (hoists h o).values vs (hoists_grow h o) b)
 
   earlier : (t : Trail) (h : Hoisting) (o : Operation) → Standing t h → (vs : List ℕ) →
-      Behind sq i ss (hoists h o).values vs → Stands sq i ss t h vs
-  earlier t h o standing vs b = standing vs (behind_more sq i ss h.values (hoists h o).values vs (hoists_grow h o) b)
+      After sq i ss (hoists h o).values vs → Stands sq i ss t h vs
+  earlier t h o standing vs b = standing vs (after_more sq i ss h.values (hoists h o).values vs (hoists_grow h o) b)
 
   -- how many rows a log knows of
   counted : (t : Trail) (h : Hoisting) (vs : List ℕ) → Stands sq i ss t h vs → (p c j j' : ℕ) → j' ≡ j →
@@ -130,7 +130,7 @@ module _ (sq : Squares) (i : Input) (ss : List State) where
         let x = back h e h.values in let y = back h v x.values in
         let gy = back_grows h v x.values in
         let ex = back_means sq i ss t h so.standing e h.values (grown_same h.values) sound.3 vs
-        (behind_more sq i ss x.values y.values vs gy b) in
+        (after_more sq i ss x.values y.values vs gy b) in
         let ey = back_means sq i ss t h so.standing v x.values (back_grows h e h.values) sound.4 vs b in
         let ve = number_of i t.kept t.states e in let vv = number_of i t.kept t.states v in
         record {
@@ -157,9 +157,9 @@ module _ (sq : Squares) (i : Input) (ss : List State) where
         let s = earlier t h (set_square p c r k v) so.standing vs b in
         let x = back h r h.values in let y = back h k x.values in let z = back h v y.values in
         let gx = back_grows h r h.values in let gy = back_grows h k x.values in let gz = back_grows h v y.values in
-        let by = behind_more sq i ss y.values z.values vs gz b in
+        let by = after_more sq i ss y.values z.values vs gz b in
         let ex = back_means sq i ss t h so.standing r h.values (grown_same h.values) sound.2 vs
-        (behind_more sq i ss x.values y.values vs gy by) in
+        (after_more sq i ss x.values y.values vs gy by) in
         let ey = back_means sq i ss t h so.standing k x.values gx sound.3 vs by in
         let ez = back_means sq i ss t h so.standing v y.values (grown_then h.values x.values y.values gx gy) sound.4 vs
         b in
@@ -213,9 +213,9 @@ module _ (sq : Squares) (i : Input) (ss : List State) where
         let s = earlier t h (push p c e numbers m) so.standing vs b in
         let x = back h e h.values in let y = all_back h numbers x.values in let z = put_size_back h m y.values in
         let gx = back_grows h e h.values in let gy = all_grows h numbers x.values in let gz = put_grows h m y.values in
-        let by = behind_more sq i ss y.values z.values vs gz b in
+        let by = after_more sq i ss y.values z.values vs gz b in
         let ex = back_means sq i ss t h so.standing e h.values (grown_same h.values) sound.3 vs
-        (behind_more sq i ss x.values y.values vs gy by) in
+        (after_more sq i ss x.values y.values vs gy by) in
         let ey = all_means sq i ss t h so.standing numbers x.values gx sound.4 vs by in
         let ez = core_means sq i ss t h so.standing m y.values (grown_then h.values x.values y.values gx gy) vs b in
         let ve = number_of i t.kept t.states e in
@@ -354,12 +354,12 @@ module _ (sq : Squares) (i : Input) (ss : List State) where
     worth : Means sq i ss x (number_of i t.kept t.states e)
     worth = back_means sq i ss t h so.standing e h.values (grown_same h.values) sound
 
-    all_of : (b : Bool) → is_true (number_of i t.kept t.states e) ≡ b → (vs : List ℕ) → Behind sq i ss x.values vs →
+    all_of : (b : Bool) → is_true (number_of i t.kept t.states e) ≡ b → (vs : List ℕ) → After sq i ss x.values vs →
         all_hold vs (h.conjuncts ++ x.term ∷ []) ≡ (b && true)
     all_of b is vs there =
         list_all-append (holds_at i (only_values vs) ss) h.conjuncts (x.term ∷ [])
         ∙ ap₂ (λ c d. c && (d && true))
-        (so.passed vs (behind_more sq i ss h.values x.values vs (back_grows h e h.values) there))
+        (so.passed vs (after_more sq i ss h.values x.values vs (back_grows h e h.values) there))
         (ap is_true (worth vs there) ∙ is)
 
     go : (b : Bool) → is_true (number_of i t.kept t.states e) ≡ b →

@@ -2,7 +2,7 @@
 
 ghost use Rattle.std.specs.Prelude.{◌≡◌, ◌==◌, ◌++◌, [], IfOk, OnOk, drop, slice_index_or};
 ghost use Rattle.std.specs.List.{slice_split};
-ghost use Rattle.script_text.specs.Parts.{parts_behind};
+ghost use Rattle.script_text.specs.Parts.{parts_after};
 ghost use Rattle.hunt_mean.specs.Find as spec;
 ghost use Rattle.hunt_mean.specs.Ends as ends;
 
@@ -40,28 +40,28 @@ fn tell_line(report: &[u8], number: u32, text: &mut Line) -> Result<(), Memory>
 }
 
 /// The line of a text with this number, the first being 1, without its line feed; and no bytes where there is none.
-#[tactic(auto, using(crate::proofs::Lines::first_behind))]
+#[tactic(auto, using(crate::proofs::Lines::first_after))]
 fn line_at(text: &[u8], number: u32) -> &[u8]
     ensures { result.now ≡ spec.numbered_line text.now number }
 {
-    first_line(behind_lines(text, number.saturating_sub(1)))
+    first_line(after_lines(text, number.saturating_sub(1)))
 }
 
 /// What stands after this many line feeds, if there are as many.
 #[tactic(auto, using(crate::proofs::Lines::one_more))]
-fn behind_lines(text: &[u8], count: u32) -> Option<&[u8]>
-    ensures { parts_behind 10 result ≡ drop count (slice_split (λ byte. byte == 10) text.now) }
+fn after_lines(text: &[u8], count: u32) -> Option<&[u8]>
+    ensures { parts_after 10 result ≡ drop count (slice_split (λ byte. byte == 10) text.now) }
 {
     let mut rest = Some(text);
     for _ in 0..count {
-        rest = behind_line(rest);
+        rest = after_line(rest);
     }
     rest
 }
 
 /// What stands after the first line feed.
-fn behind_line(rest: Option<&[u8]>) -> Option<&[u8]>
-    ensures { parts_behind 10 result ≡ drop 1 (parts_behind 10 rest.entry) }
+fn after_line(rest: Option<&[u8]>) -> Option<&[u8]>
+    ensures { parts_after 10 result ≡ drop 1 (parts_after 10 rest.entry) }
 {
     match rest {
         Some(rest) => cut(b'\n', rest).1,
@@ -71,7 +71,7 @@ fn behind_line(rest: Option<&[u8]>) -> Option<&[u8]>
 
 /// What stands before the first line feed, and no bytes where nothing is left.
 fn first_line(rest: Option<&[u8]>) -> &[u8]
-    ensures { result.now ≡ slice_index_or (parts_behind 10 rest.entry) 0 [] }
+    ensures { result.now ≡ slice_index_or (parts_after 10 rest.entry) 0 [] }
 {
     match rest {
         Some(rest) => cut(b'\n', rest).0,

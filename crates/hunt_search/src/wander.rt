@@ -114,13 +114,13 @@ impl Wander {
             if (self.gone | self.network.silent) & only(member) == 0 {
                 return member;
             }
-            member = self.behind(member);
+            member = self.following(member);
         }
         member
     }
 
     /// The member after another, and the first after the last.
-    fn behind(&self, member: u8) -> u8 {
+    fn following(&self, member: u8) -> u8 {
         let next = member.saturating_add(1);
         if next < self.members { next } else { 0 }
     }
@@ -168,7 +168,7 @@ impl Wander {
 
     /// The members' clocks tick in turn.
     fn tick_in_turn(&mut self) -> (u8, Act) {
-        self.turn = self.behind(self.turn);
+        self.turn = self.following(self.turn);
         self.moment = self.moment.saturating_add(QUIET_STRIDE);
         (self.turn, Act::Tick(self.moment))
     }

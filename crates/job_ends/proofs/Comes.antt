@@ -26,7 +26,7 @@ use Rattle.bypass_mean.specs.Lines.{printed_lines}
 use Rattle.bypass_laws.specs.Making.{bypasses_of, simplest}
 use Rattle.job_ends.specs.Printed.{Lines, packed_file, printed_text}
 use Rattle.std.specs.Prelude.{Result, Ok}
-use Rattle.job_ends.specs.Comes.{Around, Beside, Behind, Finds, file_name, Synthesized, IsOutput, Good, Writes, Comes}
+use Rattle.job_ends.specs.Comes.{Around, Beside, After, Finds, file_name, Synthesized, IsOutput, Good, Writes, Comes}
 
 -- A job's output was written, or begun.
 pub written : (job : Job) (a : Around) (good : Good job a.told) (end : Ended) → a.reads_after ≡ a.reads →
@@ -231,20 +231,20 @@ next_second (node name plan turns me patience mode) told = found_at (option_map 
 next_second (audit name law) told = (None, refl)
 
 -- So it is of its third file.
-pub behind_once : (job : Job) (shelf : Shelved) (one other : Option (List ℕ)) → Behind job (Some shelf) one →
-    Behind job (Some shelf) other →
+pub after_once : (job : Job) (shelf : Shelved) (one other : Option (List ℕ)) → After job (Some shelf) one →
+    After job (Some shelf) other →
     one ≡ other
-behind_once (replay_with name script given wire count) shelf one other x y = sym x ∙ y
-behind_once (check name) shelf one other x y = x ∙ sym y
-behind_once (synth name) shelf one other x y = x ∙ sym y
-behind_once (pack name) shelf one other x y = x ∙ sym y
-behind_once (replay name script mode wire count) shelf one other x y = x ∙ sym y
-behind_once (explain name script) shelf one other x y = x ∙ sym y
-behind_once (load name seed events members raw mode) shelf one other x y = x ∙ sym y
-behind_once (node name plan turns me patience mode) shelf one other x y = x ∙ sym y
-behind_once (audit name law) shelf one other x y = x ∙ sym y
+after_once (replay_with name script given wire count) shelf one other x y = sym x ∙ y
+after_once (check name) shelf one other x y = x ∙ sym y
+after_once (synth name) shelf one other x y = x ∙ sym y
+after_once (pack name) shelf one other x y = x ∙ sym y
+after_once (replay name script mode wire count) shelf one other x y = x ∙ sym y
+after_once (explain name script) shelf one other x y = x ∙ sym y
+after_once (load name seed events members raw mode) shelf one other x y = x ∙ sym y
+after_once (node name plan turns me patience mode) shelf one other x y = x ∙ sym y
+after_once (audit name law) shelf one other x y = x ∙ sym y
 
-pub third_read : (job : Job) (told : Option Shelved) (text : List ℕ) → Behind job told (Some text) →
+pub third_read : (job : Job) (told : Option Shelved) (text : List ℕ) → After job told (Some text) →
     (third : Option (List ℕ)) × (third_for job third ≡ Some text)
 third_read (replay_with name script given wire count) told text is = (Some text, refl)
 third_read (check name) told text is = (None, sym is)
@@ -256,7 +256,7 @@ third_read (load name seed events members raw mode) told text is = (None, sym is
 third_read (node name plan turns me patience mode) told text is = (None, sym is)
 third_read (audit name law) told text is = (None, sym is)
 
-pub third_missed : (job : Job) (told : Option Shelved) → Behind job told None → third_for job None ≡ None
+pub third_missed : (job : Job) (told : Option Shelved) → After job told None → third_for job None ≡ None
 third_missed (replay_with name script given wire count) told is = refl
 third_missed (check name) told is = absurd (cc is)
 third_missed (synth name) told is = absurd (cc is)
@@ -267,7 +267,7 @@ third_missed (load name seed events members raw mode) told is = absurd (cc is)
 third_missed (node name plan turns me patience mode) told is = absurd (cc is)
 third_missed (audit name law) told is = absurd (cc is)
 
-pub next_third : (job : Job) (told : Option Shelved) → (third : Option (List ℕ)) × Behind job told (third_for job third)
+pub next_third : (job : Job) (told : Option Shelved) → (third : Option (List ℕ)) × After job told (third_for job third)
 next_third (replay_with name script given wire count) told =
     found_at (option_map after_read (option_map after_read told)) given
 next_third (check name) told = (None, refl)

@@ -17,11 +17,11 @@ use Rattle.outside.specs.Said.{Errors, SaysLine, whole, failed, no_memory as wan
 use Rattle.program_laws.specs.OneEnd.{IsAlone}
 use Rattle.program_laws.proofs.Ends.{words_are_due, files_are_due, reports_are_due, seconds_are_due, misses_are_due}
 use Rattle.program_laws.proofs.Ends.{second_misses_are_due, good_are_due, traces_are_due, third_misses_are_due}
-use Rattle.job_ends.specs.Comes.{Around, Finds, Beside, Behind, IsOutput, Good, BadReport, Unfound, Whole, Comes}
+use Rattle.job_ends.specs.Comes.{Around, Finds, Beside, After, IsOutput, Good, BadReport, Unfound, Whole, Comes}
 use Rattle.job_ends.specs.Due.{Due, NoPutFailed, CallsFor, Exact}
 use Rattle.job_ends.specs.Seen.{run_of, Seen}
 use Rattle.job_ends.specs.Shown.{Said}
-use Rattle.job_ends.proofs.Comes.{writes_of, output_once, beside_once, behind_once, third_is}
+use Rattle.job_ends.proofs.Comes.{writes_of, output_once, beside_once, after_once, third_is}
 
 -- a line was said with its status, or memory ran out
 line_said : (line : List ℕ) (n : ℕ) (e : Errors) → SaysLine line n e → Due n e.status
@@ -101,16 +101,16 @@ module _ (words : List Text) (job : Job) (a : Around) (e : Errors) (is : job_of_
     second_is found finds = beside_once job shelf (second_for job s.second) found
         (subst (λ t. Beside job t (second_for job s.second)) told s.beside) finds
 
-    third_found : (found : Option (List ℕ)) → Behind job (Some shelf) found → third_for job s.third ≡ found
-    third_found found finds = behind_once job shelf (third_for job s.third) found
-        (subst (λ t. Behind job t (third_for job s.third)) told s.behind) finds
+    third_found : (found : Option (List ℕ)) → After job (Some shelf) found → third_for job s.third ≡ found
+    third_found found finds = after_once job shelf (third_for job s.third) found
+        (subst (λ t. After job t (third_for job s.third)) told s.following) finds
 
     good_due : (good : Good job (Some shelf)) → NoPutFailed a → Due (status_number (whole_end job good.file)) e.status
     good_due good puts = good_are_due printed_text (run_of words a e s.file s.second s.third s.written s.said) job
         good.file good.second (concat good.lines)
         s.ran puts alone is (file_is (Some good.file) good.found) (second_is (Some good.second) good.beside)
         (writes_of job _ good.file good.second good.third good.lines good.output refl
-        (third_found (Some good.third) good.behind))
+        (third_found (Some good.third) good.following))
 
     unfound_due : Unfound job (Some shelf) → Due 4 e.status
     unfound_due (inl none) = misses_are_due printed_text (run_of words a e s.file s.second s.third s.written s.said) job
@@ -157,7 +157,7 @@ module _ (words : List Text) (job : Job) (a : Around) (e : Errors) (is : job_of_
         b.third
         b.stack fault s.ran is b.reads (file_is (Some b.file) b.found) (second_is (Some b.second) b.beside) b.means
         b.fine
-        (third_is job s.third b.third b.reads (third_found (Some b.third) b.behind)) b.refused
+        (third_is job s.third b.third b.reads (third_found (Some b.third) b.following)) b.refused
     due read_failed u = unfound_due u
     due _ c = absurd c
 
@@ -167,8 +167,8 @@ module _ (words : List Text) (job : Job) (a : Around) (e : Errors) (is : job_of_
         let files : Some one.file ≡ Some other.file = sym one.found ∙ other.found in
         let seconds : Some one.second ≡ Some other.second = beside_once job shelf (Some one.second) (Some other.second)
         one.beside other.beside in
-        let thirds : Some one.third ≡ Some other.third = behind_once job shelf (Some one.third) (Some other.third)
-        one.behind other.behind in
+        let thirds : Some one.third ≡ Some other.third = after_once job shelf (Some one.third) (Some other.third)
+        one.following other.following in
         let file : other.file ≡ one.file = cc (files) in
         let second : other.second ≡ one.second = cc (seconds) in
         let third : other.third ≡ one.third = cc (thirds) in

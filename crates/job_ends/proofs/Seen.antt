@@ -24,7 +24,7 @@ use Rattle.outside.specs.Tells.{Tells}
 use Rattle.outside.specs.Said.{Errors, SaysLine}
 use Rattle.outside.specs.Said as said
 use Rattle.outside.proofs.Gaining.{fails_part, begins_part}
-use Rattle.job_ends.specs.Comes.{Around, Finds, Beside, Behind, Good, Unfound, Whole, Comes, NoJob}
+use Rattle.job_ends.specs.Comes.{Around, Finds, Beside, After, Good, Unfound, Whole, Comes, NoJob}
 use Rattle.job_ends.specs.Shown.{Said}
 use Rattle.job_ends.specs.Seen.{counts_around, run_of, Seen}
 use Rattle.job_ends.proofs.Comes.{writes_of, second_read, second_missed, next_file, next_second, third_read}
@@ -37,7 +37,7 @@ pub record Reached (words : List Text) (job : Option Job) (a : Around) (end : En
   pub third : Option (List ℕ)
   pub met : IfSome job (λ j. Finds j a.told file)
   pub beside : IfSome job (λ j. Beside j a.told (second_for j second))
-  pub behind : IfSome job (λ j. Behind j a.told (third_for j third))
+  pub following : IfSome job (λ j. After j a.told (third_for j third))
   pub written : List ℕ
   pub put : Appends a.output.contents a.output_after.contents written
   pub ends : (e : Errors) (said : List ℕ) → Ends printed_text (run_of words a e file second third written said) end
@@ -48,7 +48,7 @@ same_gained old new same = subst (λ t. Appends old.contents t.contents []) (sym
 
 -- an audit has no second file, and no third
 report_second : (job : Job) (file : List ℕ) (fault : AuditFault) → IsNoReport job file fault → (told : Option Shelved) →
-    (second_for job None ≡ Some []) × Beside job told (Some []) × Behind job told (third_for job None)
+    (second_for job None ≡ Some []) × Beside job told (Some []) × After job told (third_for job None)
 report_second (audit name law) file fault refused told = (refl, refl, refl)
 report_second (check name) file fault refused told = absurd refused
 report_second (synth name) file fault refused told = absurd refused
@@ -84,7 +84,7 @@ module _ (words : List Text) (a : Around) (job : Job) (is : job_of_words words �
     beside : Beside job a.told (second_for job second_is)
     third_is : Option (List ℕ)
     third_for_it : third_for job third_is ≡ Some third
-    behind : Behind job a.told (third_for job third_is)
+    following : After job a.told (third_for job third_is)
 
   -- what the reads found, as the run has it
   beside_as : (second : Option (List ℕ)) (found : Option (List ℕ)) → second_for job second ≡ found →
@@ -92,26 +92,26 @@ module _ (words : List Text) (a : Around) (job : Job) (is : job_of_words words �
       Beside job a.told (second_for job second)
   beside_as second found is beside = subst (Beside job a.told) (sym is) beside
 
-  behind_as : (third : Option (List ℕ)) (found : Option (List ℕ)) → third_for job third ≡ found →
-      Behind job a.told found →
-      Behind job a.told (third_for job third)
-  behind_as third found is behind = subst (Behind job a.told) (sym is) behind
+  after_as : (third : Option (List ℕ)) (found : Option (List ℕ)) → third_for job third ≡ found →
+      After job a.told found →
+      After job a.told (third_for job third)
+  after_as third found is following = subst (After job a.told) (sym is) following
 
-  others : (second third : List ℕ) → Beside job a.told (Some second) → Behind job a.told (Some third) →
+  others : (second third : List ℕ) → Beside job a.told (Some second) → After job a.told (Some third) →
       Others second third
-  others second third beside behind =
+  others second third beside following =
       let s = second_read job a.told second beside in
-      let t = third_read job a.told third behind in record {
+      let t = third_read job a.told third following in record {
         second_is = s.0;
         second_for_it = s.1;
         beside = beside_as s.0 (Some second) s.1 beside;
         third_is = t.0;
         third_for_it = t.1;
-        behind = behind_as t.0 (Some third) t.1 behind;
+        following = after_as t.0 (Some third) t.1 following;
       }
 
   abbrev others_of : (good : Good job a.told) → Others good.second good.third
-  others_of good = others good.second good.third good.beside good.behind
+  others_of good = others good.second good.third good.beside good.following
 
   -- an output that was written in part
   began : (good : Good job a.told) (o : Others good.second good.third) (written rest : List ℕ) (e : Errors)
@@ -142,7 +142,7 @@ module _ (words : List Text) (a : Around) (job : Job) (is : job_of_words words �
     third = o.third_is;
     met = w.good.found;
     beside = o.beside;
-    behind = o.behind;
+    following = o.following;
     written = concat w.good.lines;
     put = w.written.gained;
     ends = λ e said. ended (run_of words a e (Some w.good.file) o.second_is o.third_is (concat w.good.lines) said) (
@@ -171,7 +171,7 @@ module _ (words : List Text) (a : Around) (job : Job) (is : job_of_words words �
     third = o.third_is;
     met = good.found;
     beside = o.beside;
-    behind = o.behind;
+    following = o.following;
     written = part;
     put = put;
     ends = λ e said. ended (run_of words a e (Some good.file) o.second_is o.third_is part said) refl
@@ -181,16 +181,16 @@ module _ (words : List Text) (a : Around) (job : Job) (is : job_of_words words �
   -- nothing was written
   abbrev nothing_reached : (end : Ended) (file second third : Option (List ℕ)) → a.output_after ≡ a.output →
       Finds job a.told file →
-      Beside job a.told (second_for job second) → Behind job a.told (third_for job third) →
+      Beside job a.told (second_for job second) → After job a.told (third_for job third) →
       ((e : Errors) (said : List ℕ) → Ends printed_text (run_of words a e file second third [] said) end) →
       Reached words (Some job) a end
-  nothing_reached end file second third same found beside behind ends = record {
+  nothing_reached end file second third same found beside following ends = record {
     file = file;
     second = second;
     third = third;
     met = found;
     beside = beside;
-    behind = behind;
+    following = following;
     written = [];
     put = same_gained a.output a.output_after same;
     ends = ends;
@@ -217,7 +217,7 @@ module _ (words : List Text) (a : Around) (job : Job) (is : job_of_words words �
   unfound_reached (inr (inr n)) same rose = let none = third_missed job a.told n.none in let s =
       second_read job a.told n.second n.beside in
       nothing_reached read_failed (Some n.file) s.0 None same n.found (beside_as s.0 (Some n.second) s.1 n.beside)
-      (behind_as None None none n.none)
+      (after_as None None none n.none)
       (λ e said. record {
         rose = rose;
         unread = some_job (Unread (run_of words a e (Some n.file) s.0 None [] said)) (inr (inr (
@@ -257,9 +257,9 @@ module _ (words : List Text) (a : Around) (job : Job) (is : job_of_words words �
             r.sound s.1 (r.cause.means, r.cause.refused);
         nothing = nothing words a e (Some r.cause.file) s.0 t.0 said;
       })
-  reached (traces_refused fault) r = let o = others r.cause.second r.cause.third r.cause.beside r.cause.behind in
+  reached (traces_refused fault) r = let o = others r.cause.second r.cause.third r.cause.beside r.cause.following in
       nothing_reached (traces_refused fault) (Some r.cause.file) o.second_is o.third_is r.untouched r.cause.found
-      o.beside o.behind (λ e said. record {
+      o.beside o.following (λ e said. record {
         stack = r.cause.stack;
         others = job_holds (λ j f x. ReadsTraces j × Means f r.cause.stack × (second_fault j r.cause.stack x ≡ None)) e
             r.cause.file
@@ -291,7 +291,7 @@ jobless_reached words a is words_refused n = record {
   third = None;
   met = tt;
   beside = tt;
-  behind = tt;
+  following = tt;
   written = [];
   put = same_gained a.output a.output_after n.untouched;
   ends = λ e said. (is, n.unread, nothing words a e None None None said);
@@ -302,7 +302,7 @@ jobless_reached words a is no_memory n = record {
   third = None;
   met = tt;
   beside = tt;
-  behind = tt;
+  following = tt;
   written = [];
   put = same_gained a.output a.output_after n.untouched;
   ends = λ e said. inl (nothing words a e None None None said);
@@ -370,7 +370,7 @@ seen_so words job a e end r s = let says = spoke words a e r.file r.second r.thi
   third = r.third;
   met = r.met;
   beside = r.beside;
-  behind = r.behind;
+  following = r.following;
   written = r.written;
   put = r.put;
   said = says.said;

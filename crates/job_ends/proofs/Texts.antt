@@ -28,8 +28,8 @@ differ_line name number act =
 plan_named : (n : ℕ) → (n ≡ 0 → ⊥) × (n ≡ 1 → ⊥) → codes "plan " ++ decimal (n - 2) ≡ entry_name n
 plan_named zero other = absurd (other.0 refl)
 plan_named (suc zero) other = absurd (other.1 refl)
-plan_named (suc (suc k)) other = let behind : suc (suc k) - 2 ≡ k = omega arith in
-    ap (λ n. codes "plan " ++ decimal n) behind
+plan_named (suc (suc k)) other = let following : suc (suc k) - 2 ≡ k = omega arith in
+    ap (λ n. codes "plan " ++ decimal n) following
 
 pub plan_line : (n : ℕ) (number act : List ℕ) → (n ≡ 0 → ⊥) × (n ≡ 1 → ⊥) →
     codes "bypass: entry plan " ++

@@ -98,10 +98,10 @@ Beside (node file plan turns me patience mode) told found =
 Beside _ told found = found ≡ Some []
 
 -- What the read of its third file finds after both; a job that has none reads as if it were empty.
-abbrev pub Behind : Job → Option Shelved → Option (List ℕ) → Type 0
-Behind (replay_with file script given wire count) told found =
+abbrev pub After : Job → Option Shelved → Option (List ℕ) → Type 0
+After (replay_with file script given wire count) told found =
     IfSome (option_map after_read (option_map after_read told)) (λ shelf. found_in shelf given ≡ found)
-Behind _ told found = found ≡ Some []
+After _ told found = found ≡ Some []
 
 -- The whole output of a check over the bytes of its file, line by line.
 pub record Checked (file : List ℕ) (lines : List (List ℕ)) : Type 0 where
@@ -180,7 +180,7 @@ pub record Good (job : Job) (told : Option Shelved) : Type 0 where
   pub third : List ℕ
   pub found : Finds job told (Some file)
   pub beside : Beside job told (Some second)
-  pub behind : Behind job told (Some third)
+  pub following : After job told (Some third)
   pub lines : List (List ℕ)
   pub output : IsOutput job file second third lines
 
@@ -214,7 +214,7 @@ pub record BadTraces (job : Job) (told : Option Shelved) (fault : PackFault) : T
   pub third : List ℕ
   pub found : Finds job told (Some file)
   pub beside : Beside job told (Some second)
-  pub behind : Behind job told (Some third)
+  pub following : After job told (Some third)
   pub reads : ReadsTraces job
   pub stack : List LayerTree
   pub means : Means file stack
@@ -238,7 +238,7 @@ pub record NoThird (job : Job) (told : Option Shelved) : Type 0 where
   pub stack : List LayerTree
   pub means : Means file stack
   pub fine : second_fault job stack second ≡ None
-  pub none : Behind job told None
+  pub none : After job told None
 
 -- One of its files isn't found.
 abbrev pub Unfound : Job → Option Shelved → Type 0

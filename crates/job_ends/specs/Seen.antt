@@ -6,7 +6,7 @@ use Rattle.job_mean.specs.Job.{Job}
 use Rattle.job_ends.specs.Printed.{printed_text}
 use Rattle.program_mean.specs.Headline.{Counted, Run, second_for, third_for, Ran}
 use Rattle.outside.specs.Said.{Errors}
-use Rattle.job_ends.specs.Comes.{Around, Finds, Beside, Behind}
+use Rattle.job_ends.specs.Comes.{Around, Finds, Beside, After}
 
 abbrev pub counts_around : ℕ → ℕ → Counted
 counts_around before after = record { before = before; after = after }
@@ -39,7 +39,7 @@ pub record Seen (words : List Text) (job : Option Job) (a : Around) (e : Errors)
   pub third : Option (List ℕ)
   pub met : IfSome job (λ j. Finds j a.told file)
   pub beside : IfSome job (λ j. Beside j a.told (second_for j second))
-  pub behind : IfSome job (λ j. Behind j a.told (third_for j third))
+  pub following : IfSome job (λ j. After j a.told (third_for j third))
   pub written : List ℕ
   pub put : Appends a.output.contents a.output_after.contents written
   pub said : List ℕ

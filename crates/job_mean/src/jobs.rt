@@ -50,7 +50,7 @@ pub fn name_jobs()
         Some (audit (codes "r") Total) }
     ensures audits_views { job_of_words (codes "audit" ∷ codes "r" ∷ codes "--law=same" ∷ []) ≡
         Some (audit (codes "r") Same) }
-    ensures behind_the_end_of_options { job_of_words (codes "check" ∷ codes "--" ∷ codes "--wire" ∷ []) ≡
+    ensures after_the_end_of_options { job_of_words (codes "check" ∷ codes "--" ∷ codes "--wire" ∷ []) ≡
         Some (check (codes "--wire")) }
     ensures hyphen_and_nothing { job_of_words (codes "replay" ∷ codes "-" ∷ [] ∷ []) ≡
         Some (replay (codes "-") [] bypass false false) }

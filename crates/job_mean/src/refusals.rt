@@ -82,7 +82,7 @@ pub fn refuse_numbers()
         codes "--members=1" ∷ []) ≡ None }
     ensures nothing { job_of_words (codes "load" ∷ codes "a" ∷ codes "--seed=" ∷ codes "--events=1" ∷
         codes "--members=1" ∷ []) ≡ None }
-    ensures zero_in_front { job_of_words (codes "load" ∷ codes "a" ∷ codes "--seed=07" ∷ codes "--events=1" ∷
+    ensures leading_zero { job_of_words (codes "load" ∷ codes "a" ∷ codes "--seed=07" ∷ codes "--events=1" ∷
         codes "--members=1" ∷ []) ≡
         None }
     ensures large_seed { job_of_words (codes "load" ∷ codes "a" ∷ codes "--seed=4294967296" ∷ codes "--events=1" ∷

@@ -59,12 +59,12 @@ fn members_in(alloc: Global, text: &[u8]) -> Result<Option<Vec<u32>>, AllocError
     let mut members = Vec::new(alloc);
     let mut rest = Some(text);
     while let Some(text) = rest {
-        let (word, behind) = cut(b',', text);
+        let (word, following) = cut(b',', text);
         let Some(member) = number_within(0, u32::from(LAST_MEMBER), word) else {
             return Ok(None);
         };
         members.push(member)?;
-        rest = behind;
+        rest = following;
     }
     Ok(Some(members))
 }

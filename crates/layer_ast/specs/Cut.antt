@@ -12,8 +12,8 @@ use Rattle.layer_ast.specs.Spelling.{is_blank, is_word_byte, word_token, symbol_
 
 -- what a text begins with: a gap, a token, or a bad byte; with the number of its bytes after the first
 pub data Piece : Type 0 where
-  gap : (behind : ℕ) → Piece
-  one : (token : Token) (behind : ℕ) → Piece
+  gap : (following : ℕ) → Piece
+  one : (token : Token) (following : ℕ) → Piece
   bad : Piece
 
 -- the word at the front of a text: a letter with the word bytes after it, at most 32 bytes in all
@@ -35,16 +35,16 @@ symbol_piece text = option_map_or (λ entry. one (token.Sign entry.1) (length en
 
 -- the piece at the front of a text, where a letter is bad directly after a number
 unfoldable pub piece : Bool → ℕ → List ℕ → Piece
-piece behind_number b bs =
+piece after_number b bs =
     if is_blank b then gap 0
     else if nat_eq b 35 then gap (prefix_len (λ c. not (nat_eq c 10)) bs)
-    else if is_ascii_alphabetic b then (if behind_number then bad else word_piece b bs)
+    else if is_ascii_alphabetic b then (if after_number then bad else word_piece b bs)
     else if is_ascii_digit b then number_piece b bs
     else symbol_piece (b ∷ bs)
 
 -- the place after a byte
-abbrev pub place_behind : ℕ → At → At
-place_behind b at = if nat_eq b 10 then record { line = at.line + 1; col = 1 } else record at { col = at.col + 1 }
+abbrev pub place_after : ℕ → At → At
+place_after b at = if nat_eq b 10 then record { line = at.line + 1; col = 1 } else record at { col = at.col + 1 }
 
 -- the tokens before the first bad one, and the place of that one
 pub record Tokens : Type 0 where
@@ -58,17 +58,17 @@ is_numeral _ = false
 
 -- a piece before the tokens after it, which follow from whether it is a number and how long it is
 abbrev pub with_piece : Piece → At → (Bool → ℕ → Tokens) → Tokens
-with_piece (gap behind) at rest = rest false behind
-with_piece (one t behind) at rest =
-    let r = rest (is_numeral t) behind in record r { tokens = record { token = t; at = at } ∷ r.tokens }
+with_piece (gap following) at rest = rest false following
+with_piece (one t following) at rest =
+    let r = rest (is_numeral t) following in record r { tokens = record { token = t; at = at } ∷ r.tokens }
 with_piece bad at rest = record { tokens = []; bad_at = Some at }
 
 -- the tokens from a place on: a piece begins here and after each piece, and n bytes of a piece are still to come
 abbrev pub cut_from : Bool → ℕ → List ℕ → At → Tokens
-cut_from behind_number inside [] at = record { tokens = []; bad_at = None }
-cut_from behind_number zero (b ∷ bs) at =
-    with_piece (piece behind_number b bs) at (λ number behind. cut_from number behind bs (place_behind b at))
-cut_from behind_number (suc inside) (b ∷ bs) at = cut_from behind_number inside bs (place_behind b at)
+cut_from after_number inside [] at = record { tokens = []; bad_at = None }
+cut_from after_number zero (b ∷ bs) at =
+    with_piece (piece after_number b bs) at (λ number following. cut_from number following bs (place_after b at))
+cut_from after_number (suc inside) (b ∷ bs) at = cut_from after_number inside bs (place_after b at)
 
 -- the tokens of a whole text
 abbrev pub text_tokens : List ℕ → Tokens

@@ -11,14 +11,14 @@ room_inside zero = None
 room_inside (suc room) = Some room
 
 -- the room for further brackets after a token: an opening bracket takes one place and a closing one gives it back
-abbrev pub room_behind : Token → ℕ → Option ℕ
-room_behind (token.Sign LeftBrace) room = room_inside room
-room_behind (token.Sign LeftParen) room = room_inside room
-room_behind (token.Sign LeftBracket) room = room_inside room
-room_behind (token.Sign RightBrace) room = Some (suc room)
-room_behind (token.Sign RightParen) room = Some (suc room)
-room_behind (token.Sign RightBracket) room = Some (suc room)
-room_behind _ room = Some room
+abbrev pub room_after : Token → ℕ → Option ℕ
+room_after (token.Sign LeftBrace) room = room_inside room
+room_after (token.Sign LeftParen) room = room_inside room
+room_after (token.Sign LeftBracket) room = room_inside room
+room_after (token.Sign RightBrace) room = Some (suc room)
+room_after (token.Sign RightParen) room = Some (suc room)
+room_after (token.Sign RightBracket) room = Some (suc room)
+room_after _ room = Some room
 
 -- a fact of the room that is left, which there must be
 abbrev pub WithRoom : Option ℕ → (ℕ → Type 0) → Type 0
@@ -28,4 +28,4 @@ WithRoom (Some room) P = P room
 -- no more brackets are open at once than there is room for
 abbrev pub IsWithin : ℕ → List Token → Type 0
 IsWithin room [] = Unit {0}
-IsWithin room (t ∷ tokens) = WithRoom (room_behind t room) (λ left. IsWithin left tokens)
+IsWithin room (t ∷ tokens) = WithRoom (room_after t room) (λ left. IsWithin left tokens)

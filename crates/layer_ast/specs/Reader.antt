@@ -238,41 +238,41 @@ abbrev mutual
 
   statement : ℕ → Token → At → List Lexed → Then StatementTrees → FileTree
   statement (suc f) (token.Sign sign.Let) p ls k =
-      expression f (drop 2 ls) (λ e rest. behind f (bind p (name 0 ls) e) (drop 1 rest) k)
+      expression f (drop 2 ls) (λ e rest. following f (bind p (name 0 ls) e) (drop 1 rest) k)
   statement (suc f) (token.Sign sign.Set) p ls k =
       index f (nth 1 ls).token (drop 1 ls) (λ i more. index f (nth 0 more).token more (λ j last.
-      expression f (drop 1 last) (λ e rest. behind f (set_of p (name 0 ls) i j e) (drop 1 rest) k)))
+      expression f (drop 1 last) (λ e rest. following f (set_of p (name 0 ls) i j e) (drop 1 rest) k)))
   statement (suc f) (token.Sign sign.Push) p ls k =
       a_queue f ls (λ q more. several f (drop 1 more) (λ es last. statements f (drop 2 last) (λ b rest.
-      behind f (push p q (arguments es) b) rest k)))
+      following f (push p q (arguments es) b) rest k)))
   statement (suc f) (token.Sign sign.Take) p ls k =
       a_queue f ls (λ q more. statements f (drop 1 (past more)) (λ a last. statements f (drop 2 last) (λ b rest.
-      behind f (expected.take p q (names (listed more)) a b) rest k)))
+      following f (expected.take p q (names (listed more)) a b) rest k)))
   statement (suc f) (token.Sign sign.If) p ls k =
       expression f (drop (past_likely (nth 0 ls).token) ls) (λ e more. statements f (drop 1 more) (λ a rest.
       otherwise f (nth 0 rest).token p (likely_of (nth 0 ls).token) e a rest k))
   statement (suc f) (token.Sign sign.Each) p ls k =
       expression f (drop 2 ls) (λ e more. statements f (drop 3 more) (λ b rest.
-      behind f (each p (name 0 ls) e (size_of (nth 1 more) (nth 1 more).token) b) rest k))
+      following f (each p (name 0 ls) e (size_of (nth 1 more) (nth 1 more).token) b) rest k))
   statement (suc f) (token.Sign sign.Up) p ls k = emission f Up p ls k
   statement (suc f) (token.Sign sign.Down) p ls k = emission f Down p ls k
   statement _ _ p ls k = k none ls
 
   otherwise : ℕ → Token → At → Likely → ExpressionTree → StatementTrees → List Lexed → Then StatementTrees → FileTree
   otherwise (suc f) (token.Sign sign.Else) p l e a ls k =
-      statements f (drop 2 ls) (λ b rest. behind f (choose p l e a b) rest k)
-  otherwise (suc f) _ p l e a ls k = behind f (when p l e a) ls k
+      statements f (drop 2 ls) (λ b rest. following f (choose p l e a b) rest k)
+  otherwise (suc f) _ p l e a ls k = following f (when p l e a) ls k
   otherwise zero _ p l e a ls k = k none ls
 
   emission : ℕ → Dir → At → List Lexed → Then StatementTrees → FileTree
   emission (suc f) d p ls k =
       several f (drop 2 ls) (λ es more. pushed f (nth 0 more).token more (λ h rest.
-      behind f (emit p d (kind_of (nth 0 ls).token) (arguments es) h) (drop 1 rest) k))
+      following f (emit p d (kind_of (nth 0 ls).token) (arguments es) h) (drop 1 rest) k))
   emission zero d p ls k = k none ls
 
-  behind : ℕ → StatementTree → List Lexed → Then StatementTrees → FileTree
-  behind (suc f) s ls k = statements f ls (λ b rest. k (more s b) rest)
-  behind zero s ls k = k none ls
+  following : ℕ → StatementTree → List Lexed → Then StatementTrees → FileTree
+  following (suc f) s ls k = statements f ls (λ b rest. k (more s b) rest)
+  following zero s ls k = k none ls
 
 -- a handler's header and when it is predicted
 abbrev popped : ℕ → Token → List Lexed → Then (Option PoppedTree) → FileTree
@@ -299,7 +299,7 @@ abbrev mutual
   handles : ℕ → Dir → List Lexed → Then (List HandlerTree) → FileTree
   handles (suc f) d ls k =
       popped f (nth 0 (past ls)).token (past ls) (λ h more. predicted f (nth 0 more).token more (λ e last.
-      statements f (drop 1 last) (λ b behind. handlers f behind (λ hs rest. k (record {
+      statements f (drop 1 last) (λ b following. handlers f following (λ hs rest. k (record {
         at = (nth 0 ls).at;
         direction = d;
         kind = kind_of (nth 1 ls).token;
@@ -356,8 +356,8 @@ abbrev mutual
       declared f (rows_of (nth 4 ls).token p ls) (drop 1 (past ls)) k
   declaration (suc f) (token.Sign sign.State) _ p ls k =
       let shape = shape_of (nth 3 ls).token (nth 5 ls).token in
-      let behind = drop (3 + shape_tokens shape) ls in
-      initial f (nth 0 behind).token behind (λ e rest. declared f (int p (name 2 ls) shape e) (drop 1 rest) k)
+      let following = drop (3 + shape_tokens shape) ls in
+      initial f (nth 0 following).token following (λ e rest. declared f (int p (name 2 ls) shape e) (drop 1 rest) k)
   declaration (suc f) (token.Sign sign.Header) _ p ls k =
       declared f (header p (name 1 ls) (some_names (listed (drop 3 ls))) (ending_of (nth 0 (past ls)).token))
       (drop 2 (past ls)) k
@@ -376,9 +376,9 @@ abbrev given_of : Token → List Lexed → List GivenTree
 given_of (token.Sign sign.LeftParen) ls = given_from (take (prefix_len (λ l. not (is_close l.token)) ls) ls)
 given_of _ ls = []
 
-abbrev behind_place : Token → List Lexed → List Lexed
-behind_place (token.Sign sign.LeftParen) ls = drop 1 (past ls)
-behind_place _ ls = drop 1 ls
+abbrev after_place : Token → List Lexed → List Lexed
+after_place (token.Sign sign.LeftParen) ls = drop 1 (past ls)
+after_place _ ls = drop 1 ls
 
 abbrev mutual
   -- the places of a stack
@@ -389,7 +389,7 @@ abbrev mutual
   place : ℕ → Token → List Lexed → List PlaceTree
   place (suc f) (token.Name _) ls =
       record { name = name 0 ls; given = given_of (nth 1 ls).token (drop 1 ls) } ∷
-      places f (behind_place (nth 1 ls).token (drop 1 ls))
+      places f (after_place (nth 1 ls).token (drop 1 ls))
   place _ _ ls = []
 
 abbrev mutual

@@ -3,7 +3,7 @@ use Rattle.std.specs.Prelude.{◌≡◌, ℕ, ◌+◌, List, ◌++◌, map, take
 use Rattle.layer_ast.specs.declared.names.At.{At}
 use Rattle.layer_ast.specs.declared.tokens.Lexed.{Lexed}
 use Rattle.layer_ast.specs.declared.tokens.Token.{Token}
-use Rattle.layer_ast.specs.Cut.{text_tokens, place_behind}
+use Rattle.layer_ast.specs.Cut.{text_tokens, place_after}
 use Rattle.layer_ast.specs.Depth.{IsWithin}
 use Rattle.layer_ast.specs.Print.{file}
 use Rattle.layer_ast.specs.Spells.{HasPlace, Spells}
@@ -27,7 +27,7 @@ tokens_of text = map (λ l. l.token) (text_tokens text).tokens
 
 -- The place just past the last byte of a text.
 abbrev pub end_of : List ℕ → At
-end_of text = fold (λ at b. place_behind b at) (record { line = 1; col = 1 }) text
+end_of text = fold (λ at b. place_after b at) (record { line = 1; col = 1 }) text
 
 -- A bad token stands at this place, and all tokens before it may go on to a file.
 pub record StopsBad (text : List ℕ) (at : At) : Type 0 where
@@ -41,7 +41,7 @@ pub record StopsInside (text : List ℕ) (at : At) : Type 0 where
   pub is : slice_get (text_tokens text).tokens number ≡ Some token
   pub place : token.at ≡ at
   pub before : MayGoOn (take number (tokens_of text))
-  pub behind : MayGoOn (take (number + 1) (tokens_of text)) → ⊥
+  pub following : MayGoOn (take (number + 1) (tokens_of text)) → ⊥
 
 -- All tokens may go on to a file, but the text ends and spells none.
 pub record StopsAtEnd (text : List ℕ) (at : At) : Type 0 where

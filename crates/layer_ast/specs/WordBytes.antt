@@ -20,9 +20,9 @@ padded-take n bytes le zeros =
     ∙ (ap (λ rest. take n bytes ++ rest) (sym zeros) ∙ take-append-drop n bytes)
 
 -- after a word that is written over zeros there are zeros
-pub zeros_behind : (word front : List ℕ) → front ≡ word →
+pub zeros_after : (word front : List ℕ) → front ≡ word →
     drop (length word) (front ++ drop (length word) (replicate longest_word 0)) ≡
     replicate (longest_word - length word) 0
-zeros_behind word front same =
+zeros_after word front same =
     ap (λ f. drop (length word) (f ++ drop (length word) (replicate longest_word 0))) same
     ∙ (drop-append_seam word _ ∙ drop-replicate (length word) longest_word 0)

@@ -21,8 +21,8 @@ use Rattle.layer_eval.specs.Did.{Did, Ended, as_predicted, both, decision, state
 use Rattle.layer_eval.specs.declared.predicted.Predicted.{Predicted}
 
 -- decisions after others
-pub predicted_behind : (ds es : List Decision) → as_predicted (ds ++ es) ≡ both (as_predicted ds) (as_predicted es)
-predicted_behind ds es i =
+pub predicted_after : (ds es : List Decision) → as_predicted (ds ++ es) ≡ both (as_predicted ds) (as_predicted es)
+predicted_after ds es i =
     record { first = list_all-append (went_as First) ds es i; second = list_all-append (went_as Second) ds es i }
 
 and_assoc : (a b c : Bool) → (a && b) && c ≡ a && (b && c)
@@ -47,19 +47,19 @@ pub did_after : (o : Outcome) (act : Act) (old mid new : Laid) (b p q : Predicte
     Did (act mid.state mid.scope) mid new p q →
     Did (after o act) old new b q
 did_after o act old mid new b p q first second =
-    let behind : Did (act o.state o.scope) mid new p q =
+    let following : Did (act o.state o.scope) mid new p q =
     subst (λ (z : Outcome). Did z mid new p q) (λ i. act (first.state i) (first.scope i)) second in
     let more = act o.state o.scope in
     let here = as_predicted o.decided in
     let there = as_predicted more.decided in
     record {
-      state = behind.state;
-      scope = behind.scope;
-      arrived = behind.arrived ∙ first.arrived;
-      hand = behind.hand ∙ first.hand;
-      sent = behind.sent ∙ ap (λ s. s ++ more.sent) first.sent ∙ append_assoc old.sent o.sent more.sent;
-      predicted = behind.predicted ∙ ap (both there) first.predicted ∙ sym (both_assoc there here b)
-          ∙ ap (λ z. both z b) (both_turned there here ∙ sym (predicted_behind o.decided more.decided));
+      state = following.state;
+      scope = following.scope;
+      arrived = following.arrived ∙ first.arrived;
+      hand = following.hand ∙ first.hand;
+      sent = following.sent ∙ ap (λ s. s ++ more.sent) first.sent ∙ append_assoc old.sent o.sent more.sent;
+      predicted = following.predicted ∙ ap (both there) first.predicted ∙ sym (both_assoc there here b)
+          ∙ ap (λ z. both z b) (both_turned there here ∙ sym (predicted_after o.decided more.decided));
     }
 
 acts_more : (place : ℕ) (xs : List StatementTree) (x : StatementTree) → acts place (trees (xs ++ x ∷ [])) ≡
@@ -74,9 +74,9 @@ one_more_tree xs i x within is =
     ∙ ap (map statement_tree) (take-suc xs i x within ∙ ap (λ y. take i xs ++ y ∷ []) (sym is))
     ∙ map-append statement_tree (take i xs) (x ∷ [])
 
-behind_all : (place : ℕ) (ts : List StatementTree) (x : StatementTree) (p : Laid) →
+after_all : (place : ℕ) (ts : List StatementTree) (x : StatementTree) (p : Laid) →
     block_does place (trees (ts ++ x ∷ [])) p ≡ after (block_does place (trees ts) p) (does place x)
-behind_all place ts x p =
+after_all place ts x p =
     ap (λ (all : List Act). in_order all p.state p.scope) (acts_more place ts x)
     ∙ fold-append after (done p.state p.scope) (acts place (trees ts)) (does place x ∷ [])
 
@@ -85,7 +85,7 @@ one_more : (place : ℕ) (xs : List Statement) (i : ℕ) (x : Statement) (p : La
     ≡ after (block_does place (trees (map statement_tree (take i xs))) p) (does place (statement_tree x))
 one_more place xs i x p within is =
     ap (λ ts. block_does place (trees ts) p) (one_more_tree xs i x within is)
-    ∙ behind_all place (map statement_tree (take i xs)) (statement_tree x) p
+    ∙ after_all place (map statement_tree (take i xs)) (statement_tree x) p
 
 -- one more statement of a block
 pub block_step : (place : ℕ) (xs : List Statement) (i : ℕ) (x : Statement) (old mid new : Laid) (b p q : Predicted) →
@@ -148,7 +148,7 @@ block_ends place xs ys x old mid new b p q same some is first last =
     let front = map statement_tree (take (length xs - 1) xs) in
     subst (λ z. Ended z old new b q)
     (sym (ap (λ ts. block_does place (trees ts) old) (last_tree xs ys x same some is) ∙
-    behind_all place front (statement_tree x) old))
+    after_all place front (statement_tree x) old))
     (ended_after _ (does place (statement_tree x)) old mid new b p q first last)
 
 pub on_ok : {A B P Q : Type 0} (r : Result A B) → (P → Q) → OnOk r P → OnOk r Q
@@ -163,7 +163,7 @@ turn_step k slot act old mid at new b p q first is second =
     let o = turns k slot act old.state old.scope in
     let body : Did (act mid.state (with_slot slot k mid.scope)) (bound slot k mid) new p q =
     subst (λ (z : Laid). Did (act z.state z.scope) z new p q) is second in
-    let behind : Did (act mid.state (with_slot slot k mid.scope)) mid new p q =
+    let following : Did (act mid.state (with_slot slot k mid.scope)) mid new p q =
     record {
       state = body.state;
       scope = body.scope;
@@ -174,7 +174,7 @@ turn_step k slot act old mid at new b p q first is second =
       predicted = body.predicted;
     } in
     subst (λ n. Did (turns n slot act old.state old.scope) old new b q) (sym (add-one k))
-    (did_after o (λ t m. act t (with_slot slot k m)) old mid new b p q first behind)
+    (did_after o (λ t m. act t (with_slot slot k m)) old mid new b p q first following)
 
 -- a decision before an outcome
 decided_did : (d : Decision) (o : Outcome) (old new : Laid) (b q r : Predicted) → Did o old new b q →
@@ -188,7 +188,7 @@ decided_did d o old new b q r did is = record {
   sent = did.sent;
   predicted = is ∙ ap (both (as_predicted (d ∷ []))) did.predicted ∙
       sym (both_assoc (as_predicted (d ∷ [])) (as_predicted o.decided) b)
-      ∙ ap (λ z. both z b) (sym (predicted_behind (d ∷ []) o.decided));
+      ∙ ap (λ z. both z b) (sym (predicted_after (d ∷ []) o.decided));
 }
 
 -- a condition that holds
@@ -208,10 +208,10 @@ pub branch_first : (place : ℕ) (x : Likely) (e : ExpressionTree) (block otherw
     (n : ℕ) (b q r : Predicted) → tree ≡ branch x e block otherwise → n ≡ number_of e old → n ≢ 0 →
     Did (block_does place block old) old new b q →
     r ≡ both (as_predicted (decision true x ∷ [])) q → Did (statement_does place tree old) old new b r
-branch_first place x e block otherwise tree old new n b q r same is holds did behind =
+branch_first place x e block otherwise tree old new n b q r same is holds did following =
     let true_is : is_true (number_of e old) ≡ true = ap is_true (sym is) ∙ is_true_of n holds in
     subst (λ t. Did (statement_does place t old) old new b r) (sym same)
     (subst (λ z. Did (chosen_outcome z x (block_does place block old) (block_does place otherwise old)) old new b r)
     (sym true_is)
     (subst (λ o. Did o old new b r) (sym (chosen_first x (block_does place block old) (block_does place otherwise old)))
-    (decided_did (decision true x) (block_does place block old) old new b q r did behind)))
+    (decided_did (decision true x) (block_does place block old) old new b q r did following)))

@@ -21,22 +21,22 @@ pub record Within (n m w : Need) : Type 0 where
   pub headers : m.headers ≤ w.headers
   pub misfits : m.misfits ≤ w.misfits
 
-pub lacks_behind : (a b : Room) (n m w : Need) (e : NoRoom) → SpentAtMost a b n → Lacks b m e → Within n m w →
+pub lacks_after : (a b : Room) (n m w : Need) (e : NoRoom) → SpentAtMost a b n → Lacks b m e → Within n m w →
     Lacks a w e
-lacks_behind a b n m w lack.Slot spent lacks within =
+lacks_after a b n m w lack.Slot spent lacks within =
     record { short = let one = spent.slots in let two = within.slots in let s = lacks.short in omega arith }
-lacks_behind a b n m w lack.Place spent lacks within =
+lacks_after a b n m w lack.Place spent lacks within =
     record { short = let one = spent.places in let two = within.places in let s = lacks.short in omega arith }
-lacks_behind a b n m w lack.Hand spent lacks within =
+lacks_after a b n m w lack.Hand spent lacks within =
     record { short = let one = spent.hand in let two = within.hand in let s = lacks.short in omega arith }
-lacks_behind a b n m w lack.Headers spent lacks within =
+lacks_after a b n m w lack.Headers spent lacks within =
     record { short = let two = within.headers in let s = lacks.short in omega arith }
-lacks_behind a b n m w lack.Misfit spent lacks within =
+lacks_after a b n m w lack.Misfit spent lacks within =
     record { short = let two = within.misfits in let s = lacks.short in omega arith }
 
-pub spent_behind : (a b c : Room) (n m w : Need) → SpentAtMost a b n → SpentAtMost b c m → Within n m w →
+pub spent_after : (a b c : Room) (n m w : Need) → SpentAtMost a b n → SpentAtMost b c m → Within n m w →
     SpentAtMost a c w
-spent_behind a b c n m w first second within = record {
+spent_after a b c n m w first second within = record {
   slots = let one = first.slots in let two = second.slots in let both = within.slots in omega arith;
   places = let one = first.places in let two = second.places in let both = within.places in omega arith;
   hand = let one = first.hand in let two = second.hand in omega arith;
@@ -99,7 +99,7 @@ turns_lack layout a b b' k slot most below block tree e same less spent is lacks
     let turn = turn_within k most (block_need layout block) less in
     let slots = turn.slots in let places = turn.places in
     subst (λ t. Lacks a (statement_need layout t) e) (sym same)
-    (lacks_behind a b (repeated k (block_need layout block)) (block_need layout block)
+    (lacks_after a b (repeated k (block_need layout block)) (block_need layout block)
     (statement_need layout (each slot below most block)) e spent
     (subst (λ r. Lacks r (block_need layout block) e) is lacks)
     (record {
@@ -129,7 +129,7 @@ pub turn_spent : (layout : Layout) (a b b' c : Room) (k : ℕ) (block : Statemen
     SpentAtMost b' c (block_need layout block) → SpentAtMost a c (repeated (k + 1) (block_need layout block))
 turn_spent layout a b b' c k block first is second =
     let n = block_need layout block in
-    spent_behind a b c (repeated k n) n (repeated (k + 1) n) first (subst (λ r. SpentAtMost r c n) is second)
+    spent_after a b c (repeated k n) n (repeated (k + 1) n) first (subst (λ r. SpentAtMost r c n) is second)
     (turn_within k (k + 1) n (omega arith))
 
 item_more : (layout : Layout) (ts : List StatementTree) (x : StatementTree) →
@@ -163,7 +163,7 @@ pub item_spent : (layout : Layout) (xs : List Statement) (i : ℕ) (x : Statemen
     SpentAtMost a c (block_need layout (trees (map statement_tree (take (i + 1) xs))))
 item_spent layout xs i x a b c within is first second =
     subst (λ ts. SpentAtMost a c (block_need layout (trees ts))) (sym (one_more_tree xs i x within is))
-    (spent_behind a b c _ _ _ first second (item_more layout (map statement_tree (take i xs)) (statement_tree x)))
+    (spent_after a b c _ _ _ first second (item_more layout (map statement_tree (take i xs)) (statement_tree x)))
 
 -- after the first i statements there is no room for the next
 pub item_lacks : (layout : Layout) (xs : List Statement) (i : ℕ) (x : Statement) (a b : Room) (e : NoRoom) →
@@ -172,7 +172,7 @@ pub item_lacks : (layout : Layout) (xs : List Statement) (i : ℕ) (x : Statemen
     Lacks b (statement_need layout (statement_tree x)) e →
     Lacks a (block_need layout (trees (map statement_tree xs))) e
 item_lacks layout xs i x a b e within is spent lacks =
-    lacks_behind a b _ _ _ e spent lacks (item_within layout xs i x within is)
+    lacks_after a b _ _ _ e spent lacks (item_within layout xs i x within is)
 
 -- what is before a statement is within all
 front_within : (layout : Layout) (ts : List StatementTree) (x : StatementTree) →
@@ -201,7 +201,7 @@ front_within layout (y ∷ ts) x =
 -- a need m is more than a need n
 lacks_more : (a : Room) (n m : Need) (e : NoRoom) → Lacks a n e → Within nothing_needed n m → Lacks a m e
 lacks_more a n m e lacks within =
-    lacks_behind a a nothing_needed n m e (record { slots = omega arith; places = omega arith; hand = omega arith })
+    lacks_after a a nothing_needed n m e (record { slots = omega arith; places = omega arith; hand = omega arith })
     lacks within
 
 owing_more : (owed : Option Pending) (n m : Need) → Within nothing_needed n m →

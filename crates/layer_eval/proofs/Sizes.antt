@@ -45,8 +45,8 @@ joined_bytes : (fits : Bool) (p m : Content) →
 joined_bytes true p m = refl
 joined_bytes false p m = refl
 
-join_behind : (p m n : Content) → m.body ≡ n.body → (join p m).body ≡ (join p n).body
-join_behind p m n same =
+join_after : (p m n : Content) → m.body ≡ n.body → (join p m).body ≡ (join p n).body
+join_after p m n same =
     joined_bytes (nat_le (length p.body + length m.body) longest_body) p m
     ∙ ap (λ b. if nat_le (length p.body + length b) longest_body then p.body ++ b else b) same
     ∙ sym (joined_bytes (nat_le (length p.body + length n.body) longest_body) p n)
@@ -58,7 +58,7 @@ bare_bytes tree.nothing s l = refl
 bare_bytes (tree.held c i row carried) s l = row_bytes carried (row_at s c (val i s l) (val row s l))
 bare_bytes (tree.cut m from n) s l = refl
 bare_bytes (tree.tail m from) s l = ap (drop (val from s l)) (bare_bytes m s l)
-bare_bytes (tree.join p m) s l = join_behind (mval p s l) (mval (bare m) s l) (mval m s l) (bare_bytes m s l)
+bare_bytes (tree.join p m) s l = join_after (mval p s l) (mval (bare m) s l) (mval m s l) (bare_bytes m s l)
 
 -- so what is cut of it, and what it is joined before, is the same
 pub cut_bare : (m : MessageTree) (s : State) (l : Scope) (from n : ℕ) → cut (mval (bare m) s l) from n ≡

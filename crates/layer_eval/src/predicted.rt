@@ -60,12 +60,12 @@ impl Predicted {
     }
 
     /// Both what was decided before and what was decided after it went as predicted.
-    pub fn and(self, behind: Predicted) -> Predicted
-        ensures { result ≡ both self behind }
+    pub fn and(self, following: Predicted) -> Predicted
+        ensures { result ≡ both self following }
     {
         Predicted {
-            first: self.first & behind.first,
-            second: self.second & behind.second,
+            first: self.first & following.first,
+            second: self.second & following.second,
         }
     }
 }

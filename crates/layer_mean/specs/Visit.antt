@@ -50,14 +50,14 @@ pub record Met : Type 0 where
   pub message : Option Content
 
 -- What stands after a header, and where there is none.
-abbrev pub behind : Option Header → Content → Met
-behind None m = record { tag = 0; fields = []; message = Some m }
-behind (Some h) m = record { tag = h.tag; fields = h.fields; message = Some m }
+abbrev pub following : Option Header → Content → Met
+following None m = record { tag = 0; fields = []; message = Some m }
+following (Some h) m = record { tag = h.tag; fields = h.fields; message = Some m }
 
 abbrev pub met : Dir → Option Content → Met
 met dir None = record { tag = 0; fields = []; message = None }
-met Up (Some m) = behind (first_of m.headers) (popped m)
-met Down (Some m) = behind None m
+met Up (Some m) = following (first_of m.headers) (popped m)
+met Down (Some m) = following None m
 
 -- Whether a handler is for this direction, kind and popped tag, and the handler of a layer that is.
 abbrev pub is_for : Dir → Kind → ℕ → HandlerTree → Bool

@@ -12,7 +12,8 @@ use Rattle.layer_mean.specs.declared.run.Event.{Event}
 use Rattle.layer_mean.specs.Effect.{unusual}
 use Rattle.layer_mean.specs.State.{State}
 use Rattle.layer_mean.specs.Tree.{LayerTree, HandlerTree}
-use Rattle.layer_mean.specs.Visit.{behind, met, handler_for, handled_visit, none_header, Visited, unhandled_visit, step}
+use Rattle.layer_mean.specs.Visit.{following, met, handler_for, handled_visit, none_header, Visited, unhandled_visit}
+use Rattle.layer_mean.specs.Visit.{step}
 use Rattle.layer_desk.specs.Need.{headers_of, most_above}
 use Rattle.pool_message.specs.Seen.{refs_if, content_seen, seen_if, event_seen, LiesIf}
 use Rattle.pool_message.specs.Sent.{message_passed, CanPass}
@@ -30,8 +31,8 @@ no_handler (Some h) none = absurd (cc)
 
 module _ (place : ℕ) (s : State) where
   -- After the tag 0, or after no header, a message goes on up.
-  goes_up : (header : Option Header) (e : Event) (content : Content) → (behind header content).tag ≡ 0 →
-      unhandled_visit place s Up e (behind header content) (behind header content).message ≡
+  goes_up : (header : Option Header) (e : Event) (content : Content) → (following header content).tag ≡ 0 →
+      unhandled_visit place s Up e (following header content) (following header content).message ≡
       sends s Up (record e { message = Some content })
   goes_up None e content tag = refl
   goes_up (Some h) e content tag =

@@ -15,5 +15,5 @@ abbrev pub first_seen : List Held → List (Dir × PoolEvent) → Event
 first_seen p events = event_seen p (first_sent events).1
 
 -- The events after it.
-abbrev pub behind_first : List (Dir × PoolEvent) → List (Dir × PoolEvent)
-behind_first events = drop 1 events
+abbrev pub after_first : List (Dir × PoolEvent) → List (Dir × PoolEvent)
+after_first events = drop 1 events

@@ -8,7 +8,7 @@ ghost use Rattle.layer_mean.specs.Tree.{LayerTree};
 ghost use Rattle.layer_mean.specs.Visit.{step};
 ghost use Rattle.layer_desk.specs.Need.{most_above};
 ghost use Rattle.layer_eval.specs.Did.{as_predicted};
-ghost use Rattle.layer_stage.specs.Front.{first_way, first_seen, behind_first};
+ghost use Rattle.layer_stage.specs.Front.{first_way, first_seen, after_first};
 ghost use Rattle.layer_stage.specs.Kept.{messages_kept};
 ghost use Rattle.layer_stage.specs.Passes.{is_passed, passed_by};
 ghost use Rattle.layer_stage.specs.Room.{slots_needed, places_needed, headers_met, most_counted, most_kept};
@@ -60,7 +60,7 @@ pub trait Stage {
         ensures state { state pool.new self.new ≡
             (step (place self.old) (layer self.old) (state pool.old self.old) (first_way events.old.items)
             (first_seen pool.old events.old.items)).state }
-        ensures sent { sent_seen pool.new events.new.items ≡ sent_seen pool.old (behind_first events.old.items)
+        ensures sent { sent_seen pool.new events.new.items ≡ sent_seen pool.old (after_first events.old.items)
             ++ (step (place self.old) (layer self.old) (state pool.old self.old) (first_way events.old.items)
             (first_seen pool.old events.old.items)).sent }
         ensures predicted { result ≡ as_predicted

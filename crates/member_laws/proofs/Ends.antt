@@ -35,7 +35,7 @@ chained_turns stack w t rest typed no_cycle h = record {
   orderly = typed_is_orderly stack typed;
   no_cycle = no_cycle;
   before = known_all stack (t ∷ rest) h.tasks;
-  behind = known_all stack (next_of (length stack) (layers stack) (t ∷ rest) w).tasks
+  following = known_all stack (next_of (length stack) (layers stack) (t ∷ rest) w).tasks
       (turns_keep_chains stack (record { world = w; tasks = t ∷ rest }) typed h).tasks;
 }
 

@@ -104,10 +104,10 @@ outputs_fit here plans k (o ∷ os) (x ∷ xs) is from =
     found : Option Plan → Option ℕ
     found p = option_map (λ plan. k) p
 
-    behind : (n : ℕ) → All (FitsItsPlan plans) (with_plans plans (Some n) (map (output_of here) xs)) →
+    following : (n : ℕ) → All (FitsItsPlan plans) (with_plans plans (Some n) (map (output_of here) xs)) →
         (next : Option ℕ) → FitsItsPlan plans (y, next) →
         All (FitsItsPlan plans) ((y, next) ∷ with_plans plans (Some n) (map (output_of here) xs))
-    behind n more next fit = All-cons (FitsItsPlan plans) (y, next) _ fit more
+    following n more next fit = All-cons (FitsItsPlan plans) (y, next) _ fit more
 
     own : (from : PlansFrom plans k (o ∷ packets_among os)) (p : Option Plan) → slice_get plans k ≡ p →
         FitsItsPlan plans (y, found p)
@@ -125,9 +125,9 @@ outputs_fit here plans k (o ∷ os) (x ∷ xs) is from =
         All (FitsItsPlan plans) (with_plans plans (Some n) (map (output_of here) xs))) →
         All (FitsItsPlan plans) ((y, if c then found (slice_get plans k) else None) ∷
         with_plans plans (if c then Some (k + 1) else Some k) (map (output_of here) xs))
-    go true true e from rest = behind (k + 1) (rest (k + 1) (further from)) (found (slice_get plans k))
+    go true true e from rest = following (k + 1) (rest (k + 1) (further from)) (found (slice_get plans k))
         (own from (slice_get plans k) refl)
-    go false false e from rest = behind k (rest k from) None (unplanned plans y)
+    go false false e from rest = following k (rest k from) None (unplanned plans y)
     go true false e from rest = absurd (cc e)
     go false true e from rest = absurd (cc e)
 outputs_fit here plans k [] (x ∷ xs) is from = absurd is

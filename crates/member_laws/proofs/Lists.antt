@@ -8,9 +8,9 @@ plain_sum : (n : ℕ) → 0 + n ≡ n
 plain_sum n = omega arith
 
 -- What stands after a list.
-pub behind : {A : Type 0} (xs ys : List A) (i : ℕ) → slice_get (xs ++ ys) (length xs + i) ≡ slice_get ys i
-behind [] ys i = ap (slice_get ys) (plain_sum i)
-behind (x ∷ xs) ys i = ap (slice_get (x ∷ xs ++ ys)) (moved (length xs) i) ∙ behind xs ys i
+pub following : {A : Type 0} (xs ys : List A) (i : ℕ) → slice_get (xs ++ ys) (length xs + i) ≡ slice_get ys i
+following [] ys i = ap (slice_get ys) (plain_sum i)
+following (x ∷ xs) ys i = ap (slice_get (x ∷ xs ++ ys)) (moved (length xs) i) ∙ following xs ys i
   where
     moved : (n k : ℕ) → suc n + k ≡ suc (n + k)
     moved n k = omega arith
@@ -38,7 +38,7 @@ in_group h (x ∷ before) g rest i less =
     ap (λ n. slice_get (h x ++ flat_map h (before ++ g ∷ rest)) (n + i)) (sum_by-cons (λ y. length (h y)) x before)
     ∙ ap (slice_get (h x ++ flat_map h (before ++ g ∷ rest)))
     (moved (length (h x)) (sum_by (λ y. length (h y)) before) i)
-    ∙ behind (h x) (flat_map h (before ++ g ∷ rest)) (sum_by (λ y. length (h y)) before + i)
+    ∙ following (h x) (flat_map h (before ++ g ∷ rest)) (sum_by (λ y. length (h y)) before + i)
     ∙ in_group h before g rest i less
   where
     moved : (a b c : ℕ) → a + b + c ≡ a + (b + c)

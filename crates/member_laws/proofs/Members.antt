@@ -54,7 +54,7 @@ use Rattle.run_mean.specs.Member.{Member, inside, out, opened_member, Input, cas
 use Rattle.run_mean.specs.Member.{too_big, Entered, app_cast, app_send, app_leave, clock_tick, from_peer, from_datagram}
 use Rattle.run_mean.specs.Member.{entered_input, first_task, packet, nowhere, content, packet_to, above, below}
 use Rattle.run_mean.specs.Member.{output_of}
-use Rattle.run_mean.specs.Member.{announced_ranks, packet_in, installed_member, most_turns, step_from, member_behind}
+use Rattle.run_mean.specs.Member.{announced_ranks, packet_in, installed_member, most_turns, step_from, member_following}
 use Rattle.run_mean.specs.World.{World, member_at, packet_number, here_of, stepped_inside, stepped_of, step_happening}
 use Rattle.run_mean.specs.World.{given_packet}
 use Rattle.run_mean.specs.World.{happens}
@@ -340,13 +340,13 @@ packets_out stack here [] is h = tt
 packets_out stack here (x ∷ outs) is h = cons_each (IsSpellable stack) (packet_in (output_of here x)) _
     (packet_out stack here x.0 x.1 is h.0) (packets_out stack here outs is h.1)
 
-behind_is : (stack : List LayerTree) (view : View) (id : ℕ) (states : List State) (announced_first : Option ℕ) →
+after_is : (stack : List LayerTree) (view : View) (id : ℕ) (states : List State) (announced_first : Option ℕ) →
     TypedStack stack →
     IsView view → AreChainedStates stack states →
     IsChainedMember stack
     (option_map_or (λ m. m) (option_map (installed_member stack view id) announced_first) (inside view states))
-behind_is stack view id states None typed is h = record { view_is = is; states_are = h }
-behind_is stack view id states (Some ranks) typed is h = installed_is stack view id ranks typed is
+after_is stack view id states None typed is h = record { view_is = is; states_are = h }
+after_is stack view id states (Some ranks) typed is h = installed_is stack view id ranks typed is
 
 pub steps_keep_chains : StepsKeepChains
 steps_keep_chains stack here id states what typed is h fits =
@@ -358,7 +358,7 @@ steps_keep_chains stack here id states what typed is h fits =
       states = line.states;
       outs = line.outs;
       packets = packets_out stack here work.outs is line.outs;
-      member = behind_is stack here.view id work.states
+      member = after_is stack here.view id work.states
           (slice_get (filter_map announced_ranks (map (output_of here) work.outs)) 0) typed is.view
           line.states;
     }
@@ -407,7 +407,7 @@ module _ (stack : List LayerTree) (plans : List Plan) (w : World) (typed : Typed
       record {
         group = world.group;
         stamp = world.stamp;
-        members = each_set (IsChainedMember stack) w.members id (member_behind view step) world.members h.member;
+        members = each_set (IsChainedMember stack) w.members id (member_following view step) world.members h.member;
         packets = each_append (IsSpellable stack) w.packets (filter_map packet_in step.outputs) world.packets h.packets;
       }
 

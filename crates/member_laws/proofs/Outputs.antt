@@ -86,12 +86,13 @@ tags_are (d ∷ ds) [] is = absurd is
 agree_known : (planned : List (Option ℕ)) (numbers : List ℕ) (more : List (Option ℕ)) (rest : List ℕ) →
     Pairwise IsKnownAs planned numbers →
     agree more rest ≡ true → agree (planned ++ more) (numbers ++ rest) ≡ true
-agree_known [] [] more rest known behind = behind
-agree_known (Some n ∷ planned) (v ∷ numbers) more rest known behind =
-    rw (eq-eqb v n known.0) (agree_known planned numbers more rest known.1 behind)
-agree_known (None ∷ planned) (v ∷ numbers) more rest known behind = agree_known planned numbers more rest known.1 behind
-agree_known [] (v ∷ numbers) more rest known behind = absurd known
-agree_known (x ∷ planned) [] more rest known behind = absurd known
+agree_known [] [] more rest known following = following
+agree_known (Some n ∷ planned) (v ∷ numbers) more rest known following =
+    rw (eq-eqb v n known.0) (agree_known planned numbers more rest known.1 following)
+agree_known (None ∷ planned) (v ∷ numbers) more rest known following =
+    agree_known planned numbers more rest known.1 following
+agree_known [] (v ∷ numbers) more rest known following = absurd known
+agree_known (x ∷ planned) [] more rest known following = absurd known
 
 fields_agree : (ds : List DrawnHeader) (hs : List Header) → HeadersAre ds hs →
     agree (flat_map (λ d. d.fields) ds) (flat_map (λ h. h.fields) hs) ≡ true

@@ -7,7 +7,7 @@ use Rattle.packet_mean.specs.Spelling.{IsSpellable}
 use Rattle.packet_mean.specs.declared.here.Here.{Here}
 use Rattle.stack_mean.specs.Plan.{Plan}
 use Rattle.stack_mean.specs.Plans.{plans_of}
-use Rattle.run_mean.specs.Common.{plan_behind, with_plans, short_from, as_sent}
+use Rattle.run_mean.specs.Common.{plan_after, with_plans, short_from, as_sent}
 use Rattle.run_mean.specs.Member.{Entered, Output, deliver_cast, deliver_send, block, announce, packet, nowhere, timer}
 use Rattle.run_mean.specs.Member.{quiet, packet_in, first_task, step_from}
 use Rattle.member_laws.specs.Fit.{WireSpells, IsBare}
@@ -40,7 +40,7 @@ spelled : (stack : List LayerTree) (plans : List Plan) (next : Option ℕ) (outp
     AllByRecursion (WireIsSpelled stack plans) (with_plans plans next outputs)
 spelled stack plans next [] h i = tt
 spelled stack plans next (packet p ∷ outputs) h i =
-    (i.0 h.0, spelled stack plans (plan_behind next (packet p)) outputs h.1 i.1)
+    (i.0 h.0, spelled stack plans (plan_after next (packet p)) outputs h.1 i.1)
 spelled stack plans next (deliver_cast peer body ∷ outputs) h i = (tt, spelled stack plans _ outputs h i.1)
 spelled stack plans next (deliver_send peer body ∷ outputs) h i = (tt, spelled stack plans _ outputs h i.1)
 spelled stack plans next (block n ∷ outputs) h i = (tt, spelled stack plans _ outputs h i.1)

@@ -15,7 +15,7 @@ use Rattle.script_mean.specs.declared.event.ScriptEvent.TheVariants as script
 use Rattle.stack_mean.specs.Plan.{Plan}
 use Rattle.run_mean.specs.Member.{Member, inside, out, opened_member, Input, cast, send, leave, tick, datagram, Entered}
 use Rattle.run_mean.specs.Member.{app_cast, app_send, app_leave, clock_tick, from_peer, entered_input, first_task, Step}
-use Rattle.run_mean.specs.Member.{step_from, member_behind, packet_in}
+use Rattle.run_mean.specs.Member.{step_from, member_following, packet_in}
 use Rattle.run_mean.specs.World.{World, first_world, happens}
 use Rattle.run_mean.specs.Report.{Moment, moments}
 
@@ -76,7 +76,7 @@ pub record IsChainedStep (stack : List LayerTree) (here : Here) (s : Step) : Typ
   pub states : AreChainedStates stack s.work.states
   pub outs : AllByRecursion (IsChainedOut stack) s.work.outs
   pub packets : AllByRecursion (IsSpellable stack) (filter_map packet_in s.outputs)
-  pub member : IsChainedMember stack (member_behind here.view s)
+  pub member : IsChainedMember stack (member_following here.view s)
 
 abbrev pub StepsKeepChains : Type 0
 StepsKeepChains = (stack : List LayerTree) (here : Here) (id : ℕ) (states : List State) (what : Entered) →

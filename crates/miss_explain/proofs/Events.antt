@@ -46,17 +46,17 @@ own_lacked c c' h Common is = ap (missed_in c.stack c.plans) is.did ∙ common_l
 own_lacked c c' h Other is = is.lacked
 own_lacked c c' h (Missed miss) is = is.lacked
 
-own_behind : (c c' : Peopled) (w : World) (event : ScriptEvent) (probed : Probed) (last : Peopled) →
+own_after : (c c' : Peopled) (w : World) (event : ScriptEvent) (probed : Probed) (last : Peopled) →
     IsProbed c (happens c.stack c.plans w event) c' probed →
     Stands c w → ((v : World) → Stands c' v → Follows probed c' event v last (Ok tt)) →
     Stands last (happens c.stack c.plans w event).world
-own_behind c c' w event Common last is stands follows =
+own_after c c' w event Common last is stands follows =
     subst (λ x. Stands x (happens c.stack c.plans w event).world)
     (sym (follows (happens c.stack c.plans w event).world is.world)) is.world
-own_behind c c' w event Other last is stands follows =
+own_after c c' w event Other last is stands follows =
     subst (λ x. Stands last (happens x.stack x.plans w event).world) is.same
     (follows w (subst (λ x. Stands x w) (sym is.same) stands))
-own_behind c c' w event (Missed miss) last is stands follows =
+own_after c c' w event (Missed miss) last is stands follows =
     subst (λ x. Stands last (happens x.stack x.plans w event).world) is.same
     (follows w (subst (λ x. Stands x w) (sym is.same) stands))
 
@@ -108,9 +108,9 @@ module _ (file : FileTree) (stack : List LayerTree) (plans : List Plan) where
         ∙ ap (λ o. option_to_list (option_map (miss_line file stack plans number (member_of event)) o)) (sym lacked)
 
     -- after it the group stands at the world of what happened
-    pub stands_behind : (last : Peopled) → Stands c w →
+    pub stands_after : (last : Peopled) → Stands c w →
         ((v : World) → Stands c' v → Follows probed c' event v last (Ok tt)) →
         Stands last (happens stack plans w event).world
-    stands_behind last stands follows =
+    stands_after last stands follows =
         as_given (λ st pl. Stands last (happens st pl w event).world)
-        (own_behind c c' w event probed last is stands follows)
+        (own_after c c' w event probed last is stands follows)

@@ -21,7 +21,7 @@ use Rattle.guard_mean.specs.Machine.{Tested, tests, tested, operand_at, reading_
 use Rattle.guard_mean.specs.Straight.{Guarding, value_tests, one_test, conjunct_tests, unguarded, code_of}
 use Rattle.guard_laws.proofs.Grows.{Grown, grown_same, grown_then}
 use Rattle.guard_laws.proofs.Straight.{code_is_same}
-use Rattle.check_mean.specs.Checks.{Checking, one_check, failing_behind, failing_from}
+use Rattle.check_mean.specs.Checks.{Checking, one_check, failing_after, failing_from}
 use Rattle.miss_laws.specs.Checked.{ChecksFindUnheld}
 
 -- where one of two choices is none, so is the other
@@ -56,18 +56,18 @@ later_ends : (es : List TraceNumber) (c : Checking) (n : ℕ) → n < length c.g
 later_ends [] c n less = refl
 later_ends (e ∷ es) c n less = later_ends es next n (omega (arith, less, longer)) ∙
     sum_by_push (λ end. cond (nat_le end n) 1 0) c.ends _
-    ∙ behind (nat_le (length next.guarding.tests) n) refl where
+    ∙ following (nat_le (length next.guarding.tests) n) refl where
       next : Checking
       next = one_check c e
 
       longer : length c.guarding.tests ≤ length next.guarding.tests
       longer = grown_longer c.guarding.tests next.guarding.tests (conjunct_grows c.guarding e)
 
-      behind : (b : Bool) → nat_le (length next.guarding.tests) n ≡ b → ends_before n c.ends + cond b 1 0 ≡
+      following : (b : Bool) → nat_le (length next.guarding.tests) n ≡ b → ends_before n c.ends + cond b 1 0 ≡
           ends_before n c.ends
-      behind true is = let reached = leb-true (length next.guarding.tests) n is in
+      following true is = let reached = leb-true (length next.guarding.tests) n is in
           absurd (omega (arith, less, longer, reached))
-      behind false is = omega arith
+      following false is = omega arith
 
 module _ (i : Input) (ss : List State) where
   abbrev passing : Kept → List Test → Tested
@@ -92,7 +92,7 @@ module _ (i : Input) (ss : List State) where
             ((now : Kept) → (passing now ts).passes ≡ true →
             failing_from i ss (suc n) now (ts ++ us) ≡ failing_from i ss (suc n + length ts) (passing now ts).kept us) →
             (fold (tests i ss) (record { kept = now; passes = b }) ts).passes ≡ true →
-            failing_behind n (record { kept = now; passes = b }) (λ x. failing_from i ss (suc n) x.kept (ts ++ us)) ≡
+            failing_after n (record { kept = now; passes = b }) (λ x. failing_from i ss (suc n) x.kept (ts ++ us)) ≡
             failing_from i ss (n + suc (length ts)) (fold (tests i ss) (record { kept = now; passes = b }) ts).kept us
         go now true rest passed = rest now passed
             ∙ (let there : suc n + length ts ≡ n + suc (length ts) = omega arith in
@@ -107,7 +107,7 @@ module _ (i : Input) (ss : List State) where
         go : (now : Kept) (b : Bool) →
             ((now : Kept) → (passing now ts).passes ≡ true → failing_from i ss (suc n) now ts ≡ None) →
             (fold (tests i ss) (record { kept = now; passes = b }) ts).passes ≡ true →
-            failing_behind n (record { kept = now; passes = b }) (λ x. failing_from i ss (suc n) x.kept ts) ≡ None
+            failing_after n (record { kept = now; passes = b }) (λ x. failing_from i ss (suc n) x.kept ts) ≡ None
         go now true rest passed = rest now passed
         go now false rest passed =
             absurd (cc (sym passed ∙ stays_failed ts (record { kept = now; passes = false }) refl))
@@ -129,7 +129,7 @@ module _ (i : Input) (ss : List State) where
             FailsWithin (suc n) (suc n + length ts) (failing_from i ss (suc n) now (ts ++ us))) →
             (fold (tests i ss) (record { kept = now; passes = b }) ts).passes ≡ false →
             FailsWithin n (n + suc (length ts))
-            (failing_behind n (record { kept = now; passes = b })
+            (failing_after n (record { kept = now; passes = b })
             (λ x. failing_from i ss (suc n) x.kept (ts ++ us)))
         go now true rest failed = let f = rest now failed in let least = f.reached in let most = f.below in
             record { at = f.at; is = f.is; reached = omega (arith, least); below = omega (arith, most) }
@@ -181,16 +181,16 @@ module _ (i : Input) (ss : List State) where
         same_choice (tested i (code_of g).tests ss).passes (holds i g ss) _ _ (code_is_same g i ss)
 
     -- after conjuncts that all hold
-    record Behind (front : List TraceNumber) (c : Checking) : Type 0 where
+    record After (front : List TraceNumber) (c : Checking) : Type 0 where
       made : c.guarding ≡ fold conjunct_tests start front
       hold : list_all holding front ≡ true
       ends : (n : ℕ) → length c.guarding.tests ≤ n → ends_before n c.ends ≡ length front
 
-    passed_behind : (front : List TraceNumber) (c : Checking) → Behind front c → (tested i c.guarding.tests ss).passes ≡
+    passed_after : (front : List TraceNumber) (c : Checking) → After front c → (tested i c.guarding.tests ss).passes ≡
         true
-    passed_behind front c b = ap (λ (g : Guarding). (tested i g.tests ss).passes) b.made ∙ passed_as front ∙ b.hold
+    passed_after front c b = ap (λ (g : Guarding). (tested i g.tests ss).passes) b.made ∙ passed_as front ∙ b.hold
 
-    made_next : (front : List TraceNumber) (c : Checking) (e : TraceNumber) → Behind front c →
+    made_next : (front : List TraceNumber) (c : Checking) (e : TraceNumber) → After front c →
         (one_check c e).guarding ≡ fold conjunct_tests start (front ++ e ∷ [])
     made_next front c e b = ap (λ g. conjunct_tests g e) b.made ∙ sym (fold-append conjunct_tests start front (e ∷ []))
 
@@ -199,9 +199,9 @@ module _ (i : Input) (ss : List State) where
         list_all holding (front ++ e ∷ []) ≡ w
     holds_next front e w hold is = list_all-append holding front (e ∷ []) ∙ (λ z. hold z && (is z && true)) ∙ and-true w
 
-    behind_next : (front : List TraceNumber) (c : Checking) (e : TraceNumber) → Behind front c → holding e ≡ true →
-        Behind (front ++ e ∷ []) (one_check c e)
-    behind_next front c e b is = record {
+    after_next : (front : List TraceNumber) (c : Checking) (e : TraceNumber) → After front c → holding e ≡ true →
+        After (front ++ e ∷ []) (one_check c e)
+    after_next front c e b is = record {
       made = made_next front c e b;
       hold = holds_next front e true b.hold is;
       ends = λ n past. sum_by_push (λ end. cond (nat_le end n) 1 0) c.ends _
@@ -215,7 +215,7 @@ module _ (i : Input) (ss : List State) where
     abbrev check_found : Checking → Option ℕ
     check_found c = option_map (λ n. ends_before n c.ends) (failing_from i ss 0 nothing_kept c.guarding.tests)
 
-    unheld_next : (front : List TraceNumber) (c : Checking) (e : TraceNumber) (es : List TraceNumber) → Behind front c →
+    unheld_next : (front : List TraceNumber) (c : Checking) (e : TraceNumber) (es : List TraceNumber) → After front c →
         holding e ≡ false →
         check_found (fold one_check (one_check c e) es) ≡ Some (length front)
     unheld_next front c e es b is =
@@ -235,23 +235,23 @@ module _ (i : Input) (ss : List State) where
           found : FailsWithin (length c.guarding.tests) (length next.guarding.tests)
               (failing_from i ss 0 nothing_kept (fold one_check next es).guarding.tests)
           found = fails_between c.guarding.tests next.guarding.tests (fold one_check next es).guarding.tests
-              (passed_behind front c b) failed
+              (passed_after front c b) failed
               (conjunct_grows c.guarding e) (checks_grow es next)
 
           later : nat_le (length next.guarding.tests) found.at ≡ false
           later = lt-leb (length next.guarding.tests) found.at found.below
 
-    finds : (es front : List TraceNumber) (c : Checking) → Behind front c → check_found (fold one_check c es) ≡
+    finds : (es front : List TraceNumber) (c : Checking) → After front c → check_found (fold one_check c es) ≡
         position_from unheld (length front) es
     finds [] front c b = ap (option_map (λ n. ends_before n c.ends))
-        (all_passed c.guarding.tests 0 nothing_kept (passed_behind front c b))
+        (all_passed c.guarding.tests 0 nothing_kept (passed_after front c b))
     finds (e ∷ es) front c b = go (holding e) refl (finds es (front ++ e ∷ []) (one_check c e)) where
       go : (w : Bool) → holding e ≡ w →
-          (Behind (front ++ e ∷ []) (one_check c e) →
+          (After (front ++ e ∷ []) (one_check c e) →
           check_found (fold one_check (one_check c e) es) ≡ position_from unheld (length (front ++ e ∷ [])) es) →
           check_found (fold one_check (one_check c e) es) ≡
           cond (not w) (Some (length front)) (position_from unheld (length front + 1) es)
-      go true is rest = rest (behind_next front c e b is)
+      go true is rest = rest (after_next front c e b is)
           ∙ ap (λ n. position_from unheld n es) (length-append front (e ∷ []))
       go false is rest = unheld_next front c e es b is
 

@@ -14,7 +14,7 @@ use Rattle.guard_mean.specs.Hoist.{Hoisting, back, hoists, nothing_yet, hoisted}
 use Rattle.guard_laws.specs.Sound.{Squares, Sound}
 use Rattle.guard_laws.proofs.Entry.{squares_of, entries_are_sound}
 use Rattle.guard_laws.proofs.Grows.{grown_same, back_grows, hoists_grow, conjuncts_grow}
-use Rattle.guard_laws.proofs.Means.{Behind, behind_more}
+use Rattle.guard_laws.proofs.Means.{After, after_more}
 use Rattle.guard_laws.proofs.Same.{start}
 use Rattle.guard_laws.proofs.Steps.{On, Claim, step}
 use Rattle.check_mean.specs.Checks.{stop_of, first_unheld}
@@ -34,13 +34,13 @@ module _ (sq : Squares) (i : Input) (ss : List State) where
   -- the conjunct of the check at which a trace stopped is the first that doesn't hold
   abbrev Counts : Followed → Hoisting → Type 0
   Counts (on t) h = Passed t h
-  Counts (stopped_at k) h = (vs : List ℕ) → Behind sq i ss h.values vs → first_of vs h.conjuncts ≡ Some k
+  Counts (stopped_at k) h = (vs : List ℕ) → After sq i ss h.values vs → first_of vs h.conjuncts ≡ Some k
 
   stays_counted : (k : ℕ) (h : Hoisting) (o : Operation) → Counts (stopped_at k) h → Counts (stopped_at k) (hoists h o)
   stays_counted k h o counted vs b = let more = conjuncts_grow h o in
       ap (first_of vs) more.1
       ∙ first_stays (holds_at i (only_values vs) ss) h.conjuncts more.0 0 k
-      (counted vs (behind_more sq i ss h.values (hoists h o).values vs (hoists_grow h o) b))
+      (counted vs (after_more sq i ss h.values (hoists h o).values vs (hoists_grow h o) b))
 
   counts_check : (t : Trail) (h : Hoisting) (e : TraceNumber) (b : Bool) → Passed t h →
       Claim sq i ss (if b then on (record t { checks = t.checks + 1 }) else stopped_at t.checks) (hoists h (check e)) →
@@ -51,7 +51,7 @@ module _ (sq : Squares) (i : Input) (ss : List State) where
   }
   counts_check t h e false p failed = λ vs b.
       last_failed (holds_at i (only_values vs) ss) h.conjuncts (back h e h.values).term 0
-      (p.guards.passed vs (behind_more sq i ss h.values (back h e h.values).values vs (back_grows h e h.values) b))
+      (p.guards.passed vs (after_more sq i ss h.values (back h e h.values).values vs (back_grows h e h.values) b))
       (failed vs b)
       ∙ ap Some (let many = p.many in let same : 0 + length h.conjuncts ≡ t.checks = omega (arith, many) in same)
 

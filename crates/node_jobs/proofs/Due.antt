@@ -34,11 +34,11 @@ use Rattle.node_laws.specs.Losses.{failures_in}
 use Rattle.node_laws.specs.Network as network
 use Rattle.node_loop.specs.Serve.{Task, Whereabouts, MadeAllTurns, WentDeaf, ListenFailed, RanOver, after_listens}
 use Rattle.node_loop.specs.Serve.{first_of_plan, flags_of}
-use Rattle.node_jobs.specs.Comes.{Beyond, Node, Good, Ran, Lost, NodeComes, job_of, task_of, before, behind}
+use Rattle.node_jobs.specs.Comes.{Beyond, Node, Good, Ran, Lost, NodeComes, job_of, task_of, before, following}
 use Rattle.node_jobs.specs.Due.{IsBorne, LinksBear, CallsFor, NodeExact}
 use Rattle.node_jobs.specs.Seen.{run_of, NodeSeen}
 use Rattle.node_jobs.proofs.Heard.{failures_append_one}
-use Rattle.node_jobs.proofs.Network.{fewer_fail, none_in_front, receives_failed}
+use Rattle.node_jobs.proofs.Network.{fewer_fail, none_before, receives_failed}
 use Rattle.node_jobs.proofs.Seen.{deaf_hears}
 
 -- a count that rose by some rose
@@ -103,7 +103,7 @@ unlistened w None None faults after task me rose t bears = bears (rose_by faults
 unlistened w None (Some n') faults after task me rose t bears = t
 unlistened w (Some n) None faults after task me rose t bears = t
 unlistened w (Some n) (Some n') faults after task me rose t bears =
-    none_in_front t.count (length w.me) n.listens (subst (λ me. t.count < length me) me t.within) bears.listens
+    none_before t.count (length w.me) n.listens (subst (λ me. t.count < length me) me t.within) bears.listens
     t.listens
 
 module _ (w : Node) (told : Option Shelved) (good : Good w told) (a b : Whereabouts)
@@ -157,10 +157,10 @@ module _ (words : List Text) (w : Node) (a : Around) (n : Beyond) (e : Errors)
         absurd (not_unfound w shelf good (subst (Unfound (job_of w)) told c.came.unfound))
     good_finished good puts bears write_failed r = absurd (puts r.served.written.rose)
     good_finished good puts bears link_failed r = absurd (lost r.served) where
-      lost : Lost (task_of w a.told r.good) (before a n) (behind a n) → ⊥
+      lost : Lost (task_of w a.told r.good) (before a n) (following a n) → ⊥
       lost (inl c) = unlistened w n.told n.told_after n.faults n.faults_after (task_of w a.told r.good) refl c.faults
           c.network bears
-      lost (inr d) = deaf_unborne w a.told r.good (before a n) (behind a n) d
+      lost (inr d) = deaf_unborne w a.told r.good (before a n) (following a n) d
           (deaf_hears words w a n is (record { good = r.good; sound = r.sound; served = d })) n.told n.told_after
           n.faults n.faults_after d.told.faults d.told.network bears
     good_finished good puts bears no_memory r = wanted refl

@@ -82,8 +82,8 @@ events_hear event (x ∷ xs) = events_hear event xs
 
 module _ (plan : NodePlan) (me : List ℕ) where
   -- what a turn's members heard, and what comes after them
-  abbrev behind : (t turns : ℕ) (clock : List ℕ) (heard : List Heard) → Option ℕ → List Heard
-  behind t turns clock heard left =
+  abbrev following : (t turns : ℕ) (clock : List ℕ) (heard : List Heard) → Option ℕ → List Heard
+  following t turns clock heard left =
       heard_in (while_patient left
       (λ left. map does (planned_events plan me t) ++
       doings_from plan me (t + 1) turns left clock (drop (length me) heard)))
@@ -91,7 +91,7 @@ module _ (plan : NodePlan) (me : List ℕ) where
   turn_hears : (t turns patience moment : ℕ) (clock : List ℕ) (heard : List Heard) →
       heard_in (doings_from plan me t (suc turns) patience (moment ∷ clock) heard)
       ≡ heard_in (asking patience (zip me (take (length me) heard))).doings
-      ++ behind t turns clock heard (asking patience (zip me (take (length me) heard))).patience
+      ++ following t turns clock heard (asking patience (zip me (take (length me) heard))).patience
   turn_hears t turns patience moment clock heard =
       let a = asking patience (zip me (take (length me) heard)) in
       let rest = while_patient a.patience
@@ -112,8 +112,9 @@ module _ (plan : NodePlan) (me : List ℕ) where
       let few = length-take (length me) heard in
       let asked = asks_all patience me (take (length me) heard) (omega (arith, few)) borne in
       turn_hears t turns patience moment clock heard
-      ∙ ap (λ h. h ++ behind t turns clock heard (asking patience (zip me (take (length me) heard))).patience) asked.0
-      ∙ ap (λ left. take (length me) heard ++ behind t turns clock heard left) asked.1
+      ∙ ap (λ h. h ++ following t turns clock heard (asking patience (zip me (take (length me) heard))).patience)
+      asked.0
+      ∙ ap (λ left. take (length me) heard ++ following t turns clock heard left) asked.1
       ∙ ap (λ h. take (length me) heard ++ h)
       (heard_append (map does (planned_events plan me t))
       (doings_from plan me (t + 1) turns (patience - failures (take (length me) heard)) clock
@@ -166,10 +167,10 @@ module _ (plan : NodePlan) (me : List ℕ) where
             let asked = asks_last patience me before lt all in
             turn_hears t turns patience moment clock (before ++ failure ∷ [])
             ∙ ap (λ hs. heard_in (asking patience (zip me hs)).doings ++
-            behind t turns clock (before ++ failure ∷ []) (asking patience (zip me hs)).patience) whole
-            ∙ ap (λ h. h ++ behind t turns clock (before ++ failure ∷ [])
+            following t turns clock (before ++ failure ∷ []) (asking patience (zip me hs)).patience) whole
+            ∙ ap (λ h. h ++ following t turns clock (before ++ failure ∷ [])
             (asking patience (zip me (before ++ failure ∷ []))).patience) asked.0
-            ∙ ap (λ left. (before ++ failure ∷ []) ++ behind t turns clock (before ++ failure ∷ []) left) asked.1
+            ∙ ap (λ left. (before ++ failure ∷ []) ++ following t turns clock (before ++ failure ∷ []) left) asked.1
             ∙ append-nil (before ++ failure ∷ [])
 
         on : ((p : ℕ) → length (drop (length me) before ++ failure ∷ []) ≤ length clock * length me →

@@ -91,9 +91,9 @@ flags_more : (count : ℕ) (flags : List Bool) → failures_in (flags_of (suc co
 flags_more count flags = sum_by-cons (λ f. cond f 1 0) (is_next_to_fail flags) (flags_of count (drop 1 flags))
 
 -- a network after sends is to fail the same receives
-receives_behind : (sends : List Handed) (n : Network) → (after_sends sends n).recvs ≡ n.recvs
-receives_behind [] n = refl
-receives_behind (h ∷ sends) n = receives_behind sends _
+receives_after : (sends : List Handed) (n : Network) → (after_sends sends n).recvs ≡ n.recvs
+receives_after [] n = refl
+receives_after (h ∷ sends) n = receives_after sends _
 
 pub receives_failed : (mode : Mode) (stack : List LayerTree) (plans : List Plan) (w : World) (doings : List Doing)
     (flags : List (List Bool)) (n n' : Network) →
@@ -102,7 +102,7 @@ pub receives_failed : (mode : Mode) (stack : List LayerTree) (plans : List Plan)
 receives_failed mode stack plans w [] flags n n' g = refl
 receives_failed mode stack plans w (does event ∷ doings) flags n n' g =
     ap (λ recvs. failures_in (flags_of (length (heard_in doings)) recvs))
-    (sym (receives_behind (event_sends mode stack plans w event) n))
+    (sym (receives_after (event_sends mode stack plans w event) n))
     ∙ receives_failed mode stack plans (happens stack plans w event).world doings (drop 1 flags)
     (after_sends (event_sends mode stack plans w event) n) n' g.1
 receives_failed mode stack plans w (asks id heard ∷ doings) flags n n' g =
@@ -126,16 +126,16 @@ fewer_fail (suc few) (suc more) flags le =
     omega (arith, one, other, rest)
 
 -- where all of some calls go well, none in front fails
-pub none_in_front : (count more : ℕ) (flags : List Bool) → count < more → flags_of more flags ≡ replicate more false →
+pub none_before : (count more : ℕ) (flags : List Bool) → count < more → flags_of more flags ≡ replicate more false →
     flags_of (count + 1) flags ≡ replicate count false ++ true ∷ [] → ⊥
-none_in_front zero zero flags lt well fails = omega (arith, lt)
-none_in_front zero (suc more) flags lt well fails =
+none_before zero zero flags lt well fails = omega (arith, lt)
+none_before zero (suc more) flags lt well fails =
     let one : is_next_to_fail flags ≡ false = cc well in
     let other : is_next_to_fail flags ≡ true = cc fails in
     absurd (cc (sym one ∙ other))
-none_in_front (suc count) zero flags lt well fails = omega (arith, lt)
-none_in_front (suc count) (suc more) flags lt well fails =
+none_before (suc count) zero flags lt well fails = omega (arith, lt)
+none_before (suc count) (suc more) flags lt well fails =
     let next : suc count + 1 ≡ suc (count + 1) = omega arith in
     let first : flags_of (suc (count + 1)) flags ≡ replicate (suc count) false ++ true ∷ [] =
     subst (λ k. flags_of k flags ≡ replicate (suc count) false ++ true ∷ []) next fails in
-    none_in_front count more (drop 1 flags) (omega (arith, lt)) (ap (drop 1) well) (ap (drop 1) first)
+    none_before count more (drop 1 flags) (omega (arith, lt)) (ap (drop 1) well) (ap (drop 1) first)

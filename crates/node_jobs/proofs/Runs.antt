@@ -19,7 +19,7 @@ use Rattle.file_jobs.specs.Second.{IsSpelled}
 use Rattle.node_loop.specs.Serve.{Whereabouts, Serves}
 use Rattle.node_loop.specs.declared.error.NodeError.{NodeError}
 use Rattle.node_loop.specs.declared.error.NodeError.TheVariants.{Link, Write, Memory}
-use Rattle.node_jobs.specs.Comes.{Node, Beyond, Good, Untouched, NodeComes, before, behind}
+use Rattle.node_jobs.specs.Comes.{Node, Beyond, Good, Untouched, NodeComes, before, following}
 use Rattle.node_jobs.specs.Plan.{IsServable, IsReady, RunsPlan, end_of}
 use Rattle.node_jobs.proofs.Below.{each_below}
 
@@ -74,7 +74,7 @@ module _ (w : Node) (a : Around) (n : Beyond) (between : ℕ) (stack : List Laye
     };
   }
 
-  untouched : behind a n ≡ before a n → Untouched n
+  untouched : following a n ≡ before a n → Untouched n
   untouched same = record {
     faults = ap (λ b. b.around.faults) same;
     sends = ap (λ b. b.around.sends) same;
@@ -82,7 +82,7 @@ module _ (w : Node) (a : Around) (n : Beyond) (between : ℕ) (stack : List Laye
     clock = ap (λ b. b.clock) same;
   }
 
-  pub ran : (end : Ended) → RunsPlan stack plan w (before a n) (behind a n) end → NodeComes w a n end
+  pub ran : (end : Ended) → RunsPlan stack plan w (before a n) (following a n) end → NodeComes w a n end
   ran done s = record { good = good s.ready; sound = t.sound ∙ f.sound; served = s.served }
   ran (second_refused fault) s = record {
     came = record {

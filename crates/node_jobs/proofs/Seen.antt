@@ -34,7 +34,7 @@ use Rattle.node_loop.specs.Passing.{HandedSome}
 use Rattle.node_loop.specs.Serve.{MadeAllTurns, CouldNotListen, WentDeaf, BrokenOff, told_on}
 use Rattle.node_laws.proofs.Sendings.{tells_as, tells_same}
 use Rattle.node_jobs.specs.Comes.{Beyond, Node, Good, Ran, Untouched, Lost, Broken, NodeComes, job_of, task_of, before}
-use Rattle.node_jobs.specs.Comes.{behind}
+use Rattle.node_jobs.specs.Comes.{following}
 use Rattle.node_jobs.specs.Seen.{run_of, NodeSeen}
 use Rattle.node_jobs.proofs.Heard.{hears_all, hears_last}
 use Rattle.node_jobs.proofs.Network.{handed_on, handed_nothing}
@@ -222,7 +222,7 @@ module _ (words : List Text) (w : Node) (a : Around) (n : Beyond) (is : job_of_w
 
   -- it was broken off after a part of what it writes
   module _ (good : Good w a.told) (sound : a.reads_after ≡ a.reads) (e : SinkError)
-      (r : BrokenOff (task_of w a.told good) e (before a n) (behind a n)) where
+      (r : BrokenOff (task_of w a.told good) e (before a n) (following a n)) where
     abbrev on : Surroundings
     on = told_on r.s r.clock_on r.heard_on
 
@@ -357,7 +357,7 @@ module _ (words : List Text) (w : Node) (a : Around) (n : Beyond) (is : job_of_w
   reached_so : (end : Ended) → NodeComes w a n end → Reached words w a n end
   reached_so done r = made_all r
   reached_so link_failed r = lost r.served where
-    lost : Lost (task_of w a.told r.good) (before a n) (behind a n) → Reached words w a n link_failed
+    lost : Lost (task_of w a.told r.good) (before a n) (following a n) → Reached words w a n link_failed
     lost (inl c) = unlistened (record { good = r.good; sound = r.sound; served = c })
     lost (inr d) = went_deaf (record { good = r.good; sound = r.sound; served = d })
   reached_so write_failed r = broken_write r

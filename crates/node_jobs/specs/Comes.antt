@@ -85,14 +85,14 @@ task_of w told good =
 abbrev pub before : Around → Beyond → Whereabouts
 before a n = whereabouts (outside.surrounding a.output n.faults n.sends n.told) n.clock
 
-abbrev pub behind : Around → Beyond → Whereabouts
-behind a n = whereabouts (outside.surrounding a.output_after n.faults_after n.sends_after n.told_after) n.clock_after
+abbrev pub following : Around → Beyond → Whereabouts
+following a n = whereabouts (outside.surrounding a.output_after n.faults_after n.sends_after n.told_after) n.clock_after
 
 -- It ran, and something holds of its run.
 pub record Ran (w : Node) (a : Around) (n : Beyond) (Holds : Task → Whereabouts → Whereabouts → Type 0) : Type 0 where
   pub good : Good w a.told
   pub sound : a.reads_after ≡ a.reads
-  pub served : Holds (task_of w a.told good) (before a n) (behind a n)
+  pub served : Holds (task_of w a.told good) (before a n) (following a n)
 
 -- A member couldn't listen, or more receives failed than are borne.
 abbrev pub Lost : Task → Whereabouts → Whereabouts → Type 0

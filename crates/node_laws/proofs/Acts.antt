@@ -10,15 +10,15 @@ use Rattle.script_mean.specs.Event.{member_of}
 use Rattle.script_mean.specs.declared.event.ScriptEvent.{ScriptEvent}
 use Rattle.stack_mean.specs.Plan.{Plan}
 use Rattle.run_mean.specs.Mode.{Mode}
-use Rattle.run_mean.specs.Common.{as_sent, plan_behind, short_from, with_plans}
+use Rattle.run_mean.specs.Common.{as_sent, plan_after, short_from, with_plans}
 use Rattle.run_mean.specs.Journal.{Handed, handed_in, handed_output}
 use Rattle.run_mean.specs.Member.{Output}
-use Rattle.run_mean.specs.Report.{installed_line, lines_of, member_lines, number_behind, output_lines}
+use Rattle.run_mean.specs.Report.{installed_line, lines_of, member_lines, number_following, output_lines}
 use Rattle.run_mean.specs.World.{World, Did, taken, refused, absent, shown, happens, member_at}
 use Rattle.node_laws.specs.Acts.{Act, puts, acts_of, did_acts, event_acts, line_in, lines_in, lost_acts, output_acts}
 use Rattle.node_laws.specs.Acts.{outputs_acts, send_in, sending_acts, sends_in}
 use Rattle.node_laws.specs.Doings.{Doing, does, asks, bears, events_of}
-use Rattle.node_laws.specs.Losses.{behind, deaf_line, event_lines, event_sends, failures_in, fan, first_in, first_of}
+use Rattle.node_laws.specs.Losses.{following, deaf_line, event_lines, event_sends, failures_in, fan, first_in, first_of}
 use Rattle.node_laws.specs.Losses.{journal_line, lossy_lines, lost_line, moment_at, sends_of, written_of}
 use Rattle.node_laws.proofs.Fans.{output_fan}
 use Rattle.node_laws.proofs.Sendings.{failures_append}
@@ -97,22 +97,22 @@ module _ (stack : List LayerTree) (plans : List Plan) (id : ℕ) where
   outputs_lines_are k (o ∷ outs) failed =
       let n = length-take (fan id o.0) failed in
       lines_append (output_acts stack plans id k o (take (fan id o.0) failed))
-      (outputs_acts stack plans id (number_behind k o.0) outs (drop (fan id o.0) failed))
-      ∙ ap (λ ls. ls ++ lines_in (outputs_acts stack plans id (number_behind k o.0) outs (drop (fan id o.0) failed)))
+      (outputs_acts stack plans id (number_following k o.0) outs (drop (fan id o.0) failed))
+      ∙ ap (λ ls. ls ++ lines_in (outputs_acts stack plans id (number_following k o.0) outs (drop (fan id o.0) failed)))
       (output_lines_are k o (take (fan id o.0) failed) (omega (arith, n)))
       ∙ ap (λ ls. output_lines stack id k o.0 ++ replicate (failures_in (take (fan id o.0) failed)) (lost_line k) ++ ls)
-      (outputs_lines_are (number_behind k o.0) outs (drop (fan id o.0) failed))
+      (outputs_lines_are (number_following k o.0) outs (drop (fan id o.0) failed))
 
   pub outputs_sends_are : (k : ℕ) (outs : List (Output × Option ℕ)) (failed : List Bool) →
       sends_in (outputs_acts stack plans id k outs failed) ≡ flat_map (handed_output plans id) outs
   outputs_sends_are k [] failed = refl
   outputs_sends_are k (o ∷ outs) failed =
       sends_append (output_acts stack plans id k o (take (fan id o.0) failed))
-      (outputs_acts stack plans id (number_behind k o.0) outs (drop (fan id o.0) failed))
-      ∙ ap (λ hs. hs ++ sends_in (outputs_acts stack plans id (number_behind k o.0) outs (drop (fan id o.0) failed)))
+      (outputs_acts stack plans id (number_following k o.0) outs (drop (fan id o.0) failed))
+      ∙ ap (λ hs. hs ++ sends_in (outputs_acts stack plans id (number_following k o.0) outs (drop (fan id o.0) failed)))
       (output_sends_are k o (take (fan id o.0) failed))
       ∙ ap (λ hs. handed_output plans id o ++ hs)
-      (outputs_sends_are (number_behind k o.0) outs (drop (fan id o.0) failed))
+      (outputs_sends_are (number_following k o.0) outs (drop (fan id o.0) failed))
 
 -- The lines of outputs show no plan.
 lines_show_no_plan : (stack : List LayerTree) (plans : List Plan) (id k : ℕ) (next other : Option ℕ)
@@ -122,7 +122,7 @@ lines_show_no_plan : (stack : List LayerTree) (plans : List Plan) (id k : ℕ) (
 lines_show_no_plan stack plans id k next other [] failed = refl
 lines_show_no_plan stack plans id k next other (o ∷ outputs) failed =
     ap (λ ls. output_lines stack id k o ++ replicate (failures_in (take (fan id o) failed)) (lost_line k) ++ ls)
-    (lines_show_no_plan stack plans id (number_behind k o) (plan_behind next o) (plan_behind other o) outputs
+    (lines_show_no_plan stack plans id (number_following k o) (plan_after next o) (plan_after other o) outputs
     (drop (fan id o) failed))
 
 -- Events.
@@ -196,7 +196,7 @@ module _ (mode : Mode) (stack : List LayerTree) (plans : List Plan) where
   -- Acts in parts: which sendings failed is told for each event in front.
   pub acts_append : (w : World) (xs ys : List Doing) (f g : List (List Bool)) → length f ≡ length (events_of xs) →
       acts_of mode stack plans w (xs ++ ys) (f ++ g) ≡ acts_of mode stack plans w xs f ++
-      acts_of mode stack plans (behind stack plans w xs) ys g
+      acts_of mode stack plans (following stack plans w xs) ys g
   acts_append w [] ys [] g is = refl
   acts_append w [] ys (x ∷ f) g is = absurd (cc is)
   acts_append w (does event ∷ xs) ys [] g is = absurd (cc is)
@@ -204,6 +204,6 @@ module _ (mode : Mode) (stack : List LayerTree) (plans : List Plan) where
       let on = (happens stack plans w event).world in
       ap (λ ls. event_acts mode stack plans w event x ++ ls) (acts_append on xs ys f g (omega (arith, is)))
       ∙ sym (append_assoc (event_acts mode stack plans w event x) (acts_of mode stack plans on xs f)
-      (acts_of mode stack plans (behind stack plans on xs) ys g))
+      (acts_of mode stack plans (following stack plans on xs) ys g))
   acts_append w (asks id heard ∷ xs) ys f g is = acts_append w xs ys f g is
   acts_append w (bears id ∷ xs) ys f g is = ap (λ ls. puts (deaf_line id) ∷ ls) (acts_append w xs ys f g is)

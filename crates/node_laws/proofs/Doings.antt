@@ -53,13 +53,13 @@ notes_are_of_doings plan me t (suc turns) patience (moment ∷ clock) heard =
     let ticks = map (λ id. does (Tick id moment)) me in
     let a = asking patience asked in
     let planned = planned_events plan me t in
-    let behind = drop (length me) heard in
-    let next : ℕ → List Doing = λ left. map does planned ++ doings_from plan me (t + 1) turns left clock behind in
-    let next' : ℕ → List Note = λ left. map fed planned ++ notes_from plan me (t + 1) turns left clock behind in
+    let following = drop (length me) heard in
+    let next : ℕ → List Doing = λ left. map does planned ++ doings_from plan me (t + 1) turns left clock following in
+    let next' : ℕ → List Note = λ left. map fed planned ++ notes_from plan me (t + 1) turns left clock following in
     both_noted (ticks ++ a.doings) (going_on a.patience next) _ _
     (both_noted ticks a.doings _ _ (notes_done (λ id. Tick id moment) me) (notes_asked patience asked))
     (noted_on a.patience next next' (λ left.
-    both_noted (map does planned) (doings_from plan me (t + 1) turns left clock behind) _ _
+    both_noted (map does planned) (doings_from plan me (t + 1) turns left clock following) _ _
     (notes_done (λ event. event) planned)
-    (notes_are_of_doings plan me (t + 1) turns left clock behind))
+    (notes_are_of_doings plan me (t + 1) turns left clock following))
     ∙ ap (λ o. while_patient o next') (patience_asked patience asked))

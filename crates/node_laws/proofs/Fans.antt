@@ -9,10 +9,10 @@ use Rattle.script_mean.specs.Event.{member_of}
 use Rattle.script_mean.specs.declared.event.ScriptEvent.{ScriptEvent}
 use Rattle.stack_mean.specs.Plan.{Plan}
 use Rattle.run_mean.specs.Mode.{Mode}
-use Rattle.run_mean.specs.Common.{as_sent, plan_behind, short_from, with_plans}
+use Rattle.run_mean.specs.Common.{as_sent, plan_after, short_from, with_plans}
 use Rattle.run_mean.specs.Journal.{handed_in, handed_output, receivers}
 use Rattle.run_mean.specs.Member.{Output, deliver_cast, deliver_send, block, announce, packet, nowhere, timer, quiet}
-use Rattle.run_mean.specs.Report.{number_behind}
+use Rattle.run_mean.specs.Report.{number_following}
 use Rattle.run_mean.specs.World.{World, Did, taken, refused, absent, shown, happens}
 use Rattle.node_laws.specs.Losses.{event_losses, event_sends, failures_in, fan, first_in, losses, losses_in}
 use Rattle.node_laws.proofs.Sendings.{failures_append}
@@ -46,7 +46,7 @@ fans_hang_on_no_plan : (plans : List Plan) (id : ℕ) (next other : Option ℕ) 
     fans id (with_plans plans next outputs) ≡ fans id (with_plans plans other outputs)
 fans_hang_on_no_plan plans id next other [] = refl
 fans_hang_on_no_plan plans id next other (o ∷ outputs) =
-    ap (λ n. fan id o + n) (fans_hang_on_no_plan plans id (plan_behind next o) (plan_behind other o) outputs)
+    ap (λ n. fan id o + n) (fans_hang_on_no_plan plans id (plan_after next o) (plan_after other o) outputs)
 
 -- As many are lost as failed.
 pub losses_are : (id k : ℕ) (outs : List (Output × Option ℕ)) (failed : List Bool) → length failed ≤ fans id outs →
@@ -56,10 +56,10 @@ losses_are id k [] (x ∷ failed) few = absurd (omega (arith, few))
 losses_are id k (o ∷ outs) failed few =
     let f = fan id o.0 in
     let left : length (drop f failed) ≤ fans id outs = (let d = length-drop f failed in omega (arith, few, d)) in
-    length-append (replicate (failures_in (take f failed)) k) (losses id (number_behind k o.0) outs (drop f failed))
-    ∙ ap (λ n. n + length (losses id (number_behind k o.0) outs (drop f failed)))
+    length-append (replicate (failures_in (take f failed)) k) (losses id (number_following k o.0) outs (drop f failed))
+    ∙ ap (λ n. n + length (losses id (number_following k o.0) outs (drop f failed)))
     (length-replicate (failures_in (take f failed)) k)
-    ∙ ap (λ n. failures_in (take f failed) + n) (losses_are id (number_behind k o.0) outs (drop f failed) left)
+    ∙ ap (λ n. failures_in (take f failed) + n) (losses_are id (number_following k o.0) outs (drop f failed) left)
     ∙ sym (failures_append (take f failed) (drop f failed))
     ∙ ap failures_in (take-append-drop f failed)
 

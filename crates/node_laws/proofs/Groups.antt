@@ -31,13 +31,13 @@ use Rattle.script_mean.specs.Event.{member_of}
 use Rattle.stack_mean.specs.Plan.{Plan}
 use Rattle.member_laws.specs.Members.{IsChainedWorld}
 use Rattle.member_laws.proofs.Members.{bits_le, cons_each, each_unit}
-use Rattle.run_mean.specs.Common.{plan_behind, plan_for, short_from, with_plans}
+use Rattle.run_mean.specs.Common.{plan_after, plan_for, short_from, with_plans}
 use Rattle.run_mean.specs.Journal.{receivers, handed_output, handed_in}
 use Rattle.run_mean.specs.View.{first_view, mask_of, last_ltime}
 use Rattle.run_mean.specs.Member.{inside, out, opened_member, installed_member, Output, deliver_cast, deliver_send}
 use Rattle.run_mean.specs.Member.{block, announce}
 use Rattle.run_mean.specs.Member.{packet, nowhere, timer, quiet, packet_to, above, below, output_of, announced_ranks}
-use Rattle.run_mean.specs.Member.{packet_in, step_from, member_behind}
+use Rattle.run_mean.specs.Member.{packet_in, step_from, member_following}
 use Rattle.run_mean.specs.World.{World, member_at, Happening, here_of}
 use Rattle.node_laws.specs.Groups.{IsWithin, AreWithin, FirstViewsAreWithin, EventsKeepWithin, IsSendable}
 use Rattle.node_laws.specs.Groups.{SendsAreSendable}
@@ -127,11 +127,11 @@ installed_within stack view id ranks n h = go (view.ltime == last_ltime) where
   go false = opened_within stack (record { ltime = view.ltime + 1; mask = mask_of view ranks }) id n
       (mask_below view ranks n h)
 
-behind_within : (stack : List LayerTree) (view : View) (id n : ℕ) (states : List State) (first : Option ℕ) →
+after_within : (stack : List LayerTree) (view : View) (id n : ℕ) (states : List State) (first : Option ℕ) →
     AllByRecursion (λ id. id < n) (ids view) →
     IsWithin n (option_map_or (λ m. m) (option_map (installed_member stack view id) first) (inside view states))
-behind_within stack view id n states None h = h
-behind_within stack view id n states (Some ranks) h = installed_within stack view id ranks n h
+after_within stack view id n states None h = h
+after_within stack view id n states (Some ranks) h = installed_within stack view id ranks n h
 
 member_within : (w : World) (id n : ℕ) (view : View) (states : List State) → AreWithin n w →
     member_at w id ≡ inside view states →
@@ -153,8 +153,8 @@ events_keep_within stack plans w event n h =
       stepping = λ view states what is.
           let id = member_of event in
           let step = step_from stack (here_of w view id) id states what in
-          each_set (IsWithin n) w.members id (member_behind view step) h
-          (behind_within stack view id n step.work.states (slice_get (filter_map announced_ranks step.outputs) 0)
+          each_set (IsWithin n) w.members id (member_following view step) h
+          (after_within stack view id n step.work.states (slice_get (filter_map announced_ranks step.outputs) 0)
           (member_within w id n view states h is));
     }
 
@@ -163,9 +163,9 @@ events_keep_within stack plans w event n h =
 abbrev AreBelow : ℕ → Packet → Type 0
 AreBelow n p = AllByRecursion (λ id. id < n) (ids p.view)
 
-each_behind : {A : Type 0} (P : A → Type 0) (xs ys : List A) → AllByRecursion P (xs ++ ys) → AllByRecursion P ys
-each_behind P [] ys h = h
-each_behind P (x ∷ xs) ys h = each_behind P xs ys h.1
+each_after : {A : Type 0} (P : A → Type 0) (xs ys : List A) → AllByRecursion P (xs ++ ys) → AllByRecursion P ys
+each_after P [] ys h = h
+each_after P (x ∷ xs) ys h = each_after P xs ys h.1
 
 each_listed : {A : Type 0} (P : A → Type 0) (o : Option A) → Where P o → AllByRecursion P (option_to_list o)
 each_listed P None h = tt
@@ -223,12 +223,12 @@ module _ (stack : List LayerTree) (plans : List Plan) (id n : ℕ) (limits : IsW
   all_sent next (packet p ∷ outputs) within are =
       each_append (IsSendable n id) (handed_output plans id (packet p, plan_for plans next (packet p))) _
       (sent p (plan_for plans next (packet p)) within.0 are.0)
-      (all_sent (plan_behind next (packet p)) outputs within.1 are.1)
+      (all_sent (plan_after next (packet p)) outputs within.1 are.1)
   all_sent next (deliver_cast peer body ∷ outputs) within are = all_sent next outputs within are
   all_sent next (deliver_send peer body ∷ outputs) within are = all_sent next outputs within are
   all_sent next (block a ∷ outputs) within are = all_sent next outputs within are
   all_sent next (announce a ∷ outputs) within are = all_sent next outputs within are
-  all_sent next (nowhere ∷ outputs) within are = all_sent (plan_behind next nowhere) outputs within are
+  all_sent next (nowhere ∷ outputs) within are = all_sent (plan_after next nowhere) outputs within are
   all_sent next (timer a ∷ outputs) within are = all_sent next outputs within are
   all_sent next (quiet dir event ∷ outputs) within are = all_sent next outputs within are
 
@@ -245,5 +245,5 @@ sends_are_sendable mode stack plans w event n limits chained h =
           let step = step_from stack (here_of w view id) id states what in
           all_sent stack plans id n limits (short_from mode stack plans step) step.outputs
           (views_out (here_of w view id) n step.work.outs (member_within w id n view states h is))
-          (each_behind (IsSpellable stack) w.packets (filter_map packet_in step.outputs) chained.packets);
+          (each_after (IsSpellable stack) w.packets (filter_map packet_in step.outputs) chained.packets);
     } chained

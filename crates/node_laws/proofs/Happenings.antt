@@ -13,7 +13,7 @@ use Rattle.stack_mean.specs.Plan.{Plan}
 use Rattle.run_mean.specs.Member.{Member, inside, out, Input, cast, send, leave, tick, datagram, Refusal, is_out}
 use Rattle.run_mean.specs.Member.{Entered, entered_input, step_from}
 use Rattle.run_mean.specs.World.{World, member_at, packet_number, taken, refused, absent, shown, Happening, only}
-use Rattle.run_mean.specs.World.{here_of, world_behind, stepped_inside, stepped_of, step_happening, given_packet}
+use Rattle.run_mean.specs.World.{here_of, world_after, stepped_inside, stepped_of, step_happening, given_packet}
 use Rattle.run_mean.specs.World.{happens}
 
 -- it holds where the world stays as it is, and after each step of a member that is in a view
@@ -23,7 +23,7 @@ pub record Each (stack : List LayerTree) (w : World) (id : ℕ) (Holds : Happeni
   pub showing : Holds (only w shown)
   pub stepping : (view : View) (states : List State) (what : Entered) → member_at w id ≡ inside view states →
       let s = step_from stack (here_of w view id) id states what in
-      Holds (record { world = world_behind w view id s; did = taken s })
+      Holds (record { world = world_after w view id s; did = taken s })
 
 module _ (stack : List LayerTree) (plans : List Plan) (w : World) (id : ℕ) (Holds : Happening → Type 0)
     (each : Each stack w id Holds) where

@@ -12,11 +12,11 @@ use Rattle.chain_laws.proofs.Lists.{each_append, each_same, each_so}
 use Rattle.script_mean.specs.Event.{member_of}
 use Rattle.script_mean.specs.declared.event.ScriptEvent.{ScriptEvent}
 use Rattle.stack_mean.specs.Plan.{Plan}
-use Rattle.run_mean.specs.Common.{plan_behind, with_plans}
+use Rattle.run_mean.specs.Common.{plan_after, with_plans}
 use Rattle.run_mean.specs.Journal.{lost_annex, node_moment_lines, note_lines}
 use Rattle.run_mean.specs.Member.{Output, deliver_cast, deliver_send, block, announce, packet, nowhere, timer, quiet}
 use Rattle.run_mean.specs.Member.{packet_in, step_from}
-use Rattle.run_mean.specs.Report.{number_behind, output_lines, lines_of_outputs, installed_line, lines_of, Moment}
+use Rattle.run_mean.specs.Report.{number_following, output_lines, lines_of_outputs, installed_line, lines_of, Moment}
 use Rattle.run_mean.specs.World.{World, Did, taken, refused, absent, shown, Happening, here_of, happens}
 use Rattle.node_laws.specs.Doings.{Doing, does, asks, bears, note_in}
 use Rattle.node_laws.specs.Losses.{fan, failures_in, lost_line, deaf_line, journal_line, lossy_lines, losses, moment_at}
@@ -61,7 +61,7 @@ each_less low high xs less h = each_so (λ x. x < low) (λ x. x < high) (λ x be
 -- an output that is no packet goes to nobody and takes no number
 
 record IsSilent (o : Output) : Type 0 where
-  number : (k : ℕ) → number_behind k o ≡ k
+  number : (k : ℕ) → number_following k o ≡ k
   nobody : (id : ℕ) → fan id o ≡ 0
   none : packet_in o ≡ None
   bare : (failed : ℕ → ℕ) (k : ℕ) (plan : Option ℕ) → lost_annex failed k (o, plan) ≡ []
@@ -88,30 +88,32 @@ by_packet P sends other (quiet dir event) =
 
 abbrev number_after : ℕ → List (Output × Option ℕ) → ℕ
 number_after k [] = k
-number_after k (o ∷ outs) = number_after (number_behind k o.0) outs
+number_after k (o ∷ outs) = number_after (number_following k o.0) outs
 
 abbrev number_left : List Plan → ℕ → Did → ℕ
 number_left plans k (taken s) = number_after k (with_plans plans None s.outputs)
 number_left plans k _ = k
 
-number_grows : (k : ℕ) (o : Output) → k ≤ number_behind k o
-number_grows k = by_packet (λ o. k ≤ number_behind k o) (λ p. omega arith) (λ o silent. omega (arith, silent.number k))
+number_grows : (k : ℕ) (o : Output) → k ≤ number_following k o
+number_grows k = by_packet (λ o. k ≤ number_following k o) (λ p. omega arith)
+    (λ o silent. omega (arith, silent.number k))
 
 numbers_grow : (k : ℕ) (outs : List (Output × Option ℕ)) → k ≤ number_after k outs
 numbers_grow k [] = omega arith
-numbers_grow k (o ∷ outs) = omega (arith, number_grows k o.0, numbers_grow (number_behind k o.0) outs)
+numbers_grow k (o ∷ outs) = omega (arith, number_grows k o.0, numbers_grow (number_following k o.0) outs)
 
-one_counted : (k : ℕ) (packets : List Packet) (o : Output) → number_behind k o + length packets ≡
+one_counted : (k : ℕ) (packets : List Packet) (o : Output) → number_following k o + length packets ≡
     k + length (cons_option (packet_in o) packets)
 one_counted k packets =
-    by_packet (λ o. number_behind k o + length packets ≡ k + length (cons_option (packet_in o) packets))
+    by_packet (λ o. number_following k o + length packets ≡ k + length (cons_option (packet_in o) packets))
     (λ p. omega arith) (λ o silent. rw (silent.number k, silent.none) refl)
 
 all_counted : (plans : List Plan) (k : ℕ) (next : Option ℕ) (outputs : List Output) →
     number_after k (with_plans plans next outputs) ≡ k + length (filter_map packet_in outputs)
 all_counted plans k next [] = omega arith
 all_counted plans k next (o ∷ outputs) =
-    all_counted plans (number_behind k o) (plan_behind next o) outputs ∙ one_counted k (filter_map packet_in outputs) o
+    all_counted plans (number_following k o) (plan_after next o) outputs ∙
+    one_counted k (filter_map packet_in outputs) o
 
 -- the losses of an event are numbers of its packets
 
@@ -119,10 +121,10 @@ module _ (id : ℕ) where
   abbrev failing : Output → List Bool → ℕ
   failing o failed = failures_in (take (fan id o) failed)
 
-  own_below : (k high : ℕ) (failed : List Bool) (o : Output) → number_behind k o ≤ high →
+  own_below : (k high : ℕ) (failed : List Bool) (o : Output) → number_following k o ≤ high →
       AllByRecursion (λ x. x < high) (replicate (failing o failed) k)
   own_below k high failed = by_packet
-      (λ o. number_behind k o ≤ high → AllByRecursion (λ x. x < high) (replicate (failing o failed) k))
+      (λ o. number_following k o ≤ high → AllByRecursion (λ x. x < high) (replicate (failing o failed) k))
       (λ p less. each_same (λ x. x < high) (failing (packet p) failed) k (omega (arith, less)))
       (λ o silent less. rw (silent.nobody id) tt)
 
@@ -131,25 +133,25 @@ module _ (id : ℕ) where
   losses_from k [] failed = tt
   losses_from k (o ∷ outs) failed = each_append (λ x. k ≤ x) (replicate (failing o.0 failed) k) _
       (each_same (λ x. k ≤ x) (failing o.0 failed) k (omega arith))
-      (each_at_least k (number_behind k o.0) _ (number_grows k o.0)
-      (losses_from (number_behind k o.0) outs (drop (fan id o.0) failed)))
+      (each_at_least k (number_following k o.0) _ (number_grows k o.0)
+      (losses_from (number_following k o.0) outs (drop (fan id o.0) failed)))
 
   losses_below : (k : ℕ) (outs : List (Output × Option ℕ)) (failed : List Bool) →
       AllByRecursion (λ x. x < number_after k outs) (losses id k outs failed)
   losses_below k [] failed = tt
   losses_below k (o ∷ outs) failed =
-      let high = number_after (number_behind k o.0) outs in
+      let high = number_after (number_following k o.0) outs in
       each_append (λ x. x < high) (replicate (failing o.0 failed) k) _
-      (own_below k high failed o.0 (numbers_grow (number_behind k o.0) outs))
-      (losses_below (number_behind k o.0) outs (drop (fan id o.0) failed))
+      (own_below k high failed o.0 (numbers_grow (number_following k o.0) outs))
+      (losses_below (number_following k o.0) outs (drop (fan id o.0) failed))
 
   -- where losses are counted as they are told, the lines are those that are told
 
   own_lines : (told : ℕ → ℕ) (k : ℕ) (plan : Option ℕ) (failed : List Bool) (o : Output) →
-      (k < number_behind k o → told k ≡ failing o failed) → lost_annex told k (o, plan) ≡
+      (k < number_following k o → told k ≡ failing o failed) → lost_annex told k (o, plan) ≡
       replicate (failing o failed) (lost_line k)
   own_lines told k plan failed = by_packet
-      (λ o. (k < number_behind k o → told k ≡ failing o failed) → lost_annex told k (o, plan) ≡
+      (λ o. (k < number_following k o → told k ≡ failing o failed) → lost_annex told k (o, plan) ≡
       replicate (failing o failed) (lost_line k))
       (λ p same. ap (λ n. replicate n (lost_line k)) (same (omega arith)))
       (λ o silent same. silent.bare told k plan ∙ rw (silent.nobody id) refl)
@@ -160,7 +162,7 @@ module _ (id : ℕ) where
       lines_of_outputs stack (lost_annex told) id k outs ≡ lossy_lines stack id k outs failed
   lines_as_told stack told k [] failed same = refl
   lines_as_told stack told k (o ∷ outs) failed same =
-      let next = number_behind k o.0 in
+      let next = number_following k o.0 in
       let left = drop (fan id o.0) failed in
       let own = failing o.0 failed in
       let mine : k < next → told k ≡ own = λ less. omega (
@@ -184,14 +186,14 @@ module _ (id : ℕ) where
 -- an event of a node
 
 module _ (stack : List LayerTree) (plans : List Plan) (w : World) (event : ScriptEvent) where
-  abbrev behind : World
-  behind = (happens stack plans w event).world
+  abbrev following : World
+  following = (happens stack plans w event).world
 
   abbrev did : Did
   did = (happens stack plans w event).did
 
   -- the packets after an event are numbered on
-  numbered_on : first_in behind ≡ number_left plans (first_in w) did
+  numbered_on : first_in following ≡ number_left plans (first_in w) did
   numbered_on = each_happens stack plans w event
       (λ (happening : Happening). first_in happening.world ≡ number_left plans (first_in w) happening.did) record {
         refusing = λ refusal. refl;
@@ -225,12 +227,12 @@ module _ (stack : List LayerTree) (plans : List Plan) (w : World) (event : Scrip
   left_from absent failed = tt
   left_from shown failed = tt
 
-  goes_up : first_in w ≤ first_in behind
+  goes_up : first_in w ≤ first_in following
   goes_up = omega (arith, numbered_on, left_grows did)
 
   here_below : (failed : List Bool) →
-      AllByRecursion (λ x. x < first_in behind) (event_losses stack plans w event failed)
-  here_below failed = each_less (number_left plans (first_in w) did) (first_in behind) _ (omega (arith, numbered_on))
+      AllByRecursion (λ x. x < first_in following) (event_losses stack plans w event failed)
+  here_below failed = each_less (number_left plans (first_in w) did) (first_in following) _ (omega (arith, numbered_on))
       (left_below did failed)
 
   did_lines : (told : ℕ → ℕ) (m : Moment) (d : Did) (failed : List Bool) →
@@ -249,7 +251,7 @@ module _ (stack : List LayerTree) (plans : List Plan) (w : World) (event : Scrip
   did_lines told m shown failed same = refl
 
   moment_lines : (told : ℕ → ℕ) (failed : List Bool) →
-      ((k : ℕ) → first_in w ≤ k → k < first_in behind → told k ≡ often (event_losses stack plans w event failed) k) →
+      ((k : ℕ) → first_in w ≤ k → k < first_in following → told k ≡ often (event_losses stack plans w event failed) k) →
       node_moment_lines stack plans told (moment_at stack plans w event) ≡ event_lines stack plans w event failed
   moment_lines told failed same = ap (λ lines. journal_line event ∷ lines)
       (did_lines told (moment_at stack plans w event) did failed
@@ -264,21 +266,21 @@ module _ (stack : List LayerTree) (plans : List Plan) where
   lost_from w (does event ∷ doings) failed =
       each_append (λ x. first_in w ≤ x) (event_losses stack plans w event (first_of failed)) _
       (left_from stack plans w event (did stack plans w event) (first_of failed))
-      (each_at_least (first_in w) (first_in (behind stack plans w event)) _ (goes_up stack plans w event)
-      (lost_from (behind stack plans w event) doings (drop 1 failed)))
+      (each_at_least (first_in w) (first_in (following stack plans w event)) _ (goes_up stack plans w event)
+      (lost_from (following stack plans w event) doings (drop 1 failed)))
   lost_from w (asks id heard ∷ doings) failed = lost_from w doings failed
   lost_from w (bears id ∷ doings) failed = lost_from w doings failed
 
   -- what is written after losses of earlier packets
-  written_behind : (front : List ℕ) (w : World) (doings : List Doing) (failed : List (List Bool)) →
+  written_after : (front : List ℕ) (w : World) (doings : List Doing) (failed : List (List Bool)) →
       AllByRecursion (λ x. x < first_in w) front →
       note_lines stack plans (often (front ++ lost_of stack plans w doings failed)) (filter_map note_in doings)
       (moments_of stack plans w doings)
       ≡ written_of stack plans w doings failed
-  written_behind front w [] failed earlier = refl
-  written_behind front w (does event ∷ doings) failed earlier =
+  written_after front w [] failed earlier = refl
+  written_after front w (does event ∷ doings) failed earlier =
       let here = event_losses stack plans w event (first_of failed) in
-      let next = behind stack plans w event in
+      let next = following stack plans w event in
       let later = lost_of stack plans next doings (drop 1 failed) in
       let all = front ++ (here ++ later) in
       let own : (k : ℕ) → first_in w ≤ k → k < first_in next → often all k ≡ often here k = λ k more less. omega (
@@ -295,19 +297,19 @@ module _ (stack : List LayerTree) (plans : List Plan) where
       let rest = subst (λ lost.
       note_lines stack plans (often lost) (filter_map note_in doings) (moments_of stack plans next doings)
       ≡ written_of stack plans next doings (drop 1 failed)) (append_assoc front here later)
-      (written_behind (front ++ here) next doings (drop 1 failed) both) in
+      (written_after (front ++ here) next doings (drop 1 failed) both) in
       λ i. first i ++ rest i
-  written_behind front w (asks id heard ∷ doings) failed earlier = written_behind front w doings failed earlier
-  written_behind front w (bears id ∷ doings) failed earlier =
-      ap (λ lines. deaf_line id ∷ lines) (written_behind front w doings failed earlier)
+  written_after front w (asks id heard ∷ doings) failed earlier = written_after front w doings failed earlier
+  written_after front w (bears id ∷ doings) failed earlier =
+      ap (λ lines. deaf_line id ∷ lines) (written_after front w doings failed earlier)
 
 pub written_is_of_notes : WrittenIsOfNotes
-written_is_of_notes stack plans w doings failed = written_behind stack plans [] w doings failed tt
+written_is_of_notes stack plans w doings failed = written_after stack plans [] w doings failed tt
 
 pub sends_are_handed : SendsAreHanded
 sends_are_handed mode stack plans w [] = refl
 sends_are_handed mode stack plans w (does event ∷ doings) =
     ap (λ sends. event_sends mode stack plans w event ++ sends)
-    (sends_are_handed mode stack plans (behind stack plans w event) doings)
+    (sends_are_handed mode stack plans (following stack plans w event) doings)
 sends_are_handed mode stack plans w (asks id heard ∷ doings) = sends_are_handed mode stack plans w doings
 sends_are_handed mode stack plans w (bears id ∷ doings) = sends_are_handed mode stack plans w doings

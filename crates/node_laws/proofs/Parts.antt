@@ -12,15 +12,15 @@ use Rattle.run_mean.specs.Mode.{Mode}
 use Rattle.run_mean.specs.Journal.{event_in, journal}
 use Rattle.run_mean.specs.Common.{with_plans}
 use Rattle.run_mean.specs.Member.{Output}
-use Rattle.run_mean.specs.Report.{number_behind}
+use Rattle.run_mean.specs.Report.{number_following}
 use Rattle.run_mean.specs.World.{World, Did, taken, refused, absent, shown, happens}
 use Rattle.std.specs.List.{filter_map}
 use Rattle.std.specs.Prelude.{replicate}
 use Rattle.node_laws.specs.Doings.{Doing, does, asks, bears, events_of, heard_in, note_in}
-use Rattle.node_laws.specs.Losses.{behind, deaf_line, event_lines, event_losses, event_sends, fan, losses, losses_in}
+use Rattle.node_laws.specs.Losses.{following, deaf_line, event_lines, event_losses, event_sends, fan, losses, losses_in}
 use Rattle.node_laws.specs.Losses.{lost_of, sends_of, written_of}
 use Rattle.node_laws.specs.Network.{Goes, after_sends, met_as, sent_as}
-use Rattle.node_laws.proofs.Sendings.{handed_behind, listened_behind, met_behind, failures_none}
+use Rattle.node_laws.proofs.Sendings.{handed_after, listened_after, met_after, failures_none}
 
 pub events_append : (xs ys : List Doing) → events_of (xs ++ ys) ≡ events_of xs ++ events_of ys
 events_append xs ys = ap journal (filter_map-append note_in xs ys) ∙ filter_map-append event_in
@@ -33,17 +33,17 @@ heard_append (asks id heard ∷ xs) ys = ap (λ hs. heard ∷ hs) (heard_append 
 heard_append (bears id ∷ xs) ys = heard_append xs ys
 
 module _ (stack : List LayerTree) (plans : List Plan) where
-  pub behind_append : (w : World) (xs ys : List Doing) → behind stack plans w (xs ++ ys) ≡
-      behind stack plans (behind stack plans w xs) ys
-  behind_append w [] ys = refl
-  behind_append w (does event ∷ xs) ys = behind_append (happens stack plans w event).world xs ys
-  behind_append w (asks id heard ∷ xs) ys = behind_append w xs ys
-  behind_append w (bears id ∷ xs) ys = behind_append w xs ys
+  pub after_append : (w : World) (xs ys : List Doing) → following stack plans w (xs ++ ys) ≡
+      following stack plans (following stack plans w xs) ys
+  after_append w [] ys = refl
+  after_append w (does event ∷ xs) ys = after_append (happens stack plans w event).world xs ys
+  after_append w (asks id heard ∷ xs) ys = after_append w xs ys
+  after_append w (bears id ∷ xs) ys = after_append w xs ys
 
   -- Which sendings failed is told for each event in front.
   pub written_append : (w : World) (xs ys : List Doing) (f g : List (List Bool)) → length f ≡ length (events_of xs) →
       written_of stack plans w (xs ++ ys) (f ++ g) ≡ written_of stack plans w xs f ++
-      written_of stack plans (behind stack plans w xs) ys g
+      written_of stack plans (following stack plans w xs) ys g
   written_append w [] ys [] g is = refl
   written_append w [] ys (x ∷ f) g is = absurd (cc is)
   written_append w (does event ∷ xs) ys [] g is = absurd (cc is)
@@ -52,13 +52,13 @@ module _ (stack : List LayerTree) (plans : List Plan) where
       (written_append (happens stack plans w event).world xs ys f g (omega (arith, is)))
       ∙ sym (append_assoc (event_lines stack plans w event x)
       (written_of stack plans (happens stack plans w event).world xs f)
-      (written_of stack plans (behind stack plans (happens stack plans w event).world xs) ys g))
+      (written_of stack plans (following stack plans (happens stack plans w event).world xs) ys g))
   written_append w (asks id heard ∷ xs) ys f g is = written_append w xs ys f g is
   written_append w (bears id ∷ xs) ys f g is = ap (λ ls. deaf_line id ∷ ls) (written_append w xs ys f g is)
 
   pub lost_append : (w : World) (xs ys : List Doing) (f g : List (List Bool)) → length f ≡ length (events_of xs) →
       lost_of stack plans w (xs ++ ys) (f ++ g) ≡ lost_of stack plans w xs f ++
-      lost_of stack plans (behind stack plans w xs) ys g
+      lost_of stack plans (following stack plans w xs) ys g
   lost_append w [] ys [] g is = refl
   lost_append w [] ys (x ∷ f) g is = absurd (cc is)
   lost_append w (does event ∷ xs) ys [] g is = absurd (cc is)
@@ -67,17 +67,18 @@ module _ (stack : List LayerTree) (plans : List Plan) where
       (lost_append (happens stack plans w event).world xs ys f g (omega (arith, is)))
       ∙ sym (append_assoc (event_losses stack plans w event x)
       (lost_of stack plans (happens stack plans w event).world xs f)
-      (lost_of stack plans (behind stack plans (happens stack plans w event).world xs) ys g))
+      (lost_of stack plans (following stack plans (happens stack plans w event).world xs) ys g))
   lost_append w (asks id heard ∷ xs) ys f g is = lost_append w xs ys f g is
   lost_append w (bears id ∷ xs) ys f g is = lost_append w xs ys f g is
 
   -- Where no sending is told to have failed, none is lost.
   pub losses_none : (id k : ℕ) (outs : List (Output × Option ℕ)) → losses id k outs [] ≡ []
   losses_none id k [] = refl
-  losses_none id k (o ∷ outs) = ap (λ n. replicate n k ++ losses id (number_behind k o.0) outs (drop (fan id o.0) []))
+  losses_none id k (o ∷ outs) =
+      ap (λ n. replicate n k ++ losses id (number_following k o.0) outs (drop (fan id o.0) []))
       (failures_none (fan id o.0))
-      ∙ ap (λ f. losses id (number_behind k o.0) outs f) (drop_none (fan id o.0)) ∙
-      losses_none id (number_behind k o.0) outs where
+      ∙ ap (λ f. losses id (number_following k o.0) outs f) (drop_none (fan id o.0)) ∙
+      losses_none id (number_following k o.0) outs where
         drop_none : (n : ℕ) → drop {A = Bool} n [] ≡ []
         drop_none zero = refl
         drop_none (suc n) = refl
@@ -101,7 +102,7 @@ module _ (stack : List LayerTree) (plans : List Plan) where
 module _ (mode : Mode) (stack : List LayerTree) (plans : List Plan) where
   pub goes_append : (w : World) (xs ys : List Doing) (f g : List (List Bool)) (n n' n'' : Network) →
       length f ≡ length (events_of xs) →
-      Goes mode stack plans w xs f n n' → Goes mode stack plans (behind stack plans w xs) ys g n' n'' →
+      Goes mode stack plans w xs f n n' → Goes mode stack plans (following stack plans w xs) ys g n' n'' →
       Goes mode stack plans w (xs ++ ys) (f ++ g) n n''
   goes_append w [] ys [] g n n' n'' is a b = subst (λ m. Goes mode stack plans w ys g m n'') a b
   goes_append w [] ys (x ∷ f) g n n' n'' is a b = absurd (cc is)
@@ -124,7 +125,7 @@ module _ (mode : Mode) (stack : List LayerTree) (plans : List Plan) where
       goes_handed (happens stack plans w event).world xs (drop 1 f)
       (after_sends (event_sends mode stack plans w event) n) n' is.1
       ∙ ap (λ h. h ++ map sent_as (sends_of mode stack plans (happens stack plans w event).world xs))
-      (handed_behind (event_sends mode stack plans w event) n)
+      (handed_after (event_sends mode stack plans w event) n)
       ∙ append_assoc n.handed (map sent_as (event_sends mode stack plans w event))
       (map sent_as (sends_of mode stack plans (happens stack plans w event).world xs))
       ∙ ap (λ h. n.handed ++ h)
@@ -140,7 +141,7 @@ module _ (mode : Mode) (stack : List LayerTree) (plans : List Plan) where
   goes_listened w (does event ∷ xs) f n n' is =
       goes_listened (happens stack plans w event).world xs (drop 1 f)
       (after_sends (event_sends mode stack plans w event) n) n' is.1
-      ∙ listened_behind (event_sends mode stack plans w event) n
+      ∙ listened_after (event_sends mode stack plans w event) n
   goes_listened w (asks id heard ∷ xs) f n n' is = goes_listened w xs f (after_recv id n) n' is.1
   goes_listened w (bears id ∷ xs) f n n' is = goes_listened w xs f n n' is
 
@@ -151,7 +152,7 @@ module _ (mode : Mode) (stack : List LayerTree) (plans : List Plan) where
   goes_met w (does event ∷ xs) f n n' is =
       goes_met (happens stack plans w event).world xs (drop 1 f) (after_sends (event_sends mode stack plans w event) n)
       n' is.1
-      ∙ ap (λ h. h ++ map met_as (heard_in xs)) (met_behind (event_sends mode stack plans w event) n)
+      ∙ ap (λ h. h ++ map met_as (heard_in xs)) (met_after (event_sends mode stack plans w event) n)
   goes_met w (asks id heard ∷ xs) f n n' is = goes_met w xs f (after_recv id n) n' is.1
       ∙ ap (λ m. n.met ++ m ∷ [] ++ map met_as (heard_in xs)) is.0
       ∙ append_assoc n.met (met_as heard ∷ []) (map met_as (heard_in xs))

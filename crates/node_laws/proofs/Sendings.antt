@@ -65,22 +65,22 @@ sends_then (x ∷ xs) ys n = sends_then xs ys (after_send (sent_as x) n)
 drop_next : {A : Type 0} (k : ℕ) (xs : List A) → drop k (drop 1 xs) ≡ drop (suc k) xs
 drop_next k xs = let next : 1 + k ≡ suc k = omega arith in drop-drop k 1 xs ∙ ap (λ n. drop n xs) next
 
-pub fates_behind : (xs : List Handed) (n : Network) → (after_sends xs n).fates ≡ drop (length xs) n.fates
-fates_behind [] n = refl
-fates_behind (x ∷ xs) n = fates_behind xs (after_send (sent_as x) n) ∙ drop_next (length xs) n.fates
+pub fates_after : (xs : List Handed) (n : Network) → (after_sends xs n).fates ≡ drop (length xs) n.fates
+fates_after [] n = refl
+fates_after (x ∷ xs) n = fates_after xs (after_send (sent_as x) n) ∙ drop_next (length xs) n.fates
 
-pub handed_behind : (xs : List Handed) (n : Network) → (after_sends xs n).handed ≡ n.handed ++ map sent_as xs
-handed_behind [] n = sym (append-nil n.handed)
-handed_behind (x ∷ xs) n = handed_behind xs (after_send (sent_as x) n) ∙
+pub handed_after : (xs : List Handed) (n : Network) → (after_sends xs n).handed ≡ n.handed ++ map sent_as xs
+handed_after [] n = sym (append-nil n.handed)
+handed_after (x ∷ xs) n = handed_after xs (after_send (sent_as x) n) ∙
     append_assoc n.handed (sent_as x ∷ []) (map sent_as xs)
 
-pub met_behind : (xs : List Handed) (n : Network) → (after_sends xs n).met ≡ n.met
-met_behind [] n = refl
-met_behind (x ∷ xs) n = met_behind xs (after_send (sent_as x) n)
+pub met_after : (xs : List Handed) (n : Network) → (after_sends xs n).met ≡ n.met
+met_after [] n = refl
+met_after (x ∷ xs) n = met_after xs (after_send (sent_as x) n)
 
-pub listened_behind : (xs : List Handed) (n : Network) → (after_sends xs n).listened ≡ n.listened
-listened_behind [] n = refl
-listened_behind (x ∷ xs) n = listened_behind xs (after_send (sent_as x) n)
+pub listened_after : (xs : List Handed) (n : Network) → (after_sends xs n).listened ≡ n.listened
+listened_after [] n = refl
+listened_after (x ∷ xs) n = listened_after xs (after_send (sent_as x) n)
 
 pub fates_add : (m n : ℕ) (fates : List Fate) → fates_of (m + n) fates ≡ fates_of m fates ++ fates_of n (drop m fates)
 fates_add zero n fates = ap (λ k. fates_of k fates) (omega arith)

@@ -98,13 +98,13 @@ at_least low high word n is = plain (is_plain word) is where
 first_at_least : (low high : ℕ) (words : List Word) (x : ℕ × List Word) → one (number_within low high) words ≡ Some x →
     low ≤ x.0
 first_at_least low high [] x is = absurd (cc is)
-first_at_least low high (word ∷ behind) x is =
-    mapped (λ n. (n, behind)) (number_within low high word) x is (λ n found same.
+first_at_least low high (word ∷ following) x is =
+    mapped (λ n. (n, following)) (number_within low high word) x is (λ n found same.
     subst (λ x. low ≤ x.0) same (at_least low high word n found))
 
 ended : {A : Type 0} (value : A) (words : List Word) (y : A × List Word) → ends value words ≡ Some y → value ≡ y.0
 ended value [] y is = ap (λ y. y.0) (some_same (value, []) y is)
-ended value (word ∷ behind) y is = absurd (cc is)
+ended value (word ∷ following) y is = absurd (cc is)
 
 line_at_least : (earliest : ℕ) (words : List Word) (y : (ℕ × ScriptEvent) × List Word) →
     turn_line earliest words ≡ Some y → earliest ≤ y.0.0
@@ -134,13 +134,14 @@ turns_ordered members earliest (line ∷ lines) entries is =
     subst (AreOrdered earliest) (ok_same (turn ∷ turns) entries is)
     (turn_at_least members earliest line turn read, turns_ordered members turn.0 lines turns more)))
 
-lines_ordered : (behind : ℕ) (lines : List (ℕ × List ℕ)) (plan : NodePlan) → plan_of_lines behind lines ≡ Ok plan →
+lines_ordered : (following : ℕ) (lines : List (ℕ × List ℕ)) (plan : NodePlan) → plan_of_lines following lines ≡
+    Ok plan →
     AreOrdered 0 plan.turns
-lines_ordered behind [] plan is = absurd (cc is)
-lines_ordered behind (first ∷ lines) plan is =
+lines_ordered following [] plan is = absurd (cc is)
+lines_ordered following (first ∷ lines) plan is =
     through (in_form first.0 (said_by group_line first.1)) _ plan is (λ opening _ is.
     through (peers_of 0 (take opening.members lines)) _ plan is (λ found _ is.
-    through (for_each opening.members behind found) _ plan is (λ peers _ is.
+    through (for_each opening.members following found) _ plan is (λ peers _ is.
     through (turns_of opening.members 0 (drop opening.members lines)) _ plan is (λ turns read is.
     subst (λ (plan : NodePlan). AreOrdered 0 plan.turns) (ok_same _ plan is)
     (turns_ordered opening.members 0 (drop opening.members lines) turns read)))))
@@ -199,13 +200,13 @@ turns_ask members earliest (line ∷ lines) entries is =
     subst Asks (ok_same (turn ∷ turns) entries is)
     (turn_asks members earliest line turn read, turns_ask members turn.0 lines turns more)))
 
-lines_ask : (behind : ℕ) (lines : List (ℕ × List ℕ)) (plan : NodePlan) → plan_of_lines behind lines ≡ Ok plan →
+lines_ask : (following : ℕ) (lines : List (ℕ × List ℕ)) (plan : NodePlan) → plan_of_lines following lines ≡ Ok plan →
     Asks plan.turns
-lines_ask behind [] plan is = absurd (cc is)
-lines_ask behind (first ∷ lines) plan is =
+lines_ask following [] plan is = absurd (cc is)
+lines_ask following (first ∷ lines) plan is =
     through (in_form first.0 (said_by group_line first.1)) _ plan is (λ opening _ is.
     through (peers_of 0 (take opening.members lines)) _ plan is (λ found _ is.
-    through (for_each opening.members behind found) _ plan is (λ peers _ is.
+    through (for_each opening.members following found) _ plan is (λ peers _ is.
     through (turns_of opening.members 0 (drop opening.members lines)) _ plan is (λ turns read is.
     subst (λ (plan : NodePlan). Asks plan.turns) (ok_same _ plan is)
     (turns_ask opening.members 0 (drop opening.members lines) turns read)))))

@@ -12,7 +12,7 @@ use Rattle.run_mean.specs.Common.{as_sent}
 use Rattle.run_mean.specs.Journal.{Handed, handed_output}
 use Rattle.run_mean.specs.Lines.{absent_line, refused_line}
 use Rattle.run_mean.specs.Member.{Output}
-use Rattle.run_mean.specs.Report.{installed_line, member_lines, number_behind, output_lines, packet_given}
+use Rattle.run_mean.specs.Report.{installed_line, member_lines, number_following, output_lines, packet_given}
 use Rattle.run_mean.specs.World.{World, Did, taken, refused, absent, shown, happens, member_at}
 use Rattle.node_laws.specs.Doings.{Doing, does, asks, bears}
 use Rattle.node_laws.specs.Losses.{deaf_line, event_lines, event_sends, fan, first_in, first_of, journal_line}
@@ -57,7 +57,7 @@ abbrev pub outputs_acts : List LayerTree → List Plan → (id k : ℕ) → List
 outputs_acts stack plans id k [] failed = []
 outputs_acts stack plans id k (o ∷ outs) failed =
     output_acts stack plans id k o (take (fan id o.0) failed)
-    ++ outputs_acts stack plans id (number_behind k o.0) outs (drop (fan id o.0) failed)
+    ++ outputs_acts stack plans id (number_following k o.0) outs (drop (fan id o.0) failed)
 
 -- What an event of a member gave, where members run in a mode.
 abbrev pub did_acts : Mode → List LayerTree → List Plan → World → ScriptEvent → Did → List Bool → List Act

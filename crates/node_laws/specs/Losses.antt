@@ -13,7 +13,7 @@ use Rattle.run_mean.specs.Common.{with_plans}
 use Rattle.run_mean.specs.Journal.{Handed, receivers, handed_datagrams, handed_in, journal, note_lines}
 use Rattle.run_mean.specs.Lines.{line}
 use Rattle.run_mean.specs.Member.{Output, packet}
-use Rattle.run_mean.specs.Report.{number_behind, output_lines, lines_of, moments, Moment}
+use Rattle.run_mean.specs.Report.{number_following, output_lines, lines_of, moments, Moment}
 use Rattle.run_mean.specs.World.{World, Did, taken, happens}
 use Rattle.node_laws.specs.Doings.{Doing, does, asks, bears, note_in}
 
@@ -41,14 +41,14 @@ abbrev pub lossy_lines : List LayerTree → (id k : ℕ) → List (Output × Opt
 lossy_lines stack id k [] failed = []
 lossy_lines stack id k (o ∷ outs) failed =
     output_lines stack id k o.0 ++ replicate (failures_in (take (fan id o.0) failed)) (lost_line k)
-    ++ lossy_lines stack id (number_behind k o.0) outs (drop (fan id o.0) failed)
+    ++ lossy_lines stack id (number_following k o.0) outs (drop (fan id o.0) failed)
 
 -- The number of the packet of each sending that failed.
 abbrev pub losses : (id k : ℕ) → List (Output × Option ℕ) → List Bool → List ℕ
 losses id k [] failed = []
 losses id k (o ∷ outs) failed =
     replicate (failures_in (take (fan id o.0) failed)) k ++
-    losses id (number_behind k o.0) outs (drop (fan id o.0) failed)
+    losses id (number_following k o.0) outs (drop (fan id o.0) failed)
 
 -- An event in a world.
 abbrev pub moment_at : List LayerTree → List Plan → World → ScriptEvent → Moment
@@ -82,11 +82,11 @@ first_of [] = []
 first_of (first ∷ rest) = first
 
 -- The world after what was done.
-abbrev pub behind : List LayerTree → List Plan → World → List Doing → World
-behind stack plans w [] = w
-behind stack plans w (does event ∷ doings) = behind stack plans (happens stack plans w event).world doings
-behind stack plans w (asks id heard ∷ doings) = behind stack plans w doings
-behind stack plans w (bears id ∷ doings) = behind stack plans w doings
+abbrev pub following : List LayerTree → List Plan → World → List Doing → World
+following stack plans w [] = w
+following stack plans w (does event ∷ doings) = following stack plans (happens stack plans w event).world doings
+following stack plans w (asks id heard ∷ doings) = following stack plans w doings
+following stack plans w (bears id ∷ doings) = following stack plans w doings
 
 -- What is written, lost and, in a mode, handed on of what a node does from a world on; which sendings failed is told
 -- event by event.

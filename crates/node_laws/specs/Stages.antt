@@ -51,9 +51,9 @@ heard_doings id silence = asks id silence ∷ []
 heard_doings id failure = asks id failure ∷ bears id ∷ []
 
 -- How many failures are left to be borne after what was heard.
-abbrev pub left_behind : ℕ → Heard → ℕ
-left_behind patience failure = patience - 1
-left_behind patience _ = patience
+abbrev pub left_after : ℕ → Heard → ℕ
+left_after patience failure = patience - 1
+left_after patience _ = patience
 
 abbrev pub IsBorne : ℕ → Heard → Type 0
 IsBorne patience failure = 1 ≤ patience
@@ -63,7 +63,7 @@ abbrev pub AskingGoesOn : Type 0
 AskingGoesOn = (c : Course) (t patience id : ℕ) (ids clock : List ℕ) (x : Heard) (heard : List Heard) →
     IsBorne patience x →
     from_asking c t patience (id ∷ ids) clock (x ∷ heard) ≡ heard_doings id x ++
-    from_asking c t (left_behind patience x) ids clock heard
+    from_asking c t (left_after patience x) ids clock heard
 
 -- A failure that isn't borne is the last.
 abbrev pub AskingEnds : Type 0

@@ -5,7 +5,7 @@ use Rattle.std.proofs.lemmas.List.{map-append}
 use Rattle.std.specs.Prelude.{Result, Err, IfSome, IsSomeAnd, option_to_list, slice_get}
 use Rattle.std.specs.List.{AllByRecursion}
 use Rattle.std.specs.Option.{option_map}
-use Rattle.file_layer.proofs.Lists.{all-behind}
+use Rattle.file_layer.proofs.Lists.{all-following}
 use Rattle.outside.specs.Links.{Network, Sends, after_send, faults_after_call, is_failure, next_fate}
 use Rattle.outside.specs.declared.links.LinkError.{LinkError}
 use Rattle.outside.specs.declared.links.TheConstants.{LONGEST_DATAGRAM}
@@ -116,7 +116,7 @@ may_take bytes to front rest whole first now may are same =
       go : (o : Option ℕ) → IsSomeAnd o (λ peers. AllByRecursion (MayTake bytes peers) whole) →
           IsSomeAnd o (λ peers. to < peers) × (length bytes ≤ LONGEST_DATAGRAM)
       go None h = absurd h
-      go (Some peers) h = (all-behind (MayTake bytes peers) front (to ∷ rest)
+      go (Some peers) h = (all-following (MayTake bytes peers) front (to ∷ rest)
           (subst (AllByRecursion (MayTake bytes peers)) are h)).0
 
 -- The datagrams of a cast, up to an id.

@@ -6,13 +6,13 @@ use Rattle.std.proofs.lemmas.Option.{get_or_from_slice_get}
 use Rattle.std.specs.Prelude.{Result, Ok, Err, IsSomeAnd, slice_get}
 use Rattle.std.specs.List.{AllByRecursion, flat_map}
 use Rattle.outside.specs.declared.sink.SinkError.{SinkError}
-use Rattle.file_layer.proofs.Lists.{all-behind, all-front}
+use Rattle.file_layer.proofs.Lists.{all-following, all-front}
 use Rattle.layer_mean.specs.Tree.{LayerTree}
 use Rattle.packet_mean.specs.declared.here.Here.{Here}
 use Rattle.stack_mean.specs.Plan.{Plan}
 use Rattle.run_mean.specs.Journal.{Handed, handed_output, receivers}
 use Rattle.run_mean.specs.Member.{Output, deliver_cast, deliver_send, block, announce, packet, nowhere, timer, quiet}
-use Rattle.run_mean.specs.Report.{number_behind, output_lines}
+use Rattle.run_mean.specs.Report.{number_following, output_lines}
 use Rattle.outside.specs.Lines.{Wrote}
 use Rattle.step_outputs.specs.Views.{output_meant}
 use Rattle.step_outputs.specs.declared.view.OutputView.{OutputView}
@@ -118,20 +118,20 @@ module _ (stack : List LayerTree) (plans : List Plan) (id : ℕ) where
       let n = fan id o.0 in
       let within : n ≤ length f = omega (arith, is) in
       let left : length (drop n f) ≡ fans id xs = (let d = length-drop n f in omega (arith, is, d)) in
-      ap (λ flags. of_output k o flags ++ of_outputs (number_behind k o.0) (xs ++ ys) (drop n (f ++ g)))
+      ap (λ flags. of_output k o flags ++ of_outputs (number_following k o.0) (xs ++ ys) (drop n (f ++ g)))
       (take-append-le n f g within)
-      ∙ ap (λ flags. of_output k o (take n f) ++ of_outputs (number_behind k o.0) (xs ++ ys) flags)
+      ∙ ap (λ flags. of_output k o (take n f) ++ of_outputs (number_following k o.0) (xs ++ ys) flags)
       (drop-append-le n f g within)
-      ∙ ap (λ acts. of_output k o (take n f) ++ acts) (outputs_append (number_behind k o.0) xs ys (drop n f) g left)
-      ∙ sym (append_assoc (of_output k o (take n f)) (of_outputs (number_behind k o.0) xs (drop n f))
-      (of_outputs (number_after (number_behind k o.0) xs) ys g))
+      ∙ ap (λ acts. of_output k o (take n f) ++ acts) (outputs_append (number_following k o.0) xs ys (drop n f) g left)
+      ∙ sym (append_assoc (of_output k o (take n f)) (of_outputs (number_following k o.0) xs (drop n f))
+      (of_outputs (number_after (number_following k o.0) xs) ys g))
 
   -- an output with as many flags as it has sendings
   one_output : (k : ℕ) (o : Output × Option ℕ) (rest : List (Output × Option ℕ)) (g : List Bool) →
       length g ≤ fan id o.0 →
-      of_outputs k (o ∷ rest) g ≡ of_output k o g ++ of_outputs (number_behind k o.0) rest (drop (fan id o.0) g)
+      of_outputs k (o ∷ rest) g ≡ of_output k o g ++ of_outputs (number_following k o.0) rest (drop (fan id o.0) g)
   one_output k o rest g few =
-      ap (λ flags. of_output k o flags ++ of_outputs (number_behind k o.0) rest (drop (fan id o.0) g))
+      ap (λ flags. of_output k o flags ++ of_outputs (number_following k o.0) rest (drop (fan id o.0) g))
       (take_all (fan id o.0) g few)
 
   few_flags : (k : ℕ) (o : Output × Option ℕ) (f g : List Bool) → length g ≤ length (sends_in (of_output k o f)) →
@@ -186,7 +186,7 @@ module _ (stack : List LayerTree) (plans : List Plan) (id : ℕ) where
         let rest = drop (i + 1) outs in
         let f = p.failed in
         breaks_then a b c (of_outputs first front f) (of_output k o) (of_outputs first outs) f e p.passed q record {
-          more = λ g. of_outputs (number_behind k o.0) rest (drop (fan id o.0) g);
+          more = λ g. of_outputs (number_following k o.0) rest (drop (fan id o.0) g);
           are = λ g few. ap (λ outs. of_outputs first outs (f ++ g)) (outputs_whole outs i o small is)
               ∙ outputs_append first front (o ∷ rest) f g (each_flag first front f a b p.passed)
               ∙ ap (λ n. of_outputs first front f ++ of_outputs n (o ∷ rest) g) (sym number)
@@ -231,7 +231,7 @@ sends_at : {A B : Type 0} (P : B → Type 0) (f : A → List B) (xs : List A) (i
 sends_at P f [] i x is h = absurd (cc is)
 sends_at P f (y ∷ xs) zero x is h = let same : y ≡ x = cc is in
     subst (λ y. AllByRecursion P (f y)) same (all-front P (f y) (flat_map f xs) h)
-sends_at P f (y ∷ xs) (suc i) x is h = sends_at P f xs i x is (all-behind P (f y) (flat_map f xs) h)
+sends_at P f (y ∷ xs) (suc i) x is h = sends_at P f xs i x is (all-following P (f y) (flat_map f xs) h)
 
 pub sendable_at : (plans : List Plan) (id : ℕ) (outs : List (Output × Option ℕ)) (i : ℕ) (o : Output × Option ℕ)
     (first now : Option ℕ) →

@@ -65,10 +65,10 @@ module _ (peers : List Peer) (ids : List ℕ) (k : ℕ) (lt : k < length ids) wh
   count_is : length (take k ids) ≡ k
   count_is = length-take-le k ids (omega (arith, lt))
 
-  flags_behind : (flag : Bool) (n n' n'' : Network) → Listened peers (take k ids) n n' →
+  flags_after : (flag : Bool) (n n' n'' : Network) → Listened peers (take k ids) n n' →
       ListenedOnce listen flag n' n'' →
       flags_of (k + 1) n.listens ≡ replicate k false ++ flag ∷ []
-  flags_behind flag n n' n'' l one =
+  flags_after flag n n' n'' l one =
       let flags : flags_of k n.listens ≡ replicate k false = subst (λ i. flags_of i n.listens ≡ replicate i false)
       count_is l.flags in
       let next : is_next_to_fail (drop k n.listens) ≡ flag =
@@ -77,20 +77,20 @@ module _ (peers : List Peer) (ids : List ℕ) (k : ℕ) (lt : k < length ids) wh
       ap (λ i. flags_of i n.listens) (sym (one_more k)) ∙ flags_more k n.listens
       ∙ ap (λ f. flags_of k n.listens ++ f ∷ []) next ∙ ap (λ fs. fs ++ flag ∷ []) flags
 
-  listens_behind : listens_of peers (take k ids) ++ listen ∷ [] ≡ listens_of peers (take (k + 1) ids)
-  listens_behind = sym (map-append (listen_of peers) (take k ids) (get_or ids k 0 ∷ [])) ∙
+  listens_after : listens_of peers (take k ids) ++ listen ∷ [] ≡ listens_of peers (take (k + 1) ids)
+  listens_after = sym (map-append (listen_of peers) (take k ids) (get_or ids k 0 ∷ [])) ∙
       ap (map (listen_of peers)) (sym (take_more ids k 0 lt))
 
   count_more : suc (length (take k ids)) ≡ length (take (k + 1) ids)
   count_more = ap suc count_is ∙ one_more k ∙ sym (length-take-le (k + 1) ids (omega (arith, lt)))
 
-  network_behind : (flag : Bool) (n n' n'' : Network) → Listened peers (take k ids) n n' →
+  network_after : (flag : Bool) (n n' n'' : Network) → Listened peers (take k ids) n n' →
       ListenedOnce listen flag n' n'' →
       n'' ≡ after_listens peers (take (k + 1) ids) n
-  network_behind flag n n' n'' l one = one.is ∙ ap (after_listen listen) l.is
+  network_after flag n n' n'' l one = one.is ∙ ap (after_listen listen) l.is
       ∙ ap₂ (λ listened flags. record n { listened = listened; listens = flags })
       (append_assoc n.listened (listens_of peers (take k ids)) (listen ∷ []) ∙
-      ap (λ ls. n.listened ++ ls) listens_behind)
+      ap (λ ls. n.listened ++ ls) listens_after)
       (drop_next (length (take k ids)) n.listens ∙ ap (λ i. drop i n.listens) count_more)
 
   -- One more did.
@@ -101,8 +101,8 @@ module _ (peers : List Peer) (ids : List ℕ) (k : ℕ) (lt : k < length ids) wh
       (λ n n' n'' l one. record {
         flags = subst (λ i. flags_of i n.listens ≡ replicate i false)
             (one_more k ∙ sym (length-take-le (k + 1) ids (omega (arith, lt))))
-            (ap (λ i. flags_of i n.listens) (one_more k) ∙ flags_behind false n n' n'' l one ∙ replicate_more k);
-        is = network_behind false n n' n'' l one;
+            (ap (λ i. flags_of i n.listens) (one_more k) ∙ flags_after false n n' n'' l one ∙ replicate_more k);
+        is = network_after false n n' n'' l one;
       })
 
   -- The next failed.
@@ -113,8 +113,8 @@ module _ (peers : List Peer) (ids : List ℕ) (k : ℕ) (lt : k < length ids) wh
       (λ n n' n'' l one. record {
         some = k;
         within = lt;
-        flags = flags_behind true n n' n'' l one;
-        is = network_behind true n n' n'' l one;
+        flags = flags_after true n n' n'' l one;
+        is = network_after true n n' n'' l one;
       })
 
 -- Memory ran out.

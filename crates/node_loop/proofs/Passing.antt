@@ -16,8 +16,8 @@ use Rattle.node_laws.specs.Acts.{Act, puts, sends, lines_in, sends_in}
 use Rattle.node_laws.specs.Losses.{failures_in}
 use Rattle.node_laws.specs.Network.{Tells, after_sends, fates_of, sent_as}
 use Rattle.node_laws.proofs.Acts.{lines_append, puts_lines, puts_none, sends_append}
-use Rattle.node_laws.proofs.Sendings.{failures_append, fates_add, fates_behind, handed_behind, listened_behind}
-use Rattle.node_laws.proofs.Sendings.{met_behind, sends_then, tells_same, tells_then}
+use Rattle.node_laws.proofs.Sendings.{failures_append, fates_add, fates_after, handed_after, listened_after}
+use Rattle.node_laws.proofs.Sendings.{met_after, sends_then, tells_same, tells_then}
 use Rattle.node_loop.specs.Around.{Around, count_on}
 use Rattle.node_loop.specs.Passing.{Breaks, Handles, Passes, Stops, Takes, WentOn, next_line}
 
@@ -31,7 +31,7 @@ takes_then : (xs ys : List Handed) (f g : List Bool) (n n' n'' : Network) → Ta
 takes_then xs ys f g n n' n'' s t = record {
   failed_are = ap (λ x. x ++ g) s.failed_are
       ∙ ap (λ x. fates_of (length xs) n.fates ++ x)
-      (t.failed_are ∙ ap (fates_of (length ys)) (ap (λ m. m.fates) s.is ∙ fates_behind xs n))
+      (t.failed_are ∙ ap (fates_of (length ys)) (ap (λ m. m.fates) s.is ∙ fates_after xs n))
       ∙ sym (fates_add (length xs) (length ys) n.fates)
       ∙ ap (λ k. fates_of k n.fates) (sym (length-append xs ys));
   is = t.is ∙ ap (after_sends ys) s.is ∙ sym (sends_then xs ys n);
@@ -39,10 +39,10 @@ takes_then xs ys f g n n' n'' s t = record {
 
 pub takes_some : (xs : List Handed) (f : List Bool) (n n' : Network) → Takes xs f n n' → WentOn [] xs [] n n'
 takes_some xs f n n' t = record {
-  listened = ap (λ m. m.listened) t.is ∙ listened_behind xs n ∙ sym (append-nil n.listened);
+  listened = ap (λ m. m.listened) t.is ∙ listened_after xs n ∙ sym (append-nil n.listened);
   some = record {
-    handed = ap (λ m. m.handed) t.is ∙ handed_behind xs n;
-    met = ap (λ m. m.met) t.is ∙ met_behind xs n ∙ sym (append-nil n.met);
+    handed = ap (λ m. m.handed) t.is ∙ handed_after xs n;
+    met = ap (λ m. m.met) t.is ∙ met_after xs n ∙ sym (append-nil n.met);
   };
 }
 
@@ -168,7 +168,7 @@ lines_stop : (a b : output.Tells) (lines : List (List ℕ)) (more : List Act) (e
     Wrote lines a b (Err e) →
     Stops e [] (map puts lines ++ more) a b
 lines_stop a b [] more sink.Failed few wrote =
-    let n = ap length wrote.are in let l = length-append wrote.front (wrote.line ∷ wrote.behind) in
+    let n = ap length wrote.are in let l = length-append wrote.front (wrote.line ∷ wrote.following) in
     absurd (omega (arith, n, l))
 lines_stop a b [] more sink.Memory few wrote = record {
   mid = a;

@@ -35,12 +35,12 @@ ordered_least least earliest [] le h = tt
 ordered_least least earliest (entry ∷ entries) le h =
     (omega (arith, le, h.0), ordered_least least entry.0 entries (omega (arith, le, h.0)) h.1)
 
-ordered_behind : (earliest k : ℕ) (entries : List (ℕ × ScriptEvent)) (d : ℕ × ScriptEvent) → k < length entries →
+ordered_after : (earliest k : ℕ) (entries : List (ℕ × ScriptEvent)) (d : ℕ × ScriptEvent) → k < length entries →
     AreOrdered earliest entries →
     AreOrdered (get_or entries k d).0 (drop (suc k) entries)
-ordered_behind earliest k [] d lt h = absurd (omega (arith, lt))
-ordered_behind earliest zero (entry ∷ entries) d lt h = h.1
-ordered_behind earliest (suc k) (entry ∷ entries) d lt h = ordered_behind entry.0 k entries d (omega (arith, lt)) h.1
+ordered_after earliest k [] d lt h = absurd (omega (arith, lt))
+ordered_after earliest zero (entry ∷ entries) d lt h = h.1
+ordered_after earliest (suc k) (entry ∷ entries) d lt h = ordered_after entry.0 k entries d (omega (arith, lt)) h.1
 
 -- a line of this turn is done if it is of an own member
 planned_step : (c : Course) (me : List ℕ) (t left : ℕ) (entry : ℕ × ScriptEvent) (entries : List (ℕ × ScriptEvent))
@@ -180,13 +180,13 @@ module _ (stack : List LayerTree) (plans : List Plan) where
             (at_drop_more (λ ys. ys) turns k e lt') some.due).0 in
             omega (arith, due, other)
 
-        behind : AreOrdered (get_or turns k e).0 (drop (k + 1) turns)
-        behind = let next : suc k ≡ k + 1 = omega arith in
-            subst (λ n. AreOrdered (get_or turns k e).0 (drop n turns)) next (ordered_behind 0 k turns e lt' ordered)
+        following : AreOrdered (get_or turns k e).0 (drop (k + 1) turns)
+        following = let next : suc k ≡ k + 1 = omega arith in
+            subst (λ n. AreOrdered (get_or turns k e).0 (drop n turns)) next (ordered_after 0 k turns e lt' ordered)
 
         pub planned_over : planned_in me t (drop k turns) ≡ []
         planned_over = at_drop_more (planned_in me t) turns k e lt' ∙
-            planned_is_over me t (get_or turns k e) (drop (k + 1) turns) later_line behind
+            planned_is_over me t (get_or turns k e) (drop (k + 1) turns) later_line following
 
         pub due_over : AllByRecursion (λ entry. t + 1 ≤ entry.0) (drop k turns)
         due_over = subst (λ entries. AllByRecursion (λ entry. t + 1 ≤ entry.0) entries)
@@ -194,7 +194,7 @@ module _ (stack : List LayerTree) (plans : List Plan) where
             (let l = later_line in (
               omega (arith, l),
               ordered_least (t + 1) (get_or turns k e).0 (drop (k + 1) turns) (omega (arith, l))
-                  behind,
+                  following,
             ))
 
       pub planned_end : planned_in me t (drop k turns) ≡ [] →

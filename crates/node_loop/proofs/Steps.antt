@@ -18,7 +18,7 @@ use Rattle.outside.specs.Lines.{Gains, Wrote}
 use Rattle.outside.proofs.Gaining.{gains_then}
 use Rattle.group_feed.specs.Standing.{Peopled}
 use Rattle.node_laws.specs.Doings.{Doing, does, asks, bears, doings_of, events_of, heard_in}
-use Rattle.node_laws.specs.Losses.{behind, deaf_line, event_lines, event_losses, event_sends, failures_in, lost_of}
+use Rattle.node_laws.specs.Losses.{following, deaf_line, event_lines, event_losses, event_sends, failures_in, lost_of}
 use Rattle.node_laws.specs.Losses.{sends_of, written_of}
 use Rattle.node_laws.specs.Network.{Goes, Tells, after_sends, fates_of, met_as, sent_as}
 use Rattle.node_laws.specs.Stages.{Course, clock_on, heard_on}
@@ -26,7 +26,7 @@ use Rattle.node_laws.specs.Acts.{Act, puts, acts_of, event_acts, sends_in}
 use Rattle.node_laws.proofs.Acts.{acts_append, acts_lines_are, acts_sends_are, event_lines_are, event_sends_are}
 use Rattle.node_laws.proofs.Acts.{sends_append}
 use Rattle.node_laws.proofs.Fans.{event_losses_are}
-use Rattle.node_laws.proofs.Parts.{behind_append, events_append, goes_append, goes_handed, goes_listened, goes_met}
+use Rattle.node_laws.proofs.Parts.{after_append, events_append, goes_append, goes_handed, goes_listened, goes_met}
 use Rattle.node_laws.proofs.Parts.{heard_append, lost_append, lost_none, written_append}
 use Rattle.node_laws.proofs.Sendings.{tells_as, tells_same, tells_then}
 use Rattle.node_loop.specs.Around.{Around, count_on}
@@ -90,7 +90,7 @@ module _ (stack : List LayerTree) (plans : List Plan) (c : Course) (b : Begun) w
         answers_are = so.answers_are;
         asked = heard_append so.done one ∙ append-nil (heard_in so.done) ∙ so.asked;
         borne_are = so.borne_are;
-        world_is = ap (λ v. (happens stack plans v event).world) at ∙ sym (behind_append stack plans w so.done one);
+        world_is = ap (λ v. (happens stack plans v event).world) at ∙ sym (after_append stack plans w so.done one);
         rests = fed.rests;
         each = length-append so.failed (f ∷ []) ∙ ap (λ n. n + 1) so.each ∙
             sym (length-append (events_of so.done) (event ∷ []))
@@ -103,7 +103,7 @@ module _ (stack : List LayerTree) (plans : List Plan) (c : Course) (b : Begun) w
             (subst (Gains a.output a'.output) (event_lines_are b.mode stack plans so.world event f) p.gained)
             (written_append stack plans w so.done one so.failed (f ∷ []) so.each
             ∙ ap (λ ls. written_of stack plans w so.done so.failed ++ ls)
-            (append-nil (event_lines stack plans (behind stack plans w so.done) event f))
+            (append-nil (event_lines stack plans (following stack plans w so.done) event f))
             ∙ ap (λ v. written_of stack plans w so.done so.failed ++ event_lines stack plans v event f) (sym at));
         faults = p.faults ∙ so.faults;
         sends =
@@ -113,7 +113,7 @@ module _ (stack : List LayerTree) (plans : List Plan) (c : Course) (b : Begun) w
             ≡ length (lost_of stack plans w so.done so.failed) + failures_in f =
             ap length (lost_append stack plans w so.done one so.failed (f ∷ []) so.each
             ∙ ap (λ ls. lost_of stack plans w so.done so.failed ++ ls)
-            (append-nil (event_losses stack plans (behind stack plans w so.done) event f))
+            (append-nil (event_losses stack plans (following stack plans w so.done) event f))
             ∙ ap (λ v. lost_of stack plans w so.done so.failed ++ event_losses stack plans v event f) (sym at))
             ∙ length-append (lost_of stack plans w so.done so.failed) (event_losses stack plans so.world event f)
             ∙ ap (λ n. length (lost_of stack plans w so.done so.failed) + n)
@@ -158,7 +158,7 @@ module _ (stack : List LayerTree) (plans : List Plan) (c : Course) (b : Begun) w
         answers_are = length-append so.heard (x ∷ []) ∙ ap (λ n. n + 1) so.answers_are;
         asked = heard_append so.done one ∙ ap (λ hs. hs ++ x ∷ []) so.asked;
         borne_are = failures_append so.heard (x ∷ []) ∙ ap (λ n. n + failures (x ∷ [])) so.borne_are ∙ sym more;
-        world_is = so.world_is ∙ sym (behind_append stack plans w so.done one);
+        world_is = so.world_is ∙ sym (after_append stack plans w so.done one);
         rests = record { somewhere = so.rests.somewhere; places = ap (λ o. o.places) outputs ∙ so.rests.places };
         each = so.each ∙ sym (ap length (events_append so.done one ∙ append-nil (events_of so.done)));
         counted = events ∙ so.counted ∙ sym (ap length (events_append so.done one ∙ append-nil (events_of so.done)));
@@ -179,7 +179,7 @@ module _ (stack : List LayerTree) (plans : List Plan) (c : Course) (b : Begun) w
             (sym (append-nil so.failed))
             ∙ written_append stack plans b.first so.done one so.failed [] so.each
             ∙ ap (λ o. written_of stack plans b.first so.done so.failed ++
-            written_of stack plans (behind stack plans b.first so.done) o []) is
+            written_of stack plans (following stack plans b.first so.done) o []) is
             ∙ append-nil (written_of stack plans b.first so.done so.failed)
 
         same_lost : (one : List Doing) (so : So m k rest borne (now g d a clk)) → one ≡ asks id x ∷ [] →
@@ -187,7 +187,7 @@ module _ (stack : List LayerTree) (plans : List Plan) (c : Course) (b : Begun) w
         same_lost one so is = ap (λ f. lost_of stack plans b.first (so.done ++ one) f) (sym (append-nil so.failed))
             ∙ lost_append stack plans b.first so.done one so.failed [] so.each
             ∙ ap (λ o. lost_of stack plans b.first so.done so.failed ++
-            lost_of stack plans (behind stack plans b.first so.done) o []) is
+            lost_of stack plans (following stack plans b.first so.done) o []) is
             ∙ append-nil (lost_of stack plans b.first so.done so.failed)
 
   -- what it then heard
@@ -233,7 +233,7 @@ module _ (stack : List LayerTree) (plans : List Plan) (c : Course) (b : Begun) w
         answers_are = so.answers_are;
         asked = heard_append so.done one ∙ append-nil (heard_in so.done) ∙ so.asked;
         borne_are = so.borne_are;
-        world_is = so.world_is ∙ sym (behind_append stack plans w so.done one);
+        world_is = so.world_is ∙ sym (after_append stack plans w so.done one);
         rests = record { somewhere = so.rests.somewhere; places = ap (λ o. o.places) outputs ∙ so.rests.places };
         each = so.each ∙ sym (ap length (events_append so.done one ∙ append-nil (events_of so.done)));
         counted = events ∙ so.counted ∙ sym (ap length (events_append so.done one ∙ append-nil (events_of so.done)));
@@ -263,16 +263,16 @@ module _ (stack : List LayerTree) (plans : List Plan) (c : Course) (b : Begun) w
     front = acts_of b.mode stack plans b.first so.done so.failed
 
     -- The acts of what is left begin so, where it is told which of their sendings failed, in a number of events.
-    pub cut : (flags : List (List Bool)) (done behind_them : List Act) (a' : Around) (e : SinkError) →
-        acts_of b.mode stack plans so.world left flags ≡ done ++ behind_them →
-        Stops e done behind_them at.around.output a'.output →
+    pub cut : (flags : List (List Bool)) (done after_them : List Act) (a' : Around) (e : SinkError) →
+        acts_of b.mode stack plans so.world left flags ≡ done ++ after_them →
+        Stops e done after_them at.around.output a'.output →
         a'.faults ≡ at.around.faults →
         a'.sends ≡ count_on at.around.sends (length (lost_of stack plans so.world left flags)) →
         Tells (WentOn [] (sends_in done) []) at.around.told a'.told → CutOff stack plans c b e a' at.clock
-    cut flags done behind_them a' e are stopped faults sendings told =
+    cut flags done after_them a' e are stopped faults sendings told =
         let w = b.first in
         let f = so.failed ++ flags in
-        let acts : acts_of b.mode stack plans w all f ≡ front ++ (done ++ behind_them) =
+        let acts : acts_of b.mode stack plans w all f ≡ front ++ (done ++ after_them) =
         acts_append b.mode stack plans w so.done left so.failed flags so.each
         ∙ ap (λ v. front ++ acts_of b.mode stack plans v left flags) (sym so.world_is) ∙
         ap (λ acts. front ++ acts) are in
@@ -290,17 +290,17 @@ module _ (stack : List LayerTree) (plans : List Plan) (c : Course) (b : Begun) w
           heard = so.heard;
           failed = f;
           done = front ++ done;
-          rest = behind_them ++ last;
+          rest = after_them ++ last;
           turns = (let n = so.moments_are in let l = within.turns in omega (arith, n, l));
           answers = subst (λ n. n ≤ c.turns * length c.me) (sym so.answers_are) within.all;
           borne = (let n = so.borne_are in let l = within.patient in omega (arith, n, l));
           doings = all;
           doings_are = sym (so.goes (clock_on c so.clock) (heard_on c so.heard));
-          are = ap (λ acts. acts ++ last) acts ∙ append_assoc front (done ++ behind_them) last
-              ∙ ap (λ acts. front ++ acts) (append_assoc done behind_them last) ∙
-              sym (append_assoc front done (behind_them ++ last));
-          stopped = stops_longer b.around.output a'.output (front ++ done) behind_them last e
-              (stops_then b.around.output at.around.output a'.output front done behind_them e gained stopped);
+          are = ap (λ acts. acts ++ last) acts ∙ append_assoc front (done ++ after_them) last
+              ∙ ap (λ acts. front ++ acts) (append_assoc done after_them last) ∙
+              sym (append_assoc front done (after_them ++ last));
+          stopped = stops_longer b.around.output a'.output (front ++ done) after_them last e
+              (stops_then b.around.output at.around.output a'.output front done after_them e gained stopped);
           faults = faults ∙ so.faults ∙ ap (count_on b.around.faults) (sym so.borne_are);
           sends = sendings ∙ ap (λ n. count_on n (length (lost_of stack plans so.world left flags))) so.sends
               ∙ sym (count_on_add b.around.sends (length (lost_of stack plans w so.done so.failed))
@@ -340,9 +340,9 @@ module _ (stack : List LayerTree) (plans : List Plan) (c : Course) (b : Begun) w
       (so : So m k (λ later more. does event ∷ rest later more) borne (now g d a clk)) →
       Breaks (event_acts b.mode stack plans so.world event) e a a' → CutOff stack plans c b e a' clk
   cut_so m k borne rest g d a a' clk e event within so q =
-      let behind_it = rest (clock_on c so.clock) (heard_on c so.heard) in
+      let after_it = rest (clock_on c so.clock) (heard_on c so.heard) in
       let on = (happens stack plans so.world event).world in
-      let later = acts_of b.mode stack plans on behind_it [] in
+      let later = acts_of b.mode stack plans on after_it [] in
       let few : length q.failed ≤ length (event_sends b.mode stack plans so.world event) =
       (let n = ap (λ acts. length (sends_in acts)) q.are in let i =
       ap length (event_sends_are b.mode stack plans so.world event q.failed) in
@@ -354,7 +354,7 @@ module _ (stack : List LayerTree) (plans : List Plan) (c : Course) (b : Begun) w
       (stops_longer a.output a'.output q.done q.rest later e q.stopped) q.faults
       (q.sendings ∙ ap (count_on a.sends)
       (sym (ap length (ap (λ ls. event_losses stack plans so.world event q.failed ++ ls)
-      (lost_none stack plans on behind_it) ∙ append-nil (event_losses stack plans so.world event q.failed))
+      (lost_none stack plans on after_it) ∙ append-nil (event_losses stack plans so.world event q.failed))
       ∙ event_losses_are b.mode stack plans so.world event q.failed few)))
       q.told
 
@@ -366,12 +366,12 @@ module _ (stack : List LayerTree) (plans : List Plan) (c : Course) (b : Begun) w
       Wrote (deaf_line id ∷ []) a.output a'.output (Err e) → a'.faults ≡ a.faults → a'.sends ≡ a.sends →
       a'.told ≡ a.told → CutOff stack plans c b e a' clk
   cut_line m k borne rest id g d a a' clk e within so wrote faults sendings told =
-      let behind_it = rest (clock_on c so.clock) (heard_on c so.heard) in
-      let later = acts_of b.mode stack plans so.world behind_it [] in
+      let after_it = rest (clock_on c so.clock) (heard_on c so.heard) in
+      let later = acts_of b.mode stack plans so.world after_it [] in
       cut m k borne (λ later more. bears id ∷ rest later more) (now g d a clk) within
       so [] [] (puts (deaf_line id) ∷ later) a' e refl
       (line_stops a.output a'.output (deaf_line id) later e wrote) faults
-      (sendings ∙ ap (λ ls. count_on a.sends (length ls)) (sym (lost_none stack plans so.world behind_it)))
+      (sendings ∙ ap (λ ls. count_on a.sends (length ls)) (sym (lost_none stack plans so.world after_it)))
       (subst (Tells (WentOn [] [] []) a.told) (sym told) (tells_same (WentOn [] [] []) a.told asked_nothing))
 
   -- What a fed event gives.

@@ -16,7 +16,7 @@ use Rattle.outside.specs.Lines.{Gains}
 use Rattle.group_feed.specs.Standing.{Peopled}
 use Rattle.node_laws.specs.Acts.{Act, puts, acts_of, sends_in}
 use Rattle.node_laws.specs.Doings.{Doing, does, doings_of, events_of, heard_in}
-use Rattle.node_laws.specs.Losses.{behind, lost_of, written_of}
+use Rattle.node_laws.specs.Losses.{following, lost_of, written_of}
 use Rattle.node_laws.specs.Network.{Goes, Tells}
 use Rattle.node_laws.specs.Stages.{Course, clock_on, heard_on}
 use Rattle.node_loop.specs.Around.{Around, count_on, Told}
@@ -62,7 +62,7 @@ pub record SoFar (stack : List LayerTree) (plans : List Plan) (c : Course) (b : 
   pub answers_are : length heard ≡ answers
   pub asked : heard_in done ≡ heard
   pub borne_are : failures heard ≡ borne
-  pub world_is : world ≡ behind stack plans b.first done
+  pub world_is : world ≡ following stack plans b.first done
   pub rests : Rests b.mode stack plans b.members at.group at.desk world
   pub each : length failed ≡ length (events_of done)
   pub counted : at.desk.events ≡ length (events_of done)
@@ -102,7 +102,7 @@ pub record CutOff (stack : List LayerTree) (plans : List Plan) (c : Course) (b :
   pub told : Tells (WentOn [] (sends_in done) heard) b.around.told at.told
   pub clock_told : Told b.clock clock_now clock
 
--- A node went on to what is left behind a stage, or was broken off.
+-- A node went on to what is left after a stage, or was broken off.
 abbrev pub Advances : List LayerTree → List Plan → Course → Begun → (moments answers : ℕ) →
     (List ℕ → List Heard → List Doing) → (borne : ℕ) → Now →
     Result (Unit {0}) SinkError → Type 0

@@ -16,7 +16,7 @@ use crate::source::Source;
 use crate::tools::Tools;
 use outside::{Links, Sink, SinkError};
 use packet_mean::Here;
-use report_text::{Issuer, number_behind, put_output, write_change, write_refusal};
+use report_text::{Issuer, number_following, put_output, write_change, write_refusal};
 use step_outputs::{OutputView, Outputs};
 use view_core::{Change, Stepped};
 
@@ -73,7 +73,7 @@ fn pass_outputs<O: Sink, N: Links>(
             out,
             links,
         )?;
-        number = number_behind(&here, number, &output);
+        number = number_following(&here, number, &output);
     }
     Ok(())
 }

@@ -54,7 +54,7 @@ pub line_fails : (a b : Tells) (line : List ℕ) (part : ℕ) → Appends a.cont
 line_fails a b line part gained met puts rose = record {
   front = [];
   line = line;
-  behind = [];
+  following = [];
   are = refl;
   part = part;
   gained = gained;
@@ -84,12 +84,12 @@ pub fails_part : (a b : Tells) (lines : List (List ℕ)) → Fails a b lines →
     (part : List ℕ) × (rest : List ℕ) × Appends a.contents b.contents part × (concat lines ≡ part ++ rest)
 fails_part a b lines f = (
   concat f.front ++ take f.part f.line,
-  drop f.part f.line ++ concat f.behind,
+  drop f.part f.line ++ concat f.following,
   f.gained,
-  ap concat f.are ∙ concat-append f.front (f.line ∷ f.behind) ∙
-      ap (λ l. concat f.front ++ (l ++ concat f.behind)) (sym (take-append-drop f.part f.line)) ∙
-      ap (λ l. concat f.front ++ l) (append_assoc (take f.part f.line) (drop f.part f.line) (concat f.behind)) ∙
-      sym (append_assoc (concat f.front) (take f.part f.line) (drop f.part f.line ++ concat f.behind)),
+  ap concat f.are ∙ concat-append f.front (f.line ∷ f.following) ∙
+      ap (λ l. concat f.front ++ (l ++ concat f.following)) (sym (take-append-drop f.part f.line)) ∙
+      ap (λ l. concat f.front ++ l) (append_assoc (take f.part f.line) (drop f.part f.line) (concat f.following)) ∙
+      sym (append_assoc (concat f.front) (take f.part f.line) (drop f.part f.line ++ concat f.following)),
 )
 
 pub begins_part : (a b : Tells) (bytes : List ℕ) → Begins a b bytes →
@@ -131,9 +131,10 @@ pub fails_after : (a b c : Tells) (xs ys zs more : List (List ℕ)) → Gains a 
 fails_after a b c xs ys zs more h k is = record {
   front = xs ++ k.front;
   line = k.line;
-  behind = k.behind ++ more;
-  are = is ∙ ap (λ l. xs ++ l ++ more) k.are ∙ ap (λ l. l ++ more) (sym (append_assoc xs k.front (k.line ∷ k.behind))) ∙
-      append_assoc (xs ++ k.front) (k.line ∷ k.behind) more;
+  following = k.following ++ more;
+  are = is ∙ ap (λ l. xs ++ l ++ more) k.are ∙
+      ap (λ l. l ++ more) (sym (append_assoc xs k.front (k.line ∷ k.following))) ∙
+      append_assoc (xs ++ k.front) (k.line ∷ k.following) more;
   part = k.part;
   gained = subst (Appends a.contents c.contents)
       (sym (ap (λ l. l ++ take k.part k.line) (concat-append xs k.front) ∙

@@ -24,8 +24,8 @@ pub record Gains (old new : Tells) (lines : List (List ℕ)) : Type 0 where
 pub record Fails (old new : Tells) (lines : List (List ℕ)) : Type 0 where
   pub front : List (List ℕ)
   pub line : List ℕ
-  pub behind : List (List ℕ)
-  pub are : lines ≡ front ++ line ∷ behind
+  pub following : List (List ℕ)
+  pub are : lines ≡ front ++ line ∷ following
   pub part : ℕ
   pub gained : Appends old.contents new.contents (concat front ++ take part line)
   pub met : Meets (option_map (drop (length front)) old.failures) (Some part)

@@ -106,9 +106,9 @@ module _ (stack : List LayerTree) where
     operations : List Operation
     spelled : List (List ℕ)
     written : AreWritten s operations spelled
-    behind : List (List ℕ)
-    cases : Cases due (traces ++ (held ++ operations) ∷ []) all behind
-    lines_are : lines ≡ spelled ++ behind
+    following : List (List ℕ)
+    cases : Cases due (traces ++ (held ++ operations) ∷ []) all following
+    lines_are : lines ≡ spelled ++ following
 
   abbrev Left : Stage → List Operation → List (List Operation) → List (List Operation) → List (List ℕ) → Type 0
   Left (opening due) held traces all lines = Cases due [] all (drop 1 lines) ×
@@ -161,8 +161,8 @@ module _ (stack : List LayerTree) where
           operations = note m ∷ rest.operations;
           spelled = line ∷ rest.spelled;
           written = more_written s line (note m) rest.operations rest.spelled said rest.written;
-          behind = rest.behind;
-          cases = subst (λ os. Cases due (r.traces ++ os ∷ []) all rest.behind)
+          following = rest.following;
+          cases = subst (λ os. Cases due (r.traces ++ os ∷ []) all rest.following)
               (append_assoc r.held (note m ∷ []) rest.operations) rest.cases;
           lines_are = ap (λ ls. line ∷ ls) rest.lines_are;
         })
@@ -172,8 +172,8 @@ module _ (stack : List LayerTree) where
           operations = o ∷ rest.operations;
           spelled = line ∷ rest.spelled;
           written = more_written s line o rest.operations rest.spelled said rest.written;
-          behind = rest.behind;
-          cases = subst (λ os. Cases due (r.traces ++ os ∷ []) all rest.behind)
+          following = rest.following;
+          cases = subst (λ os. Cases due (r.traces ++ os ∷ []) all rest.following)
               (append_assoc r.held (o ∷ []) rest.operations) rest.cases;
           lines_are = ap (λ ls. line ∷ ls) rest.lines_are;
         })
@@ -194,7 +194,7 @@ module _ (stack : List LayerTree) where
         operations = [];
         spelled = [];
         written = λ before. sym (append-nil before);
-        behind = line ∷ lines;
+        following = line ∷ lines;
         cases = subst (λ os. Cases due (r.traces ++ os ∷ []) all (line ∷ lines)) (sym (append-nil r.held))
             (next_left due (r.traces ++ r.held ∷ []) next (said ∙ e) left);
         lines_are = refl;

@@ -14,19 +14,19 @@ use Rattle.trace_mean.specs.Trace.{Atom, Core, TraceNumber, element, square, Tra
 use Rattle.trace_mean.specs.Trace.{bind, note, check, set, set_square, push, output}
 use Rattle.trace_mean.specs.Fuse.{fields_of}
 use Rattle.bypass_mean.specs.Text.{layer_of, sign_text, bracketed_list, atom_text, core_text, number_text, message_text}
-use Rattle.bypass_mean.specs.Text.{link_text, behind, pushed_text}
+use Rattle.bypass_mean.specs.Text.{link_text, following, pushed_text}
 use Rattle.pack_mean.specs.Reader.{Reader, ◌>>=◌, yields, the_text, a_word, each_of, more_of}
 use Rattle.pack_mean.specs.Named.{Named, items_at, atom_named, core_named, kind_named}
 use Rattle.pack_mean.specs.Expression.{inside, most_brackets, a_number, a_message, a_queue}
-use Rattle.pack_mean.specs.Operation.{an_atom, a_core, tag_named, a_link, links_behind, some_links, a_chain, a_chained}
+use Rattle.pack_mean.specs.Operation.{an_atom, a_core, tag_named, a_link, links_after, some_links, a_chain, a_chained}
 use Rattle.pack_mean.specs.Operation.{row_message, Sent, nothing_sent, a_last, or_no_more, sent_by, sent_within}
-use Rattle.pack_mean.specs.Operation.{what_is_sent, chained_behind, directions, setting, a_bind, a_note, a_check, a_set}
+use Rattle.pack_mean.specs.Operation.{what_is_sent, chained_after, directions, setting, a_bind, a_note, a_check, a_set}
 use Rattle.pack_mean.specs.Operation.{a_push, a_take, an_output, operation_by}
 use Rattle.pack_laws.specs.Written.{written_with, line_with, WhatIsReadIsWrittenSo}
 use Rattle.pack_laws.proofs.Readers.{some_same, Gives, gives_value, gives_past}
 use Rattle.pack_laws.proofs.Writing.{Writes, writes_value, writes_given, writes_nowhere, writes_then, writes_such}
 use Rattle.pack_laws.proofs.Writing.{writes_also, writes_known, text_is, writes_text, name_text, writes_name}
-use Rattle.pack_laws.proofs.Writing.{writes_word, writes_case, writes_either, writes_whole, parted, behind_commas}
+use Rattle.pack_laws.proofs.Writing.{writes_word, writes_case, writes_either, writes_whole, parted, after_commas}
 use Rattle.pack_laws.proofs.Writing.{writes_each, in_brackets, parted_more, pushed_ends, sent_ends}
 use Rattle.pack_laws.proofs.Words.{tag_written, kind_written, direction_written, atom_written, core_written}
 use Rattle.pack_laws.proofs.Said.{QueueText, InnerWrites, cell_is, queue_is, number_is, message_is, inside_is}
@@ -91,17 +91,17 @@ module _ (stack : List LayerTree) (before : List (List ℕ)) (s : Named) where
   abbrev LinksText : List Link → List ℕ
   LinksText chain = flat_map (λ l. codes "/" ++ LinkText l) chain
 
-  inner_links : (left place : ℕ) → Writes [] LinksText (links_behind stack s (place + 1) left) →
-      Writes (codes "/") LinksText (a_link stack s place >>= λ first. links_behind stack s (place + 1) left >>= λ more.
+  inner_links : (left place : ℕ) → Writes [] LinksText (links_after stack s (place + 1) left) →
+      Writes (codes "/") LinksText (a_link stack s place >>= λ first. links_after stack s (place + 1) left >>= λ more.
       yields (first ∷ more))
   inner_links left place h = writes_then LinkText (codes "/") LinksText (a_link stack s place) _ (link_is place) (λ l.
-      writes_then LinksText _ LinksText (links_behind stack s (place + 1) left) _ h
+      writes_then LinksText _ LinksText (links_after stack s (place + 1) left) _ h
       (λ ls. writes_value _ LinksText (l ∷ ls) refl))
 
-  more_links : (left place : ℕ) → Writes [] LinksText (links_behind stack s (place + 1) left) →
+  more_links : (left place : ℕ) → Writes [] LinksText (links_after stack s (place + 1) left) →
       (byte : ℕ) (bytes : List ℕ) (b : Bool) →
       (byte == 47) ≡ b → (chain : List Link) (rest : List ℕ) →
-      (if b then (a_link stack s place >>= λ first. links_behind stack s (place + 1) left >>= λ more.
+      (if b then (a_link stack s place >>= λ first. links_after stack s (place + 1) left >>= λ more.
       yields (first ∷ more)) bytes
       else Some ([], byte ∷ bytes)) ≡ Some (chain, rest) → byte ∷ bytes ≡ LinksText chain ++ rest
   more_links left place h byte bytes true e chain rest is = ap (λ x. x ∷ bytes) (eqb-true byte 47 e) ∙
@@ -109,36 +109,36 @@ module _ (stack : List LayerTree) (before : List (List ℕ)) (s : Named) where
   more_links left place h byte bytes false e chain rest is = (writes_value [] LinksText [] refl).said (byte ∷ bytes)
       chain rest is
 
-  links_from : (left place : ℕ) → Writes [] LinksText (links_behind stack s (place + 1) left) →
+  links_from : (left place : ℕ) → Writes [] LinksText (links_after stack s (place + 1) left) →
       (text : List ℕ) (chain : List Link) (rest : List ℕ) →
-      links_behind stack s place (suc left) text ≡ Some (chain, rest) → text ≡ LinksText chain ++ rest
+      links_after stack s place (suc left) text ≡ Some (chain, rest) → text ≡ LinksText chain ++ rest
   links_from left place h [] chain rest is = (writes_value [] LinksText [] refl).said [] chain rest is
   links_from left place h (byte ∷ bytes) chain rest is = more_links left place h byte bytes (byte == 47) refl chain
       rest is
 
-  links_are : (left place : ℕ) → Writes [] LinksText (links_behind stack s place left)
+  links_are : (left place : ℕ) → Writes [] LinksText (links_after stack s place left)
   links_are zero place = record { said = λ text. (writes_value [] LinksText [] refl).said text }
   links_are (suc left) place = record { said = links_from left place (links_are left (place + 1)) }
 
-  abbrev BehindText : List Link → List ℕ
-  BehindText chain = behind stack (written_with before s) chain
+  abbrev AfterText : List Link → List ℕ
+  AfterText chain = following stack (written_with before s) chain
 
-  some_links_are : (place : ℕ) → Writes (codes " ") BehindText (some_links stack s place)
+  some_links_are : (place : ℕ) → Writes (codes " ") AfterText (some_links stack s place)
   some_links_are place = writes_then LinkText (codes " ") _ _ _ (link_is place) (λ l.
       writes_then LinksText _ _ _ _ (links_are (length stack) (place + 1)) (λ ls. writes_value _ _ (l ∷ ls) refl))
 
-  chain_is : (place : ℕ) → Writes [] BehindText (a_chain stack s place)
+  chain_is : (place : ℕ) → Writes [] AfterText (a_chain stack s place)
   chain_is place = record { said = go } where
     more : (byte : ℕ) (bytes : List ℕ) (b : Bool) → (byte == 32) ≡ b → (chain : List Link) (rest : List ℕ) →
         (if b then some_links stack s place bytes else Some ([], byte ∷ bytes)) ≡ Some (chain, rest) →
-        byte ∷ bytes ≡ BehindText chain ++ rest
+        byte ∷ bytes ≡ AfterText chain ++ rest
     more byte bytes true e chain rest is = ap (λ x. x ∷ bytes) (eqb-true byte 32 e) ∙
         (some_links_are place).said bytes chain rest is
-    more byte bytes false e chain rest is = (writes_value [] BehindText [] refl).said (byte ∷ bytes) chain rest is
+    more byte bytes false e chain rest is = (writes_value [] AfterText [] refl).said (byte ∷ bytes) chain rest is
 
     go : (text : List ℕ) (chain : List Link) (rest : List ℕ) → a_chain stack s place text ≡ Some (chain, rest) →
-        text ≡ BehindText chain ++ rest
-    go [] chain rest is = (writes_value [] BehindText [] refl).said [] chain rest is
+        text ≡ AfterText chain ++ rest
+    go [] chain rest is = (writes_value [] AfterText [] refl).said [] chain rest is
     go (byte ∷ bytes) chain rest is = more byte bytes (byte == 32) refl chain rest is
 
   abbrev PushedText : Chained → List ℕ
@@ -146,12 +146,12 @@ module _ (stack : List LayerTree) (before : List (List ℕ)) (s : Named) where
 
   chained_is : (place : ℕ) → Writes [] PushedText (a_chained stack s place)
   chained_is place = writes_then CoreText [] _ _ _ core_is
-      (λ c. writes_then BehindText _ _ _ _ (chain_is place) (λ chain. writes_value _ _ _ refl))
+      (λ c. writes_then AfterText _ _ _ _ (chain_is place) (λ chain. writes_value _ _ _ refl))
 
   -- what stands after the numbers of a row
   abbrev RowText : List (List ℕ) → Option Chained → List ℕ
   RowText [] message = parted (map PushedText (option_to_list message))
-  RowText (name ∷ names) message = behind_commas (map PushedText (option_to_list message))
+  RowText (name ∷ names) message = after_commas (map PushedText (option_to_list message))
 
   row_is : (place : ℕ) (names : List (List ℕ)) (message : Option (List ℕ × Carried)) →
       Writes [] (RowText names) (row_message stack s place names message)
@@ -180,33 +180,33 @@ module _ (stack : List LayerTree) (before : List (List ℕ)) (s : Named) where
   Parts sent = map AtomText sent.numbers ++ map CoreText (option_to_list sent.message)
 
   module _ (front : List ℕ) (joined : List (List ℕ) → List ℕ)
-      (joins : (x : List ℕ) (xs : List (List ℕ)) → front ++ x ++ behind_commas xs ≡ joined (x ∷ xs)) where
+      (joins : (x : List ℕ) (xs : List (List ℕ)) → front ++ x ++ after_commas xs ≡ joined (x ∷ xs)) where
     last_is : (name : List (List ℕ)) → Writes (front ++ name_text name) (λ sent. joined (Parts sent)) (a_last s name)
     last_is name = writes_known _ _ (core_named s name) _ (λ c is. writes_value _ _ _
         (ap (λ l. front ++ l) (core_written before s name c is) ∙ sym (append-nil (front ++ CoreText c)) ∙
         joins (CoreText c) []))
 
-    by_is : (more : Reader Sent) → Writes [] (λ sent. behind_commas (Parts sent)) (or_no_more more) →
+    by_is : (more : Reader Sent) → Writes [] (λ sent. after_commas (Parts sent)) (or_no_more more) →
         (name : List (List ℕ)) (o : Option Atom) →
         atom_named s name ≡ o → Writes (front ++ name_text name) (λ sent. joined (Parts sent)) (sent_by s more name o)
     by_is more h name None is = last_is name
-    by_is more h name (Some a) is = writes_then (λ sent. behind_commas (Parts sent)) _ _ _ _ h
+    by_is more h name (Some a) is = writes_then (λ sent. after_commas (Parts sent)) _ _ _ _ h
         (λ sent. writes_value _ _ _
-        (ap (λ l. front ++ l ++ behind_commas (Parts sent)) (atom_written before s name a is) ∙
+        (ap (λ l. front ++ l ++ after_commas (Parts sent)) (atom_written before s name a is) ∙
         joins (AtomText a) (Parts sent)))
 
-  no_more_is : (more : Reader Sent) → Writes (codes ",") (λ sent. behind_commas (Parts sent)) more →
-      Writes [] (λ sent. behind_commas (Parts sent)) (or_no_more more)
+  no_more_is : (more : Reader Sent) → Writes (codes ",") (λ sent. after_commas (Parts sent)) more →
+      Writes [] (λ sent. after_commas (Parts sent)) (or_no_more more)
   no_more_is more h = writes_either [] _ (λ text. bytes_eq (take 1 text) (codes ","))
       (the_text (codes ",") >>= λ _. more) (yields nothing_sent)
       (writes_text (codes ",") [] _ _ (λ u. h)) (writes_value [] _ nothing_sent refl)
 
   within_is : (front : List ℕ) (joined : List (List ℕ) → List ℕ) →
-      ((x : List ℕ) (xs : List (List ℕ)) → front ++ x ++ behind_commas xs ≡ joined (x ∷ xs)) → (left : ℕ) →
+      ((x : List ℕ) (xs : List (List ℕ)) → front ++ x ++ after_commas xs ≡ joined (x ∷ xs)) → (left : ℕ) →
       Writes front (λ sent. joined (Parts sent)) (sent_within s left)
   within_is front joined joins zero = writes_name front _ _ (λ name. last_is front joined joins name)
   within_is front joined joins (suc left) = writes_name front _ _ (λ name. by_is front joined joins (sent_within s left)
-      (no_more_is (sent_within s left) (within_is (codes ",") behind_commas (λ x xs. refl) left)) name
+      (no_more_is (sent_within s left) (within_is (codes ",") after_commas (λ x xs. refl) left)) name
       (atom_named s name) refl)
 
   sent_is : Writes [] (λ sent. parted (Parts sent)) (what_is_sent s)
@@ -217,14 +217,14 @@ module _ (stack : List LayerTree) (before : List (List ℕ)) (s : Named) where
   abbrev HasCore : Option Core → Option Chained → Type 0
   HasCore o message = option_map (λ m. m.core) message ≡ o
 
-  behind_gives : (o : Option Core) → Gives (HasCore o) (chained_behind stack s o)
-  behind_gives None = gives_value _ None refl
-  behind_gives (Some c) = gives_past _ _ _ (λ chain. gives_value _ _ refl)
+  after_gives : (o : Option Core) → Gives (HasCore o) (chained_after stack s o)
+  after_gives None = gives_value _ None refl
+  after_gives (Some c) = gives_past _ _ _ (λ chain. gives_value _ _ refl)
 
-  behind_is : (o : Option Core) → Writes [] (λ message. option_map_or (λ (m : Chained). BehindText m.chain) message [])
-      (chained_behind stack s o)
-  behind_is None = writes_value [] _ None refl
-  behind_is (Some c) = writes_then BehindText [] _ _ _ (chain_is 0) (λ chain. writes_value _ _ _ refl)
+  after_is : (o : Option Core) → Writes [] (λ message. option_map_or (λ (m : Chained). AfterText m.chain) message [])
+      (chained_after stack s o)
+  after_is None = writes_value [] _ None refl
+  after_is (Some c) = writes_then AfterText [] _ _ _ (chain_is 0) (λ chain. writes_value _ _ _ refl)
 
   cores_are : (o : Option Core) (message : Option Chained) → HasCore o message →
       map CoreText (option_to_list o) ≡ map (λ (m : Chained). core_text (written_with before s) m.core)
@@ -293,15 +293,15 @@ module _ (stack : List LayerTree) (before : List (List ℕ)) (s : Named) where
       (λ v. writes_name _ _ _ (λ name. writes_known _ _ (kind_named name) _ (λ kind kind_is.
       writes_text (codes "(") _ _ _
       (λ w. writes_then (λ sent. parted (Parts sent)) _ _ _ _ sent_is (λ sent. writes_text (codes ")") _ _ _ (λ x.
-      writes_also (HasCore sent.message) (λ message. option_map_or (λ (m : Chained). BehindText m.chain) message []) _
+      writes_also (HasCore sent.message) (λ message. option_map_or (λ (m : Chained). AfterText m.chain) message []) _
       LineText
-      (chained_behind stack s sent.message) (λ message. yields (output dir kind sent.numbers message))
-      (behind_gives sent.message) (behind_is sent.message)
+      (chained_after stack s sent.message) (λ message. yields (output dir kind sent.numbers message))
+      (after_gives sent.message) (after_is sent.message)
       (λ message has. writes_value _ LineText (output dir kind sent.numbers message)
       (sent_ends word (sign_text (direction_sign dir)) (name_text name) (kind_word kind) (parted (Parts sent))
       (parted (map AtomText sent.numbers ++ map (λ (m : Chained). core_text (written_with before s) m.core)
       (option_to_list message)))
-      (option_map_or (λ (m : Chained). BehindText m.chain) message []) (direction_written word dir dir_is)
+      (option_map_or (λ (m : Chained). AfterText m.chain) message []) (direction_written word dir dir_is)
       (kind_written name kind kind_is)
       (ap (λ cs. parted (map AtomText sent.numbers ++ cs)) (cores_are sent.message message has)))))))))))))
 

@@ -18,9 +18,9 @@ use Rattle.bypass_mean.specs.Text.{layer_of}
 use Rattle.pack_mean.specs.Reader.{Reader, ◌>>=◌, yields, option_reader, the_text, a_word, each_of}
 use Rattle.pack_mean.specs.Named.{Named, items_at, atom_named, core_named, kind_named}
 use Rattle.pack_mean.specs.Expression.{inside, most_brackets, a_cell, a_number, a_message, a_queue}
-use Rattle.pack_mean.specs.Operation.{an_atom, tag_named, a_link, links_behind, some_links, a_chain, a_chained}
-use Rattle.pack_mean.specs.Operation.{comma_behind, row_message, Sent, nothing_sent, a_last, or_no_more, sent_by}
-use Rattle.pack_mean.specs.Operation.{sent_within, what_is_sent, chained_behind, directions, setting, a_bind, a_note}
+use Rattle.pack_mean.specs.Operation.{an_atom, tag_named, a_link, links_after, some_links, a_chain, a_chained}
+use Rattle.pack_mean.specs.Operation.{comma_after, row_message, Sent, nothing_sent, a_last, or_no_more, sent_by}
+use Rattle.pack_mean.specs.Operation.{sent_within, what_is_sent, chained_after, directions, setting, a_bind, a_note}
 use Rattle.pack_mean.specs.Operation.{a_check, a_set, a_push, a_take, an_output, operation_by, operation_said}
 use Rattle.pack_laws.proofs.Readers.{some_same, Gives, gives_value, gives_given, gives_nowhere, gives_then, gives_past}
 use Rattle.pack_laws.proofs.Readers.{gives_name, gives_word, gives_known, gives_text, gives_case, gives_either}
@@ -57,24 +57,24 @@ module _ (stack : List LayerTree) (s : Named) (So : Name → Type 0) (spelled : 
   abbrev ChainSo : List Link → Type 0
   ChainSo chain = AllByRecursion (LinkNames So) chain
 
-  more_links : (left place : ℕ) → Gives ChainSo (links_behind stack s (place + 1) left) →
+  more_links : (left place : ℕ) → Gives ChainSo (links_after stack s (place + 1) left) →
       (byte : ℕ) (bytes : List ℕ) (b : Bool) (chain : List Link)
-      (rest : List ℕ) → (if b then (a_link stack s place >>= λ first. links_behind stack s (place + 1) left >>= λ more.
+      (rest : List ℕ) → (if b then (a_link stack s place >>= λ first. links_after stack s (place + 1) left >>= λ more.
       yields (first ∷ more)) bytes
       else Some ([], byte ∷ bytes)) ≡ Some (chain, rest) → ChainSo chain
   more_links left place h byte bytes true chain rest is =
       (gives_then (LinkNames So) ChainSo (a_link stack s place) _ (link_is place) (λ l l_is.
-      gives_then ChainSo ChainSo (links_behind stack s (place + 1) left) _ h (λ ls ls_are.
+      gives_then ChainSo ChainSo (links_after stack s (place + 1) left) _ h (λ ls ls_are.
       gives_value ChainSo (l ∷ ls) (l_is, ls_are)))).said bytes chain rest is
   more_links left place h byte bytes false chain rest is = (gives_value ChainSo [] tt).said (byte ∷ bytes) chain rest is
 
-  links_from : (left place : ℕ) → Gives ChainSo (links_behind stack s (place + 1) left) →
+  links_from : (left place : ℕ) → Gives ChainSo (links_after stack s (place + 1) left) →
       (text : List ℕ) (chain : List Link) (rest : List ℕ) →
-      links_behind stack s place (suc left) text ≡ Some (chain, rest) → ChainSo chain
+      links_after stack s place (suc left) text ≡ Some (chain, rest) → ChainSo chain
   links_from left place h [] chain rest is = (gives_value ChainSo [] tt).said [] chain rest is
   links_from left place h (byte ∷ bytes) chain rest is = more_links left place h byte bytes (byte == 47) chain rest is
 
-  links_are : (left place : ℕ) → Gives ChainSo (links_behind stack s place left)
+  links_are : (left place : ℕ) → Gives ChainSo (links_after stack s place left)
   links_are zero place = record { said = λ text. (gives_value ChainSo [] tt).said text }
   links_are (suc left) place = record { said = links_from left place (links_are left (place + 1)) }
 
@@ -104,7 +104,7 @@ module _ (stack : List LayerTree) (s : Named) (So : Name → Type 0) (spelled : 
       Gives (SentNames So) (row_message stack s place names message)
   row_message_is place names None = gives_value _ _ tt
   row_message_is place names (Some carried) =
-      gives_past (SentNames So) (comma_behind names) _
+      gives_past (SentNames So) (comma_after names) _
       (λ _. gives_then (ChainedNames So) (SentNames So) (a_chained stack s place) (λ m. yields (Some m))
       (chained_is place) (λ m m_is. gives_value (SentNames So) (Some m) m_is))
 
@@ -146,9 +146,9 @@ module _ (stack : List LayerTree) (s : Named) (So : Name → Type 0) (spelled : 
       (sent_within s most_fields)
       (gives_value _ _ nothing_sent_is) (sent_within_is most_fields)
 
-  behind_is : (o : Option Core) → CoreSo o → Gives (SentNames So) (chained_behind stack s o)
-  behind_is None h = gives_value (SentNames So) None tt
-  behind_is (Some c) h =
+  after_is : (o : Option Core) → CoreSo o → Gives (SentNames So) (chained_after stack s o)
+  after_is None h = gives_value (SentNames So) None tt
+  after_is (Some c) h =
       gives_then ChainSo _ _ _ (chain_is 0)
       (λ chain chain_are. gives_value (SentNames So) _ record { chain_is = chain_are; core_is = h })
 
@@ -211,9 +211,9 @@ module _ (stack : List LayerTree) (s : Named) (So : Name → Type 0) (spelled : 
       gives_text _ (codes " ") _
       (λ _. gives_name _ _ (λ name. gives_known _ (kind_named name) _ (λ kind. gives_text _ (codes "(") _ (λ _.
       gives_then SentSo _ (what_is_sent s) _ sent_is (λ sent sent_so. gives_text _ (codes ")") _ (λ _.
-      gives_then (SentNames So) _ (chained_behind stack s sent.message)
+      gives_then (SentNames So) _ (chained_after stack s sent.message)
       (λ message. yields (output dir kind sent.numbers message))
-      (behind_is sent.message sent_so.message) (λ message message_is.
+      (after_is sent.message sent_so.message) (λ message message_is.
       gives_value (OperationNames So) (output dir kind sent.numbers message) (sent_so.numbers, message_is)))))))))))
 
   by_is : (word : List ℕ) → Gives (OperationNames So) (operation_by stack s word)

@@ -4,7 +4,7 @@ use Rattle.std.proofs.Common.{bytes_eq, refl, ap, subst}
 use Rattle.std.specs.Prelude.{if◌then◌else◌}
 use Rattle.std.specs.List.{AllByRecursion}
 use Rattle.pack_mean.specs.Reader.{Reader, ◌>>=◌, yields, option_reader, nowhere, the_text, a_name, a_word, whole}
-use Rattle.pack_mean.specs.Reader.{nothing_behind, each_of, more_of}
+use Rattle.pack_mean.specs.Reader.{nothing_after, each_of, more_of}
 
 -- where two steps gave something, the first did, and the second then gave this
 pub through : {A B C : Type 0} (f : A → Option B) (o : Option A) (y : B) → option_and_then f o ≡ Some y →
@@ -84,7 +84,7 @@ gives_either {A = A} P test f g h k = record { said = λ text y rest is. go (tes
 pub gives_whole : {A : Type 0} (P : A → Type 0) (read : Reader A) (text : List ℕ) (x : A) → Gives P read →
     whole read text ≡ Some x → P x
 gives_whole {A = A} P read text x h is = go (read text) refl is where
-  go : (o : Option (A × List ℕ)) → read text ≡ o → option_and_then nothing_behind o ≡ Some x → P x
+  go : (o : Option (A × List ℕ)) → read text ≡ o → option_and_then nothing_after o ≡ Some x → P x
   go None e k = absurd (cc k)
   go (Some (y, [])) e k = some_same P k (h.said text y [] e)
   go (Some (y, byte ∷ bytes)) e k = absurd (cc k)

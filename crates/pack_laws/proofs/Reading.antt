@@ -18,7 +18,7 @@ use Rattle.pack_mean.specs.File.{traces_from}
 use Rattle.pack_laws.specs.Form.{at_first, InForm, WhatIsReadIsInForm}
 use Rattle.pack_laws.proofs.Readers.{some_same}
 use Rattle.pack_laws.proofs.Operations.{said_is}
-use Rattle.pack_laws.proofs.Spelled.{reach_of, spelled_is_made, spelled_is_there, reach_behind}
+use Rattle.pack_laws.proofs.Spelled.{reach_of, spelled_is_made, spelled_is_there, reach_after}
 
 all_push : {A : Type 0} (P : A → Type 0) (xs : List A) (x : A) → AllByRecursion P xs → P x →
     AllByRecursion P (xs ++ x ∷ [])
@@ -73,7 +73,7 @@ module _ (stack : List LayerTree) where
       there = all_push (OperationNames (IsThere stack)) held o h.form.there
           (said_is stack s (IsThere stack) (spelled_is_there stack s) line o is);
     };
-    reach = reach_push (at_first d.fields) held o ∙ ap (λ r. reaching stack r o) h.reach ∙ sym (reach_behind stack s o);
+    reach = reach_push (at_first d.fields) held o ∙ ap (λ r. reaching stack r o) h.reach ∙ sym (reach_after stack s o);
   }
 
   module _ (all : List Due) where

@@ -170,15 +170,15 @@ module _ (stack : List LayerTree) (s : Named) where
   size_at (Some (queues capacity items)) = refl
 
   -- after an operation there is what may be named then
-  pub reach_behind : (o : Operation) → reach_of (naming stack s o) ≡ reaching stack (reach_of s) o
-  reach_behind (bind e) = refl
-  reach_behind (note m) = refl
-  reach_behind (check e) = refl
-  reach_behind (set p c e x) = refl
-  reach_behind (set_square p c row column x) = refl
-  reach_behind (push p c e ns message) = refl
-  reach_behind (output dir kind ns message) = refl
-  reach_behind (take p c e) =
+  pub reach_after : (o : Operation) → reach_of (naming stack s o) ≡ reaching stack (reach_of s) o
+  reach_after (bind e) = refl
+  reach_after (note m) = refl
+  reach_after (check e) = refl
+  reach_after (set p c e x) = refl
+  reach_after (set_square p c row column x) = refl
+  reach_after (push p c e ns message) = refl
+  reach_after (output dir kind ns message) = refl
+  reach_after (take p c e) =
       let rows = map-append (λ (items : ItemsTree). length items.numbers) s.rows (items_at stack p c ∷ []) ∙
       ap (λ n. map (λ items. length items.numbers) s.rows ++ n ∷ []) (size_at (form_at (layer_of stack p) c)) in
       λ x. record { fields = s.fields; binds = s.binds; notes = s.notes; rows = rows x }

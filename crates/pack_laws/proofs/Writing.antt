@@ -10,7 +10,7 @@ use Rattle.std.proofs.lemmas.Slice.Eq.{bytes_eq-Decides}
 use Rattle.bypass_mean.specs.Text.{bracketed_list}
 use Rattle.pack_mean.specs.Reader.{Reader, ◌>>=◌, yields, option_reader, nowhere, the_text, is_name_byte, a_name}
 use Rattle.pack_mean.specs.Reader.{a_word, whole}
-use Rattle.pack_mean.specs.Reader.{nothing_behind, each_of, more_of}
+use Rattle.pack_mean.specs.Reader.{nothing_after, each_of, more_of}
 use Rattle.pack_laws.proofs.Readers.{some_same, Gives}
 
 -- After some bytes a reader finds what these and its own bytes show.
@@ -137,7 +137,7 @@ pub writes_whole : {A : Type 0} (shown : A → List ℕ) (read : Reader A) (text
     whole read text ≡ Some x →
     text ≡ shown x
 writes_whole {A = A} shown read text x h is = go (read text) refl is where
-  go : (o : Option (A × List ℕ)) → read text ≡ o → option_and_then nothing_behind o ≡ Some x → text ≡ shown x
+  go : (o : Option (A × List ℕ)) → read text ≡ o → option_and_then nothing_after o ≡ Some x → text ≡ shown x
   go None e k = absurd (cc k)
   go (Some (y, [])) e k = some_same (λ z. text ≡ shown z) k (h.said text y [] e ∙ append-nil (shown y))
   go (Some (y, byte ∷ bytes)) e k = absurd (cc k)
@@ -146,19 +146,19 @@ writes_whole {A = A} shown read text x h is = go (read text) refl is where
 abbrev pub parted : List (List ℕ) → List ℕ
 parted parts = join_by (λ part. part) (codes ",") parts
 
-abbrev pub behind_commas : List (List ℕ) → List ℕ
-behind_commas parts = flat_map (λ part. codes "," ++ part) parts
+abbrev pub after_commas : List (List ℕ) → List ℕ
+after_commas parts = flat_map (λ part. codes "," ++ part) parts
 
 module _ {A B : Type 0} (shown : A → List ℕ) (read : Reader A) (h : Writes [] shown read) where
-  writes_more : (bs : List B) → Writes [] (λ xs. behind_commas (map shown xs)) (more_of read bs)
+  writes_more : (bs : List B) → Writes [] (λ xs. after_commas (map shown xs)) (more_of read bs)
   writes_more [] = writes_value [] _ [] refl
   writes_more (b ∷ bs) = writes_text (codes ",") [] _ _ (λ u. writes_then shown _ _ _ _ h (λ x.
-      writes_then (λ xs. behind_commas (map shown xs)) _ _ _ _ (writes_more bs) (λ xs. writes_value _ _ (x ∷ xs) refl)))
+      writes_then (λ xs. after_commas (map shown xs)) _ _ _ _ (writes_more bs) (λ xs. writes_value _ _ (x ∷ xs) refl)))
 
   pub writes_each : (bs : List B) → Writes [] (λ xs. parted (map shown xs)) (each_of read bs)
   writes_each [] = writes_value [] _ [] refl
   writes_each (b ∷ bs) = writes_then shown [] _ _ _ h (λ x.
-      writes_then (λ xs. behind_commas (map shown xs)) _ _ _ _ (writes_more bs) (λ xs. writes_value _ _ (x ∷ xs) refl))
+      writes_then (λ xs. after_commas (map shown xs)) _ _ _ _ (writes_more bs) (λ xs. writes_value _ _ (x ∷ xs) refl))
 
 -- parts in brackets after some bytes
 pub one_listed : (front a : List ℕ) → front ++ codes "(" ++ a ++ codes ")" ≡ front ++ bracketed_list (a ∷ [])
@@ -183,13 +183,13 @@ pub three_listed : (front a b c : List ℕ) →
 three_listed front a b c = ap (λ l. l ++ codes ")") (three_parts (front ++ codes "(") a b c) ∙
     in_brackets front (a ++ ((codes "," ++ b) ++ (codes "," ++ c ++ [])))
 
-pub behind_more : (xs ys : List (List ℕ)) → behind_commas xs ++ behind_commas ys ≡ behind_commas (xs ++ ys)
-behind_more [] ys = refl
-behind_more (x ∷ xs) ys = append_assoc (codes "," ++ x) (behind_commas xs) (behind_commas ys) ∙
-    ap (λ l. codes "," ++ x ++ l) (behind_more xs ys)
+pub after_more : (xs ys : List (List ℕ)) → after_commas xs ++ after_commas ys ≡ after_commas (xs ++ ys)
+after_more [] ys = refl
+after_more (x ∷ xs) ys = append_assoc (codes "," ++ x) (after_commas xs) (after_commas ys) ∙
+    ap (λ l. codes "," ++ x ++ l) (after_more xs ys)
 
-pub parted_more : (x : List ℕ) (xs ys : List (List ℕ)) → parted (x ∷ xs) ++ behind_commas ys ≡ parted (x ∷ xs ++ ys)
-parted_more x xs ys = append_assoc x (behind_commas xs) (behind_commas ys) ∙ ap (λ l. x ++ l) (behind_more xs ys)
+pub parted_more : (x : List ℕ) (xs ys : List (List ℕ)) → parted (x ∷ xs) ++ after_commas ys ≡ parted (x ∷ xs ++ ys)
+parted_more x xs ys = append_assoc x (after_commas xs) (after_commas ys) ∙ ap (λ l. x ++ l) (after_more xs ys)
 
 -- how pushes and outputs end
 pub pushed_ends : (f p r x : List ℕ) → p ++ r ≡ x → f ++ codes " (" ++ p ++ r ++ codes ")" ≡ f ++ codes " " ++

@@ -33,12 +33,12 @@ pub record DifferAt {X : Type 0} (xs ys : List X) (k : ℕ) : Type 0 where
 pub record DiffersIn (due : List Due) (traces : List (List Operation)) (entry : ℕ) (case : Case) (k : ℕ) : Type 0 where
   pub before : List Due
   pub due_here : Due
-  pub behind : List Due
-  pub due_is : due ≡ before ++ due_here ∷ behind
+  pub following : List Due
+  pub due_is : due ≡ before ++ due_here ∷ following
   pub before_traces : List (List Operation)
   pub trace : List Operation
-  pub behind_traces : List (List Operation)
-  pub traces_are : traces ≡ before_traces ++ trace ∷ behind_traces
+  pub after_traces : List (List Operation)
+  pub traces_are : traces ≡ before_traces ++ trace ∷ after_traces
   pub same : AllZip SameActs before before_traces
   pub entry_is : due_here.entry ≡ entry
   pub case_is : due_here.case ≡ case

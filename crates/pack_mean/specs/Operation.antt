@@ -49,20 +49,20 @@ a_link stack s place = do
 
 -- Known headers, with `/` between: they stand at places one above the other, the first at this one. There are no more
 -- than places.
-abbrev pub links_behind : List LayerTree → Named → ℕ → ℕ → Reader (List Link)
-links_behind stack s place zero text = Some ([], text)
-links_behind stack s place (suc left) [] = Some ([], [])
-links_behind stack s place (suc left) (byte ∷ bytes) =
+abbrev pub links_after : List LayerTree → Named → ℕ → ℕ → Reader (List Link)
+links_after stack s place zero text = Some ([], text)
+links_after stack s place (suc left) [] = Some ([], [])
+links_after stack s place (suc left) (byte ∷ bytes) =
     if byte == 47 then (do
       first ← a_link stack s place
-      more ← links_behind stack s (place + 1) left
+      more ← links_after stack s (place + 1) left
       yields (first ∷ more)) bytes
     else Some ([], byte ∷ bytes)
 
 abbrev pub some_links : List LayerTree → Named → ℕ → Reader (List Link)
 some_links stack s place = do
   first ← a_link stack s place
-  more ← links_behind stack s (place + 1) (length stack)
+  more ← links_after stack s (place + 1) (length stack)
   yields (first ∷ more)
 
 -- Those after what they are of, which may be missing.
@@ -79,15 +79,15 @@ a_chained stack s place = do
 
 -- The message of a row to be pushed, where its queue's rows have one: it stands after their numbers, and a comma where
 -- there are some.
-abbrev pub comma_behind : List (List ℕ) → Reader (Unit {0})
-comma_behind [] = yields tt
-comma_behind (name ∷ names) = the_text (codes ",")
+abbrev pub comma_after : List (List ℕ) → Reader (Unit {0})
+comma_after [] = yields tt
+comma_after (name ∷ names) = the_text (codes ",")
 
 abbrev pub row_message : List LayerTree → Named → ℕ → List (List ℕ) → Option (List ℕ × Carried) →
     Reader (Option Chained)
 row_message stack s place names None = yields None
 row_message stack s place names (Some carried) = do
-  _ ← comma_behind names
+  _ ← comma_after names
   m ← a_chained stack s place
   yields (Some m)
 
@@ -133,9 +133,9 @@ what_is_sent s text = if bytes_eq (take 1 text) (codes ")") then Some (nothing_s
     s most_fields text
 
 -- Its message, with its known headers after the bracket.
-abbrev pub chained_behind : List LayerTree → Named → Option Core → Reader (Option Chained)
-chained_behind stack s None = yields None
-chained_behind stack s (Some c) = do
+abbrev pub chained_after : List LayerTree → Named → Option Core → Reader (Option Chained)
+chained_after stack s None = yields None
+chained_after stack s (Some c) = do
   chain ← a_chain stack s 0
   yields (Some (record { chain = chain; core = c }))
 
@@ -206,7 +206,7 @@ an_output stack s = do
   _ ← the_text (codes "(")
   sent ← what_is_sent s
   _ ← the_text (codes ")")
-  message ← chained_behind stack s sent.message
+  message ← chained_after stack s sent.message
   yields (output dir kind sent.numbers message)
 
 -- An operation, by its first word; and the one that a whole line spells.

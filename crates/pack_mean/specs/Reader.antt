@@ -48,12 +48,12 @@ abbrev pub a_word : Reader (List ℕ)
 a_word = run_of (λ byte. not (byte == 32))
 
 -- What a whole text spells, with nothing after it.
-abbrev pub nothing_behind : {A : Type 0} → A × List ℕ → Option A
-nothing_behind (value, []) = Some value
-nothing_behind (value, byte ∷ bytes) = None
+abbrev pub nothing_after : {A : Type 0} → A × List ℕ → Option A
+nothing_after (value, []) = Some value
+nothing_after (value, byte ∷ bytes) = None
 
 abbrev pub whole : {A : Type 0} → Reader A → List ℕ → Option A
-whole read text = option_and_then nothing_behind (read text)
+whole read text = option_and_then nothing_after (read text)
 
 -- One after the other, as many as there are readers, with commas between.
 abbrev pub more_of : {A B : Type 0} → Reader A → List B → Reader (List A)

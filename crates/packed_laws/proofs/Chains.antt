@@ -10,13 +10,13 @@ use Rattle.trace_mean.specs.Trace.{Atom, Core, Link, Chained}
 use Rattle.trace_mean.specs.Fuse.{fields_of}
 use Rattle.trace_form_laws.specs.Names.{AtomNames, LinkNames, ChainedNames}
 use Rattle.trace_form_laws.specs.Closed.{CoreIsMade, IsMade}
-use Rattle.bypass_mean.specs.Text.{layer_of, atom_text, core_text, link_text, behind, pushed_text}
+use Rattle.bypass_mean.specs.Text.{layer_of, atom_text, core_text, link_text, following, pushed_text}
 use Rattle.pack_mean.specs.Reader.{Reader, ◌>>=◌, yields, option_reader, the_text, is_name_byte, each_of, more_of}
 use Rattle.pack_mean.specs.Named.{Named, atom_named, core_named}
-use Rattle.pack_mean.specs.Operation.{an_atom, a_core, tag_named, a_link, links_behind, some_links, a_chain, a_chained}
+use Rattle.pack_mean.specs.Operation.{an_atom, a_core, tag_named, a_link, links_after, some_links, a_chain, a_chained}
 use Rattle.pack_laws.specs.Written.{written_with}
 use Rattle.pack_laws.proofs.Spelled.{reach_of}
-use Rattle.pack_laws.proofs.Writing.{parted, behind_commas}
+use Rattle.pack_laws.proofs.Writing.{parted, after_commas}
 use Rattle.packed_laws.specs.Told.{AreToldApart}
 use Rattle.packed_laws.proofs.Fits.{largest_number, AtomFits, CoreFits, LinkFits, ChainFits, ChainedFits}
 use Rattle.packed_laws.proofs.Front.{Finds, finds_value, finds_then, finds_text, finds_given, finds_known, finds_same}
@@ -34,7 +34,7 @@ closes_stops [] closes = tt
 closes_stops (byte ∷ bytes) closes = subst (λ b. is_name_byte b ≡ false) (sym closes) refl
 
 pub commas_stop : (parts : List (List ℕ)) (rest : List ℕ) → Stops is_name_byte rest →
-    Stops is_name_byte (behind_commas parts ++ rest)
+    Stops is_name_byte (after_commas parts ++ rest)
 commas_stop [] rest stops = stops
 commas_stop (part ∷ parts) rest stops = refl
 
@@ -85,14 +85,14 @@ module _ (stack : List LayerTree) (told : AreToldApart stack) (few : length stac
   module _ {A B : Type 0} (read : Reader A) (shown : A → List ℕ) where
     more_back : (xs : List A) (bs : List B) (rest : List ℕ) → length xs ≡ length bs →
         AllByRecursion (Each read shown) xs → Stops is_name_byte rest →
-        Finds (more_of read bs) (behind_commas (map shown xs) ++ rest) xs rest
+        Finds (more_of read bs) (after_commas (map shown xs) ++ rest) xs rest
     more_back [] [] rest same each stops = finds_value [] rest
     more_back [] (b ∷ bs) rest same each stops = absurd (omega (arith, same))
     more_back (x ∷ xs) [] rest same each stops = absurd (omega (arith, same))
     more_back (x ∷ xs) (b ∷ bs) rest same each stops =
         finds_same (more_of read (b ∷ bs)) _ _ (x ∷ xs) rest
-        (append_assoc (codes "," ++ shown x) (behind_commas (map shown xs)) rest ∙
-        append_assoc (codes ",") (shown x) (behind_commas (map shown xs) ++ rest))
+        (append_assoc (codes "," ++ shown x) (after_commas (map shown xs)) rest ∙
+        append_assoc (codes ",") (shown x) (after_commas (map shown xs) ++ rest))
         (finds_text (codes ",") _ _ _ _
         (finds_then read _ _ x _ _ _ (each.0.said _ (commas_stop (map shown xs) rest stops))
         (finds_then (more_of read bs) _ _ xs rest _ _ (more_back xs bs rest (omega (arith, same)) each.1 stops)
@@ -106,7 +106,7 @@ module _ (stack : List LayerTree) (told : AreToldApart stack) (few : length stac
     each_back (x ∷ xs) [] rest same each stops = absurd (omega (arith, same))
     each_back (x ∷ xs) (b ∷ bs) rest same each stops =
         finds_same (each_of read (b ∷ bs)) _ _ (x ∷ xs) rest
-        (append_assoc (shown x) (behind_commas (map shown xs)) rest)
+        (append_assoc (shown x) (after_commas (map shown xs)) rest)
         (finds_then read _ _ x _ _ _ (each.0.said _ (commas_stop (map shown xs) rest stops))
         (finds_then (more_of read bs) _ _ xs rest _ _ (more_back xs bs rest (omega (arith, same)) each.1 stops)
         (finds_value (x ∷ xs) rest)))
@@ -161,50 +161,50 @@ module _ (stack : List LayerTree) (told : AreToldApart stack) (few : length stac
       subst (λ x. Finds (a_link stack s place) (LinkText x ++ rest) x rest) same
       (link_back place l.tag l.fields rest (subst (LinkFits stack place) (sym same) fits) made)
 
-  no_links : (place left : ℕ) (rest : List ℕ) → Closes rest → Finds (links_behind stack s place left) rest [] rest
+  no_links : (place left : ℕ) (rest : List ℕ) → Closes rest → Finds (links_after stack s place left) rest [] rest
   no_links place zero rest closes = record { said = refl }
   no_links place (suc left) [] closes = record { said = refl }
   no_links place (suc left) (byte ∷ bytes) closes =
-      subst (λ b. Finds (links_behind stack s place (suc left)) (b ∷ bytes) [] (b ∷ bytes)) (sym closes) record
+      subst (λ b. Finds (links_after stack s place (suc left)) (b ∷ bytes) [] (b ∷ bytes)) (sym closes) record
       { said = refl }
 
   links_back : (left place : ℕ) (ls : List Link) (rest : List ℕ) → length stack ≤ place + left →
       ChainFits stack place ls → AllByRecursion MadeLink ls →
-      Closes rest → Finds (links_behind stack s place left) (LinksText ls ++ rest) ls rest
+      Closes rest → Finds (links_after stack s place left) (LinksText ls ++ rest) ls rest
   links_back left place [] rest most fits made closes = no_links place left rest closes
   links_back zero place (l ∷ ls) rest most fits made closes = let inside = fits.0.inside in
       absurd (omega (arith, inside, most))
   links_back (suc left) place (l ∷ ls) rest most fits made closes =
-      let here : Finds (a_link stack s place >>= λ first. links_behind stack s (place + 1) left >>= λ more.
+      let here : Finds (a_link stack s place >>= λ first. links_after stack s (place + 1) left >>= λ more.
       yields (first ∷ more))
       (LinkText l ++ (LinksText ls ++ rest)) (l ∷ ls) rest =
       finds_then (a_link stack s place) _ _ l _ _ _ (any_link place l (LinksText ls ++ rest) fits.0 made.0)
-      (finds_then (links_behind stack s (place + 1) left) _ _ ls rest _ _
+      (finds_then (links_after stack s (place + 1) left) _ _ ls rest _ _
       (links_back left (place + 1) ls rest (omega (arith, most)) fits.1 made.1 closes) (finds_value (l ∷ ls) rest)) in
-      finds_same (links_behind stack s place (suc left)) _ (codes "/" ++ (LinkText l ++ (LinksText ls ++ rest)))
+      finds_same (links_after stack s place (suc left)) _ (codes "/" ++ (LinkText l ++ (LinksText ls ++ rest)))
       (l ∷ ls) rest
       (ap (λ t. codes "/" ++ t) (append_assoc (LinkText l) (LinksText ls) rest)) record { said = here.said }
 
-  abbrev BehindText : List Link → List ℕ
-  BehindText chain = behind stack (written_with before s) chain
+  abbrev AfterText : List Link → List ℕ
+  AfterText chain = following stack (written_with before s) chain
 
   pub chain_back : (place : ℕ) (ls : List Link) (rest : List ℕ) → ChainFits stack place ls →
       AllByRecursion MadeLink ls → Closes rest →
-      Finds (a_chain stack s place) (BehindText ls ++ rest) ls rest
+      Finds (a_chain stack s place) (AfterText ls ++ rest) ls rest
   chain_back place [] [] fits made closes = record { said = refl }
   chain_back place [] (byte ∷ bytes) fits made closes =
       subst (λ b. Finds (a_chain stack s place) (b ∷ bytes) [] (b ∷ bytes)) (sym closes) record { said = refl }
   chain_back place (l ∷ ls) rest fits made closes =
       let here : Finds (some_links stack s place) (LinkText l ++ (LinksText ls ++ rest)) (l ∷ ls) rest =
       finds_then (a_link stack s place) _ _ l _ _ _ (any_link place l (LinksText ls ++ rest) fits.0 made.0)
-      (finds_then (links_behind stack s (place + 1) (length stack)) _ _ ls rest _ _
+      (finds_then (links_after stack s (place + 1) (length stack)) _ _ ls rest _ _
       (links_back (length stack) (place + 1) ls rest (omega arith) fits.1 made.1 closes) (finds_value (l ∷ ls) rest)) in
       finds_same (a_chain stack s place) _ (codes " " ++ (LinkText l ++ (LinksText ls ++ rest))) (l ∷ ls) rest
       (ap (λ t. codes " " ++ t) (append_assoc (LinkText l) (LinksText ls) rest)) record { said = here.said }
 
-  behind_stops : (ls : List Link) (rest : List ℕ) → Closes rest → Stops is_name_byte (BehindText ls ++ rest)
-  behind_stops [] rest closes = closes_stops rest closes
-  behind_stops (l ∷ ls) rest closes = refl
+  after_stops : (ls : List Link) (rest : List ℕ) → Closes rest → Stops is_name_byte (AfterText ls ++ rest)
+  after_stops [] rest closes = closes_stops rest closes
+  after_stops (l ∷ ls) rest closes = refl
 
   abbrev PushedText : Chained → List ℕ
   PushedText m = pushed_text stack (written_with before s) m
@@ -216,8 +216,8 @@ module _ (stack : List LayerTree) (told : AreToldApart stack) (few : length stac
       Closes rest →
       Finds (a_chained stack s place) (PushedText m ++ rest) m rest
   chained_back place m rest fits made closes =
-      finds_same (a_chained stack s place) _ _ m rest (two_parts (CoreText m.core) (BehindText m.chain) rest)
+      finds_same (a_chained stack s place) _ _ m rest (two_parts (CoreText m.core) (AfterText m.chain) rest)
       (finds_then (a_core s) _ _ m.core _ _ _
-      ((core_back m.core made.core_is fits.core_fits).said _ (behind_stops m.chain rest closes))
+      ((core_back m.core made.core_is fits.core_fits).said _ (after_stops m.chain rest closes))
       (finds_then (a_chain stack s place) _ _ m.chain
       rest _ _ (chain_back place m.chain rest fits.chain_fits made.chain_is closes) (finds_value m rest)))

@@ -21,10 +21,10 @@ use Rattle.pack_mean.specs.File.{begun, next_case, with_operation, operation_lin
 use Rattle.pack_laws.specs.Files.{case_lines}
 use Rattle.pack_laws.specs.Written.{written_with, line_with}
 use Rattle.pack_laws.proofs.Files.{writes_one}
-use Rattle.pack_laws.proofs.Spelled.{reach_of, reach_behind}
+use Rattle.pack_laws.proofs.Spelled.{reach_of, reach_after}
 use Rattle.packed_laws.specs.Told.{AreTold, AreToldApart}
 use Rattle.packed_laws.proofs.Fits.{largest_number}
-use Rattle.packed_laws.proofs.Packable.{taken_behind, TraceFits, CanBeRead}
+use Rattle.packed_laws.proofs.Packable.{taken_after, TraceFits, CanBeRead}
 use Rattle.packed_laws.proofs.Names.{IsSmall, rows_told}
 use Rattle.packed_laws.proofs.Operations.{operation_back}
 use Rattle.packed_laws.proofs.Plain.{IsPlain, line_plain, plain_both, decimal_plain}
@@ -76,10 +76,10 @@ module _ (stack : List LayerTree) where
 
   -- the room that an operation takes in its case
   record Took (due : List Due) (s : Named) (left : ℕ) (r : Reading) (o : Operation) (os : List Operation) : Type 0 where
-    behind : ℕ
+    following : ℕ
     is : with_operation stack due s left r o ≡
-        Some (record { stage = within due (naming stack s o) behind; held = r.held ++ o ∷ []; traces = r.traces })
-    more : trace_length os ≤ behind
+        Some (record { stage = within due (naming stack s o) following; held = r.held ++ o ∷ []; traces = r.traces })
+    more : trace_length os ≤ following
 
   counts : (o : Operation) (os : List Operation) (left : ℕ) → trace_length (o ∷ os) ≤ left →
       operation_length o + trace_length os ≤ left
@@ -91,12 +91,12 @@ module _ (stack : List LayerTree) where
       Some (record { stage = within due (naming stack s o) n; held = r.held ++ o ∷ []; traces = r.traces })) →
       Took due s left r o os
   other due s zero r o os h one is = absurd (omega (arith, h, one))
-  other due s (suc n) r o os h one is = record { behind = n; is = is n; more = omega (arith, h, one) }
+  other due s (suc n) r o os h one is = record { following = n; is = is n; more = omega (arith, h, one) }
 
   took : (due : List Due) (s : Named) (left : ℕ) (r : Reading) (o : Operation) (os : List Operation) →
       operation_length o + trace_length os ≤ left →
       Took due s left r o os
-  took due s left r (note m) os h = record { behind = left; is = refl; more = omega (arith, h) }
+  took due s left r (note m) os h = record { following = left; is = refl; more = omega (arith, h) }
   took due s left r (bind e) os h = other due s left r (bind e) os h refl (λ n. refl)
   took due s left r (check e) os h = other due s left r (check e) os h refl (λ n. refl)
   took due s left r (set p c e x) os h = other due s left r (set p c e x) os h refl (λ n. refl)
@@ -107,7 +107,7 @@ module _ (stack : List LayerTree) where
   took due s left r (output dir kind ns message) os h = other due s left r (output dir kind ns message) os h refl
       (λ n. refl)
 
-  taken_is : (s : Named) (o : Operation) → taken_behind stack s.rows o ≡ (naming stack s o).rows
+  taken_is : (s : Named) (o : Operation) → taken_after stack s.rows o ≡ (naming stack s o).rows
   taken_is s (bind e) = refl
   taken_is s (note m) = refl
   taken_is s (check e) = refl
@@ -144,28 +144,28 @@ module _ (stack : List LayerTree) where
       told = room.told;
     }
 
-    room_behind : (s : Named) (n : ℕ) (o : Operation) → OperationNames (IsMade stack (reach_of s)) o → Room s (suc n) →
+    room_after : (s : Named) (n : ℕ) (o : Operation) → OperationNames (IsMade stack (reach_of s)) o → Room s (suc n) →
         Room (naming stack s o) n
-    room_behind s n (bind e) made room = record {
+    room_after s n (bind e) made room = record {
       fields = room.fields;
       binds = let h = room.binds in omega (arith, h);
       notes = let h = room.notes in omega (arith, h);
       rows = let h = room.rows in omega (arith, h);
       told = room.told;
     }
-    room_behind s n (note m) made room = record {
+    room_after s n (note m) made room = record {
       fields = room.fields;
       binds = let h = room.binds in omega (arith, h);
       notes = let h = room.notes in omega (arith, h);
       rows = let h = room.rows in omega (arith, h);
       told = room.told;
     }
-    room_behind s n (check e) made room = less s n room
-    room_behind s n (set p c e x) made room = less s n room
-    room_behind s n (set_square p c row column x) made room = less s n room
-    room_behind s n (push p c e ns message) made room = less s n room
-    room_behind s n (output dir kind ns message) made room = less s n room
-    room_behind s n (take p c e) made room = record {
+    room_after s n (check e) made room = less s n room
+    room_after s n (set p c e x) made room = less s n room
+    room_after s n (set_square p c row column x) made room = less s n room
+    room_after s n (push p c e ns message) made room = less s n room
+    room_after s n (output dir kind ns message) made room = less s n room
+    room_after s n (take p c e) made room = record {
       fields = room.fields;
       binds = let h = room.binds in omega (arith, h);
       notes = let h = room.notes in omega (arith, h);
@@ -193,7 +193,7 @@ module _ (stack : List LayerTree) where
         let line = line_with stack before s o in
         let t = took due s left r o os (counts o os left most) in
         let next : Reading = record {
-          stage = within due (naming stack s o) t.behind;
+          stage = within due (naming stack s o) t.following;
           held = held ++ o ∷ [];
           traces =
               traces;
@@ -202,11 +202,11 @@ module _ (stack : List LayerTree) where
         then_back r next number line (lines_from (before ++ line ∷ []) (naming stack s o) os ++ rest) all
         (ap (case_line stack due s left r line) (no_case due (traces ++ held ∷ []) before s o) ∙
         ap (operation_line stack due s left r) said ∙ t.is)
-        (operations_back os (before ++ line ∷ []) (naming stack s o) t.behind due (held ++ o ∷ []) traces all rest
+        (operations_back os (before ++ line ∷ []) (naming stack s o) t.following due (held ++ o ∷ []) traces all rest
         (suc number)
-        (subst (λ reach. Closed stack reach os) (sym (reach_behind stack s o)) closed.1) there.1
+        (subst (λ reach. Closed stack reach os) (sym (reach_after stack s o)) closed.1) there.1
         (subst (λ taken. TraceFits stack taken os) (taken_is s o) fits.1) t.more
-        (room_behind s (length os) o closed.0 room)
+        (room_after s (length os) o closed.0 room)
         (λ s' left' number'. subst
         (λ l. traces_from stack (record { stage = within due s' left'; held = l; traces = traces }) number' rest ≡
         Ok all)
@@ -273,8 +273,8 @@ module _ (stack : List LayerTree) where
     operations_plain (o ∷ os) before s closed there fits room = (
       line_plain stack told few before s (small s (length (o ∷ os)) room) o closed.0 there.0 fits.0,
       operations_plain os (before ++ line_with stack before s o ∷ []) (naming stack s o)
-          (subst (λ reach. Closed stack reach os) (sym (reach_behind stack s o)) closed.1) there.1
-          (subst (λ taken. TraceFits stack taken os) (taken_is s o) fits.1) (room_behind s (length os) o closed.0 room),
+          (subst (λ reach. Closed stack reach os) (sym (reach_after stack s o)) closed.1) there.1
+          (subst (λ taken. TraceFits stack taken os) (taken_is s o) fits.1) (room_after s (length os) o closed.0 room),
     )
 
     entry_plain : (n : ℕ) → IsPlain (entry_name n)

@@ -7,7 +7,7 @@ use Rattle.std.proofs.lemmas.Bool.{and_parts}
 use Rattle.std.specs.Option.{option_map_or}
 use Rattle.layer_ast.specs.declared.tokens.Token.{Token}
 use Rattle.layer_ast.specs.Cut.{text_tokens, piece}
-use Rattle.layer_ast.specs.Depth.{room_behind, IsWithin, WithRoom}
+use Rattle.layer_ast.specs.Depth.{room_after, IsWithin, WithRoom}
 use Rattle.layer_ast.specs.Print as print
 use Rattle.layer_ast.specs.Spelling.{reserved, kinds, symbols, word_token, symbol_at}
 use Rattle.layer_ast.specs.Tree.{LayerTree, FileTree}
@@ -23,11 +23,11 @@ use Rattle.packed_laws.proofs.Walked.{WalkedLayer, text_walked, layer_walk, laye
 -- whether there is room for the brackets of these tokens
 abbrev is_shallow : ℕ → List Token → Bool
 is_shallow room [] = true
-is_shallow room (t ∷ tokens) = option_map_or (λ left. is_shallow left tokens) (room_behind t room) false
+is_shallow room (t ∷ tokens) = option_map_or (λ left. is_shallow left tokens) (room_after t room) false
 
 shallow_within : (tokens : List Token) (room : ℕ) → is_shallow room tokens ≡ true → IsWithin room tokens
 shallow_within [] room h = tt
-shallow_within (t ∷ tokens) room h = go (room_behind t room) (λ left k. shallow_within tokens left k) h where
+shallow_within (t ∷ tokens) room h = go (room_after t room) (λ left k. shallow_within tokens left k) h where
   go : (o : Option ℕ) → ((left : ℕ) → is_shallow left tokens ≡ true → IsWithin left tokens) →
       option_map_or (λ left. is_shallow left tokens) o false ≡ true →
       WithRoom o (λ left. IsWithin left tokens)

@@ -234,7 +234,7 @@ module _ (stack : List LayerTree) (told : AreToldApart stack) (few : length stac
     pub said : (rest : List ℕ) → Stops is_name_byte rest → Finds read (text ++ rest) x rest
 
   -- after a cell's name a reader finds what its text says
-  pub record Behind {A : Type 0} (read : Reader A) (p c : ℕ) (text : List ℕ) (x : A) (rest : List ℕ) : Type 0 where
+  pub record After {A : Type 0} (read : Reader A) (p c : ℕ) (text : List ℕ) (x : A) (rest : List ℕ) : Type 0 where
     pub there : c < length (layer_of stack p).cells
     pub more : List ℕ
     pub text_is : text ++ rest ≡ cell_name stack p c ++ more
@@ -325,12 +325,12 @@ module _ (stack : List LayerTree) (told : AreToldApart stack) (few : length stac
     among_shown (queues capacity own) items name index is = refl
 
     -- after the names of cells and queues
-    pub element_behind : (p c : ℕ) (e : TraceNumber) (rest : List ℕ) → HasNumber (layer_of stack p) c e →
+    pub element_after : (p c : ℕ) (e : TraceNumber) (rest : List ℕ) → HasNumber (layer_of stack p) c e →
         Reads inner.number (NumberText e) e →
         Stops is_name_byte rest →
-        Behind (number_of_cell inner p c (form_at (layer_of stack p) c)) p c (cell_text stack p c (NumberText e))
+        After (number_of_cell inner p c (form_at (layer_of stack p) c)) p c (cell_text stack p c (NumberText e))
         (element p c e) rest
-    element_behind p c e rest (inl one) h stops = let f = form_of shape_in (layer_of stack p) c One one.0 in record {
+    element_after p c e rest (inl one) h stops = let f = form_of shape_in (layer_of stack p) c One one.0 in record {
       there = f.there;
       more = rest;
       text_is = ap (λ o. with_index o (cell_name stack p c) (NumberText e) ++ rest) f.is ∙
@@ -341,7 +341,7 @@ module _ (stack : List LayerTree) (told : AreToldApart stack) (few : length stac
           (subst (λ o. Finds (number_of_cell inner p c o) rest (element p c (atom (number 0))) rest) (sym f.is)
           (one_of p c f.form rest f.so));
     }
-    element_behind p c e rest (inr array) h stops = let f = form_of shape_in (layer_of stack p) c Array array in
+    element_after p c e rest (inr array) h stops = let f = form_of shape_in (layer_of stack p) c Array array in
         record {
           there = f.there;
           more = codes "[" ++ (NumberText e ++ (codes "]" ++ rest));
@@ -354,12 +354,12 @@ module _ (stack : List LayerTree) (told : AreToldApart stack) (few : length stac
               (array_of p c f.form e rest f.so h);
         }
 
-    pub square_behind : (p c : ℕ) (a b : TraceNumber) (rest : List ℕ) → HasSquare (layer_of stack p) c →
+    pub square_after : (p c : ℕ) (a b : TraceNumber) (rest : List ℕ) → HasSquare (layer_of stack p) c →
         Reads inner.number (NumberText a) a →
         Reads inner.number (NumberText b) b →
-        Behind (number_of_cell inner p c (form_at (layer_of stack p) c)) p c (NumberText (square p c a b))
+        After (number_of_cell inner p c (form_at (layer_of stack p) c)) p c (NumberText (square p c a b))
         (square p c a b) rest
-    square_behind p c a b rest is h k = let f = form_of shape_in (layer_of stack p) c Square is in record {
+    square_after p c a b rest is h k = let f = form_of shape_in (layer_of stack p) c Square is in record {
       there = f.there;
       more = codes "[" ++ (NumberText a ++ (codes "]" ++ (codes "[" ++ (NumberText b ++ (codes "]" ++ rest)))));
       text_is = square_text (cell_name stack p c) (NumberText a) (NumberText b) rest;
@@ -370,14 +370,14 @@ module _ (stack : List LayerTree) (told : AreToldApart stack) (few : length stac
           (square_of p c f.form a b rest f.so h k);
     }
 
-    queue_behind : (p c : ℕ) (e : TraceNumber) (rest : List ℕ) → HasQueue (layer_of stack p) c e →
+    queue_after : (p c : ℕ) (e : TraceNumber) (rest : List ℕ) → HasQueue (layer_of stack p) c e →
         Reads inner.number (NumberText e) e →
         Stops is_name_byte rest →
-        Behind (index_of_queue inner p c (form_at (layer_of stack p) c)) p c (QueueText p c e)
+        After (index_of_queue inner p c (form_at (layer_of stack p) c)) p c (QueueText p c e)
         (record { place = p; cell = c; index = e }) rest
-    queue_behind p c e rest has h stops = go has.listed where
+    queue_after p c e rest has h stops = go has.listed where
       go : HasRows (layer_of stack p) c e has.items →
-          Behind (index_of_queue inner p c (form_at (layer_of stack p) c)) p c (QueueText p c e)
+          After (index_of_queue inner p c (form_at (layer_of stack p) c)) p c (QueueText p c e)
           (record { place = p; cell = c; index = e }) rest
       go (inl alone) = let f = form_of alone_in (layer_of stack p) c has.items alone.0 in record {
         there = f.there;
@@ -412,7 +412,7 @@ module _ (stack : List LayerTree) (told : AreToldApart stack) (few : length stac
         Reads (queue_with stack inner) (QueueText p c e) (record { place = p; cell = c; index = e })
     queue_back p c e inside has h = record {
       said = λ rest stops.
-          let b = queue_behind p c e rest has h stops in
+          let b = queue_after p c e rest has h stops in
           let n = cell_names stack told few s p c inside b.there in
           finds_same (queue_with stack inner) _ _ _ rest b.text_is
           (finds_name (cell_named stack) (cell_name stack p c) (p, c) n.names
@@ -439,7 +439,7 @@ module _ (stack : List LayerTree) (told : AreToldApart stack) (few : length stac
 
     -- the name of a cell before its number
     pub cell_back : (p c : ℕ) (text : List ℕ) (e : TraceNumber) (rest : List ℕ) → p < length stack →
-        Behind (number_of_cell inner p c (form_at (layer_of stack p) c)) p c text e rest →
+        After (number_of_cell inner p c (form_at (layer_of stack p) c)) p c text e rest →
         Finds (number_with stack s inner) (text ++ rest) e rest
     cell_back p c text e rest inside b =
         let n = cell_names stack told few s p c inside b.there in
@@ -534,10 +534,10 @@ module _ (stack : List LayerTree) (told : AreToldApart stack) (few : length stac
     said = λ rest stops. finds_same (number_with stack s inner) _ _ (binary o a b) rest
         (operation_text (NumberText a) (sign_text (operator_sign o)) (NumberText b) rest) (opened rest);
   } where
-    behind : (rest : List ℕ) → Finds (an_operation inner)
+    following : (rest : List ℕ) → Finds (an_operation inner)
         (NumberText a ++ (codes " " ++
         (sign_text (operator_sign o) ++ (codes " " ++ (NumberText b ++ (codes ")" ++ rest)))))) (binary o a b) rest
-    behind rest = finds_then inner.number _ _ a _ _ _ (h.said _ refl) (finds_text (codes " ") _ _ _ _
+    following rest = finds_then inner.number _ _ a _ _ _ (h.said _ refl) (finds_text (codes " ") _ _ _ _
         (finds_then a_word (λ word. option_reader (operator_named word) >>= λ operator. the_text (codes " ") >>= λ v.
         inner.number >>= λ second.
         the_text (codes ")") >>= λ w. yields (binary operator a second)) _ (sign_text (operator_sign o)) _ _ _
@@ -551,7 +551,7 @@ module _ (stack : List LayerTree) (told : AreToldApart stack) (few : length stac
         (codes "(" ++ (NumberText a ++
         (codes " " ++ (sign_text (operator_sign o) ++ (codes " " ++ (NumberText b ++ (codes ")" ++ rest)))))))
         (binary o a b) rest
-    opened rest = record { said = (finds_text (codes "(") (λ u. an_operation inner) _ _ _ (behind rest)).said }
+    opened rest = record { said = (finds_text (codes "(") (λ u. an_operation inner) _ _ _ (following rest)).said }
 
   abbrev MessageOf : Inner → List (List ℕ) → Reader TraceMessage
   MessageOf inner name = message_named stack inner name (core_named s name)
@@ -598,14 +598,14 @@ module _ (stack : List LayerTree) (told : AreToldApart stack) (few : length stac
     number_back (suc n) (element p c e) made there fits = let h = number_back n e made.1 there.1 fits in
         record {
           said = λ rest stops. cell_back (At (suc n)) p c _ (element p c e) rest made.0
-              (element_behind (At (suc n)) p c e rest there.0 h stops);
+              (element_after (At (suc n)) p c e rest there.0 h stops);
         }
     number_back (suc n) (square p c a b) made there fits =
         let h = number_back n a made.1 there.1 fits.0 in
         let k = number_back n b made.2 there.2 fits.1 in
         record {
           said = λ rest stops. cell_back (At (suc n)) p c _ (square p c a b) rest made.0
-              (square_behind (At (suc n)) p c a b rest there.0 h k);
+              (square_after (At (suc n)) p c a b rest there.0 h k);
         }
     number_back (suc (suc n)) (rows p c e) made there fits =
         let q = queue_back (At (suc n)) p c e made.0 there.0 (number_back n e made.1 there.1 fits) in

@@ -25,26 +25,26 @@ use Rattle.trace_form_laws.specs.Closed.{CoreIsMade, IsMade}
 use Rattle.trace_form_laws.specs.There.{HasQueue, IsThere}
 use Rattle.bypass_mean.specs.Text.{layer_of, sign_text, bracketed_list, atom_text, core_text, cell_name, cell_text}
 use Rattle.bypass_mean.specs.Text.{number_text}
-use Rattle.bypass_mean.specs.Text.{message_text, behind, pushed_text}
+use Rattle.bypass_mean.specs.Text.{message_text, following, pushed_text}
 use Rattle.pack_mean.specs.Reader.{Reader, ◌>>=◌, yields, option_reader, the_text, is_name_byte, a_name, a_word}
-use Rattle.pack_mean.specs.Reader.{nothing_behind}
+use Rattle.pack_mean.specs.Reader.{nothing_after}
 use Rattle.pack_mean.specs.Reader.{each_of}
 use Rattle.pack_mean.specs.Named.{Named, items_at, atom_named, core_named, cell_named, kind_named}
 use Rattle.pack_mean.specs.Expression.{QueueNamed, Inner, inside, most_brackets, number_of_cell, a_cell, a_number}
 use Rattle.pack_mean.specs.Expression.{a_message, a_queue}
 use Rattle.pack_mean.specs.Operation.{a_chain, a_chained, row_message, Sent, nothing_sent, with_number, a_last}
-use Rattle.pack_mean.specs.Operation.{or_no_more, sent_by, sent_within, what_is_sent, chained_behind, directions}
+use Rattle.pack_mean.specs.Operation.{or_no_more, sent_by, sent_within, what_is_sent, chained_after, directions}
 use Rattle.pack_mean.specs.Operation.{setting, operation_by, operation_said}
 use Rattle.pack_laws.specs.Written.{note_name, written_with, line_with}
 use Rattle.pack_laws.proofs.Spelled.{reach_of}
-use Rattle.pack_laws.proofs.Writing.{parted, behind_commas, parted_more}
+use Rattle.pack_laws.proofs.Writing.{parted, after_commas, parted_more}
 use Rattle.packed_laws.specs.Told.{IsWord, AreToldApart}
 use Rattle.packed_laws.proofs.Fits.{largest_number, AtomFits, CoreFits, NumberFits, SentFits, RowFits, index_brackets}
 use Rattle.packed_laws.proofs.Fits.{OperationFits}
 use Rattle.packed_laws.proofs.Front.{Finds, finds_value, finds_then, finds_text, finds_given, finds_known, finds_same}
 use Rattle.packed_laws.proofs.Front.{Stops, run_back, Leads, leads_not, leads_more}
 use Rattle.packed_laws.proofs.Names.{IsSmall, Messages, atom_names, core_names, cell_names, finds_name, finds_word}
-use Rattle.packed_laws.proofs.Numbers.{atom_leads, Reads, Behind, element_behind, square_behind, queue_back}
+use Rattle.packed_laws.proofs.Numbers.{atom_leads, Reads, After, element_after, square_after, queue_back}
 use Rattle.packed_laws.proofs.Numbers.{number_back, message_back}
 use Rattle.packed_laws.proofs.Chains.{commas_stop, each_back, chain_back, chained_back}
 
@@ -101,8 +101,8 @@ module _ (stack : List LayerTree) (told : AreToldApart stack) (few : length stac
   abbrev CoreText : Core → List ℕ
   CoreText c = core_text (written_with before s) c
 
-  abbrev BehindText : List Link → List ℕ
-  BehindText chain = behind stack (written_with before s) chain
+  abbrev AfterText : List Link → List ℕ
+  AfterText chain = following stack (written_with before s) chain
 
   abbrev PushedText : Chained → List ℕ
   PushedText m = pushed_text stack (written_with before s) m
@@ -148,7 +148,7 @@ module _ (stack : List LayerTree) (told : AreToldApart stack) (few : length stac
   more_sent : (more : Reader Sent) (numbers : List Atom) (o : Option Core) (rest : List ℕ) →
       (SomeSent numbers o →
       Finds more (parted (Parts numbers o) ++ (41 ∷ rest)) (record { numbers = numbers; message = o }) (41 ∷ rest)) →
-      Finds (or_no_more more) (behind_commas (Parts numbers o) ++ (41 ∷ rest))
+      Finds (or_no_more more) (after_commas (Parts numbers o) ++ (41 ∷ rest))
       (record { numbers = numbers; message = o }) (41 ∷ rest)
   more_sent more [] None rest h = record { said = refl }
   more_sent more [] (Some c) rest h = record { said = (finds_text (codes ",") (λ u. more) _ _ _ (h tt)).said }
@@ -167,12 +167,12 @@ module _ (stack : List LayerTree) (told : AreToldApart stack) (few : length stac
   sent_back (suc left) (a ∷ numbers) o rest most made fits core some =
       let x = atom_names before s small a made.0 fits.0 in
       finds_same (sent_within s (suc left)) _ _ _ (41 ∷ rest)
-      (append_assoc (AtomText a) (behind_commas (Parts numbers o)) (41 ∷ rest))
+      (append_assoc (AtomText a) (after_commas (Parts numbers o)) (41 ∷ rest))
       (finds_name (atom_named s) (AtomText a) a x (λ name. sent_by s (sent_within s left) name (atom_named s name)) _ _
       (41 ∷ rest)
       (commas_stop (Parts numbers o) (41 ∷ rest) refl)
       (subst (λ q. Finds (sent_by s (sent_within s left) (x.first ∷ x.more) q)
-      (behind_commas (Parts numbers o) ++ (41 ∷ rest))
+      (after_commas (Parts numbers o) ++ (41 ∷ rest))
       (record { numbers = a ∷ numbers; message = o }) (41 ∷ rest)) (sym x.said)
       (finds_then (or_no_more (sent_within s left)) (λ sent. yields (with_number a sent)) _
       (record { numbers = numbers; message = o }) _ _ _
@@ -287,11 +287,11 @@ module _ (stack : List LayerTree) (told : AreToldApart stack) (few : length stac
   set_to : (p c : ℕ) (text : List ℕ) (target x : TraceNumber) (o : Operation) → p < length stack →
       setting target x ≡ Some o →
       Reading (a_number stack s) (NumberText x) x →
-      ((rest : List ℕ) → Stops is_name_byte rest → Behind stack told few before s small
+      ((rest : List ℕ) → Stops is_name_byte rest → After stack told few before s small
       (number_of_cell Deepest p c (form_at (layer_of stack p) c)) p c text target rest) →
       Finds Line (codes "set " ++ text ++ codes " = " ++ NumberText x) o []
-  set_to p c text target x o inside is h behind_is =
-      let b = behind_is (codes " = " ++ (NumberText x ++ [])) refl in
+  set_to p c text target x o inside is h after_is =
+      let b = after_is (codes " = " ++ (NumberText x ++ [])) refl in
       let n = cell_names stack told few s p c inside b.there in
       finds_same Line _ (codes "set" ++ (codes " " ++ (text ++ (codes " = " ++ (NumberText x ++ []))))) o []
       (sym (append-nil _) ∙ set_any (codes "set ") text (codes " = ") (NumberText x) [])
@@ -310,7 +310,7 @@ module _ (stack : List LayerTree) (told : AreToldApart stack) (few : length stac
   -- a row that is pushed
   abbrev RowText : List (List ℕ) → Option Chained → List ℕ
   RowText [] message = parted (map PushedText (option_to_list message))
-  RowText (name ∷ names) message = behind_commas (map PushedText (option_to_list message))
+  RowText (name ∷ names) message = after_commas (map PushedText (option_to_list message))
 
   abbrev MadeSent : Option Chained → Type 0
   MadeSent message = SentNames (IsMade stack (reach_of s)) message
@@ -429,8 +429,8 @@ module _ (stack : List LayerTree) (told : AreToldApart stack) (few : length stac
   sent_core (Some m) made fits = record { made = (made.core_is, tt); fits = (fits.core_fits, tt) }
 
   chained_is : (message : Option Chained) → MadeSent message → SentFits stack s.rows message →
-      Finds (chained_behind stack s (option_map (λ m. m.core) message))
-      (option_map_or (λ (m : Chained). BehindText m.chain) message [] ++ []) message []
+      Finds (chained_after stack s (option_map (λ m. m.core) message))
+      (option_map_or (λ (m : Chained). AfterText m.chain) message [] ++ []) message []
   chained_is None made fits = finds_value None []
   chained_is (Some m) made fits =
       finds_then (a_chain stack s 0) (λ chain. yields (Some (record { chain = chain; core = m.core }))) _ m.chain _ _ _
@@ -443,14 +443,14 @@ module _ (stack : List LayerTree) (told : AreToldApart stack) (few : length stac
   cores_are (Some m) = refl
 
   abbrev Sending : Dir → Kind → Sent → Reader Operation
-  Sending dir k sent = the_text (codes ")") >>= λ v. chained_behind stack s sent.message >>= λ message.
+  Sending dir k sent = the_text (codes ")") >>= λ v. chained_after stack s sent.message >>= λ message.
       yields (output dir k sent.numbers message)
 
   abbrev KindOf : Dir → Kind → Reader Operation
   KindOf dir k = the_text (codes "(") >>= λ v. what_is_sent s >>= Sending dir k
 
-  abbrev KindBehind : Dir → Reader Operation
-  KindBehind dir = the_text (codes " ") >>= λ u. a_name >>= λ name. option_reader (kind_named name) >>= KindOf dir
+  abbrev KindAfter : Dir → Reader Operation
+  KindAfter dir = the_text (codes " ") >>= λ u. a_name >>= λ name. option_reader (kind_named name) >>= KindOf dir
 
   output_back : (dir : Dir) (k : Kind) (numbers : List Atom) (message : Option Chained) → AllByRecursion Made numbers →
       MadeSent message →
@@ -458,7 +458,7 @@ module _ (stack : List LayerTree) (told : AreToldApart stack) (few : length stac
       IsBack (output dir k numbers message)
   output_back dir k numbers message made made_sent most fits sent =
       let parts = parted (Parts numbers (option_map (λ m. m.core) message)) in
-      let b = option_map_or (λ (m : Chained). BehindText m.chain) message [] in
+      let b = option_map_or (λ (m : Chained). AfterText m.chain) message [] in
       let d = sign_text (direction_sign dir) in
       let kinds_back = kind_back k in
       finds_same Line _ (codes "out" ++
@@ -469,11 +469,11 @@ module _ (stack : List LayerTree) (told : AreToldApart stack) (few : length stac
       (led_by (codes "out")
       (codes " " ++ (d ++ (codes " " ++ (kind_word k ++ (codes "(" ++ (parts ++ (codes ")" ++ (b ++ [])))))))) _
       refl refl
-      (finds_text (codes " ") (λ u. a_word >>= λ direction. option_reader (beside directions direction) >>= KindBehind)
+      (finds_text (codes " ") (λ u. a_word >>= λ direction. option_reader (beside directions direction) >>= KindAfter)
       _ _ _
-      (finds_then a_word (λ direction. option_reader (beside directions direction) >>= KindBehind) _ d _ _ _
+      (finds_then a_word (λ direction. option_reader (beside directions direction) >>= KindAfter) _ d _ _ _
       (run_back (λ byte. not (byte == 32)) d _ (direction_word dir) refl)
-      (finds_given (beside directions d) KindBehind _ dir _ _ (direction_back dir)
+      (finds_given (beside directions d) KindAfter _ dir _ _ (direction_back dir)
       (finds_text (codes " ") (λ u. a_name >>= λ name. option_reader (kind_named name) >>= KindOf dir) _ _ _
       (finds_word (kind_word k) (λ name. option_reader (kind_named name) >>= KindOf dir) _ _ _ kinds_back.1 refl
       (finds_given (kind_named (kind_word k ∷ [])) (KindOf dir) _ k _ _ kinds_back.0
@@ -481,9 +481,9 @@ module _ (stack : List LayerTree) (told : AreToldApart stack) (few : length stac
       (finds_then (what_is_sent s) (Sending dir k) _
       (record { numbers = numbers; message = option_map (λ m. m.core) message }) (codes ")" ++ (b ++ [])) _ _
       (what_back numbers (option_map (λ m. m.core) message) (b ++ []) most made fits (sent_core message made_sent sent))
-      (finds_text (codes ")") (λ v. chained_behind stack s (option_map (λ m. m.core) message) >>= λ x.
+      (finds_text (codes ")") (λ v. chained_after stack s (option_map (λ m. m.core) message) >>= λ x.
       yields (output dir k numbers x)) _ _ _
-      (finds_then (chained_behind stack s (option_map (λ m. m.core) message)) (λ x. yields (output dir k numbers x)) _
+      (finds_then (chained_after stack s (option_map (λ m. m.core) message)) (λ x. yields (output dir k numbers x)) _
       message _ _ _
       (chained_is message made_sent sent) (finds_value (output dir k numbers message) []))))))))))))
 
@@ -503,12 +503,12 @@ module _ (stack : List LayerTree) (told : AreToldApart stack) (few : length stac
   line_back (set p c e x) made there fits = set_to p c (cell_text stack p c (NumberText e)) (element p c e) x
       (set p c e x) made.0 refl
       (any_number x made.2 there.2 fits.1)
-      (λ rest stops. element_behind stack told few before s small Deepest p c e rest there.0
+      (λ rest stops. element_after stack told few before s small Deepest p c e rest there.0
       (an_index e made.1 there.1 fits.0) stops)
   line_back (set_square p c a b x) made there fits = set_to p c (NumberText (square p c a b)) (square p c a b) x
       (set_square p c a b x) made.0 refl
       (any_number x made.3 there.3 fits.2)
-      (λ rest stops. square_behind stack told few before s small Deepest p c a b rest there.0
+      (λ rest stops. square_after stack told few before s small Deepest p c a b rest there.0
       (an_index a made.1 there.1 fits.0)
       (an_index b made.2 there.2 fits.1))
   line_back (push p c e xs message) made there fits =
@@ -522,4 +522,4 @@ module _ (stack : List LayerTree) (told : AreToldApart stack) (few : length stac
   pub operation_back : (o : Operation) → OperationNames (IsMade stack (reach_of s)) o →
       OperationNames (IsThere stack) o → OperationFits stack s.rows o →
       operation_said stack s (line_with stack before s o) ≡ Some o
-  operation_back o made there fits = ap (option_and_then nothing_behind) (line_back o made there fits).said
+  operation_back o made there fits = ap (option_and_then nothing_after) (line_back o made there fits).said

@@ -19,13 +19,13 @@ use Rattle.packed_laws.proofs.Fits.{largest_number, ChainFits, OperationFits}
 use Rattle.packed_laws.proofs.Layers.{LayersFit}
 
 -- the rows that were taken after an operation, and a trace each of whose operations fits where it stands
-abbrev pub taken_behind : List LayerTree → List ItemsTree → Operation → List ItemsTree
-taken_behind stack taken (take p c e) = taken ++ items_at stack p c ∷ []
-taken_behind stack taken _ = taken
+abbrev pub taken_after : List LayerTree → List ItemsTree → Operation → List ItemsTree
+taken_after stack taken (take p c e) = taken ++ items_at stack p c ∷ []
+taken_after stack taken _ = taken
 
 abbrev pub TraceFits : List LayerTree → List ItemsTree → List Operation → Type 0
 TraceFits stack taken [] = Unit {0}
-TraceFits stack taken (o ∷ os) = OperationFits stack taken o × TraceFits stack (taken_behind stack taken o) os
+TraceFits stack taken (o ∷ os) = OperationFits stack taken o × TraceFits stack (taken_after stack taken o) os
 
 -- the own trace of a case can be read where it is written
 pub record CanBeRead (stack : List LayerTree) (d : Due) : Type 0 where

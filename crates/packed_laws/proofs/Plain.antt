@@ -34,7 +34,7 @@ use Rattle.trace_form_laws.specs.Closed.{AtomIsMade, CoreIsMade, IsMade}
 use Rattle.trace_form_laws.specs.There.{HasNumber, HasRows, HasQueue, HasItem, IsThere}
 use Rattle.bypass_mean.specs.Text.{layer_of, sign_text, bracketed_list, bracketed_index, with_index, atom_text}
 use Rattle.bypass_mean.specs.Text.{core_text, cell_name}
-use Rattle.bypass_mean.specs.Text.{cell_text, number_text, message_text, link_text, chain_text, behind, pushed_text}
+use Rattle.bypass_mean.specs.Text.{cell_text, number_text, message_text, link_text, chain_text, following, pushed_text}
 use Rattle.pack_mean.specs.Named.{Named, items_at, atom_named, core_named, cell_named}
 use Rattle.pack_mean.specs.Expression.{most_brackets}
 use Rattle.pack_mean.specs.Operation.{tag_named}
@@ -355,11 +355,11 @@ module _ (stack : List LayerTree) (told : AreToldApart stack) (few : length stac
   links_plain place [] fits made = tt
   links_plain place (l ∷ ls) fits made = (link_plain place l fits.0 made.0, links_plain (place + 1) ls fits.1 made.1)
 
-  behind_plain : (place : ℕ) (ls : List Link) → ChainFits stack place ls →
+  after_plain : (place : ℕ) (ls : List Link) → ChainFits stack place ls →
       AllByRecursion (LinkNames (IsMade stack (reach_of s))) ls →
-      IsPlain (behind stack (written_with before s) ls)
-  behind_plain place [] fits made = refl
-  behind_plain place (l ∷ ls) fits made = plain_both (codes " ") (chain_text stack AtomText (l ∷ ls)) refl
+      IsPlain (following stack (written_with before s) ls)
+  after_plain place [] fits made = refl
+  after_plain place (l ∷ ls) fits made = plain_both (codes " ") (chain_text stack AtomText (l ∷ ls)) refl
       (parts_plain (link_text stack AtomText) (codes "/") (l ∷ ls) refl (links_plain place (l ∷ ls) fits made))
 
   all_plain : (xs : List TraceNumber) → AllByRecursion MadeNumber xs → AllByRecursion ThereNumber xs →
@@ -376,9 +376,9 @@ module _ (stack : List LayerTree) (told : AreToldApart stack) (few : length stac
   pushed_plain place None (Some m) made fits = absurd fits
   pushed_plain place (Some carried) None made fits = absurd fits
   pushed_plain place (Some carried) (Some m) made fits = (
-    plain_both (core_text (written_with before s) m.core) (behind stack (written_with before s) m.chain)
+    plain_both (core_text (written_with before s) m.core) (following stack (written_with before s) m.chain)
         (core_plain m.core made.core_is fits.core_fits)
-        (behind_plain place m.chain fits.chain_fits made.chain_is),
+        (after_plain place m.chain fits.chain_fits made.chain_is),
     tt,
   )
 
@@ -390,9 +390,9 @@ module _ (stack : List LayerTree) (told : AreToldApart stack) (few : length stac
 
   chain_plain : (message : Option Chained) → SentNames (IsMade stack (reach_of s)) message →
       SentFits stack s.rows message →
-      IsPlain (option_map_or (λ (m : Chained). behind stack (written_with before s) m.chain) message [])
+      IsPlain (option_map_or (λ (m : Chained). following stack (written_with before s) m.chain) message [])
   chain_plain None made fits = refl
-  chain_plain (Some m) made fits = behind_plain 0 m.chain fits.chain_fits made.chain_is
+  chain_plain (Some m) made fits = after_plain 0 m.chain fits.chain_fits made.chain_is
 
   queue_plain : (p c : ℕ) (e : TraceNumber) → p < length stack → MadeNumber e → HasQueue (layer_of stack p) c e →
       ThereNumber e →

@@ -50,7 +50,7 @@ use Rattle.pack_mean.specs.Named.{items_at, no_items}
 use Rattle.pack_mean.specs.Expression.{most_brackets}
 use Rattle.packed_laws.proofs.Fits.{largest_number, Carries, AtomFits, CoreFits, NumberFits, MessageFits, ChainFits}
 use Rattle.packed_laws.proofs.Fits.{ChainedFits, SentFits, RowFits, index_brackets}
-use Rattle.packed_laws.proofs.Packable.{taken_behind, TraceFits}
+use Rattle.packed_laws.proofs.Packable.{taken_after, TraceFits}
 use Rattle.packed_laws.proofs.Layers as layers
 use Rattle.packed_laws.proofs.Layers.{ExpressionFits, most_nested, Fits, RowMessageFits, TakenFits, ContentFits}
 use Rattle.packed_laws.proofs.Layers.{SentContentFits, EmissionFits, StepFits, WayFits, HandlerFits, LayerFits}
@@ -294,24 +294,24 @@ module _ (stack : List LayerTree) where
   }
 
   -- operations, and the rows that were taken after them
-  abbrev Behind : List ItemsTree → List Operation → List ItemsTree
-  Behind taken os = fold (taken_behind stack) taken os
+  abbrev After : List ItemsTree → List Operation → List ItemsTree
+  After taken os = fold (taken_after stack) taken os
 
   record Leads (from : List ItemsTree) (os : List Operation) (to : List ItemsTree) : Type 0 where
     fits : TraceFits stack from os
-    is : Behind from os ≡ to
+    is : After from os ≡ to
 
   fits_both : (taken : List ItemsTree) (os more : List Operation) → TraceFits stack taken os →
-      TraceFits stack (Behind taken os) more →
+      TraceFits stack (After taken os) more →
       TraceFits stack taken (os ++ more)
   fits_both taken [] more h k = k
-  fits_both taken (o ∷ os) more h k = (h.0, fits_both (taken_behind stack taken o) os more h.1 k)
+  fits_both taken (o ∷ os) more h k = (h.0, fits_both (taken_after stack taken o) os more h.1 k)
 
   leads_both : (a b c : List ItemsTree) (os more : List Operation) → Leads a os b → Leads b more c →
       Leads a (os ++ more) c
   leads_both a b c os more h k = record {
     fits = fits_both a os more h.fits (subst (λ t. TraceFits stack t more) (sym h.is) k.fits);
-    is = fold-append (taken_behind stack) a os more ∙ ap (λ t. Behind t more) h.is ∙ k.is;
+    is = fold-append (taken_after stack) a os more ∙ ap (λ t. After t more) h.is ∙ k.is;
   }
 
   binds_lead : (taken : List ItemsTree) (p : ℕ) (l : Names) (es : List ExpressionTree) →

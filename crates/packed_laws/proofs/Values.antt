@@ -34,7 +34,7 @@ use Rattle.file_mean.specs.Layers.{row_items, layer_of}
 use Rattle.file_mean.specs.Names.{Names, Placed, cell_of, carried_as, carried_in, number_slot, numbers_among}
 use Rattle.file_mean.specs.Names.{message_among, with_numbers}
 use Rattle.file_mean.specs.Statements.{pushed_tag, pushed_fields, emission_of, pushed_row, with_taken, taken_row}
-use Rattle.file_mean.specs.Statements.{after_block, behind_all, statements_of}
+use Rattle.file_mean.specs.Statements.{after_block, after_all, statements_of}
 use Rattle.file_mean.specs.Values.{named_number, queue_row, queue_carries, queue_cell, number_of, queue_index}
 use Rattle.file_mean.specs.Values.{message_of, built_of, argument_number, argument_message}
 use Rattle.file_laws.specs.Literals.{Literal, LiteralQueue, LiteralMessage, LiteralBuilt, LiteralArgument}
@@ -421,7 +421,7 @@ block_fits (ast.more (ast.push at q items otherwise) rest) names locals placed l
     let push = push_fits names locals placed last at q (arguments_in (Some items)) deep.0.0 deep.0.1 literal.0.0
     literal.0.1 clean.0.0 in (
       (push.0, push.1, push.2, block_fits otherwise names locals placed last a.0 b.0 c.0),
-      block_fits rest (after_block names (behind_all otherwise names)) locals placed last a.1 b.1 c.1,
+      block_fits rest (after_block names (after_all otherwise names)) locals placed last a.1 b.1 c.1,
     )
 block_fits (ast.more (ast.take at q new block otherwise) rest) names locals placed last clean deep literal =
     let scope = scope_of names locals in
@@ -429,8 +429,8 @@ block_fits (ast.more (ast.take at q new block otherwise) rest) names locals plac
     let inner = with_taken q fresh names in
     let further = locals_as (map (λ (i : ast.ItemTree). i.sort) (queue_row names q)) fresh in
     let inside = scope_of names (locals ++ further) in
-    let between = after_block names (behind_all block inner) in
-    let later = after_block names (behind_all otherwise between) in
+    let between = after_block names (after_all block inner) in
+    let later = after_block names (after_all otherwise between) in
     let both = standing_in inside block ++ standing_in scope otherwise in
     let a = each_parts (Clean names.place) both (standing_in scope rest) clean.1 in
     let b = each_parts (λ s. DeepStatement s.statement) both (standing_in scope rest) deep.1 in
@@ -460,13 +460,13 @@ block_fits (ast.more (ast.when at likely condition block) rest) names locals pla
         block_fits block names locals placed last a.0 b.0 c.0,
         tt,
       ),
-      block_fits rest (after_block names (behind_all block names)) locals placed last a.1 b.1 c.1,
+      block_fits rest (after_block names (after_all block names)) locals placed last a.1 b.1 c.1,
     )
 block_fits (ast.more (ast.choose at likely condition block otherwise) rest) names locals placed last clean deep
     literal =
     let scope = scope_of names locals in
-    let between = after_block names (behind_all block names) in
-    let later = after_block names (behind_all otherwise between) in
+    let between = after_block names (after_all block names) in
+    let later = after_block names (after_all otherwise between) in
     let both = standing_in scope block ++ standing_in scope otherwise in
     let a = each_parts (Clean names.place) both (standing_in scope rest) clean.1 in
     let b = each_parts (λ s. DeepStatement s.statement) both (standing_in scope rest) deep.1 in
@@ -490,7 +490,7 @@ block_fits (ast.more (ast.each at name below most block) rest) names locals plac
     let c = each_parts (λ s. LiteralStatement s.statement) (standing_in inside block) (standing_in scope rest) literal.1
     in (
       tt,
-      block_fits rest (after_block names (behind_all block (with_numbers (name ∷ []) names))) locals placed last a.1
+      block_fits rest (after_block names (after_all block (with_numbers (name ∷ []) names))) locals placed last a.1
           b.1 c.1,
     )
 block_fits (ast.more (ast.emit at dir k arguments pushed) rest) names locals placed last clean deep literal = (

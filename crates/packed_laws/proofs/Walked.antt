@@ -31,9 +31,9 @@ use Rattle.layer_ast.specs.declared.syntax.Shape.{Shape}
 use Rattle.layer_ast.specs.declared.syntax.Shape.TheVariants.{One, Array, Square}
 use Rattle.layer_ast.specs.declared.syntax.Sort.{Sort}
 use Rattle.layer_ast.specs.declared.syntax.Sort.TheVariants.{Int, Msg, Part}
-use Rattle.layer_ast.specs.Cut.{Piece, gap, one, bad, word_piece, number_piece, symbol_piece, piece, place_behind}
+use Rattle.layer_ast.specs.Cut.{Piece, gap, one, bad, word_piece, number_piece, symbol_piece, piece, place_after}
 use Rattle.layer_ast.specs.Cut.{Tokens, is_numeral, with_piece, cut_from, text_tokens}
-use Rattle.layer_ast.specs.Depth.{room_behind, WithRoom, IsWithin}
+use Rattle.layer_ast.specs.Depth.{room_after, WithRoom, IsWithin}
 use Rattle.layer_ast.specs.Print as print
 use Rattle.layer_ast.specs.Printed as printed
 use Rattle.layer_ast.specs.Printed.{Printed, plain, direction_sign, ending_sign, function_sign, operator_sign}
@@ -45,7 +45,7 @@ use Rattle.layer_ast.specs.Tree.{ExpressionTree, QueueTree, MessageTree, BuiltTr
 use Rattle.layer_ast.specs.Tree.{ArgumentsTree, PoppedTree, PushedTree, SizeTree, StatementTree, StatementTrees}
 use Rattle.layer_ast.specs.Tree.{Expected, HandlerTree, ItemTree, ItemsTree, DeclarationTree, LayerTree, FileTree}
 use Rattle.fault_mean.specs.Declared.{declared_name, items_in}
-use Rattle.fault_mean.specs.Scope.{Scope, Standing, head_scope, scope_behind, taken_scope, with_locals, locals_as}
+use Rattle.fault_mean.specs.Scope.{Scope, Standing, head_scope, scope_after, taken_scope, with_locals, locals_as}
 use Rattle.fault_mean.specs.Scope.{standing_inside, standing_in, handler_statements}
 use Rattle.fault_mean.specs.Uses.{arguments_in}
 use Rattle.chain_laws.proofs.Lists.{each_append}
@@ -60,7 +60,7 @@ NameToken (token.Name word) = IsName word
 NameToken _ = Unit {0}
 
 abbrev NamePiece : Piece → Type 0
-NamePiece (one t behind) = NameToken t
+NamePiece (one t following) = NameToken t
 NamePiece _ = Unit {0}
 
 abbrev pub AreNames : List Lexed → Type 0
@@ -122,12 +122,12 @@ front_words (b ∷ bs) = go (is_word_byte b) refl (front_words bs) where
 letter_byte : (b : ℕ) → is_ascii_alphabetic b ≡ true → is_word_byte b ≡ true
 letter_byte b is = grind (arith, nat_tests)
 
-piece_named : (behind_number : Bool) (b : ℕ) (bs : List ℕ) → NamePiece (piece behind_number b bs)
+piece_named : (after_number : Bool) (b : ℕ) (bs : List ℕ) → NamePiece (piece after_number b bs)
 unfolding piece
-piece_named behind_number b bs = either_piece (is_blank b) (gap 0) _ (λ _. tt)
+piece_named after_number b bs = either_piece (is_blank b) (gap 0) _ (λ _. tt)
     (either_piece (nat_eq b 35) (gap (prefix_len (λ c. not (nat_eq c 10)) bs)) _ (λ _. tt)
-    (either_piece (is_ascii_alphabetic b) (if behind_number then bad else word_piece b bs) _
-    (λ letter. either_piece behind_number bad (word_piece b bs) (λ _. tt)
+    (either_piece (is_ascii_alphabetic b) (if after_number then bad else word_piece b bs) _
+    (λ letter. either_piece after_number bad (word_piece b bs) (λ _. tt)
     (either_piece (nat_le (prefix_len is_word_byte bs) 31)
     (one (word_token (b ∷ take (prefix_len is_word_byte bs) bs)) (prefix_len is_word_byte bs)) bad
     (λ _. word_named (b ∷ take (prefix_len is_word_byte bs) bs)
@@ -136,23 +136,23 @@ piece_named behind_number b bs = either_piece (is_blank b) (gap 0) _ (λ _. tt)
     (either_piece (is_ascii_digit b) (number_piece b bs) (symbol_piece (b ∷ bs)) (λ _. number_named b bs)
     (symbol_named (symbol_at (b ∷ bs))))))
 
-behind_piece : (p : Piece) (at : At) (rest : Bool → ℕ → Tokens) → NamePiece p →
+after_piece : (p : Piece) (at : At) (rest : Bool → ℕ → Tokens) → NamePiece p →
     ((b : Bool) (n : ℕ) → AreNames (rest b n).tokens) →
     AreNames (with_piece p at rest).tokens
-behind_piece (gap behind) at rest h all = all false behind
-behind_piece (one t behind) at rest h all = (h, all (is_numeral t) behind)
-behind_piece bad at rest h all = tt
+after_piece (gap following) at rest h all = all false following
+after_piece (one t following) at rest h all = (h, all (is_numeral t) following)
+after_piece bad at rest h all = tt
 
 cut_named : (b : Bool) (inside : ℕ) (bs : List ℕ) (at : At) → AreNames (cut_from b inside bs at).tokens
 cut_named b inside [] at = tt
-cut_named b zero (x ∷ bs) at = behind_piece (piece b x bs) at _ (piece_named b x bs)
-    (λ number behind. cut_named number behind bs (place_behind x at))
-cut_named b (suc inside) (x ∷ bs) at = cut_named b inside bs (place_behind x at)
+cut_named b zero (x ∷ bs) at = after_piece (piece b x bs) at _ (piece_named b x bs)
+    (λ number following. cut_named number following bs (place_after x at))
+cut_named b (suc inside) (x ∷ bs) at = cut_named b inside bs (place_after x at)
 
 -- printed tokens, with room for `room` brackets
 abbrev pub Walk : ℕ → List Printed → Type 0
 Walk room [] = Unit {0}
-Walk room (p ∷ printed) = NameToken p.token × WithRoom (room_behind p.token room) (λ left. Walk left printed)
+Walk room (p ∷ printed) = NameToken p.token × WithRoom (room_after p.token room) (λ left. Walk left printed)
 
 room_same : (o q : Option ℕ) (P Q : ℕ → Type 0) → o ≡ q → ((n : ℕ) → P n → Q n) → WithRoom o P → WithRoom q Q
 room_same o None P Q same so h = absurd (subst (λ x. WithRoom x P) same h)
@@ -167,9 +167,9 @@ walked room [] (l ∷ lexed) fits are within = tt
 walked room (p ∷ printed) [] fits are within = absurd fits
 walked room (p ∷ printed) (l ∷ lexed) fits are within = (
   subst NameToken fits.0 are.0,
-  room_same (room_behind l.token room) (room_behind p.token room) (λ left. IsWithin left (map (λ l. l.token) lexed))
+  room_same (room_after l.token room) (room_after p.token room) (λ left. IsWithin left (map (λ l. l.token) lexed))
       (λ left. Walk left printed)
-      (ap (λ t. room_behind t room) fits.0) (λ left h. walked left printed lexed fits.2 are.1 h) within,
+      (ap (λ t. room_after t room) fits.0) (λ left h. walked left printed lexed fits.2 are.1 h) within,
 )
 
 pub text_walked : (room : ℕ) (printed : List Printed) (text : List ℕ) → Fits printed (text_tokens text).tokens →
@@ -178,17 +178,17 @@ text_walked room printed text fits within =
     walked room printed (text_tokens text).tokens fits (cut_named false 0 text _) within
 
 -- words that are no brackets leave the room as it is
-pass : (t : Token) (room : ℕ) (P : ℕ → Type 0) → room_behind t room ≡ Some room → WithRoom (room_behind t room) P →
+pass : (t : Token) (room : ℕ) (P : ℕ → Type 0) → room_after t room ≡ Some room → WithRoom (room_after t room) P →
     P room
 pass t room P is h = subst (λ o. WithRoom o P) is h
 
-function_room : (f : Function) (room : ℕ) → room_behind (token.Sign (function_sign f)) room ≡ Some room
+function_room : (f : Function) (room : ℕ) → room_after (token.Sign (function_sign f)) room ≡ Some room
 function_room Not room = refl
 function_room Bit room = refl
 function_room Count room = refl
 function_room Lowest room = refl
 
-operator_room : (o : Operator) (room : ℕ) → room_behind (token.Sign (operator_sign o)) room ≡ Some room
+operator_room : (o : Operator) (room : ℕ) → room_after (token.Sign (operator_sign o)) room ≡ Some room
 operator_room Add room = refl
 operator_room Subtract room = refl
 operator_room Multiply room = refl
@@ -204,15 +204,15 @@ operator_room BitAnd room = refl
 operator_room BitOr room = refl
 operator_room BitXor room = refl
 
-direction_room : (d : Dir) (room : ℕ) → room_behind (token.Sign (direction_sign d)) room ≡ Some room
+direction_room : (d : Dir) (room : ℕ) → room_after (token.Sign (direction_sign d)) room ≡ Some room
 direction_room Up room = refl
 direction_room Down room = refl
 
-ending_room : (e : Ending) (room : ℕ) → room_behind (token.Sign (ending_sign e)) room ≡ Some room
+ending_room : (e : Ending) (room : ℕ) → room_after (token.Sign (ending_sign e)) room ≡ Some room
 ending_room Passes room = refl
 ending_room Ends room = refl
 
-sort_room : (s : Sort) (room : ℕ) → room_behind (token.Sign (sort_sign s)) room ≡ Some room
+sort_room : (s : Sort) (room : ℕ) → room_after (token.Sign (sort_sign s)) room ≡ Some room
 sort_room Int room = refl
 sort_room Msg room = refl
 sort_room Part room = refl
@@ -581,8 +581,8 @@ mutual
   block_walk tree.none scope room most k h = (tt, h)
   block_walk (tree.more x rest) scope room most k h =
       let a = statement_walk x scope room most _ h in
-      let b = block_walk rest (scope_behind scope x) room most k a.2 in
-      ((a.0, each_append _ (standing_inside scope x) (standing_in (scope_behind scope x) rest) a.1 b.0), b.1)
+      let b = block_walk rest (scope_after scope x) room most k a.2 in
+      ((a.0, each_append _ (standing_inside scope x) (standing_in (scope_after scope x) rest) a.1 b.0), b.1)
 
 popped_walk : (p : Option PoppedTree) (room : ℕ) (k : List Printed) → Walk room (print.popped p k) → Walk room k
 popped_walk None room k h = h
@@ -645,9 +645,9 @@ rows_walk : (capacity : SizeTree) (is : ItemsTree) (room : ℕ) (k : List Printe
     Walk (suc room) (print.rows capacity is k) →
     AllByRecursion NamesItem (items_in is) × Walk (suc room) k
 rows_walk capacity is room k h =
-    let behind_size = plain sign.RightBracket ∷ plain sign.Of ∷ plain sign.LeftParen ∷
+    let after_size = plain sign.RightBracket ∷ plain sign.Of ∷ plain sign.LeftParen ∷
     print.item is.first (print.more_items is.rest (plain sign.RightParen ∷ plain sign.Semicolon ∷ k)) in
-    let inner = size_walk capacity room behind_size h.1 in
+    let inner = size_walk capacity room after_size h.1 in
     let item_is = inner.1.1.1 in
     let closing = print.more_items is.rest (plain sign.RightParen ∷ plain sign.Semicolon ∷ k) in
     let a = more_items_walk is.rest room _ (pass (token.Sign (sort_sign is.first.sort)) room (λ n. Walk n closing)

@@ -21,37 +21,37 @@ others ends header above = do
   value_reader (header ∷ more)
 
 -- the headers after a tag, and the first of them alone
-abbrev behind_tag : Option HeaderTree → ℕ → ℕ → Reader (List Header) → Reader (List Header)
-behind_tag o place tag above = do
+abbrev after_tag : Option HeaderTree → ℕ → ℕ → Reader (List Header) → Reader (List Header)
+after_tag o place tag above = do
   d ← option_reader o
   fields ← numbers d.fields
   others ← if d.ends then value_reader [] else above
   value_reader (record { layer = place; tag = tag; fields = fields } ∷ others)
 
-abbrev first_behind : Option HeaderTree → ℕ → ℕ → Reader (Header × Bool)
-first_behind o place tag = do
+abbrev first_after : Option HeaderTree → ℕ → ℕ → Reader (Header × Bool)
+first_after o place tag = do
   form ← option_reader (option_map form_of o)
   fields ← numbers form.fields
   value_reader (record { layer = place; tag = tag; fields = fields }, form.ends)
 
-none_behind : (o : Option HeaderTree) (place tag : ℕ) (above : Reader (List Header)) (bytes : List ℕ) →
-    first_behind o place tag bytes ≡ None → behind_tag o place tag above bytes ≡ None
-none_behind None place tag above bytes none = refl
-none_behind (Some d) place tag above bytes none = go (numbers d.fields bytes) refl
+none_after : (o : Option HeaderTree) (place tag : ℕ) (above : Reader (List Header)) (bytes : List ℕ) →
+    first_after o place tag bytes ≡ None → after_tag o place tag above bytes ≡ None
+none_after None place tag above bytes none = refl
+none_after (Some d) place tag above bytes none = go (numbers d.fields bytes) refl
   where
-    go : (read : Option (List ℕ × List ℕ)) → numbers d.fields bytes ≡ read → behind_tag (Some d) place tag above bytes ≡
+    go : (read : Option (List ℕ × List ℕ)) → numbers d.fields bytes ≡ read → after_tag (Some d) place tag above bytes ≡
         None
     go None is = rw is refl
     go (Some (fields, more)) is = let some = rw is at none in absurd (cc some)
 
-some_behind : (o : Option HeaderTree) (place tag : ℕ) (above : Reader (List Header)) (bytes : List ℕ) (h : Header)
+some_after : (o : Option HeaderTree) (place tag : ℕ) (above : Reader (List Header)) (bytes : List ℕ) (h : Header)
     (ends : Bool) (rest : List ℕ) →
-    first_behind o place tag bytes ≡ Some ((h, ends), rest) → behind_tag o place tag above bytes ≡
+    first_after o place tag bytes ≡ Some ((h, ends), rest) → after_tag o place tag above bytes ≡
     others ends h above rest
-some_behind None place tag above bytes h ends rest some = absurd (cc some)
-some_behind (Some d) place tag above bytes h ends rest some = go (numbers d.fields bytes) refl
+some_after None place tag above bytes h ends rest some = absurd (cc some)
+some_after (Some d) place tag above bytes h ends rest some = go (numbers d.fields bytes) refl
   where
-    go : (read : Option (List ℕ × List ℕ)) → numbers d.fields bytes ≡ read → behind_tag (Some d) place tag above bytes ≡
+    go : (read : Option (List ℕ × List ℕ)) → numbers d.fields bytes ≡ read → after_tag (Some d) place tag above bytes ≡
         others ends h above rest
     go None is = let none = rw is at some in absurd (cc none)
     go (Some (fields, more)) is =
@@ -65,7 +65,7 @@ no_first : (layer : LayerTree) (above : List LayerTree) (place : ℕ) (bytes : L
     chain (layer ∷ above) place bytes ≡ None
 no_first layer above place [] none = refl
 no_first layer above place (tag ∷ bytes) none =
-    none_behind (header_of_tag layer tag) place tag (chain above (suc place))
+    none_after (header_of_tag layer tag) place tag (chain above (suc place))
     bytes none
 
 a_first : (layer : LayerTree) (above : List LayerTree) (place : ℕ) (bytes : List ℕ) (h : Header) (ends : Bool)
@@ -74,7 +74,7 @@ a_first : (layer : LayerTree) (above : List LayerTree) (place : ℕ) (bytes : Li
     others ends h (chain above (suc place)) rest
 a_first layer above place [] h ends rest some = absurd (cc some)
 a_first layer above place (tag ∷ bytes) h ends rest some =
-    some_behind (header_of_tag layer tag) place tag (chain above (suc place)) bytes h ends rest some
+    some_after (header_of_tag layer tag) place tag (chain above (suc place)) bytes h ends rest some
 
 -- no header of a place's layer
 pub no_header : (stack : List LayerTree) (place : ℕ) (bytes : List ℕ) → place < length stack →
@@ -105,12 +105,13 @@ last_header stack place bytes h ends rest below closes some =
 one_front : (h : Header) (o : Option (List Header × List ℕ)) →
     option_and_then (λ (read : List Header × List ℕ). value_reader (h ∷ read.0) read.1) o ≡ with_front (h ∷ []) o
 one_front h None = refl
-one_front h (Some (more, behind)) = refl
+one_front h (Some (more, following)) = refl
 
 longer_front : (front : List Header) (h : Header) (o : Option (List Header × List ℕ)) →
     with_front (front ++ h ∷ []) o ≡ with_front front (with_front (h ∷ []) o)
 longer_front front h None = refl
-longer_front front h (Some (more, behind)) = ap (λ headers. Some (headers, behind)) (append_assoc front (h ∷ []) more)
+longer_front front h (Some (more, following)) =
+    ap (λ headers. Some (headers, following)) (append_assoc front (h ∷ []) more)
 
 module _ (stack : List LayerTree) (place at : ℕ) (headers : List Header) (whole : Option (List Header × List ℕ))
     (order : place ≤ at)

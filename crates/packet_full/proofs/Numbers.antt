@@ -8,7 +8,7 @@ use Rattle.packet_full.specs.Taking.{with_front}
 one_more : (front : List ℕ) (n : ℕ) (read : Option (List ℕ × List ℕ)) →
     with_front (front ++ n ∷ []) read ≡ with_front front (option_and_then (λ r. value_reader (n ∷ r.0) r.1) read)
 one_more front n None = refl
-one_more front n (Some (more, behind)) = ap (λ xs. Some (xs, behind)) (append_assoc front (n ∷ []) more)
+one_more front n (Some (more, following)) = ap (λ xs. Some (xs, following)) (append_assoc front (n ∷ []) more)
 
 -- where a number was read, those after it are read
 pub numbers_go_on : (front : List ℕ) (n k j : ℕ) (bytes rest : List ℕ) → k ≡ suc j → number bytes ≡ Some (n, rest) →

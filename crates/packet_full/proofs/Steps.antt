@@ -32,49 +32,53 @@ joined : {A B C : Type 0} (r : Result A Stray) (f : A → Result B Stray) (g : B
 joined (Ok x) f g = refl
 joined (Err e) f g = refl
 
-behind_plan : (o : Option (List Header × List ℕ)) (p : reading.Preamble) →
+after_plan : (o : Option (List Header × List ℕ)) (p : reading.Preamble) →
     (ok_or o cause.Chain >>= λ (headers, body). unless (nat_le (length body) longest_body) cause.Body >>= λ _.
     Ok (packet_of p headers body))
     ≡ (ok_or o cause.Chain >>= closed p)
 unfolding closed
-behind_plan (Some (hs, body)) p = refl
-behind_plan None p = refl
+after_plan (Some (hs, body)) p = refl
+after_plan None p = refl
 
-behind_front : (stack : List LayerTree) (p : reading.Preamble) (o : Option (Option Plan × List ℕ)) →
-    (ok_or o cause.Plan >>= λ (plan, behind). ok_or (headers stack plan behind) cause.Chain >>= λ (headers, body).
+after_front : (stack : List LayerTree) (p : reading.Preamble) (o : Option (Option Plan × List ℕ)) →
+    (ok_or o cause.Plan >>= λ (plan, following). ok_or (headers stack plan following) cause.Chain >>= λ (headers, body).
     unless (nat_le (length body) longest_body) cause.Body >>= λ _. Ok (packet_of p headers body))
-    ≡ ((ok_or o cause.Plan >>= λ (plan, behind). ok_or (headers stack plan behind) cause.Chain) >>= closed p)
-behind_front stack p (Some (plan, behind)) = behind_plan (headers stack plan behind) p
-behind_front stack p None = refl
+    ≡ ((ok_or o cause.Plan >>= λ (plan, following). ok_or (headers stack plan following) cause.Chain) >>= closed p)
+after_front stack p (Some (plan, following)) = after_plan (headers stack plan following) p
+after_front stack p None = refl
 
-behind_all : (stack : List LayerTree) (plans : List Plan) (here : Here) (o : Option (reading.Preamble × List ℕ)) →
-    (ok_or o cause.Short >>= λ (p, behind). unless ((p.form == full_form) || (p.form == short_form)) cause.Form >>= λ _.
+after_all : (stack : List LayerTree) (plans : List Plan) (here : Here) (o : Option (reading.Preamble × List ℕ)) →
+    (ok_or o cause.Short >>= λ (p, following). unless ((p.form == full_form) || (p.form == short_form)) cause.Form >>=
+    λ _.
     meant_for here p >>= λ _.
-    ok_or (named_plan plans p behind) cause.Plan >>= λ (plan, behind). ok_or (headers stack plan behind) cause.Chain >>=
+    ok_or (named_plan plans p following) cause.Plan >>= λ (plan, following).
+    ok_or (headers stack plan following) cause.Chain >>=
     λ (headers, body).
     unless (nat_le (length body) longest_body) cause.Body >>= λ _. Ok (packet_of p headers body))
-    ≡ ((ok_or o cause.Short >>= λ (p, behind). unless ((p.form == full_form) || (p.form == short_form)) cause.Form >>=
+    ≡ ((ok_or o cause.Short >>= λ (p, following). unless ((p.form == full_form) || (p.form == short_form)) cause.Form
+    >>=
     λ _. meant_for here p >>= λ _.
-    Ok (p, behind)) >>= inside stack plans)
+    Ok (p, following)) >>= inside stack plans)
 unfolding contents
-behind_all stack plans here None = refl
-behind_all stack plans here (Some (p, behind)) = by_form ((p.form == full_form) || (p.form == short_form))
+after_all stack plans here None = refl
+after_all stack plans here (Some (p, following)) = by_form ((p.form == full_form) || (p.form == short_form))
     (meant_for here p)
   where
     by_form : (form : Bool) (meant : Result (Unit {0}) Stray) →
         (unless form cause.Form >>= λ _. meant >>= λ _.
-        ok_or (named_plan plans p behind) cause.Plan >>= λ (plan, behind). ok_or (headers stack plan behind) cause.Chain
+        ok_or (named_plan plans p following) cause.Plan >>= λ (plan, following).
+        ok_or (headers stack plan following) cause.Chain
         >>= λ (headers, body).
         unless (nat_le (length body) longest_body) cause.Body >>= λ _. Ok (packet_of p headers body))
-        ≡ ((unless form cause.Form >>= λ _. meant >>= λ _. Ok (p, behind)) >>= inside stack plans)
+        ≡ ((unless form cause.Form >>= λ _. meant >>= λ _. Ok (p, following)) >>= inside stack plans)
     by_form false meant = refl
     by_form true (Err e) = refl
-    by_form true (Ok x) = behind_front stack p (named_plan plans p behind)
+    by_form true (Ok x) = after_front stack p (named_plan plans p following)
 
 pub in_steps : (stack : List LayerTree) (plans : List Plan) (here : Here) (bytes : List ℕ) →
     received stack plans here bytes ≡ (opened here bytes >>= inside stack plans)
 unfolding received opened
-in_steps stack plans here bytes = behind_all stack plans here (preamble bytes)
+in_steps stack plans here bytes = after_all stack plans here (preamble bytes)
 
 -- a datagram that isn't opened is refused
 pub not_opened : (stack : List LayerTree) (plans : List Plan) (here : Here) (bytes : List ℕ) (e : Stray) →
@@ -83,19 +87,20 @@ pub not_opened : (stack : List LayerTree) (plans : List Plan) (here : Here) (byt
 not_opened stack plans here bytes e is = in_steps stack plans here bytes ∙ ap (λ r. r >>= inside stack plans) is
 
 -- one that is opened is what is after
-pub behind_opened : (stack : List LayerTree) (plans : List Plan) (here : Here) (bytes : List ℕ) (p : reading.Preamble)
-    (behind : List ℕ) →
-    opened here bytes ≡ Ok (p, behind) → received stack plans here bytes ≡ (contents stack plans p behind >>= closed p)
-behind_opened stack plans here bytes p behind is = in_steps stack plans here bytes ∙
+pub after_opened : (stack : List LayerTree) (plans : List Plan) (here : Here) (bytes : List ℕ) (p : reading.Preamble)
+    (following : List ℕ) →
+    opened here bytes ≡ Ok (p, following) → received stack plans here bytes ≡
+    (contents stack plans p following >>= closed p)
+after_opened stack plans here bytes p following is = in_steps stack plans here bytes ∙
     ap (λ r. r >>= inside stack plans) is
 
 -- one whose headers aren't read is refused
 pub not_contents : (stack : List LayerTree) (plans : List Plan) (here : Here) (bytes : List ℕ) (p : reading.Preamble)
-    (behind : List ℕ)
-    (e : Stray) → opened here bytes ≡ Ok (p, behind) → contents stack plans p behind ≡ Err e →
+    (following : List ℕ)
+    (e : Stray) → opened here bytes ≡ Ok (p, following) → contents stack plans p following ≡ Err e →
     received stack plans here bytes ≡ Err e
-not_contents stack plans here bytes p behind e is none =
-    behind_opened stack plans here bytes p behind is ∙ ap (λ r. r >>= closed p) none
+not_contents stack plans here bytes p following e is none =
+    after_opened stack plans here bytes p following is ∙ ap (λ r. r >>= closed p) none
 
 -- bytes end in a body, which is after a place
 pub record EndsIn (bytes body : List ℕ) : Type 0 where
@@ -113,16 +118,16 @@ not_leb a b false is more = refl
 
 -- one whose headers are read is what its close says
 pub closed_scan : (stack : List LayerTree) (plans : List Plan) (here : Here) (bytes : List ℕ) (front : Preamble)
-    (behind : List ℕ)
+    (following : List ℕ)
     (hs : List Header) (body : List ℕ) (result : Result (Unit {0}) Stray) (scan : Scan) →
-    opened here bytes ≡ Ok (preamble_tree front, behind) →
-    IsOwn here front → contents stack plans (preamble_tree front) behind ≡ Ok (hs, body) →
+    opened here bytes ≡ Ok (preamble_tree front, following) →
+    IsOwn here front → contents stack plans (preamble_tree front) following ≡ Ok (hs, body) →
     (length body ≤ longest_body → EndsIn bytes body) → Closes bytes front hs body result scan →
     Scans here bytes (received stack plans here bytes) result scan
 unfolding closed
-closed_scan stack plans here bytes front behind hs body (Ok x) scan is own read ends (short, tells) =
+closed_scan stack plans here bytes front following hs body (Ok x) scan is own read ends (short, tells) =
     subst (λ s. received stack plans here bytes ≡ Ok (packet_scanned here bytes s)) (sym tells)
-    (behind_opened stack plans here bytes (preamble_tree front) behind is
+    (after_opened stack plans here bytes (preamble_tree front) following is
     ∙ ap (λ r. r >>= closed (preamble_tree front)) read
     ∙ ap (λ b. unless b cause.Body >>= λ _. Ok (packet_of (preamble_tree front) hs body))
     (le-leb (length body) longest_body short)
@@ -134,8 +139,8 @@ closed_scan stack plans here bytes front behind hs body (Ok x) scan is own read 
       dest = front.dest;
       message = record { headers = hs; body = sym (ends short).at k };
     })))
-closed_scan stack plans here bytes front behind hs body (Err e) scan is own read ends (long, tells) =
-    behind_opened stack plans here bytes (preamble_tree front) behind is
+closed_scan stack plans here bytes front following hs body (Err e) scan is own read ends (long, tells) =
+    after_opened stack plans here bytes (preamble_tree front) following is
     ∙ ap (λ r. r >>= closed (preamble_tree front)) read
     ∙ ap (λ b. unless b cause.Body >>= λ _. Ok (packet_of (preamble_tree front) hs body))
     (not_leb (length body) longest_body (nat_le (length body) longest_body) refl long)

@@ -19,8 +19,8 @@ use Rattle.packet_laws.specs.Lengths.{IsWithinLimits}
 use Rattle.packet_laws.proofs.Lengths.{datagrams_fit}
 use Rattle.packet_laws.proofs.Strays.{taken_as_spelled}
 use Rattle.packet_full.specs.Steps.{closed, contents, opened}
-use Rattle.packet_full.specs.Scanned.{IsBehind}
-use Rattle.packet_full.proofs.Steps.{EndsIn, behind_opened, ends_in}
+use Rattle.packet_full.specs.Scanned.{IsAfter}
+use Rattle.packet_full.proofs.Steps.{EndsIn, after_opened, ends_in}
 
 in_full : (bytes : List ℕ) (q : Packet) → (bytes ≡ full_bytes q) ⊎ SpellsShort [] bytes q → EndsIn bytes q.message.body
 in_full bytes q (inl full) =
@@ -44,39 +44,39 @@ full_by form is other = go (form == full_form) refl
     go false full = let short = rw full at is in absurd (other (eqb-true form short_form short))
 
 -- the headers of a full datagram
-pub full_contents : (stack : List LayerTree) (plans : List Plan) (p : Preamble) (behind : List ℕ) (hs : List Header)
+pub full_contents : (stack : List LayerTree) (plans : List Plan) (p : Preamble) (following : List ℕ) (hs : List Header)
     (body : List ℕ) →
-    (p.form == full_form) ≡ true → chain stack 0 behind ≡ Some (hs, body) → contents stack plans p behind ≡
+    (p.form == full_form) ≡ true → chain stack 0 following ≡ Some (hs, body) → contents stack plans p following ≡
     Ok (hs, body)
 unfolding contents
-full_contents stack plans p behind hs body full read = rw (full, read) refl
+full_contents stack plans p following hs body full read = rw (full, read) refl
 
-pub no_full_contents : (stack : List LayerTree) (plans : List Plan) (p : Preamble) (behind : List ℕ) →
+pub no_full_contents : (stack : List LayerTree) (plans : List Plan) (p : Preamble) (following : List ℕ) →
     (p.form == full_form) ≡ true →
-    chain stack 0 behind ≡ None → contents stack plans p behind ≡ Err cause.Chain
+    chain stack 0 following ≡ None → contents stack plans p following ≡ Err cause.Chain
 unfolding contents
-no_full_contents stack plans p behind full none = rw (full, none) refl
+no_full_contents stack plans p following full none = rw (full, none) refl
 
 -- a short datagram names none of no plans
-pub no_plans : (stack : List LayerTree) (p : Preamble) (behind : List ℕ) → p.form ≡ short_form →
-    contents stack [] p behind ≡ Err cause.Plan
+pub no_plans : (stack : List LayerTree) (p : Preamble) (following : List ℕ) → p.form ≡ short_form →
+    contents stack [] p following ≡ Err cause.Plan
 unfolding contents
 no_plans stack p [] short = rw short refl
-no_plans stack p (k ∷ behind) short = rw short refl
+no_plans stack p (k ∷ following) short = rw short refl
 
 -- how a full datagram ends that isn't too long
 pub record Ends (bytes body : List ℕ) : Type 0 where
   pub ends : EndsIn bytes body
-  pub behind : IsBehind body bytes
+  pub following : IsAfter body bytes
 
-pub full_ends : (stack : List LayerTree) (here : Here) (bytes : List ℕ) (p : Preamble) (behind : List ℕ)
+pub full_ends : (stack : List LayerTree) (here : Here) (bytes : List ℕ) (p : Preamble) (following : List ℕ)
     (hs : List Header) (body : List ℕ) →
-    IsWithinLimits stack → AreBytes bytes → opened here bytes ≡ Ok (p, behind) → contents stack [] p behind ≡
+    IsWithinLimits stack → AreBytes bytes → opened here bytes ≡ Ok (p, following) → contents stack [] p following ≡
     Ok (hs, body) →
     length body ≤ longest_body → Ends bytes body
 unfolding closed
-full_ends stack here bytes p behind hs body limits small is read short =
-    let got = behind_opened stack [] here bytes p behind is
+full_ends stack here bytes p following hs body limits small is read short =
+    let got = after_opened stack [] here bytes p following is
     ∙ ap (λ r. r >>= closed p) read
     ∙ ap (λ b. unless b cause.Body >>= λ _. Ok (packet_of p hs body)) (le-leb (length body) longest_body short) in
     let both = (taken_as_spelled stack [] here bytes (packet_of p hs body) (λ k d below. absurd (omega arith)) small).0
@@ -84,6 +84,6 @@ full_ends stack here bytes p behind hs body limits small is read short =
     let ends = in_full bytes (packet_of p hs body) both.0.spelled in
     record {
       ends = ends;
-      behind =
+      following =
           record { less = ends.less; few = datagrams_fit stack [] bytes (packet_of p hs body) limits both.0 };
     }

@@ -23,6 +23,6 @@ Scans here bytes is_received (Ok _) scan = is_received ≡ Ok (packet_scanned he
 Scans here bytes is_received (Err cause) scan = is_received ≡ Err cause
 
 -- What is left of a datagram is no longer than the datagram, and that is no longer than the longest one.
-pub record IsBehind (body bytes : List ℕ) : Type 0 where
+pub record IsAfter (body bytes : List ℕ) : Type 0 where
   pub less : length body ≤ length bytes
   pub few : length bytes ≤ 8619

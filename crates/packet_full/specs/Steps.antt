@@ -17,20 +17,20 @@ use Rattle.packet_full.specs.declared.opened.Opened.{Opened}
 use Rattle.packet_full.specs.declared.scan.Scan.{Scan}
 use Rattle.packet_full.specs.Taking.{left, preamble_tree}
 
--- What stands in front of a datagram of one of the two forms that is meant for a member, and the bytes after; or the
+-- The preamble of a datagram of one of the two forms that is meant for a member, and the bytes after; or the
 -- first cause for which it isn't one.
 unfoldable pub opened : Here → List ℕ → Result (reading.Preamble × List ℕ) Stray
 opened here bytes = do
-  (p, behind) ← ok_or (preamble bytes) cause.Short
+  (p, following) ← ok_or (preamble bytes) cause.Short
   _ ← unless ((p.form == full_form) || (p.form == short_form)) cause.Form
   _ ← meant_for here p
-  Ok (p, behind)
+  Ok (p, following)
 
 -- The headers after what stands in front, and the body.
 unfoldable pub contents : List LayerTree → List Plan → reading.Preamble → List ℕ → Result (List Header × List ℕ) Stray
-contents stack plans p behind = do
-  (plan, behind) ← ok_or (named_plan plans p behind) cause.Plan
-  ok_or (headers stack plan behind) cause.Chain
+contents stack plans p following = do
+  (plan, following) ← ok_or (named_plan plans p following) cause.Plan
+  ok_or (headers stack plan following) cause.Chain
 
 -- The packet of these parts, unless its body is too long.
 unfoldable pub closed : reading.Preamble → (List Header × List ℕ) → Result Packet Stray

@@ -28,10 +28,10 @@ pub record IsOwn (here : Here) (front : Preamble) : Type 0 where
 
 -- what a reader took and the bytes after it, or that it took nothing
 abbrev pub Takes : {A : Type 0} → Option (A × List ℕ) → Option A → List ℕ → Type 0
-Takes taken (Some value) behind = taken ≡ Some (value, behind)
-Takes taken None behind = taken ≡ None
+Takes taken (Some value) following = taken ≡ Some (value, following)
+Takes taken None following = taken ≡ None
 
 -- numbers or headers that were read, before those that are still read
 abbrev pub with_front : {A : Type 0} → List A → Option (List A × List ℕ) → Option (List A × List ℕ)
 with_front front None = None
-with_front front (Some (more, behind)) = Some (front ++ more, behind)
+with_front front (Some (more, following)) = Some (front ++ more, following)

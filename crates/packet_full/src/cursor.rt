@@ -39,8 +39,8 @@ impl<'a> Cursor<'a> {
     pub fn byte(&mut self) -> Option<u8>
         ensures { Takes (reading.byte (left self.old)) result (left self.new) }
     {
-        let (first, behind) = self.bytes.split_first()?;
-        self.bytes = behind;
+        let (first, following) = self.bytes.split_first()?;
+        self.bytes = following;
         Some(*first)
     }
 
@@ -48,8 +48,8 @@ impl<'a> Cursor<'a> {
     pub fn number(&mut self) -> Option<u32>
         ensures { Takes (reading.number (left self.old)) result (left self.new) }
     {
-        let (first, behind) = self.bytes.split_first_chunk::<4>()?;
-        self.bytes = behind;
+        let (first, following) = self.bytes.split_first_chunk::<4>()?;
+        self.bytes = following;
         Some(u32::from_be_bytes(*first))
     }
 
@@ -71,7 +71,7 @@ impl<'a> Cursor<'a> {
         Some(fields)
     }
 
-    /// What stands in front of a datagram. Whether there are bytes enough is asked once, before the first is taken, so
+    /// The preamble of a datagram. Whether there are bytes enough is asked once, before the first is taken, so
     /// that the compiler reads them all at once. The view's numbers are set where they stay: a view that is made apart
     /// is moved as one number of 64 bits.
     pub fn preamble(&mut self) -> Option<Preamble>
@@ -117,11 +117,11 @@ impl<'a> Cursor<'a> {
         ensures { TakesNone (left self.old) result (left self.new) }
     {
         match self.bytes.split_first() {
-            Some((tag, behind)) => {
+            Some((tag, following)) => {
                 if *tag != 0 {
                     return false;
                 }
-                self.bytes = behind;
+                self.bytes = following;
                 true
             }
             None => false,

@@ -5,7 +5,7 @@ ghost use Rattle.msg_core.specs.Parts.{longest_body};
 ghost use Rattle.packet_mean.specs.Reading.{preamble};
 ghost use Rattle.packet_mean.specs.Spelling.{full_form, short_form};
 ghost use Rattle.packet_full.specs.Steps.{Closes, Opens, opened};
-ghost use Rattle.packet_full.specs.Scanned.{IsBehind};
+ghost use Rattle.packet_full.specs.Scanned.{IsAfter};
 ghost use Rattle.packet_full.specs.Taking.{IsOwn, left, preamble_tree};
 
 use crate::cursor::Cursor;
@@ -15,7 +15,7 @@ use crate::scan::Scan;
 use msg_core::{LONGEST_BODY, Stray};
 use packet_mean::Here;
 
-/// What stands in front of a datagram of one of the two forms that is meant for a member; or the first cause for which
+/// The preamble of a datagram of one of the two forms that is meant for a member; or the first cause for which
 /// it isn't one.
 #[inline]
 #[tactic(auto, unfolding(crate::specs::Steps::opened))]
@@ -40,7 +40,7 @@ pub fn open<'a>(here: &Here, bytes: &'a [u8]) -> Result<Opened<'a>, Stray>
 
 /// Where the bytes that are left of a datagram begin.
 fn body_place(bytes: &[u8], cursor: &Cursor<'_>) -> u32
-    requires { IsBehind (left cursor.now) bytes.now }
+    requires { IsAfter (left cursor.now) bytes.now }
     ensures place { result ≡ length bytes.now - length (left cursor.now) }
 {
     (bytes.len() - cursor.len()) as u32
@@ -54,7 +54,7 @@ pub fn close(
     cursor: &Cursor<'_>,
     scan: &mut Scan,
 ) -> Result<(), Stray>
-    requires { length (left cursor.now) ≤ longest_body → IsBehind (left cursor.now) bytes.now }
+    requires { length (left cursor.now) ≤ longest_body → IsAfter (left cursor.now) bytes.now }
     ensures { Closes bytes.now front.now scan.old.headers (left cursor.now) result scan.new }
 {
     if cursor.len() > LONGEST_BODY as usize {

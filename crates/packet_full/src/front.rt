@@ -1,4 +1,4 @@
-//! What stands in front of a datagram, and whether it is meant for a member.
+//! The preamble of a datagram, and whether it is meant for a member.
 
 ghost use Rattle.std.specs.Prelude.{◌≡◌, ◌==◌, ◌&&◌, ◌||◌, ◌≤◌, true, not, nat_lt, IfOk};
 ghost use Rattle.msg_core.specs.View.{member_count as members_of, most_members};
@@ -20,10 +20,10 @@ pub const SHORT_FORM: u8 = 0xE6;
 /// The byte that stands for all members in place of a rank.
 pub(crate) const EVERYONE: u8 = 0xFF;
 
-/// How many bytes stand in front of a datagram of either form.
+/// How many bytes the preamble of a datagram has, in either form.
 pub(crate) const PREAMBLE_BYTES: usize = 19;
 
-/// What stands in front of a datagram.
+/// The preamble of a datagram: what comes before its headers.
 #[derive(Clone, Copy)]
 pub struct Preamble {
     pub form: u8,

@@ -3,7 +3,7 @@
 use crate::cursor::Cursor;
 use crate::front::Preamble;
 
-/// What stands in front of a datagram, and a cursor after it.
+/// A datagram's preamble, and a cursor after it.
 #[derive(Drop)]
 pub struct Opened<'a> {
     pub front: Preamble,

@@ -41,7 +41,7 @@ pub fn put_number(number: u32, into: &mut Vec<u8>)
     into.push_reserved(fourth);
 }
 
-/// Puts what stands in front of a form of what a member sends to a destination: 19 bytes.
+/// Puts the preamble of what a member sends to a destination in a form: 19 bytes.
 pub fn put_preamble(form: u8, here: &Here, dest: Dest, into: &mut Vec<u8>)
     requires { vec_len into.old + 19 ≤ vec_capacity into.old }
     ensures items { into.new.items ≡ into.old.items ++ spelling.preamble_bytes form (sent_packet here.now dest [] []) }
@@ -98,7 +98,7 @@ pub fn put_body(body: &[u8], into: &mut Vec<u8>)
     }
 }
 
-/// Puts in full what stands in front of a packet's body. The vector is held as a value meanwhile, so that where its
+/// Puts in full what comes before a packet's body. The vector is held as a value meanwhile, so that where its
 /// bytes lie is looked up once.
 fn put_front(here: &Here, dest: Dest, headers: &Headers, into: &mut Vec<u8>)
     requires { vec_len into.old + 19 + 17 * length headers.now ≤ vec_capacity into.old }

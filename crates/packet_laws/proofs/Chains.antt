@@ -56,7 +56,7 @@ pub record ChainRead (layers : List LayerTree) (place : ℕ) (bytes : List ℕ) 
     pub chained : IsChain layers place hs
     pub fields : Fields hs
     pub spelled : bytes ≡ written hs ++ rest
-    pub behind : Bytes rest
+    pub following : Bytes rest
 
 -- what reading the headers after one says
 record OthersRead (ends : Bool) (layers : List LayerTree) (place : ℕ) (bytes : List ℕ) (hs : List Header)
@@ -64,7 +64,7 @@ record OthersRead (ends : Bool) (layers : List LayerTree) (place : ℕ) (bytes :
   follow : MatchBool ends (hs ≡ []) (IsChain layers place hs)
   fields : Fields hs
   spelled : bytes ≡ written hs ++ rest
-  behind : Bytes rest
+  following : Bytes rest
 
 others_read : (ends : Bool) (above : List LayerTree) (place : ℕ) (bytes : List ℕ) (hs : List Header) (rest : List ℕ) →
     Bytes bytes →
@@ -73,10 +73,10 @@ others_read : (ends : Bool) (above : List LayerTree) (place : ℕ) (bytes : List
     OthersRead ends above place bytes hs rest
 others_read true above place bytes hs rest h is more =
     subst (λ q. OthersRead true above place bytes q.0 q.1) (same_read is)
-    record { follow = refl; fields = tt; spelled = refl; behind = h }
+    record { follow = refl; fields = tt; spelled = refl; following = h }
 others_read false above place bytes hs rest h is more =
     let read = more is in
-    record { follow = read.chained; fields = read.fields; spelled = read.spelled; behind = read.behind }
+    record { follow = read.chained; fields = read.fields; spelled = read.spelled; following = read.following }
 
 pub some_and : {A : Type 0} (o : Option A) (P : A → Type 0) (x : A) → o ≡ Some x → P x → IsSomeAnd o P
 some_and o P x is holds = rw is holds
@@ -86,20 +86,20 @@ pub chain_read : (layers : List LayerTree) (place : ℕ) (bytes : List ℕ) (hs 
     chain layers place bytes ≡ Some (hs, rest) → ChainRead layers place bytes hs rest
 chain_read [] place bytes hs rest h is =
     subst (λ q. ChainRead [] place bytes q.0 q.1) (same_read is)
-    record { chained = refl; fields = tt; spelled = refl; behind = h }
+    record { chained = refl; fields = tt; spelled = refl; following = h }
 chain_read (layer ∷ above) place [] hs rest h is = absurd (cc is)
 chain_read (layer ∷ above) place (tag ∷ bytes) hs rest h is =
     through_known _ (header_of_tag layer tag) bytes _ is (λ d declares is_d.
     through _ (numbers d.fields bytes) _ is_d (λ (ns, r) reads is_ns.
     through _ ((if d.ends then value_reader [] else chain above (suc place)) r) _ is_ns (λ (others, s) follow is_s.
     let own = numbers_read d.fields bytes ns r h.1 reads in
-    let more = others_read d.ends above (suc place) r others s own.behind follow
-    (chain_read above (suc place) r others s own.behind) in
+    let more = others_read d.ends above (suc place) r others s own.following follow
+    (chain_read above (suc place) r others s own.following) in
     subst (λ q. ChainRead (layer ∷ above) place (tag ∷ bytes) q.0 q.1) (same_read is_s)
     record {
       chained = some_and (header_of_tag layer tag) _ d declares (refl, own.count, more.follow);
       fields = (own.small, more.fields);
       spelled = ap (λ xs. tag ∷ xs) (own.written ∙ ap (λ xs. flat_map number_bytes ns ++ xs) more.spelled
           ∙ sym (append_assoc (flat_map number_bytes ns) (written others) s));
-      behind = more.behind;
+      following = more.following;
     })))

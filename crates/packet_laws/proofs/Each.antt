@@ -27,15 +27,15 @@ pub each_front : {A : Type 0} (P : A → Type 0) (xs ys : List A) → Each P (xs
 each_front P [] ys h = tt
 each_front P (x ∷ xs) ys h = (h.0, each_front P xs ys h.1)
 
-pub each_behind : {A : Type 0} (P : A → Type 0) (xs ys : List A) → Each P (xs ++ ys) → Each P ys
-each_behind P [] ys h = h
-each_behind P (x ∷ xs) ys h = each_behind P xs ys h.1
+pub each_after : {A : Type 0} (P : A → Type 0) (xs ys : List A) → Each P (xs ++ ys) → Each P ys
+each_after P [] ys h = h
+each_after P (x ∷ xs) ys h = each_after P xs ys h.1
 
 pub each_piece : {A B : Type 0} (P : B → Type 0) (f : A → List B) (xs : List A) → Each P (flat_map f xs) →
     Each (λ x. Each P (f x)) xs
 each_piece P f [] h = tt
 each_piece P f (x ∷ xs) h =
-    (each_front P (f x) (flat_map f xs) h, each_piece P f xs (each_behind P (f x) (flat_map f xs) h))
+    (each_front P (f x) (flat_map f xs) h, each_piece P f xs (each_after P (f x) (flat_map f xs) h))
 
 pub each_joined : {A : Type 0} (P : A → Type 0) (xs ys : List A) → Each P xs → Each P ys → Each P (xs ++ ys)
 each_joined P [] ys h i = i

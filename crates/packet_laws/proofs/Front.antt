@@ -52,12 +52,12 @@ dest_read b false small is = let other = eqb-false b everyone is in (refl, omega
 record ByteRead (bytes : List ℕ) (b : ℕ) (rest : List ℕ) : Type 0 where
   small : b < 256
   spelled : bytes ≡ b ∷ rest
-  behind : Bytes rest
+  following : Bytes rest
 
 byte_read : (bytes : List ℕ) (b : ℕ) (rest : List ℕ) → Bytes bytes → byte bytes ≡ Some (b, rest) → ByteRead bytes b rest
 byte_read [] b rest h is = absurd (cc is)
 byte_read (c ∷ cs) b rest h is =
-    subst (λ q. ByteRead (c ∷ cs) q.0 q.1) (same_read is) record { small = h.0; spelled = refl; behind = h.1 }
+    subst (λ q. ByteRead (c ∷ cs) q.0 q.1) (same_read is) record { small = h.0; spelled = refl; following = h.1 }
 
 -- what reading a preamble says
 pub record FrontRead (bytes : List ℕ) (f : Preamble) (rest : List ℕ) : Type 0 where
@@ -68,18 +68,18 @@ pub record FrontRead (bytes : List ℕ) (f : Preamble) (rest : List ℕ) : Type 
   pub sender : f.sender < 256
   pub destination : IsDestination f.dest
   pub spelled : bytes ≡ preamble_bytes f.form (packet_of f [] []) ++ rest
-  pub behind : Bytes rest
+  pub following : Bytes rest
 
 pub front_read : (bytes : List ℕ) (f : Preamble) (rest : List ℕ) → Bytes bytes → preamble bytes ≡ Some (f, rest) →
     FrontRead bytes f rest
 front_read bytes f rest h is =
     through _ (byte bytes) _ is (λ (form, r1) e1 is1. let form_is = byte_read bytes form r1 h e1 in
-    through _ (number r1) _ is1 (λ (group, r2) e2 is2. let group_is = number_read r1 group r2 form_is.behind e2 in
-    through _ (number r2) _ is2 (λ (stamp, r3) e3 is3. let stamp_is = number_read r2 stamp r3 group_is.behind e3 in
-    through _ (number r3) _ is3 (λ (ltime, r4) e4 is4. let ltime_is = number_read r3 ltime r4 stamp_is.behind e4 in
-    through _ (number r4) _ is4 (λ (mask, r5) e5 is5. let mask_is = number_read r4 mask r5 ltime_is.behind e5 in
-    through _ (byte r5) _ is5 (λ (sender, r6) e6 is6. let sender_is = byte_read r5 sender r6 mask_is.behind e6 in
-    through _ (byte r6) _ is6 (λ (dest, r7) e7 is7. let dest_is = byte_read r6 dest r7 sender_is.behind e7 in
+    through _ (number r1) _ is1 (λ (group, r2) e2 is2. let group_is = number_read r1 group r2 form_is.following e2 in
+    through _ (number r2) _ is2 (λ (stamp, r3) e3 is3. let stamp_is = number_read r2 stamp r3 group_is.following e3 in
+    through _ (number r3) _ is3 (λ (ltime, r4) e4 is4. let ltime_is = number_read r3 ltime r4 stamp_is.following e4 in
+    through _ (number r4) _ is4 (λ (mask, r5) e5 is5. let mask_is = number_read r4 mask r5 ltime_is.following e5 in
+    through _ (byte r5) _ is5 (λ (sender, r6) e6 is6. let sender_is = byte_read r5 sender r6 mask_is.following e6 in
+    through _ (byte r6) _ is6 (λ (dest, r7) e7 is7. let dest_is = byte_read r6 dest r7 sender_is.following e7 in
     let to = dest_read dest (dest == everyone) dest_is.small refl in
     subst (λ q. FrontRead bytes q.0 q.1) (same_read is7)
     record {
@@ -94,5 +94,5 @@ front_read bytes f rest h is =
           (ltime_is.written ∙ ap (λ xs. number_bytes ltime ++ xs)
           (mask_is.written ∙ ap (λ xs. number_bytes mask ++ xs) (sender_is.spelled ∙ ap (λ xs. sender ∷ xs)
           (dest_is.spelled ∙ ap (λ b. b ∷ r7) (sym to.0)))))));
-      behind = dest_is.behind;
+      following = dest_is.following;
     })))))))

@@ -19,16 +19,16 @@ from_place [] place layer is = absurd (cc is)
 from_place (first ∷ above) zero layer is = ap (λ l. l ∷ above) (same_read is)
 from_place (first ∷ above) (suc place) layer is = from_place above place layer is
 
-chain_behind : (ends : Bool) (stack : List LayerTree) (place : ℕ) (m : Content) →
+chain_after : (ends : Bool) (stack : List LayerTree) (place : ℕ) (m : Content) →
     MatchBool ends (m.headers ≡ []) (IsChained stack (suc place) m) →
     MatchBool ends (m.headers ≡ []) (IsChain (drop (suc place) stack) (suc place) m.headers)
-chain_behind true stack place m none = none
-chain_behind false stack place m is = is.chain
+chain_after true stack place m none = none
+chain_after false stack place m is = is.chain
 
 pub pushed_is_chained : PushedIsChained
 pushed_is_chained stack place layer h d m listed is short on = record {
   chain = rw (from_place stack place layer listed)
-      (some_and (header_of_tag layer h.tag) _ d is.tag (is.at, is.fields, chain_behind d.ends stack place m on));
+      (some_and (header_of_tag layer h.tag) _ d is.tag (is.at, is.fields, chain_after d.ends stack place m on));
   body = short;
 }
 

@@ -31,7 +31,7 @@ number_back n rest small = ap (λ m. Some (m, rest)) (from_be_bytes-to_be_bytes_
 pub record NumberRead (bytes : List ℕ) (n : ℕ) (rest : List ℕ) : Type 0 where
   pub small : n < 4294967296
   pub written : bytes ≡ number_bytes n ++ rest
-  pub behind : Bytes rest
+  pub following : Bytes rest
 
 four : (a b c d : ℕ) → a < 256 → b < 256 → c < 256 → d < 256 → (i : ℕ) → slice_index (a ∷ b ∷ c ∷ d ∷ []) i < 256
 four a b c d ha hb hc hd zero = ha
@@ -42,12 +42,12 @@ four a b c d ha hb hc hd (suc (suc (suc (suc i)))) = omega arith
 
 pub number_read : (bytes : List ℕ) (n : ℕ) (rest : List ℕ) → Bytes bytes → number bytes ≡ Some (n, rest) →
     NumberRead bytes n rest
-number_read (a ∷ b ∷ c ∷ d ∷ behind) n rest (ha, (hb, (hc, (hd, h)))) is =
+number_read (a ∷ b ∷ c ∷ d ∷ following) n rest (ha, (hb, (hc, (hd, h)))) is =
     let m = from_be_bytes w32 (a ∷ b ∷ c ∷ d ∷ []) in
     let front : to_be_bytes w32 m ≡ a ∷ b ∷ c ∷ d ∷ [] =
     be_bytes_4 (a ∷ b ∷ c ∷ d ∷ []) m refl (four a b c d ha hb hc hd) refl in
-    subst (λ q. NumberRead (a ∷ b ∷ c ∷ d ∷ behind) q.0 q.1) (same_read is)
-    record { small = omega arith; written = ap (λ xs. xs ++ behind) (sym front); behind = h }
+    subst (λ q. NumberRead (a ∷ b ∷ c ∷ d ∷ following) q.0 q.1) (same_read is)
+    record { small = omega arith; written = ap (λ xs. xs ++ following) (sym front); following = h }
 number_read _ n rest h is = absurd (cc is)
 
 pub numbers_back : (ns rest : List ℕ) → Numbers ns → numbers (length ns) (flat_map number_bytes ns ++ rest) ≡
@@ -59,21 +59,21 @@ pub record NumbersRead (k : ℕ) (bytes ns rest : List ℕ) : Type 0 where
   pub count : length ns ≡ k
   pub small : Numbers ns
   pub written : bytes ≡ flat_map number_bytes ns ++ rest
-  pub behind : Bytes rest
+  pub following : Bytes rest
 
 pub numbers_read : (k : ℕ) (bytes ns rest : List ℕ) → Bytes bytes → numbers k bytes ≡ Some (ns, rest) →
     NumbersRead k bytes ns rest
 numbers_read zero bytes ns rest h is =
     subst (λ q. NumbersRead zero bytes q.0 q.1) (same_read is) record
-    { count = refl; small = tt; written = refl; behind = h }
+    { count = refl; small = tt; written = refl; following = h }
 numbers_read (suc k) bytes ns rest h is =
     through _ (number bytes) _ is (λ (n, r) one is_n. through _ (numbers k r) _ is_n (λ (ms, s) more is_s.
     let first = number_read bytes n r h one in
-    let others = numbers_read k r ms s first.behind more in
+    let others = numbers_read k r ms s first.following more in
     subst (λ q. NumbersRead (suc k) bytes q.0 q.1) (same_read is_s)
     record {
       count = ap suc others.count;
       small = (first.small, others.small);
       written = first.written ∙ ap (λ xs. number_bytes n ++ xs) others.written;
-      behind = others.behind;
+      following = others.following;
     }))

@@ -43,13 +43,13 @@ pub record PlannedRead (ps : List (Option ℕ)) (bytes ns rest : List ℕ) : Typ
   pub agrees : agree ps ns ≡ true
   pub small : Numbers ns
   pub spelled : bytes ≡ flat_map number_bytes (variable ps ns) ++ rest
-  pub behind : Bytes rest
+  pub following : Bytes rest
 
 pub planned_read : (ps : List (Option ℕ)) (bytes ns rest : List ℕ) → Constants ps → Bytes bytes →
     planned_fields ps bytes ≡ Some (ns, rest) → PlannedRead ps bytes ns rest
 planned_read [] bytes ns rest known h is =
     subst (λ q. PlannedRead [] bytes q.0 q.1) (same_read is) record
-    { agrees = refl; small = tt; spelled = refl; behind = h }
+    { agrees = refl; small = tt; spelled = refl; following = h }
 planned_read (Some c ∷ ps) bytes ns rest small h is =
     through _ (planned_fields ps bytes) _ is (λ (ms, s) more is_s.
     let others = planned_read ps bytes ms s small.1 h more in
@@ -58,18 +58,18 @@ planned_read (Some c ∷ ps) bytes ns rest small h is =
       agrees = rw (eq-eqb c c refl) others.agrees;
       small = (small.0, others.small);
       spelled = others.spelled;
-      behind = others.behind;
+      following = others.following;
     })
 planned_read (None ∷ ps) bytes ns rest small h is =
     through _ (number bytes) _ is (λ (n, r) one is_n. through _ (planned_fields ps r) _ is_n (λ (ms, s) more is_s.
     let first = number_read bytes n r h one in
-    let others = planned_read ps r ms s small.1 first.behind more in
+    let others = planned_read ps r ms s small.1 first.following more in
     subst (λ q. PlannedRead (None ∷ ps) bytes q.0 q.1) (same_read is_s)
     record {
       agrees = others.agrees;
       small = (first.small, others.small);
       spelled = first.written ∙ ap (λ xs. number_bytes n ++ xs) others.spelled;
-      behind = others.behind;
+      following = others.following;
     }))
 
 -- the tags of headers, and their fields in a row

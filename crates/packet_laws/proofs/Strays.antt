@@ -21,38 +21,38 @@ use Rattle.packet_laws.proofs.Planned.{both, Constants}
 use Rattle.packet_laws.proofs.Whole.{spelled_read, read_spelled}
 
 -- steps that agree, after one step
-behind_one : {A B : Type 0} (r : Result A Stray) (f g : A → Result B Stray) → ((x : A) → f x ≡ g x) →
+after_one : {A B : Type 0} (r : Result A Stray) (f g : A → Result B Stray) → ((x : A) → f x ≡ g x) →
     (r >>= f) ≡ (r >>= g)
-behind_one (Ok x) f g h = h x
-behind_one (Err e) f g h = refl
+after_one (Ok x) f g h = h x
+after_one (Err e) f g h = refl
 
 pub received_as_meant : ReceivedAsMeant
 unfolding received
 received_as_meant stack plans here bytes p spells =
     let read = spelled_read stack plans bytes p spells in
     rw (read.front, read.is_form)
-    (behind_one (meant_for here (preamble_of read.form p)) _ (λ _. Ok p) (λ x. rw (
+    (after_one (meant_for here (preamble_of read.form p)) _ (λ _. Ok p) (λ x. rw (
       read.named,
       read.contents,
       le-leb (length p.message.body) longest_body spells.spellable.chained.body,
     ) refl))
 
 -- a step after one that met no cause, one after a value that is there, and one after a test that passed
-behind_ok : {A B C : Type 0} (f : A → Result B Stray) (r : Result A Stray) (y : B) → (r >>= f) ≡ Ok y →
+after_ok : {A B C : Type 0} (f : A → Result B Stray) (r : Result A Stray) (y : B) → (r >>= f) ≡ Ok y →
     ((x : A) → r ≡ Ok x → f x ≡ Ok y → C) → C
-behind_ok f (Ok x) y h k = k x refl h
-behind_ok f (Err e) y h k = absurd (cc h)
+after_ok f (Ok x) y h k = k x refl h
+after_ok f (Err e) y h k = absurd (cc h)
 
-behind_some : {A B C : Type 0} (f : A → Result B Stray) (o : Option A) (e : Stray) (y : B) → (ok_or o e >>= f) ≡ Ok y →
+after_some : {A B C : Type 0} (f : A → Result B Stray) (o : Option A) (e : Stray) (y : B) → (ok_or o e >>= f) ≡ Ok y →
     ((x : A) → o ≡ Some x → f x ≡ Ok y → C) → C
-behind_some f (Some x) e y h k = k x refl h
-behind_some f None e y h k = absurd (cc h)
+after_some f (Some x) e y h k = k x refl h
+after_some f None e y h k = absurd (cc h)
 
-behind_test : {B C : Type 0} (f : Unit {0} → Result B Stray) (b : Bool) (e : Stray) (y : B) →
+after_test : {B C : Type 0} (f : Unit {0} → Result B Stray) (b : Bool) (e : Stray) (y : B) →
     (unless b e >>= f) ≡ Ok y →
     (b ≡ true → f tt ≡ Ok y → C) → C
-behind_test f true e y h k = k refl h
-behind_test f false e y h k = absurd (cc h)
+after_test f true e y h k = k refl h
+after_test f false e y h k = absurd (cc h)
 
 last_test : (b : Bool) (e : Stray) (x : Unit {0}) → unless b e ≡ Ok x → b ≡ true
 last_test true e x h = refl
@@ -75,10 +75,10 @@ same_ok x y h = cc h
 meant_is_for : (here : Here) (form : ℕ) (p : Packet) (x : Unit {0}) → meant_for here (preamble_of form p) ≡ Ok x →
     IsFor here p
 meant_is_for here form p x h =
-    behind_test _ (p.group == here.group) cause.Group _ h (λ group h1.
-    behind_test _ (p.stamp == here.stamp) cause.Stamp _ h1 (λ stamp h2.
-    behind_test _ (same_view p.view here.view) cause.View _ h2 (λ view h3.
-    behind_test _ (nat_lt p.sender (member_count here.view) && not (p.sender == here.rank)) cause.Sender _ h3
+    after_test _ (p.group == here.group) cause.Group _ h (λ group h1.
+    after_test _ (p.stamp == here.stamp) cause.Stamp _ h1 (λ stamp h2.
+    after_test _ (same_view p.view here.view) cause.View _ h2 (λ view h3.
+    after_test _ (nat_lt p.sender (member_count here.view) && not (p.sender == here.rank)) cause.Sender _ h3
     (λ sender h4.
     let parts = both (nat_lt p.sender (member_count here.view)) (not (p.sender == here.rank)) sender in
     record {
@@ -112,14 +112,15 @@ taken_spelled : (stack : List LayerTree) (plans : List Plan) (here : Here) (byte
     AreBytes bytes → received stack plans here bytes ≡ Ok p → SpellsPacket stack plans bytes p × IsFor here p
 unfolding received
 taken_spelled stack plans here bytes p numbered small is =
-    behind_some _ (preamble bytes) cause.Short _ is (λ (f, behind) front is1.
-    behind_test _ ((f.form == full_form) || (f.form == short_form)) cause.Form _ is1 (λ form is2.
-    behind_ok _ (meant_for here f) _ is2 (λ x meant is3.
-    behind_some _ (named_plan plans f behind) cause.Plan _ is3 (λ (plan, rest) named is4.
-    behind_some _ (headers stack plan rest) cause.Chain _ is4 (λ (hs, body) contents is5.
-    behind_test _ (nat_le (length body) longest_body) cause.Body _ is5 (λ short is6.
+    after_some _ (preamble bytes) cause.Short _ is (λ (f, following) front is1.
+    after_test _ ((f.form == full_form) || (f.form == short_form)) cause.Form _ is1 (λ form is2.
+    after_ok _ (meant_for here f) _ is2 (λ x meant is3.
+    after_some _ (named_plan plans f following) cause.Plan _ is3 (λ (plan, rest) named is4.
+    after_some _ (headers stack plan rest) cause.Chain _ is4 (λ (hs, body) contents is5.
+    after_test _ (nat_le (length body) longest_body) cause.Body _ is5 (λ short is6.
     subst (λ q. SpellsPacket stack plans bytes q × IsFor here q) (same_ok (packet_of f hs body) p is6) (
-      read_spelled stack plans bytes f behind plan rest hs body constants (each_of_all _ bytes small) front form named
+      read_spelled stack plans bytes f following plan rest hs body constants (each_of_all _ bytes small) front form
+          named
           contents (leb-true (length body) longest_body short),
       meant_is_for here f.form (packet_of f hs body) x meant,
     )))))))

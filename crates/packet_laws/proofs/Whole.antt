@@ -32,11 +32,11 @@ use Rattle.packet_laws.proofs.Planned.{dealt_read, passed}
 pub record IsRead (stack : List LayerTree) (plans : List Plan) (bytes : List ℕ) (p : Packet) : Type 0 where
   pub form : ℕ
   pub is_form : ((form == full_form) || (form == short_form)) ≡ true
-  pub behind : List ℕ
-  pub front : reading.preamble bytes ≡ Some (preamble_of form p, behind)
+  pub following : List ℕ
+  pub front : reading.preamble bytes ≡ Some (preamble_of form p, following)
   pub plan : Option Plan
   pub rest : List ℕ
-  pub named : named_plan plans (preamble_of form p) behind ≡ Some (plan, rest)
+  pub named : named_plan plans (preamble_of form p) following ≡ Some (plan, rest)
   pub contents : headers stack plan rest ≡ Some (p.message.headers, p.message.body)
 
 number_fields : (hs : List Header) → Each (λ h. Numbers h.fields) hs → Numbers (fields hs)
@@ -53,7 +53,7 @@ full_read : (stack : List LayerTree) (plans : List Plan) (p : Packet) → IsSpel
 full_read stack plans p is = record {
   form = full_form;
   is_form = refl;
-  behind = written p.message.headers ++ p.message.body;
+  following = written p.message.headers ++ p.message.body;
   front = front_back stack full_form p (written p.message.headers ++ p.message.body) is;
   plan = None;
   rest = written p.message.headers ++ p.message.body;
@@ -79,7 +79,7 @@ short_read stack plans p k plan is listed fitting =
     record {
       form = short_form;
       is_form = refl;
-      behind = k ∷ rest;
+      following = k ∷ rest;
       front = front_back stack short_form p (k ∷ rest) is;
       plan = Some plan;
       rest = rest;
@@ -105,17 +105,17 @@ pub spelled_read : (stack : List LayerTree) (plans : List Plan) (bytes : List �
 spelled_read stack plans bytes p is = either_read stack plans bytes p is.spellable is.spelled
 
 -- the two ways in which a plan is named, or none is
-named_read : (C : Option Plan → List ℕ → Type 0) (plans : List Plan) (f : Preamble) (behind : List ℕ)
+named_read : (C : Option Plan → List ℕ → Type 0) (plans : List Plan) (f : Preamble) (following : List ℕ)
     (plan : Option Plan) (rest : List ℕ)
     (full : Bool) → (f.form == full_form) ≡ full → (full || (f.form == short_form)) ≡ true →
     (if full then value_reader None else reading.◌>>=◌ byte
-    (λ k. reading.◌>>=◌ (option_reader (plan_for plans f.dest k)) (λ p. value_reader (Some p)))) behind
+    (λ k. reading.◌>>=◌ (option_reader (plan_for plans f.dest k)) (λ p. value_reader (Some p)))) following
     ≡ Some (plan, rest) →
-    (f.form ≡ full_form → C None behind) →
-    ((k : ℕ) (p : Plan) (more : List ℕ) → f.form ≡ short_form → behind ≡ k ∷ more → slice_get plans k ≡ Some p →
+    (f.form ≡ full_form → C None following) →
+    ((k : ℕ) (p : Plan) (more : List ℕ) → f.form ≡ short_form → following ≡ k ∷ more → slice_get plans k ≡ Some p →
     sameb kind_row.the_type p.kind (kind_of f.dest) ≡ true → C (Some p) more) →
     C plan rest
-named_read C plans f behind plan rest true is either read in_full in_short =
+named_read C plans f following plan rest true is either read in_full in_short =
     subst (λ q. C q.0 q.1) (same_read read) (in_full (eqb-true f.form full_form is))
 named_read C plans f [] plan rest false is either read in_full in_short = absurd (cc read)
 named_read C plans f (k ∷ more) plan rest false is either read in_full in_short =
@@ -145,12 +145,12 @@ pub passes : (a b : Bool) → a ≡ true → b ≡ true → (a && b) ≡ true
 passes a b h i = rw (h, i) refl
 
 -- what is in range where a preamble, headers and a body were read
-spellable : (stack : List LayerTree) (bytes : List ℕ) (f : Preamble) (behind : List ℕ) (hs : List Header)
+spellable : (stack : List LayerTree) (bytes : List ℕ) (f : Preamble) (following : List ℕ) (hs : List Header)
     (body : List ℕ) →
-    FrontRead bytes f behind → IsChain stack 0 hs → Each (λ h. Numbers h.fields) hs → Bytes body →
+    FrontRead bytes f following → IsChain stack 0 hs → Each (λ h. Numbers h.fields) hs → Bytes body →
     length body ≤ longest_body →
     IsSpellable stack (packet_of f hs body)
-spellable stack bytes f behind hs body front chained numbers small short = record {
+spellable stack bytes f following hs body front chained numbers small short = record {
   group = front.group;
   stamp = front.stamp;
   ltime = front.ltime;
@@ -162,34 +162,35 @@ spellable stack bytes f behind hs body front chained numbers small short = recor
   body = all_of_each _ body small;
 }
 
-full_spelled : (stack : List LayerTree) (plans : List Plan) (bytes : List ℕ) (f : Preamble) (behind : List ℕ)
+full_spelled : (stack : List LayerTree) (plans : List Plan) (bytes : List ℕ) (f : Preamble) (following : List ℕ)
     (hs : List Header)
-    (body : List ℕ) → FrontRead bytes f behind → length body ≤ longest_body → f.form ≡ full_form →
-    headers stack None behind ≡ Some (hs, body) → SpellsPacket stack plans bytes (packet_of f hs body)
-full_spelled stack plans bytes f behind hs body front short form read =
-    let chained = chain_read stack 0 behind hs body front.behind read in
+    (body : List ℕ) → FrontRead bytes f following → length body ≤ longest_body → f.form ≡ full_form →
+    headers stack None following ≡ Some (hs, body) → SpellsPacket stack plans bytes (packet_of f hs body)
+full_spelled stack plans bytes f following hs body front short form read =
+    let chained = chain_read stack 0 following hs body front.following read in
     record {
-      spellable = spellable stack bytes f behind hs body front chained.chained chained.fields chained.behind short;
-      spelled = inl (front.spelled ∙ ap (λ n. preamble_bytes n (packet_of f [] []) ++ behind) form
+      spellable = spellable stack bytes f following hs body front chained.chained chained.fields chained.following
+          short;
+      spelled = inl (front.spelled ∙ ap (λ n. preamble_bytes n (packet_of f [] []) ++ following) form
           ∙ ap (λ xs. preamble_bytes full_form (packet_of f [] []) ++ xs) chained.spelled);
     }
 
-short_spelled : (stack : List LayerTree) (plans : List Plan) (bytes : List ℕ) (f : Preamble) (behind : List ℕ)
+short_spelled : (stack : List LayerTree) (plans : List Plan) (bytes : List ℕ) (f : Preamble) (following : List ℕ)
     (hs : List Header)
-    (body : List ℕ) → Each (λ p. Constants p.fields) plans → FrontRead bytes f behind → length body ≤ longest_body →
-    (k : ℕ) (p : Plan) (more : List ℕ) → f.form ≡ short_form → behind ≡ k ∷ more → slice_get plans k ≡ Some p →
+    (body : List ℕ) → Each (λ p. Constants p.fields) plans → FrontRead bytes f following → length body ≤ longest_body →
+    (k : ℕ) (p : Plan) (more : List ℕ) → f.form ≡ short_form → following ≡ k ∷ more → slice_get plans k ≡ Some p →
     sameb kind_row.the_type p.kind (kind_of f.dest) ≡ true → headers stack (Some p) more ≡ Some (hs, body) →
     SpellsPacket stack plans bytes (packet_of f hs body)
-short_spelled stack plans bytes f behind hs body constants front short k p more form at listed same read =
+short_spelled stack plans bytes f following hs body constants front short k p more form at listed same read =
     through _ (planned_fields p.fields more) _ read (λ (ns, r) reads deals.
-    let bs : Bytes (k ∷ more) = subst Bytes at front.behind in
+    let bs : Bytes (k ∷ more) = subst Bytes at front.following in
     let numbers = planned_read p.fields more ns r (each_at _ plans k p constants listed) bs.1 reads in
     let known_is = known_read (whole (dealt stack 0 p.tags ns)) r hs body deals in
     let dealt_is = dealt_read stack 0 p.tags ns hs [] (whole_read (dealt stack 0 p.tags ns) hs known_is.0) in
     let all : ns ≡ fields hs = dealt_is.collected ∙ append-nil (fields hs) in
     record {
-      spellable = spellable stack bytes f behind hs body front dealt_is.chained
-          (each_piece _ (λ h. h.fields) hs (subst Numbers all numbers.small)) (subst Bytes known_is.1 numbers.behind)
+      spellable = spellable stack bytes f following hs body front dealt_is.chained
+          (each_piece _ (λ h. h.fields) hs (subst Numbers all numbers.small)) (subst Bytes known_is.1 numbers.following)
           short;
       spelled = inr record {
         number = k;
@@ -198,26 +199,26 @@ short_spelled stack plans bytes f behind hs body constants front short k p more 
         listed = listed;
         fitting = passes _ _ (passes _ _ same ((bytes_eq-Decides p.tags (tags hs)).1 (sym dealt_is.tagged)))
             (subst (λ xs. agree p.fields xs ≡ true) all numbers.agrees);
-        spelled = front.spelled ∙ ap (λ n. preamble_bytes n (packet_of f [] []) ++ behind) form
+        spelled = front.spelled ∙ ap (λ n. preamble_bytes n (packet_of f [] []) ++ following) form
             ∙ ap (λ xs. preamble_bytes short_form (packet_of f [] []) ++ xs) (at ∙ ap (λ xs. k ∷ xs) (numbers.spelled
             ∙ (λ x. flat_map number_bytes (variable p.fields (all x)) ++ known_is.1 x)));
       };
     })
 
-pub read_spelled : (stack : List LayerTree) (plans : List Plan) (bytes : List ℕ) (f : Preamble) (behind : List ℕ)
+pub read_spelled : (stack : List LayerTree) (plans : List Plan) (bytes : List ℕ) (f : Preamble) (following : List ℕ)
     (plan : Option Plan)
     (rest : List ℕ) (hs : List Header) (body : List ℕ) → Each (λ p. Constants p.fields) plans → Bytes bytes →
-    reading.preamble bytes ≡ Some (f, behind) → ((f.form == full_form) || (f.form == short_form)) ≡ true →
-    named_plan plans f behind ≡ Some (plan, rest) → headers stack plan rest ≡ Some (hs, body) →
+    reading.preamble bytes ≡ Some (f, following) → ((f.form == full_form) || (f.form == short_form)) ≡ true →
+    named_plan plans f following ≡ Some (plan, rest) → headers stack plan rest ≡ Some (hs, body) →
     length body ≤ longest_body →
     SpellsPacket stack plans bytes (packet_of f hs body)
-read_spelled stack plans bytes f behind plan rest hs body constants small front form named contents short =
-    let front_is = front_read bytes f behind small front in
+read_spelled stack plans bytes f following plan rest hs body constants small front form named contents short =
+    let front_is = front_read bytes f following small front in
     named_read (λ plan rest. headers stack plan rest ≡ Some (hs, body) →
     SpellsPacket stack plans bytes (packet_of f hs body))
-    plans f behind plan rest (f.form == full_form) refl form named
-    (λ form_is. full_spelled stack plans bytes f behind hs body front_is short form_is)
-    (λ k p more form_is at listed same. short_spelled stack plans bytes f behind hs body constants front_is short k p
+    plans f following plan rest (f.form == full_form) refl form named
+    (λ form_is. full_spelled stack plans bytes f following hs body front_is short form_is)
+    (λ k p more form_is at listed same. short_spelled stack plans bytes f following hs body constants front_is short k p
     more form_is at
     listed same)
     contents

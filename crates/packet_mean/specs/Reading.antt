@@ -36,11 +36,11 @@ option_reader (Some x) bytes = Some (x, bytes)
 -- One byte.
 abbrev pub byte : Reader ℕ
 byte [] = None
-byte (b ∷ behind) = Some (b, behind)
+byte (b ∷ following) = Some (b, following)
 
 -- A number: four bytes, the highest first.
 abbrev pub number : Reader ℕ
-number (a ∷ b ∷ c ∷ d ∷ behind) = Some (from_be_bytes w32 (a ∷ b ∷ c ∷ d ∷ []), behind)
+number (a ∷ b ∷ c ∷ d ∷ following) = Some (from_be_bytes w32 (a ∷ b ∷ c ∷ d ∷ []), following)
 number _ = None
 
 -- That many numbers.
@@ -51,7 +51,7 @@ numbers (suc k) = do
   more ← numbers k
   value_reader (n ∷ more)
 
--- What stands in front of a datagram.
+-- The preamble of a datagram: what comes before its headers.
 pub record Preamble : Type 0 where
   pub form : ℕ
   pub group : ℕ
@@ -60,7 +60,7 @@ pub record Preamble : Type 0 where
   pub sender : ℕ
   pub dest : Dest
 
--- What stands in front of a packet's spelling of a form.
+-- The preamble of a packet's spelling of a form.
 abbrev pub preamble_of : (form : ℕ) → Packet → Preamble
 preamble_of form packet = record {
   form = form;

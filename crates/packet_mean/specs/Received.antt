@@ -46,7 +46,7 @@ packet_of p headers body = record {
   message = record { headers = headers; body = body };
 }
 
--- The first cause for which what stands in front of a packet isn't meant for a member, if there is one: another group,
+-- The first cause for which a packet with this preamble isn't meant for a member, if there is one: another group,
 -- stamp or view than the member's; a sender that is no other rank of the view; a destination that the member isn't.
 abbrev pub meant_for : Here → Preamble → Result (Unit {0}) Stray
 meant_for here p = do
@@ -61,11 +61,11 @@ meant_for here p = do
 -- the number of a plan of its kind; headers that are cut off or not declared; a body that is too long.
 unfoldable pub received : List LayerTree → List Plan → Here → List ℕ → Result Packet Stray
 received stack plans here bytes = do
-  (p, behind) ← ok_or (preamble bytes) cause.Short
+  (p, following) ← ok_or (preamble bytes) cause.Short
   _ ← unless ((p.form == full_form) || (p.form == short_form)) cause.Form
   _ ← meant_for here p
-  (plan, behind) ← ok_or (named_plan plans p behind) cause.Plan
-  (headers, body) ← ok_or (headers stack plan behind) cause.Chain
+  (plan, following) ← ok_or (named_plan plans p following) cause.Plan
+  (headers, body) ← ok_or (headers stack plan following) cause.Chain
   _ ← unless (nat_le (length body) longest_body) cause.Body
   Ok (packet_of p headers body)
 

@@ -6,7 +6,7 @@ use Rattle.std.proofs.Math.Seq.{drop-cons}
 use Rattle.std.proofs.lemmas.Bool.{eqb-true, eq-eqb}
 use Rattle.msg_core.specs.declared.message.Header.{Header}
 use Rattle.packet_mean.specs.Plan.{agree}
-use Rattle.packet_short.specs.Fits.{alike, behind}
+use Rattle.packet_short.specs.Fits.{alike, following}
 
 -- the first of those that are left
 pub left_at : {X : Type 0} (xs : List X) (k : ℕ) (x : X) → k < length xs → x ≡ get_or xs k x →
@@ -32,12 +32,12 @@ by_test true others rest more is = is
 by_test false others rest more is = refl
 
 agree_on : (planned : List (Option ℕ)) (numbers more : List ℕ) → agree planned (numbers ++ more) ≡
-    agreed (behind planned numbers) more
+    agreed (following planned numbers) more
 agree_on planned [] more = refl
 agree_on [] (v ∷ numbers) more = refl
 agree_on (None ∷ planned) (v ∷ numbers) more = agree_on planned numbers more
 agree_on (Some c ∷ planned) (v ∷ numbers) more =
-    by_test (v == c) (agree planned (numbers ++ more)) (behind planned numbers) more (agree_on planned numbers more)
+    by_test (v == c) (agree planned (numbers ++ more)) (following planned numbers) more (agree_on planned numbers more)
 
 never : (b : Bool) → (b && false) ≡ false
 never true = refl
@@ -57,7 +57,7 @@ other_tag tags t ts planned hs k h below is first other =
 -- a header whose fields don't agree
 pub disagrees : (tags : List ℕ) (planned : List (Option ℕ)) (hs : List Header) (k : ℕ) (h : Header) → k < length hs →
     h ≡ get_or hs k h →
-    None ≡ behind planned h.fields → alike tags planned (drop k hs) ≡ false
+    None ≡ following planned h.fields → alike tags planned (drop k hs) ≡ false
 disagrees tags planned hs k h below is none =
     rw (left_at hs k h below is, agree_on planned h.fields (flat_map (λ h. h.fields) (drop (k + 1) hs)), ← none)
     (never (bytes_eq tags (map (λ h. h.tag) (h ∷ drop (k + 1) hs))))
@@ -65,7 +65,7 @@ disagrees tags planned hs k h below is none =
 -- a header as planned
 pub agrees_on : (tags : List ℕ) (t : ℕ) (ts : List ℕ) (planned rest : List (Option ℕ)) (hs : List Header) (k : ℕ)
     (h : Header) → k < length hs →
-    h ≡ get_or hs k h → tags ≡ t ∷ ts → t ≡ h.tag → Some rest ≡ behind planned h.fields →
+    h ≡ get_or hs k h → tags ≡ t ∷ ts → t ≡ h.tag → Some rest ≡ following planned h.fields →
     alike ts rest (drop (k + 1) hs) ≡ alike tags planned (drop k hs)
 agrees_on tags t ts planned rest hs k h below is first same some =
     sym (rw (
@@ -89,16 +89,16 @@ numbers_at xs k below = left_at xs k (get_or xs k 0) below (sym (get_or_same xs 
 -- a header as planned, the tags being read by its place
 pub goes_on : (tags : List ℕ) (planned rest : List (Option ℕ)) (hs : List Header) (k : ℕ) (h : Header) →
     k < length tags → k < length hs →
-    h ≡ get_or hs k h → get_or tags k 0 ≡ h.tag → Some rest ≡ behind planned h.fields →
+    h ≡ get_or hs k h → get_or tags k 0 ≡ h.tag → Some rest ≡ following planned h.fields →
     alike (drop (k + 1) tags) rest (drop (k + 1) hs) ≡ alike (drop k tags) planned (drop k hs)
 goes_on tags planned rest hs k h tagged below is same some =
     agrees_on (drop k tags) (get_or tags k 0) (drop (k + 1) tags) planned rest hs k h below is
     (numbers_at tags k tagged) same some
 
 -- a field after the last planned one
-pub none_behind : (planned : List (Option ℕ)) (fields : List ℕ) (k : ℕ) → k < length fields → planned ≡ [] →
-    behind planned (drop k fields) ≡ None
-none_behind planned fields k below none = rw (none, numbers_at fields k below) refl
+pub none_after : (planned : List (Option ℕ)) (fields : List ℕ) (k : ℕ) → k < length fields → planned ≡ [] →
+    following planned (drop k fields) ≡ None
+none_after planned fields k below none = rw (none, numbers_at fields k below) refl
 
 -- no more tags nor headers: nothing more is planned, or some field is
 pub ends_alike : (tags : List ℕ) (planned : List (Option ℕ)) (left : List Header) (empty : Bool) → left ≡ [] →
@@ -119,7 +119,7 @@ pub empty_list : {X : Type 0} (xs : List X) → length xs ≡ 0 → xs ≡ []
 empty_list [] none = refl
 empty_list (x ∷ xs) none = absurd (omega arith)
 
--- all that is planned is left behind a header without fields
-pub all_behind : (planned : List (Option ℕ)) (fields : List ℕ) → length fields ≡ 0 →
-    Some planned ≡ behind planned fields
-all_behind planned fields none = rw (empty_list fields none) refl
+-- all that is planned is left after a header without fields
+pub all_after : (planned : List (Option ℕ)) (fields : List ℕ) → length fields ≡ 0 →
+    Some planned ≡ following planned fields
+all_after planned fields none = rw (empty_list fields none) refl

@@ -26,15 +26,15 @@ one_planned None ps bytes = refl
 
 -- the first fields, if there are enough
 abbrev if_some : Bool → List ℕ → List ℕ → Option (List ℕ × List ℕ)
-if_some le own behind = if le then Some (own, behind) else None
+if_some le own following = if le then Some (own, following) else None
 
 abbrev more_fields : ℕ → List ℕ × List ℕ → List ℕ × List ℕ
 more_fields n q = (n ∷ q.0, q.1)
 
-first_by : (le le' : Bool) (n : ℕ) (own behind : List ℕ) → le ≡ le' →
-    if_some le (n ∷ own) behind ≡ option_map (more_fields n) (if_some le' own behind)
-first_by true le' n own behind is = rw (← is) refl
-first_by false le' n own behind is = rw (← is) refl
+first_by : (le le' : Bool) (n : ℕ) (own following : List ℕ) → le ≡ le' →
+    if_some le (n ∷ own) following ≡ option_map (more_fields n) (if_some le' own following)
+first_by true le' n own following is = rw (← is) refl
+first_by false le' n own following is = rw (← is) refl
 
 same_le : (a b : ℕ) (le le' : Bool) → nat_le (suc a) (suc b) ≡ le → nat_le a b ≡ le' → le ≡ le'
 same_le a b true true h i = refl
@@ -110,7 +110,7 @@ split (suc k) (p ∷ ps) f bytes =
     ∙ after (field p) _ _ (λ n rest.
     sym (in_turn (planned_fields ps) (λ more. value_reader (n ∷ more)) (λ ns. option_reader (after_first (suc k) f ns))
     rest)
-    ∙ after (planned_fields ps) _ _ (λ more behind. ap (λ o. option_reader o behind) (after_more k f n more)) rest
+    ∙ after (planned_fields ps) _ _ (λ more following. ap (λ o. option_reader o following) (after_more k f n more)) rest
     ∙ split k ps (λ own others. f (n ∷ own) others) rest
     ∙ in_turn (fields k ps) (λ q. value_reader (n ∷ q.0, q.1)) (λ q. made (f q.0) q.1) rest) bytes
     ∙ in_turn (field p) (λ n. fields k ps >>= λ q. value_reader (n ∷ q.0, q.1)) (λ q. made (f q.0) q.1) bytes
@@ -143,9 +143,9 @@ over (p ∷ ps) bytes = ap (option_and_then (λ read. option_reader (whole (Some
     go (Some (n, rest)) = inner n (planned_fields ps rest)
 
 -- one thing is put before what is made
-in_front : {A B : Type 0} (g : A → B) (f : List ℕ → Option A) (ps : List (Option ℕ)) →
+first_read : {A B : Type 0} (g : A → B) (f : List ℕ → Option A) (ps : List (Option ℕ)) →
     Same (made (λ ns. option_map g (f ns)) ps) (made f ps >>= λ x. value_reader (g x))
-in_front {A = A} {B = B} g f ps bytes = go (planned_fields ps bytes)
+first_read {A = A} {B = B} g f ps bytes = go (planned_fields ps bytes)
   where
     inner : (o : Option A) (rest : List ℕ) → option_reader (option_map g o) rest ≡
         option_and_then (λ read. value_reader (g read.0) read.1) (option_reader o rest)
@@ -192,16 +192,16 @@ others_once true above place ts more ps bytes = none_once place ts ps bytes
 others_once false above place ts more ps bytes = more ps bytes
 
 -- the headers after a tag
-abbrev behind_tag : Option HeaderTree → List LayerTree → (place t : ℕ) → List ℕ → Reader (List Header)
-behind_tag o above place t ts = do
+abbrev after_tag : Option HeaderTree → List LayerTree → (place t : ℕ) → List ℕ → Reader (List Header)
+after_tag o above place t ts = do
   d ← option_reader o
   fields ← first d.fields
   others ← above_dealt d.ends above (suc place) ts
   value_reader (record { layer = place; tag = t; fields = fields } ∷ others)
 
-abbrev header_behind : Option HeaderTree → (place t : ℕ) → List ℕ → List (Option ℕ) →
+abbrev header_after : Option HeaderTree → (place t : ℕ) → List ℕ → List (Option ℕ) →
     Reader ((Header × Bool) × (List ℕ × List (Option ℕ)))
-header_behind o place t ts ps = do
+header_after o place t ts ps = do
   form ← option_reader (option_map form_of o)
   (own, rest) ← fields form.fields ps
   value_reader ((record { layer = place; tag = t; fields = own }, form.ends), (ts, rest))
@@ -213,17 +213,17 @@ with_above above place q = do
 
 tag_once : (o : Option HeaderTree) (above : List LayerTree) (place t : ℕ) (ts : List ℕ) → Once above (suc place) ts →
     (ps : List (Option ℕ)) →
-    Same (made (λ ns. whole (behind_tag o above place t ts ns)) ps)
-    (header_behind o place t ts ps >>= with_above above (suc place))
+    Same (made (λ ns. whole (after_tag o above place t ts ns)) ps)
+    (header_after o place t ts ps >>= with_above above (suc place))
 tag_once None above place t ts more ps bytes = made_none ps bytes
 tag_once (Some d) above place t ts more ps bytes =
     after (planned_fields ps) _ _
     (λ ns rest. ap (λ o. option_reader o rest)
     (whole_first own_header (above_dealt d.ends above (suc place) ts) (first d.fields ns))) bytes
-    ∙ split d.fields ps (λ own behind.
-    option_map (λ hs. own_header own ∷ hs) (whole (above_dealt d.ends above (suc place) ts behind))) bytes
+    ∙ split d.fields ps (λ own following.
+    option_map (λ hs. own_header own ∷ hs) (whole (above_dealt d.ends above (suc place) ts following))) bytes
     ∙ after (fields d.fields ps) _ _ (λ q rest.
-    in_front (λ hs. own_header q.0 ∷ hs) (λ ns. whole (above_dealt d.ends above (suc place) ts ns)) q.1 rest
+    first_read (λ hs. own_header q.0 ∷ hs) (λ ns. whole (above_dealt d.ends above (suc place) ts ns)) q.1 rest
     ∙ ap (option_and_then (λ read. value_reader (own_header q.0 ∷ read.0) read.1))
     (others_once d.ends above (suc place) ts more q.1 rest)) bytes
     ∙ in_turn (fields d.fields ps) (λ q. value_reader ((own_header q.0, d.ends), (ts, q.1)))

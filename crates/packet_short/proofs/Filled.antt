@@ -145,12 +145,12 @@ has_room_for stack plans k layout most laid all =
 
 -- the plan that is named is laid out
 pub named_laid : (stack : List LayerTree) (plans : List Plan) (dest : Dest) (k : ℕ) (layout : Layout) (plan : Plan)
-    (bytes behind : List ℕ) → plan_named plans dest bytes ≡ Some (plan, behind) → slice_get plans k ≡ Some plan →
-    plan.kind ≡ kind_of dest → IsLaidOut stack plans k layout → IsNamed stack plans dest k layout bytes behind
-named_laid stack plans dest k layout plan bytes behind named listed kind laid =
+    (bytes following : List ℕ) → plan_named plans dest bytes ≡ Some (plan, following) → slice_get plans k ≡ Some plan →
+    plan.kind ≡ kind_of dest → IsLaidOut stack plans k layout → IsNamed stack plans dest k layout bytes following
+named_laid stack plans dest k layout plan bytes following named listed kind laid =
     let same : plan ≡ laid.plan = same_read (sym listed ∙ laid.listed) in
     record {
       laid = laid;
-      named = subst (λ p. plan_named plans dest bytes ≡ Some (p, behind)) same named;
+      named = subst (λ p. plan_named plans dest bytes ≡ Some (p, following)) same named;
       kind = subst (λ (p : Plan). p.kind ≡ kind_of dest) same kind;
     }

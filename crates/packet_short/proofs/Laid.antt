@@ -22,8 +22,8 @@ abbrev Fields : Type 0
 Fields = List ℕ × List (Option ℕ)
 
 -- a header that was read, whether it closes the chain, and what is planned after it
-abbrev Behind : Type 0
-Behind = (Header × Bool) × (List ℕ × List (Option ℕ))
+abbrev After : Type 0
+After = (Header × Bool) × (List ℕ × List (Option ℕ))
 
 -- what is left of a plan's fields after the first n, and that these are read whatever the others are
 record Parted (k : ℕ) (ps : List (Option ℕ)) (zs own : List ℕ) (rest : List (Option ℕ)) (r : List ℕ) : Type 0 where
@@ -75,13 +75,13 @@ parted zero ps zs own rest r is =
 parted (suc k) [] zs own rest r is = absurd (cc is)
 parted (suc k) (p ∷ ps) zs own rest r is =
     through _ (field p zs) _ is (λ (n, s) one is_n. through _ (fields k ps s) _ is_n (λ ((more, left), t) others is_s.
-    let behind = parted k ps s more left t others in
+    let following = parted k ps s more left t others in
     subst (λ (q : (List ℕ × List (Option ℕ)) × List ℕ). Parted (suc k) (p ∷ ps) zs q.0.0 q.0.1 q.1) (same_read is_s)
     record {
-      left = behind.left;
-      count = ap suc behind.count;
-      planned = one_planned p (take k ps) zs ∙ rw (one, behind.planned) refl;
-      again = more_again k p ps behind.again;
+      left = following.left;
+      count = ap suc following.count;
+      planned = one_planned p (take k ps) zs ∙ rw (one, following.planned) refl;
+      again = more_again k p ps following.again;
     }))
 
 -- fields are read for headers of which it is known how many each has
@@ -111,9 +111,9 @@ others_again : (ends : Bool) (above : List LayerTree) (place : ℕ) (ts : List �
 others_again true above place ts ps zs hs r is more = done_again place ts ps zs hs r is
 others_again false above place ts ps zs hs r is more = more is
 
-abbrev header_behind : Option HeaderTree → (place t : ℕ) → List ℕ → List (Option ℕ) →
+abbrev header_after : Option HeaderTree → (place t : ℕ) → List ℕ → List (Option ℕ) →
     Reader ((Header × Bool) × (List ℕ × List (Option ℕ)))
-header_behind o place t ts ps = do
+header_after o place t ts ps = do
   form ← option_reader (option_map form_of o)
   (own, rest) ← fields form.fields ps
   value_reader ((record { layer = place; tag = t; fields = own }, form.ends), (ts, rest))
@@ -128,21 +128,21 @@ header_again : (d : HeaderTree) (above : List LayerTree) (place t : ℕ) (ts : L
     Parted d.fields ps zs own rest r →
     Again others (suc place) rest (if d.ends then done ts rest else dealing above (suc place) ts rest) →
     Again (record { layer = place; tag = t; fields = own } ∷ others) place ps
-    (header_behind (Some d) place t ts ps >>= with_above above (suc place))
+    (header_after (Some d) place t ts ps >>= with_above above (suc place))
 header_again d above place t ts ps zs own rest r others first more bytes =
     ap (λ (o : Option (Fields × List ℕ)). option_and_then
-    (λ (read : Behind × List ℕ). with_above above (suc place) read.0 read.1)
+    (λ (read : After × List ℕ). with_above above (suc place) read.0 read.1)
     (option_and_then (λ (read : Fields × List ℕ).
-    value_reader {A = Behind} ((record { layer = place; tag = t; fields = read.0.0 }, d.ends), (ts, read.0.1)) read.1)
+    value_reader {A = After} ((record { layer = place; tag = t; fields = read.0.0 }, d.ends), (ts, read.0.1)) read.1)
     o))
     (first.again bytes)
     ∙ go (planned_fields (take d.fields ps) bytes)
     ∙ sym (rw (first.count) refl)
   where
     go : (o : Option (List ℕ × List ℕ)) →
-        option_and_then (λ (read : Behind × List ℕ). with_above above (suc place) read.0 read.1)
+        option_and_then (λ (read : After × List ℕ). with_above above (suc place) read.0 read.1)
         (option_and_then (λ (read : Fields × List ℕ).
-        value_reader {A = Behind} ((record { layer = place; tag = t; fields = read.0.0 }, d.ends), (ts, read.0.1))
+        value_reader {A = After} ((record { layer = place; tag = t; fields = read.0.0 }, d.ends), (ts, read.0.1))
         read.1)
         (option_map (λ (q : List ℕ × List ℕ). ((q.0, drop d.fields ps), q.1)) o))
         ≡ option_and_then (λ one. option_and_then (λ read.
@@ -160,17 +160,17 @@ tag_again : (o : Option HeaderTree) (above : List LayerTree) (place t : ℕ) (ts
     ((rest : List (Option ℕ)) (u : List ℕ) (others : List Header) (v : List ℕ) →
     dealing above (suc place) ts rest u ≡ Some (others, v) →
     Again others (suc place) rest (dealing above (suc place) ts rest)) →
-    (header_behind o place t ts ps >>= with_above above (suc place)) zs ≡ Some (hs, r) →
-    Again hs place ps (header_behind o place t ts ps >>= with_above above (suc place))
+    (header_after o place t ts ps >>= with_above above (suc place)) zs ≡ Some (hs, r) →
+    Again hs place ps (header_after o place t ts ps >>= with_above above (suc place))
 tag_again None above place t ts ps zs hs r more is = absurd (cc is)
 tag_again (Some d) above place t ts ps zs hs r more is =
-    through _ (header_behind (Some d) place t ts ps zs) _ is (λ (q, s) one is_s.
+    through _ (header_after (Some d) place t ts ps zs) _ is (λ (q, s) one is_s.
     through _ (fields d.fields ps zs) _ one (λ ((own, rest), u) reads is_u.
     through _ ((if d.ends then done ts rest else dealing above (suc place) ts rest) u) _
-    (subst (λ (z : Behind × List ℕ). with_above above (suc place) z.0 z.1 ≡ Some (hs, r)) (sym (same_read is_u)) is_s)
+    (subst (λ (z : After × List ℕ). with_above above (suc place) z.0 z.1 ≡ Some (hs, r)) (sym (same_read is_u)) is_s)
     (λ (others, v) follow is_v.
     subst (λ (z : List Header × List ℕ).
-    Again z.0 place ps (header_behind (Some d) place t ts ps >>= with_above above (suc place))) (same_read is_v)
+    Again z.0 place ps (header_after (Some d) place t ts ps >>= with_above above (suc place))) (same_read is_v)
     (header_again d above place t ts ps zs own rest u others (parted d.fields ps zs own rest u reads)
     (others_again d.ends above (suc place) ts rest u others v follow (more rest u others v))))))
 
@@ -400,19 +400,19 @@ tag_agrees : (o : Option HeaderTree) (above : List LayerTree) (place t : ℕ) (t
     (zs : List ℕ) (hs : List Header) (r : List ℕ) →
     ((rest : List (Option ℕ)) (u : List ℕ) (others : List Header) (v : List ℕ) →
     dealing above (suc place) ts rest u ≡ Some (others, v) → Agrees ts rest others) →
-    (header_behind o place t ts ps >>= with_above above (suc place)) zs ≡ Some (hs, r) → Agrees (t ∷ ts) ps hs
+    (header_after o place t ts ps >>= with_above above (suc place)) zs ≡ Some (hs, r) → Agrees (t ∷ ts) ps hs
 tag_agrees None above place t ts ps zs hs r more is = absurd (cc is)
 tag_agrees (Some d) above place t ts ps zs hs r more is =
-    through _ (header_behind (Some d) place t ts ps zs) _ is (λ (q, s) one is_s.
+    through _ (header_after (Some d) place t ts ps zs) _ is (λ (q, s) one is_s.
     through _ (fields d.fields ps zs) _ one (λ ((own, rest), u) reads is_u.
     through _ ((if d.ends then done ts rest else dealing above (suc place) ts rest) u) _
-    (subst (λ (z : Behind × List ℕ). with_above above (suc place) z.0 z.1 ≡ Some (hs, r)) (sym (same_read is_u)) is_s)
+    (subst (λ (z : After × List ℕ). with_above above (suc place) z.0 z.1 ≡ Some (hs, r)) (sym (same_read is_u)) is_s)
     (λ (others, v) follow is_v.
-    let behind = others_agree d.ends above (suc place) ts rest u others v follow (more rest u others v) in
+    let following = others_agree d.ends above (suc place) ts rest u others v follow (more rest u others v) in
     subst (λ (z : List Header × List ℕ). Agrees (t ∷ ts) ps z.0) (same_read is_v)
     record {
-      tagged = ap (λ us. t ∷ us) behind.tagged;
-      fields = fields_agree d.fields ps zs own rest u reads (all_fields others) ∙ behind.fields;
+      tagged = ap (λ us. t ∷ us) following.tagged;
+      fields = fields_agree d.fields ps zs own rest u reads (all_fields others) ∙ following.fields;
     })))
 
 pub dealing_agrees : (layers : List LayerTree) (place : ℕ) (ts : List ℕ) (ps : List (Option ℕ)) (zs : List ℕ)

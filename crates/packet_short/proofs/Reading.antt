@@ -16,7 +16,8 @@ one_more : (front : List ℕ) (n : ℕ) (read : Option (Fields × List ℕ)) →
     with_front (front ++ n ∷ []) read ≡
     with_front front (option_and_then (λ r. value_reader (n ∷ r.0.0, r.0.1) r.1) read)
 one_more front n None = refl
-one_more front n (Some ((more, rest), behind)) = ap (λ xs. Some ((xs, rest), behind)) (append_assoc front (n ∷ []) more)
+one_more front n (Some ((more, rest), following)) =
+    ap (λ xs. Some ((xs, rest), following)) (append_assoc front (n ∷ []) more)
 
 -- where a field was read, those after it are read
 pub fields_go_on : (front : List ℕ) (n k j : ℕ) (planned : List (Option ℕ)) (p : Option ℕ) (ps : List (Option ℕ))
@@ -53,48 +54,52 @@ no_header stack place tags planned bytes below none =
 
 a_first : (layer : LayerTree) (above : List LayerTree) (place : ℕ) (tags : List ℕ) (planned : List (Option ℕ))
     (bytes : List ℕ)
-    (h : Header) (ends : Bool) (more : List ℕ) (rest : List (Option ℕ)) (behind : List ℕ) →
-    header layer place tags planned bytes ≡ Some (((h, ends), (more, rest)), behind) →
+    (h : Header) (ends : Bool) (more : List ℕ) (rest : List (Option ℕ)) (following : List ℕ) →
+    header layer place tags planned bytes ≡ Some (((h, ends), (more, rest)), following) →
     dealing (layer ∷ above) place tags planned bytes
-    ≡ with_first h ((if ends then done more rest else dealing above (suc place) more rest) behind)
-a_first layer above place tags planned bytes h ends more rest behind some = rw some refl
+    ≡ with_first h ((if ends then done more rest else dealing above (suc place) more rest) following)
+a_first layer above place tags planned bytes h ends more rest following some = rw some refl
 
 -- what is after a header that ends or goes on
 onward : (stack : List LayerTree) (place next : ℕ) (ends : Bool) (more : List ℕ) (rest : List (Option ℕ))
-    (behind : List ℕ) →
+    (following : List ℕ) →
     next ≡ (if ends then length stack else place + 1) →
-    (if ends then done more rest else dealing (drop (suc place) stack) (suc place) more rest) behind ≡
-    dealing (drop next stack) next more rest behind
-onward stack place next true more rest behind is = sym (rw (none_left stack next (omega (arith, is))) refl)
-onward stack place next false more rest behind is = ap (λ at. dealing (drop at stack) at more rest behind)
+    (if ends then done more rest else dealing (drop (suc place) stack) (suc place) more rest) following ≡
+    dealing (drop next stack) next more rest following
+onward stack place next true more rest following is = sym (rw (none_left stack next (omega (arith, is))) refl)
+onward stack place next false more rest following is = ap (λ at. dealing (drop at stack) at more rest following)
     (sym (is ∙ add-one place))
 
 -- a header of a place's layer, and those after it
 pub a_header : (stack : List LayerTree) (place next : ℕ) (tags : List ℕ) (planned : List (Option ℕ)) (bytes : List ℕ)
-    (h : Header) (ends : Bool) (more : List ℕ) (rest : List (Option ℕ)) (behind : List ℕ) → place < length stack →
-    header (slice_index_or stack place no_layer) place tags planned bytes ≡ Some (((h, ends), (more, rest)), behind) →
+    (h : Header) (ends : Bool) (more : List ℕ) (rest : List (Option ℕ)) (following : List ℕ) → place < length stack →
+    header (slice_index_or stack place no_layer) place tags planned bytes ≡
+    Some (((h, ends), (more, rest)), following) →
     next ≡ (if ends then length stack else place + 1) →
-    dealing (drop place stack) place tags planned bytes ≡ with_first h (dealing (drop next stack) next more rest behind)
-a_header stack place next tags planned bytes h ends more rest behind below some is =
+    dealing (drop place stack) place tags planned bytes ≡
+    with_first h (dealing (drop next stack) next more rest following)
+a_header stack place next tags planned bytes h ends more rest following below some is =
     ap (λ layers. dealing layers place tags planned bytes) (drop-cons stack place no_layer below)
     ∙ a_first (slice_index_or stack place no_layer) (drop (suc place) stack) place tags planned bytes h ends more rest
-    behind some
-    ∙ ap (with_first h) (onward stack place next ends more rest behind is)
+    following some
+    ∙ ap (with_first h) (onward stack place next ends more rest following is)
 
 pub no_others : (stack : List LayerTree) (place next : ℕ) (tags : List ℕ) (planned : List (Option ℕ)) (bytes : List ℕ)
-    (h : Header) (ends : Bool) (more : List ℕ) (rest : List (Option ℕ)) (behind : List ℕ) → place < length stack →
-    header (slice_index_or stack place no_layer) place tags planned bytes ≡ Some (((h, ends), (more, rest)), behind) →
-    next ≡ (if ends then length stack else place + 1) → dealing (drop next stack) next more rest behind ≡ None →
+    (h : Header) (ends : Bool) (more : List ℕ) (rest : List (Option ℕ)) (following : List ℕ) → place < length stack →
+    header (slice_index_or stack place no_layer) place tags planned bytes ≡
+    Some (((h, ends), (more, rest)), following) →
+    next ≡ (if ends then length stack else place + 1) → dealing (drop next stack) next more rest following ≡ None →
     dealing (drop place stack) place tags planned bytes ≡ None
-no_others stack place next tags planned bytes h ends more rest behind below some is none =
-    a_header stack place next tags planned bytes h ends more rest behind below some is ∙ ap (with_first h) none
+no_others stack place next tags planned bytes h ends more rest following below some is none =
+    a_header stack place next tags planned bytes h ends more rest following below some is ∙ ap (with_first h) none
 
 pub with_others : (stack : List LayerTree) (place next : ℕ) (tags : List ℕ) (planned : List (Option ℕ)) (bytes : List ℕ)
-    (h : Header) (ends : Bool) (more : List ℕ) (rest : List (Option ℕ)) (behind left : List ℕ) (hs : List Header) →
+    (h : Header) (ends : Bool) (more : List ℕ) (rest : List (Option ℕ)) (following left : List ℕ) (hs : List Header) →
     place < length stack →
-    header (slice_index_or stack place no_layer) place tags planned bytes ≡ Some (((h, ends), (more, rest)), behind) →
-    next ≡ (if ends then length stack else place + 1) → dealing (drop next stack) next more rest behind ≡
+    header (slice_index_or stack place no_layer) place tags planned bytes ≡
+    Some (((h, ends), (more, rest)), following) →
+    next ≡ (if ends then length stack else place + 1) → dealing (drop next stack) next more rest following ≡
     Some (hs, left) →
     dealing (drop place stack) place tags planned bytes ≡ Some (h ∷ hs, left)
-with_others stack place next tags planned bytes h ends more rest behind left hs below some is others =
-    a_header stack place next tags planned bytes h ends more rest behind below some is ∙ ap (with_first h) others
+with_others stack place next tags planned bytes h ends more rest following left hs below some is others =
+    a_header stack place next tags planned bytes h ends more rest following below some is ∙ ap (with_first h) others

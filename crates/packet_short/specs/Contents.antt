@@ -15,5 +15,5 @@ plan_named plans dest = do
 -- The headers that are read and the bytes after them, or the cause for which they aren't.
 abbrev pub Contains : {A : Type 0} → Result (List Header × List ℕ) Stray → Result A Stray → List Header → List ℕ →
     Type 0
-Contains is_read (Ok _) headers behind = is_read ≡ Ok (headers, behind)
-Contains is_read (Err cause) headers behind = is_read ≡ Err cause
+Contains is_read (Ok _) headers following = is_read ≡ Ok (headers, following)
+Contains is_read (Err cause) headers following = is_read ≡ Err cause

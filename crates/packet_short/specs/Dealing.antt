@@ -25,7 +25,7 @@ fields (suc k) (first ∷ planned) = do
 abbrev pub with_front : List ℕ → Option ((List ℕ × List (Option ℕ)) × List ℕ) →
     Option ((List ℕ × List (Option ℕ)) × List ℕ)
 with_front front None = None
-with_front front (Some ((more, rest), behind)) = Some ((front ++ more, rest), behind)
+with_front front (Some ((more, rest), following)) = Some ((front ++ more, rest), following)
 
 -- The header of a layer at a place that has the first of these tags, whether it closes the chain, and what is planned
 -- after it.

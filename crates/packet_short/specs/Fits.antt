@@ -25,8 +25,8 @@ first_fits fit [] = false
 first_fits fit (plan ∷ plans) = fit plan
 
 -- The planned fields after those of some numbers, if the numbers agree with theirs.
-abbrev pub behind : (planned : List (Option ℕ)) (numbers : List ℕ) → Option (List (Option ℕ))
-behind planned [] = Some planned
-behind (Some constant ∷ planned) (v ∷ numbers) = if v == constant then behind planned numbers else None
-behind (None ∷ planned) (v ∷ numbers) = behind planned numbers
-behind [] (v ∷ numbers) = None
+abbrev pub following : (planned : List (Option ℕ)) (numbers : List ℕ) → Option (List (Option ℕ))
+following planned [] = Some planned
+following (Some constant ∷ planned) (v ∷ numbers) = if v == constant then following planned numbers else None
+following (None ∷ planned) (v ∷ numbers) = following planned numbers
+following [] (v ∷ numbers) = None

@@ -62,9 +62,9 @@ IsReadAs plans (Some k) kind headers kept =
 
 -- The plan whose number is read is one of the destination's kind, and it is laid out.
 pub record IsNamed (stack : List LayerTree) (plans : List Plan) (dest : Dest) (k : ℕ) (layout : Layout)
-    (bytes behind : List ℕ) : Type 0 where
+    (bytes following : List ℕ) : Type 0 where
   pub laid : IsLaidOut stack plans k layout
-  pub named : plan_named plans dest bytes ≡ Some (laid.plan, behind)
+  pub named : plan_named plans dest bytes ≡ Some (laid.plan, following)
   pub kind : laid.plan.kind ≡ kind_of dest
 
 -- What reading into a scan answers: the packet that it tells of is the one that is received, or the cause is.

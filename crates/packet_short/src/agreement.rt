@@ -2,7 +2,7 @@
 
 ghost use Rattle.std.specs.Prelude.{◌≡◌, ◌∷◌, [], option_map};
 ghost use Rattle.packet_mean.specs.Plan.{agree};
-ghost use Rattle.packet_short.specs.Fits.{alike, behind};
+ghost use Rattle.packet_short.specs.Fits.{alike, following};
 
 use msg_core::{Fields, Header, Headers};
 use stack_shapes::Plan;
@@ -18,8 +18,8 @@ pub(crate) fn agrees(planned: Option<u32>, number: u32) -> bool
 }
 
 /// The planned fields after those of a header, if its fields agree with theirs.
-fn behind<'a>(planned: &'a [Option<u32>], fields: &Fields) -> Option<&'a [Option<u32>]>
-    ensures { option_map (λ rest. rest.now) result ≡ behind planned.now fields.now }
+fn following<'a>(planned: &'a [Option<u32>], fields: &Fields) -> Option<&'a [Option<u32>]>
+    ensures { option_map (λ rest. rest.now) result ≡ following planned.now fields.now }
 {
     let mut left = planned;
     for place in 0..fields.len() {
@@ -35,13 +35,13 @@ fn behind<'a>(planned: &'a [Option<u32>], fields: &Fields) -> Option<&'a [Option
 }
 
 /// The planned fields after those of a header, if its fields agree with theirs. Most headers have none.
-fn behind_header<'a>(planned: &'a [Option<u32>], header: &Header) -> Option<&'a [Option<u32>]>
-    ensures { option_map (λ rest. rest.now) result ≡ behind planned.now header.now.fields }
+fn after_header<'a>(planned: &'a [Option<u32>], header: &Header) -> Option<&'a [Option<u32>]>
+    ensures { option_map (λ rest. rest.now) result ≡ following planned.now header.now.fields }
 {
     if header.fields.len() == 0 {
         return Some(planned);
     }
-    behind(planned, &header.fields)
+    following(planned, &header.fields)
 }
 
 /// Whether headers have a plan's tags, and fields as planned.
@@ -59,7 +59,7 @@ pub(crate) fn is_alike(plan: &Plan, headers: &Headers) -> bool
         if tags[place] != header.tag {
             return false;
         }
-        let Some(rest) = behind_header(fields, header) else {
+        let Some(rest) = after_header(fields, header) else {
             return false
         };
         fields = rest;

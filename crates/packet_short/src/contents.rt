@@ -38,7 +38,7 @@ fn named<'a>(plans: &'a Plans, dest: Dest, cursor: &mut Cursor<'_>) -> Option<(u
     }
 }
 
-/// Reads the headers after what stands in front of a datagram; the bytes that are left are its body.
+/// Reads the headers after a datagram's preamble; the bytes that are left are its body.
 pub(crate) fn contents(
     stack: &Stack,
     plans: &Plans,
@@ -96,12 +96,12 @@ pub(crate) fn known_contents(
     ensures capacity { vec_capacity fields.new ≡ vec_capacity fields.old }
 {
     if front.form != FULL_FORM {
-        let mut behind = *cursor;
-        if let Some((number, layout)) = laid_out(known, front.dest, &mut behind) {
-            let Some(()) = layout.read(&mut behind, headers, fields) else {
+        let mut following = *cursor;
+        if let Some((number, layout)) = laid_out(known, front.dest, &mut following) {
+            let Some(()) = layout.read(&mut following, headers, fields) else {
                 return Err(Stray::Chain)
             };
-            *cursor = behind;
+            *cursor = following;
             return Ok(layout.known(number));
         }
     }

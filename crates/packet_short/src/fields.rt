@@ -5,7 +5,7 @@ ghost use Rattle.std.specs.Prelude.{vec_capacity};
 ghost use Rattle.std.specs.List.{AllByRecursion};
 ghost use Rattle.packet_mean.specs.Plan.{variable};
 ghost use Rattle.stack_shapes.specs.Trees.{plans_tree};
-ghost use Rattle.packet_short.specs.Fits.{alike, behind};
+ghost use Rattle.packet_short.specs.Fits.{alike, following};
 ghost use Rattle.packet_short.specs.Keeping.{HasAtMost, KeepsIf};
 ghost use Rattle.packet_short.specs.Shortened.{KeepsVariable};
 
@@ -81,7 +81,7 @@ fn keep_agreeing<'a>(
     into: &mut Vec<u32>,
 ) -> Option<&'a [Option<u32>]>
     requires { vec_len into.old + length planned.now ≤ vec_capacity into.old }
-    ensures rest { option_map (λ rest. rest.now) result ≡ behind planned.now fields.now }
+    ensures rest { option_map (λ rest. rest.now) result ≡ following planned.now fields.now }
     ensures items { IfSome result
         (λ rest. KeepsVariable planned.now fields.now rest.now into.old.items into.new.items) }
     ensures len { IfSome result (λ rest. vec_len into.new + length rest.now ≤ vec_len into.old + length planned.now) }
@@ -109,7 +109,7 @@ fn keep_header<'a>(
     into: &mut Vec<u32>,
 ) -> Option<&'a [Option<u32>]>
     requires { vec_len into.old + length planned.now ≤ vec_capacity into.old }
-    ensures rest { option_map (λ rest. rest.now) result ≡ behind planned.now header.now.fields }
+    ensures rest { option_map (λ rest. rest.now) result ≡ following planned.now header.now.fields }
     ensures items { IfSome result
         (λ rest. KeepsVariable planned.now header.now.fields rest.now into.old.items into.new.items) }
     ensures len { IfSome result (λ rest. vec_len into.new + length rest.now ≤ vec_len into.old + length planned.now) }

@@ -76,11 +76,11 @@ impl Layout {
             (option_map (λ _. (headers.new, fields.new.items)) result) (left cursor.new) }
         ensures capacity { vec_capacity fields.new ≡ vec_capacity fields.old }
     {
-        let mut behind = *cursor;
+        let mut following = *cursor;
         headers.copy_from(&self.headers);
         fields.clear();
         for loose in self.loose.as_slice() {
-            let Some(own) = loose.fields(&mut behind, fields) else {
+            let Some(own) = loose.fields(&mut following, fields) else {
                 return None
             };
             headers.set(
@@ -92,7 +92,7 @@ impl Layout {
                 },
             );
         }
-        *cursor = behind;
+        *cursor = following;
         Some(())
     }
 

@@ -16,7 +16,7 @@ use packet_full::{SHORT_FORM, put_body, put_number, put_preamble};
 use packet_mean::Here;
 use stack_shapes::Plan;
 
-/// The bytes in front of a packet's headers, and the number of its plan.
+/// The preamble of a packet, and the number of its plan.
 const FRONT_BYTES: usize = 20;
 
 /// The most bytes that a header is given, as in the full form.

@@ -25,7 +25,7 @@ use Rattle.miss_mean.specs.Text.{explained_lines}
 use Rattle.program_mean.specs.Headline.{whole_end}
 use Rattle.output_mean.specs.Judged.{Means}
 use Rattle.program_mean.specs.Second.{crowd_fault, after_script, second_fault}
-use Rattle.job_ends.specs.Comes.{Around, surrounding, Beside, Behind, Finds, IsOutput, Good, Comes}
+use Rattle.job_ends.specs.Comes.{Around, surrounding, Beside, After, Finds, IsOutput, Good, Comes}
 use Rattle.job_ends.proofs.Comes.{written}
 use Rattle.file_jobs.specs.Stack.{IsStack}
 use Rattle.file_jobs.specs.Second.{IsSpelled}
@@ -52,7 +52,7 @@ enough stack members room = rw (le-leb (rows_of stack members) most_rows room) r
 -- and it ended as its run did.
 module _ (job : Job) (a : Around) (stack : List LayerTree) (members : ℕ) (file second : List ℕ)
     (found : Finds job a.told (Some file))
-    (beside : Beside job a.told (Some second)) (behind : Behind job a.told (Some [])) (means : Means file stack)
+    (beside : Beside job a.told (Some second)) (following : After job a.told (Some [])) (means : Means file stack)
     (lines : List (List ℕ))
     (output : HasRoom stack members → IsOutput job file second [] lines)
     (whole : whole_end job file ≡ done) (judged : second_fault job stack second ≡ crowd_fault stack members)
@@ -64,7 +64,7 @@ module _ (job : Job) (a : Around) (stack : List LayerTree) (members : ℕ) (file
     third = [];
     found = found;
     beside = beside;
-    behind = behind;
+    following = following;
     lines = lines;
     output = output room;
   }
@@ -150,7 +150,7 @@ module _ (name script given : Text) (wire count : Bool) (a : Around) (between mi
     third = r.text;
     found = f.found;
     beside = t.found;
-    behind = r.found;
+    following = r.found;
     lines = lines_of stack s wire count;
     output = record {
       stack = stack;
@@ -190,7 +190,7 @@ module _ (name script given : Text) (wire count : Bool) (a : Around) (between mi
       third = p.stops.text;
       found = f.found;
       beside = t.found;
-      behind = p.stops.found;
+      following = p.stops.found;
       reads = tt;
       stack = stack;
       means = f.means;

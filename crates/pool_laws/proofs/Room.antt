@@ -11,7 +11,7 @@ use Rattle.slot_pool.proofs.References.{count-most}
 use Rattle.stack_mean.specs.Graph.{Node, first_on_cycle}
 use Rattle.stack_mean.specs.Acceptance.{Refusal, without_cycle, largest_weight, largest_joins, weight_limit}
 use Rattle.stack_mean.specs.Acceptance.{joins_limit}
-use Rattle.pool_laws.specs.Room.{HasRoom, NotFull, RoomAtFirst, RoomBehindPut, AcceptedIsLight}
+use Rattle.pool_laws.specs.Room.{HasRoom, NotFull, RoomAtFirst, RoomAfterPut, AcceptedIsLight}
 
 -- all references cover themselves
 exact_covers : (p : List Held) (xs : List ℕ) → Exact p xs → Covers p xs
@@ -42,8 +42,8 @@ room_at_first rows p xs is =
     let left = slots-shared p xs is.exact in
     subst (HasRoom p) (sym (append-nil xs)) (room p xs is.exact (omega arith) (omega arith))
 
-pub room_behind_put : RoomBehindPut
-room_behind_put rows p q xs body s is puts =
+pub room_after_put : RoomAfterPut
+room_after_put rows p q xs body s is puts =
     let few = is.few in let slots = is.slots in let within = is.within in
     let left = slots-shared p xs is.exact in let one = puts-spare p q body s puts in
     let more : length (xs ++ s ∷ []) ≡ length xs + 1 = length-append xs (s ∷ []) in

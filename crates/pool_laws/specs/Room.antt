@@ -52,8 +52,8 @@ NotFull = (rows : ℕ) (p : List Held) (xs : List ℕ) → IsPoolFor rows p xs �
 abbrev pub RoomAtFirst : Type 0
 RoomAtFirst = (rows : ℕ) (p : List Held) (xs : List ℕ) → IsPoolFor rows p xs → HasRoom p (xs ++ [])
 
-abbrev pub RoomBehindPut : Type 0
-RoomBehindPut = (rows : ℕ) (p q : List Held) (xs body : List ℕ) (s : ℕ) → IsPoolFor rows p xs → Puts p q body s →
+abbrev pub RoomAfterPut : Type 0
+RoomAfterPut = (rows : ℕ) (p q : List Held) (xs body : List ℕ) (s : ℕ) → IsPoolFor rows p xs → Puts p q body s →
     HasRoom q (xs ++ s ∷ [])
 
 -- What an accepted stack's entries weigh and join at most is within the limits.

@@ -8,7 +8,7 @@ ghost use Rattle.slot_pool.specs.Held.{Held};
 ghost use Rattle.layer_mean.specs.Tree.{LayerTree};
 ghost use Rattle.stack_mean.specs.Acceptance.{rows_of};
 ghost use Rattle.layer_stage.specs.Kept.{messages_kept};
-ghost use Rattle.pool_laws.specs.Room.{AcceptedIsLight, IsPoolFor, NotFull, OwnPool, RoomAtFirst, RoomBehindPut};
+ghost use Rattle.pool_laws.specs.Room.{AcceptedIsLight, IsPoolFor, NotFull, OwnPool, RoomAtFirst, RoomAfterPut};
 ghost use Rattle.pool_laws.specs.Rows.{FreshAreWithin, RunsKeepCounts, RunsStayWithin, StatesKeepRows};
 ghost use Rattle.pool_laws.specs.Views.{ViewsShrink};
 
@@ -45,7 +45,7 @@ pub fn stages_have_few_references<S: Stage>()
 pub fn pools_have_room()
     ensures not_full { NotFull }
     ensures first { RoomAtFirst }
-    ensures put { RoomBehindPut }
+    ensures put { RoomAfterPut }
 {}
 
 /// An accepted stack asks for no more slots than those.

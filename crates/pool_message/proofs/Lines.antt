@@ -33,16 +33,16 @@ module _ {A : Type 0} where
   last_other zero first others is more = absurd (omega (arith, more))
   last_other (suc n) first [] is more = absurd (omega (arith, is, more))
   last_other (suc n) first (x ∷ xs) is more =
-      let behind : suc (suc (length xs)) - 1 ≡ suc (suc (length xs) - 1) = omega arith in
-      sym (ap (slice_get (first ∷ x ∷ xs)) behind)
+      let following : suc (suc (length xs)) - 1 ≡ suc (suc (length xs) - 1) = omega arith in
+      sym (ap (slice_get (first ∷ x ∷ xs)) following)
 
   -- any
   pub got_other : (count : ℕ) (first : A) (others : List A) (index : ℕ) → length others ≡ count - 1 → index ≢ 0 →
       slice_get others (index - 1) ≡ slice_get (in_line count first others) index
-  got_other count first others zero is behind = absurd (behind refl)
-  got_other zero first [] (suc k) is behind = refl
-  got_other zero first (x ∷ xs) (suc k) is behind = absurd (omega (arith, is))
-  got_other (suc n) first others (suc k) is behind = let ahead : suc k - 1 ≡ k = omega arith in
+  got_other count first others zero is following = absurd (following refl)
+  got_other zero first [] (suc k) is following = refl
+  got_other zero first (x ∷ xs) (suc k) is following = absurd (omega (arith, is))
+  got_other (suc n) first others (suc k) is following = let ahead : suc k - 1 ≡ k = omega arith in
       ap (slice_get others) ahead
 
   -- the first becomes another one

@@ -11,8 +11,8 @@ pub covers_front : (p : List Held) (xs ys : List ℕ) → Covers p (xs ++ ys) �
 covers_front p xs ys all =
     record { covers = λ i. let there = all.covers i in let both = times-append i xs ys in omega arith }
 
-pub covers_behind : (p : List Held) (xs ys : List ℕ) → Covers p (xs ++ ys) → Covers p ys
-covers_behind p xs ys all =
+pub covers_after : (p : List Held) (xs ys : List ℕ) → Covers p (xs ++ ys) → Covers p ys
+covers_after p xs ys all =
     record { covers = λ i. let there = all.covers i in let both = times-append i xs ys in omega arith }
 
 module _ {A : Type 0} (f : A → List ℕ) where
@@ -54,10 +54,10 @@ module _ {A : Type 0} (f : A → List ℕ) where
             let left = times-append i a (f x ++ flat_map f xs) in let both = times-append i (f x) (flat_map f xs) in
             let right = times-append i a (f x) in omega arith;
       } in
-      let behind : Covers p (a ++ flat_map f xs) = record {
+      let following : Covers p (a ++ flat_map f xs) = record {
         covers = λ i. let there = covers.covers i in
             let left = times-append i a (f x ++ flat_map f xs) in let both = times-append i (f x) (flat_map f xs) in
             let right = times-append i a (flat_map f xs) in omega arith;
       } in
-      let first = one x front lie.0 in let rest = each_stays P Q v w p a one xs behind lie.1 in
+      let first = one x front lie.0 in let rest = each_stays P Q v w p a one xs following lie.1 in
       ((first.0, rest.0), λ i. first.1 i ∷ rest.1 i)

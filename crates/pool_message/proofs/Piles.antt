@@ -16,7 +16,7 @@ use Rattle.pool_message.specs.Piled.{pile_refs, without_last, last_changed}
 use Rattle.pool_message.specs.Seen.{refs, refs_if, bodiless}
 use Rattle.pool_message.specs.Tray.{message_in}
 use Rattle.pool_message.specs.declared.message.PoolMessage.{PoolMessage}
-use Rattle.pool_message.proofs.Lists.{covers_front, covers_behind}
+use Rattle.pool_message.proofs.Lists.{covers_front, covers_after}
 
 -- references are those of the last, and of the others
 parted_at : (ms : List PoolMessage) (n i : ℕ) → n + 1 ≡ length ms →
@@ -102,7 +102,7 @@ pub covers_at : (p : List Held) (ms : List PoolMessage) (k : ℕ) → k < length
 covers_at p [] k lt covers = absurd (omega (arith, lt))
 covers_at p (m ∷ ms) zero lt covers = covers_front p (refs m) (pile_refs ms) covers
 covers_at p (m ∷ ms) (suc k) lt covers =
-    covers_at p ms k (omega (arith, lt)) (covers_behind p (refs m) (pile_refs ms) covers)
+    covers_at p ms k (omega (arith, lt)) (covers_after p (refs m) (pile_refs ms) covers)
 
 -- one goes on once more, and then all of them go: so all but that one go
 times_set : (i : ℕ) (ms : List PoolMessage) (k : ℕ) → k < length ms →

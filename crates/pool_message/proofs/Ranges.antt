@@ -35,15 +35,15 @@ drop_taken (suc a) (suc n) (x ∷ xs) =
     drop_taken a n xs ∙ (λ i. take (left i) (drop (least i) (x ∷ xs)))
 
 -- A range without its first a bytes.
-pub range_behind : (from len a : ℕ) (bs : List ℕ) → range (from + min a len) (len - min a len) bs ≡
+pub range_after : (from len a : ℕ) (bs : List ℕ) → range (from + min a len) (len - min a len) bs ≡
     drop a (range from len bs)
-range_behind from len a bs =
+range_after from len a bs =
     ap (take (len - min a len)) (sym (drop-drop (min a len) from bs)) ∙ sym (drop_taken a len (drop from bs))
 
 pub range_within : (from len a n : ℕ) (bs : List ℕ) →
     range (from + min a len) (min n (len - min a len)) bs ≡ take n (drop a (range from len bs))
 range_within from len a n bs =
-    sym (take-take n (len - min a len) (drop (from + min a len) bs)) ∙ ap (take n) (range_behind from len a bs)
+    sym (take-take n (len - min a len) (drop (from + min a len) bs)) ∙ ap (take n) (range_after from len a bs)
 
 pub range_cut : (from len a n s m : ℕ) (bs : List ℕ) → s ≡ min a len → m ≡ min n (len - s) →
     range (from + s) m bs ≡ take n (drop a (range from len bs))

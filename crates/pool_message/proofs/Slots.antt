@@ -10,7 +10,7 @@ use Rattle.slot_pool.specs.Times.{hit, times}
 use Rattle.slot_pool.proofs.Times.{hit_or_not, hit_same, times-append}
 use Rattle.layer_ast.specs.declared.tokens.Dir.{Dir}
 use Rattle.pool_message.specs.Sent.{first_sent}
-use Rattle.pool_message.specs.Lends.{last_sent, in_front_of_last}
+use Rattle.pool_message.specs.Lends.{last_sent, before_last}
 use Rattle.pool_message.specs.Slots.{slot_at, standing, first_number, AreParted, IsFirst}
 use Rattle.pool_message.specs.declared.event.PoolEvent.{PoolEvent}
 
@@ -304,11 +304,11 @@ pub none_first : (xs : List (Dir × PoolEvent)) (order : List ℕ) → length or
 none_first xs [] none = refl
 none_first xs (n ∷ order) none = absurd (omega (arith, none))
 
-pub none_behind : (xs : List (Dir × PoolEvent)) (order : List ℕ) (i : ℕ) → slice_get order i ≡ None →
+pub none_after : (xs : List (Dir × PoolEvent)) (order : List ℕ) (i : ℕ) → slice_get order i ≡ None →
     length (standing xs order) ≤ i
-none_behind xs [] i at = omega arith
-none_behind xs (n ∷ order) zero at = absurd (cc)
-none_behind xs (n ∷ order) (suc i) at = omega (arith, none_behind xs order i at)
+none_after xs [] i at = omega arith
+none_after xs (n ∷ order) zero at = absurd (cc)
+none_after xs (n ∷ order) (suc i) at = omega (arith, none_after xs order i at)
 
 pub stand_count : (xs : List (Dir × PoolEvent)) (order : List ℕ) → length (standing xs order) ≡ length order
 stand_count xs [] = refl
@@ -394,27 +394,27 @@ module _ (xs olds : List (Dir × PoolEvent)) (e : Dir × PoolEvent) (order free 
   split : order ≡ init ++ k ∷ []
   split = (last_of order k at).1
 
-  behind : AreParted xs (init ++ k ∷ []) free
-  behind = subst (λ o. AreParted xs o free) split parted
+  following : AreParted xs (init ++ k ∷ []) free
+  following = subst (λ o. AreParted xs o free) split parted
 
   both : (standing xs init ≡ olds) × (slot_at xs k ≡ e)
   both = fronts (standing xs init) olds (slot_at xs k) e
       (sym (map-append (slot_at xs) init (k ∷ [])) ∙ sym (ap (standing xs) split) ∙ is)
 
   pub back_within : k < length xs
-  back_within = last_within xs init free k e behind
+  back_within = last_within xs init free k e following
 
   pub back_is : slot_at xs k ≡ e
   back_is = both.1
 
   pub back_changed : (y : Dir × PoolEvent) → AreParted (set xs k y) order free
-  back_changed y = subst (λ o. AreParted (set xs k y) o free) (sym split) (last_changed xs init free k y behind)
+  back_changed y = subst (λ o. AreParted (set xs k y) o free) (sym split) (last_changed xs init free k y following)
 
   pub back_stands : (y : Dir × PoolEvent) → standing (set xs k y) order ≡ olds ++ y ∷ []
-  back_stands y = ap (standing (set xs k y)) split ∙ last_stands xs init free k y behind ∙ (λ j. both.0 j ++ y ∷ [])
+  back_stands y = ap (standing (set xs k y)) split ∙ last_stands xs init free k y following ∙ (λ j. both.0 j ++ y ∷ [])
 
 -- the last of some events, after those before it
-pub last_whole : (es : List (Dir × PoolEvent)) → 0 < length es → es ≡ in_front_of_last es ++ last_sent es ∷ []
+pub last_whole : (es : List (Dir × PoolEvent)) → 0 < length es → es ≡ before_last es ++ last_sent es ∷ []
 last_whole [] some = absurd (omega (arith, some))
 last_whole (e ∷ []) some = refl
 last_whole (e ∷ e' ∷ es) some = let rest = last_whole (e' ∷ es) (omega arith) in λ j. e ∷ rest j
@@ -424,7 +424,7 @@ last_pushed [] e = refl
 last_pushed (e' ∷ []) e = refl
 last_pushed (e' ∷ e'' ∷ es) e = last_pushed (e'' ∷ es) e
 
-pub rest_pushed : (es : List (Dir × PoolEvent)) (e : Dir × PoolEvent) → in_front_of_last (es ++ e ∷ []) ≡ es
+pub rest_pushed : (es : List (Dir × PoolEvent)) (e : Dir × PoolEvent) → before_last (es ++ e ∷ []) ≡ es
 rest_pushed [] e = refl
 rest_pushed (e' ∷ []) e = refl
 rest_pushed (e' ∷ e'' ∷ es) e = ap (λ more. e' ∷ more) (rest_pushed (e'' ∷ es) e)

@@ -27,12 +27,12 @@ last_sent [] = first_sent []
 last_sent (e ∷ []) = e
 last_sent (e ∷ e' ∷ es) = last_sent (e' ∷ es)
 
-abbrev pub in_front_of_last : List (Dir × PoolEvent) → List (Dir × PoolEvent)
-in_front_of_last [] = []
-in_front_of_last (e ∷ []) = []
-in_front_of_last (e ∷ e' ∷ es) = e ∷ in_front_of_last (e' ∷ es)
+abbrev pub before_last : List (Dir × PoolEvent) → List (Dir × PoolEvent)
+before_last [] = []
+before_last (e ∷ []) = []
+before_last (e ∷ e' ∷ es) = e ∷ before_last (e' ∷ es)
 
 -- the last one is the last that was written through r
 abbrev pub lends_last : MutBor (Buffer (Dir × PoolEvent)) → MutBor (Dir × PoolEvent) → Fml
 lends_last es r = Lends list.the_row (Tuple (dir.the_row ∷ event.the_row ∷ [])) es r
-    (λ w. buffer (in_front_of_last es.now.items ++ w ∷ []) es.now.capacity)
+    (λ w. buffer (before_last es.now.items ++ w ∷ []) es.now.capacity)

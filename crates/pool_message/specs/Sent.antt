@@ -45,9 +45,9 @@ abbrev pub without_first : PoolMessage → PoolMessage
 without_first m = record m { headers = rest_of m.headers }
 
 -- A message as it is sent: going up as it is, and going down after a header.
-abbrev pub sent_behind : Dir → Header → PoolMessage → PoolMessage
-sent_behind Up header m = m
-sent_behind Down header m = with_header header m
+abbrev pub sent_after : Dir → Header → PoolMessage → PoolMessage
+sent_after Up header m = m
+sent_after Down header m = with_header header m
 
 -- A message that passes a layer: going down it gets a header in front, and going up it loses its first one.
 abbrev pub message_passed : Dir → Header → PoolMessage → PoolMessage

@@ -9,7 +9,7 @@ ghost use Rattle.pool_message.specs.Moves.{CanKeep, Kept, Returned};
 ghost use Rattle.pool_message.specs.Piled.{without_last};
 ghost use Rattle.pool_message.specs.Put.{Puts};
 ghost use Rattle.pool_message.specs.Seen.{refs, event_refs};
-ghost use Rattle.pool_message.specs.Sent.{sent_refs, most_sent, first_sent, sent_behind, without_message};
+ghost use Rattle.pool_message.specs.Sent.{sent_refs, most_sent, first_sent, sent_after, without_message};
 ghost use Rattle.pool_message.specs.Sent.{message_passed};
 ghost use Rattle.pool_message.specs.Sent.{pool_event, CanPass};
 
@@ -209,7 +209,7 @@ impl Events {
         requires there { Covers pool.old (refs message.now) }
         requires keeps { CanKeep pool.old (refs message.now) }
         ensures pushed { self.new ≡
-            buffer (self.old.items ++ (direction, pool_event envelope (Some (sent_behind direction header message.now)))
+            buffer (self.old.items ++ (direction, pool_event envelope (Some (sent_after direction header message.now)))
             ∷ []) self.old.capacity }
         ensures kept { Kept pool.old pool.new (refs message.now) }
     {
@@ -332,7 +332,7 @@ fn fill_kept(
     requires there { Covers pool.old (refs message.now) }
     requires keeps { CanKeep pool.old (refs message.now) }
     ensures filled { sent.new ≡
-        (sent.old.0, record sent.old.1 { message = Some (sent_behind direction header message.now) }) }
+        (sent.old.0, record sent.old.1 { message = Some (sent_after direction header message.now) }) }
     ensures kept { Kept pool.old pool.new (refs message.now) }
 {
     let place = &mut sent.1.message;

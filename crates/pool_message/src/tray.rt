@@ -6,7 +6,7 @@ ghost use Rattle.circular_buffer.specs.Buffer.{buffer};
 ghost use Rattle.slot_pool.specs.References.{Covers};
 ghost use Rattle.pool_message.specs.Moves.{CanKeep, Kept, Returned};
 ghost use Rattle.pool_message.specs.Seen.{refs, refs_if, bodiless};
-ghost use Rattle.pool_message.specs.Sent.{first_sent, sent_behind, pool_event, envelope_of, CanPass};
+ghost use Rattle.pool_message.specs.Sent.{first_sent, sent_after, pool_event, envelope_of, CanPass};
 ghost use Rattle.pool_message.specs.Tray.{first_message, arrived_at, bound_at, sent_at, message_in, StandsSo};
 
 use crate::event::PoolEvent;
@@ -70,7 +70,7 @@ impl Tray {
     ghost use Rattle.msg_core.specs.Headers.{most_headers};
     ghost use Rattle.pool_message.specs.Seen.{refs, refs_if, bodiless};
     ghost use Rattle.pool_message.specs.Sent.{first_sent, most_sent, first_header, with_header, without_first};
-    ghost use Rattle.pool_message.specs.Sent.{sent_behind, envelope_of, CanPass};
+    ghost use Rattle.pool_message.specs.Sent.{sent_after, envelope_of, CanPass};
     ghost use Rattle.pool_message.specs.Moves.{CanKeep, Kept, Returned};
     ghost use Rattle.pool_message.specs.Piled.{pile_refs, without_last};
     ghost use Rattle.pool_message.specs.Tray.{also_sent, message_at};
@@ -350,7 +350,7 @@ impl Tray {
         requires there { Covers pool.old (refs (message_at k self.old)) }
         requires keeps { CanKeep pool.old (refs (message_at k self.old)) }
         ensures sent { self.new ≡
-            also_sent direction envelope (Some (sent_behind direction header (message_at k self.old))) self.old }
+            also_sent direction envelope (Some (sent_after direction header (message_at k self.old))) self.old }
         ensures kept { Kept pool.old pool.new (refs (message_at k self.old)) }
     {
         let place = match self.front {
@@ -398,7 +398,7 @@ impl Tray {
         requires there { Covers pool.old (pile_refs self.old.messages.items) }
         requires keeps { CanKeep pool.old (refs (message_at k self.old)) }
         ensures sent { self.new ≡
-            record (also_sent direction envelope (Some (sent_behind direction header (message_at k self.old))) self.old)
+            record (also_sent direction envelope (Some (sent_after direction header (message_at k self.old))) self.old)
             { messages = buffer [] self.old.messages.capacity } }
         ensures returned { Returned pool.old pool.new (pile_refs (slice_set self.old.messages.items k (bodiless []))) }
     {
@@ -406,7 +406,7 @@ impl Tray {
             Front::Bound => {
                 if k == 0 {
                     self.messages.clear(pool);
-                    send_first_behind(&mut self.events, direction, envelope, header);
+                    send_first_after(&mut self.events, direction, envelope, header);
                     self.front = Front::Gone;
                     return;
                 }
@@ -465,24 +465,24 @@ fn send_first(events: &mut Events, direction: Dir, envelope: Envelope)
 }
 
 /// The same where its message, if it has one, goes down after a header.
-fn send_first_behind(events: &mut Events, direction: Dir, envelope: Envelope, header: Header)
+fn send_first_after(events: &mut Events, direction: Dir, envelope: Envelope, header: Header)
     requires some { 0 < length events.old.items }
     requires room { CanPass direction (first_message events.old.items) }
     ensures { events.new ≡
         buffer (drop 1 events.old.items ++
-        (direction, pool_event envelope (option_map (sent_behind direction header) (first_message events.old.items))) ∷
+        (direction, pool_event envelope (option_map (sent_after direction header) (first_message events.old.items))) ∷
         []) events.old.capacity }
 {
-    begin_behind(events.first_mut(), direction, envelope, header);
+    begin_after(events.first_mut(), direction, envelope, header);
     events.go_round();
 }
 
 /// An event gets this direction and this envelope, and its message, if it has one, goes down after a header.
-fn begin_behind(sent: &mut (Dir, PoolEvent), direction: Dir, envelope: Envelope, header: Header)
+fn begin_after(sent: &mut (Dir, PoolEvent), direction: Dir, envelope: Envelope, header: Header)
     requires { CanPass direction sent.old.1.message }
     ensures { sent.new ≡ (
       direction,
-      pool_event envelope (option_map (sent_behind direction header) sent.old.1.message),
+      pool_event envelope (option_map (sent_after direction header) sent.old.1.message),
     ) }
 {
     begin_event(sent, direction, envelope);
@@ -511,7 +511,7 @@ fn send_first_again(
     requires keeps { CanKeep pool.old (refs_if (first_message events.old.items)) }
     ensures sent { events.new ≡
         buffer (events.old.items ++
-        (direction, pool_event envelope (option_map (sent_behind direction header) (first_message events.old.items))) ∷
+        (direction, pool_event envelope (option_map (sent_after direction header) (first_message events.old.items))) ∷
         []) events.old.capacity }
     ensures same { spare.new ≡ spare.old }
     ensures kept { Kept pool.old pool.new (refs_if (first_message events.old.items)) }
@@ -519,13 +519,13 @@ fn send_first_again(
     let Some(message) = message_of(events) else {
         unreachable!();
     };
-    keep_behind(spare, direction, header, message, pool);
+    keep_after(spare, direction, header, message, pool);
     events.push_last(direction, envelope, spare);
 }
 
 /// A message comes once more after others, and going down after a header.
 #[tactic(auto, using(crate::proofs::Piles::changed_more))]
-fn keep_behind(
+fn keep_after(
     others: &mut Messages,
     direction: Dir,
     header: Header,
@@ -536,7 +536,7 @@ fn keep_behind(
     requires room { CanPass direction (Some message.now) }
     requires there { Covers pool.old (refs message.now) }
     requires keeps { CanKeep pool.old (refs message.now) }
-    ensures pushed { others.new ≡ buffer (others.old.items ++ sent_behind direction header message.now ∷ [])
+    ensures pushed { others.new ≡ buffer (others.old.items ++ sent_after direction header message.now ∷ [])
         others.old.capacity }
     ensures kept { Kept pool.old pool.new (refs message.now) }
 {
@@ -572,7 +572,7 @@ fn send_listed(
     requires keeps { CanKeep pool.old (refs (message_in k messages.now.items)) }
     ensures sent { events.new ≡
         buffer (events.old.items ++
-        (direction, pool_event envelope (Some (sent_behind direction header (message_in k messages.now.items)))) ∷ [])
+        (direction, pool_event envelope (Some (sent_after direction header (message_in k messages.now.items)))) ∷ [])
         events.old.capacity }
     ensures kept { Kept pool.old pool.new (refs (message_in k messages.now.items)) }
 {

@@ -36,55 +36,55 @@ same_or_differ d x trace other k dues traces same differ =
     differ.other (ap (λ acts. slice_get acts k) (ap symbolic traces ∙ same ∙ ap (λ due. symbolic due.own) (sym dues)))
 
 -- The first case that differs is one, and so is the act.
-first_once : (before : List Due) (d : Due) (behind : List Due) (bs : List (List Operation)) (t : List Operation)
+first_once : (before : List Due) (d : Due) (following : List Due) (bs : List (List Operation)) (t : List Operation)
     (cs : List (List Operation))
     (front : List Due) (e : Due) (back : List Due) (fs : List (List Operation)) (u : List Operation)
     (gs : List (List Operation)) (k n : ℕ) →
-    before ++ d ∷ behind ≡ front ++ e ∷ back → bs ++ t ∷ cs ≡ fs ++ u ∷ gs → AllZip SameActs before bs →
+    before ++ d ∷ following ≡ front ++ e ∷ back → bs ++ t ∷ cs ≡ fs ++ u ∷ gs → AllZip SameActs before bs →
     AllZip SameActs front fs →
     DifferAt (symbolic t) (symbolic d.own) k → DifferAt (symbolic u) (symbolic e.own) n → (d ≡ e) × (k ≡ n)
-first_once [] d behind [] t cs [] e back [] u gs k n dues traces p q a b =
+first_once [] d following [] t cs [] e back [] u gs k n dues traces p q a b =
     let due : d ≡ e = cc dues in
     let trace : t ≡ u = cc traces in
     let same : DifferAt (symbolic t) (symbolic d.own) n =
     subst {A = Due × List Operation} (λ x. DifferAt (symbolic x.1) (symbolic x.0.own) n) (λ i. (sym due i, sym trace i))
     b in
     (due, differ_once (symbolic t) (symbolic d.own) k n a same)
-first_once [] d behind [] t cs (x ∷ front) e back (y ∷ fs) u gs k n dues traces p q a b =
+first_once [] d following [] t cs (x ∷ front) e back (y ∷ fs) u gs k n dues traces p q a b =
     absurd (same_or_differ d x t y k (cc dues) (cc traces) q.0 a)
-first_once (x ∷ before) d behind (y ∷ bs) t cs [] e back [] u gs k n dues traces p q a b =
+first_once (x ∷ before) d following (y ∷ bs) t cs [] e back [] u gs k n dues traces p q a b =
     let due : e ≡ x = cc dues in
     let trace : u ≡ y = cc traces in
     absurd (same_or_differ e x u y n due trace p.0 b)
-first_once (x ∷ before) d behind (y ∷ bs) t cs (z ∷ front) e back (w ∷ fs) u gs k n dues traces p q a b =
-    first_once before d behind bs t cs front e back fs u gs k n (cc dues) (cc traces) p.1 q.1 a b
-first_once [] d behind (y ∷ bs) t cs front e back fs u gs k n dues traces p q a b = absurd p
-first_once (x ∷ before) d behind [] t cs front e back fs u gs k n dues traces p q a b = absurd p
-first_once [] d behind [] t cs [] e back (y ∷ fs) u gs k n dues traces p q a b = absurd q
-first_once [] d behind [] t cs (x ∷ front) e back [] u gs k n dues traces p q a b = absurd q
-first_once (x ∷ before) d behind (y ∷ bs) t cs [] e back (w ∷ fs) u gs k n dues traces p q a b = absurd q
-first_once (x ∷ before) d behind (y ∷ bs) t cs (z ∷ front) e back [] u gs k n dues traces p q a b = absurd q
+first_once (x ∷ before) d following (y ∷ bs) t cs (z ∷ front) e back (w ∷ fs) u gs k n dues traces p q a b =
+    first_once before d following bs t cs front e back fs u gs k n (cc dues) (cc traces) p.1 q.1 a b
+first_once [] d following (y ∷ bs) t cs front e back fs u gs k n dues traces p q a b = absurd p
+first_once (x ∷ before) d following [] t cs front e back fs u gs k n dues traces p q a b = absurd p
+first_once [] d following [] t cs [] e back (y ∷ fs) u gs k n dues traces p q a b = absurd q
+first_once [] d following [] t cs (x ∷ front) e back [] u gs k n dues traces p q a b = absurd q
+first_once (x ∷ before) d following (y ∷ bs) t cs [] e back (w ∷ fs) u gs k n dues traces p q a b = absurd q
+first_once (x ∷ before) d following (y ∷ bs) t cs (z ∷ front) e back [] u gs k n dues traces p q a b = absurd q
 
 differs_once : (due : List Due) (traces other : List (List Operation)) (e f : ℕ) (c d : Case) (k n : ℕ) →
     traces ≡ other →
     DiffersIn due traces e c k → DiffersIn due other f d n → differs e c k ≡ differs f d n
 differs_once due traces other e f c d k n same a b =
-    let first = first_once a.before a.due_here a.behind a.before_traces a.trace a.behind_traces
-    b.before b.due_here b.behind b.before_traces b.trace b.behind_traces k n
+    let first = first_once a.before a.due_here a.following a.before_traces a.trace a.after_traces
+    b.before b.due_here b.following b.before_traces b.trace b.after_traces k n
     (sym a.due_is ∙ b.due_is) (sym a.traces_are ∙ same ∙ b.traces_are) a.same b.same a.differ b.differ in
     let entry : e ≡ f = sym a.entry_is ∙ ap (λ x. x.entry) first.0 ∙ b.entry_is in
     let case : c ≡ d = sym a.case_is ∙ ap (λ x. x.case) first.0 ∙ b.case_is in
     λ i. differs (entry i) (case i) (first.1 i)
 
 -- What differs somewhere isn't the same all along.
-all_or_first : (before : List Due) (d : Due) (behind : List Due) (bs : List (List Operation)) (t : List Operation)
+all_or_first : (before : List Due) (d : Due) (following : List Due) (bs : List (List Operation)) (t : List Operation)
     (cs : List (List Operation)) (k : ℕ) →
-    AllZip SameActs (before ++ d ∷ behind) (bs ++ t ∷ cs) → AllZip SameActs before bs →
+    AllZip SameActs (before ++ d ∷ following) (bs ++ t ∷ cs) → AllZip SameActs before bs →
     DifferAt (symbolic t) (symbolic d.own) k → ⊥
-all_or_first [] d behind [] t cs k all p a = same_or_differ d d t t k refl refl all.0 a
-all_or_first (x ∷ before) d behind (y ∷ bs) t cs k all p a = all_or_first before d behind bs t cs k all.1 p.1 a
-all_or_first [] d behind (y ∷ bs) t cs k all p a = p
-all_or_first (x ∷ before) d behind [] t cs k all p a = p
+all_or_first [] d following [] t cs k all p a = same_or_differ d d t t k refl refl all.0 a
+all_or_first (x ∷ before) d following (y ∷ bs) t cs k all p a = all_or_first before d following bs t cs k all.1 p.1 a
+all_or_first [] d following (y ∷ bs) t cs k all p a = p
+all_or_first (x ∷ before) d following [] t cs k all p a = p
 
 module _ (stack : List LayerTree) (text : List ℕ) where
   read_once : (a b : List (List Operation)) → traces_in stack text ≡ Ok a → traces_in stack text ≡ Ok b → a ≡ b
@@ -120,8 +120,8 @@ accepted_or_refused stack text too_large a h = let short = a.short in omega (ari
 accepted_or_refused stack text (bad_line line) a h = read_or_not stack text a.traces line a.read h.1
 accepted_or_refused stack text (differs entry case k) a h =
     let d = h.differs in
-    let traces : a.traces ≡ d.before_traces ++ d.trace ∷ d.behind_traces =
+    let traces : a.traces ≡ d.before_traces ++ d.trace ∷ d.after_traces =
     read_once stack text a.traces h.traces a.read h.read ∙ d.traces_are in
-    all_or_first d.before d.due_here d.behind d.before_traces d.trace d.behind_traces k
+    all_or_first d.before d.due_here d.following d.before_traces d.trace d.after_traces k
     (subst {A = List Due × List (List Operation)} (λ x. AllZip SameActs x.0 x.1) (λ i. (d.due_is i, traces i)) a.same)
     d.same d.differ

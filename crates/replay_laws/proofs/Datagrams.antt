@@ -17,7 +17,7 @@ use Rattle.script_mean.specs.Event.{member_of}
 use Rattle.script_mean.specs.declared.event.ScriptEvent.{ScriptEvent}
 use Rattle.script_mean.specs.declared.event.ScriptEvent.TheVariants as script
 use Rattle.run_mean.specs.Mode.{Mode}
-use Rattle.run_mean.specs.Common.{plan_for, plan_behind, with_plans, short_from, as_sent, wire}
+use Rattle.run_mean.specs.Common.{plan_for, plan_after, with_plans, short_from, as_sent, wire}
 use Rattle.run_mean.specs.Lines.{packet_line, wire_line}
 use Rattle.run_mean.specs.Member.{Member, inside, out, Input, cast, send, leave, tick, datagram, Refusal, Entered}
 use Rattle.run_mean.specs.Member.{entered_input, Output, deliver_cast, deliver_send, block, announce, packet, nowhere}
@@ -27,7 +27,7 @@ use Rattle.run_mean.specs.World.{World, Did, taken, refused, absent, shown, Happ
 use Rattle.run_mean.specs.World.{here_of, stepped_inside, stepped_of, step_happening, given_packet, happens}
 use Rattle.run_mean.specs.Report.{Moment, moments, first_number, no_annex, wire_annex, lines_of_outputs, step_lines}
 use Rattle.run_mean.specs.Report.{lines_of, moment_lines, installed_line, end_line, visits_line, visits_of}
-use Rattle.member_laws.proofs.Lists.{behind}
+use Rattle.member_laws.proofs.Lists.{following}
 use Rattle.replay_laws.specs.Datagrams.{Datagram, datagrams_from, did_send, datagrams, world_after}
 use Rattle.replay_laws.specs.Datagrams.{DatagramsAreNumbered, Said, with_bytes, IsSaid, AreWoven, LinesAreWoven}
 
@@ -191,7 +191,7 @@ datagrams_are_numbered mode stack plans w events =
       numbers = c.numbers;
       each = each_numbered (world_after w run) (length w.packets) (datagrams mode stack plans run) c.numbers
           (λ i. ap (λ ps. slice_get ps (length w.packets + i)) c.packets
-          ∙ behind w.packets (map (λ d. d.packet) (datagrams mode stack plans run)) i);
+          ∙ following w.packets (map (λ d. d.packet) (datagrams mode stack plans run)) i);
     }
 
 -- lines
@@ -235,7 +235,7 @@ outputs_woven : (stack : List LayerTree) (plans : List Plan) (id k : ℕ) (next 
     (datagrams_from plans id k (with_plans plans next outputs))
 outputs_woven stack plans id k next [] = plain_lines stack []
 outputs_woven stack plans id k next (packet p ∷ outputs) =
-    let a = outputs_woven stack plans id (k + 1) (plan_behind next (packet p)) outputs in
+    let a = outputs_woven stack plans id (k + 1) (plan_after next (packet p)) outputs in
     let d : Datagram = record
     { number = k; member = id; packet = p; bytes = wire plans p (plan_for plans next (packet p)) } in record {
       lines = (packet_line stack k id p, Some d) ∷ a.lines;
@@ -252,7 +252,7 @@ outputs_woven stack plans id k next (block n ∷ outputs) =
     one_line stack _ _ _ _ (outputs_woven stack plans id k next outputs)
 outputs_woven stack plans id k next (announce n ∷ outputs) =
     one_line stack _ _ _ _ (outputs_woven stack plans id k next outputs)
-outputs_woven stack plans id k next (nowhere ∷ outputs) = outputs_woven stack plans id k (plan_behind next nowhere)
+outputs_woven stack plans id k next (nowhere ∷ outputs) = outputs_woven stack plans id k (plan_after next nowhere)
     outputs
 outputs_woven stack plans id k next (timer n ∷ outputs) =
     one_line stack _ _ _ _ (outputs_woven stack plans id k next outputs)

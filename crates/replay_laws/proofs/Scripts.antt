@@ -17,7 +17,7 @@ use Rattle.script_mean.specs.Words.{Word, words_of, is_plain, within, number_wit
 use Rattle.script_mean.specs.Words.{most_digits, body_of}
 use Rattle.script_mean.specs.Form.{Form, one, a_word, the_word, a_number, a_body, ends}
 use Rattle.script_mean.specs.Event.{group_line, cast_line, send_line, leave_line, tick_line, give_line, raw_line}
-use Rattle.script_mean.specs.Event.{state_line, event_behind, event_line, said_by, member_of}
+use Rattle.script_mean.specs.Event.{state_line, event_after, event_line, said_by, member_of}
 use Rattle.script_mean.specs.Lines.{is_too_long, said_lines}
 use Rattle.script_mean.specs.Script.{ScriptFault, too_long, no_member, ◌>>=◌, in_form, of_member, event_of, events_of}
 use Rattle.script_mean.specs.Script.{script_of_lines}
@@ -183,8 +183,8 @@ raw_is ws = numbered IsGivenEvent _ (λ m _ ws. bodied IsGivenEvent _ (λ body a
 state_is : (ws : List Word) → Said IsGivenEvent (state_line ws)
 state_is ws = numbered IsGivenEvent _ (λ m _ ws. ends_so IsGivenEvent _ ws tt) ws
 
-behind_is : (verb : Word) (ws : List Word) → Said IsGivenEvent (event_behind verb ws)
-behind_is verb ws = go (bytes_eq verb (codes "cast")) (bytes_eq verb (codes "send")) (bytes_eq verb (codes "leave"))
+after_is : (verb : Word) (ws : List Word) → Said IsGivenEvent (event_after verb ws)
+after_is verb ws = go (bytes_eq verb (codes "cast")) (bytes_eq verb (codes "send")) (bytes_eq verb (codes "leave"))
     (bytes_eq verb (codes "tick"))
     (bytes_eq verb (codes "give")) (bytes_eq verb (codes "raw")) (bytes_eq verb (codes "state"))
   where
@@ -202,7 +202,7 @@ behind_is verb ws = go (bytes_eq verb (codes "cast")) (bytes_eq verb (codes "sen
     go false false false false false false false = tt
 
 event_is : (ws : List Word) → Said IsGivenEvent (event_line ws)
-event_is ws = next_so Any IsGivenEvent event_behind (a_word ws) (any_so a_word ws) (λ verb _ ws. behind_is verb ws)
+event_is ws = next_so Any IsGivenEvent event_after (a_word ws) (any_so a_word ws) (λ verb _ ws. after_is verb ws)
 
 said_so : {A : Type 0} (P : A → Type 0) (form : Form A) → ((ws : List Word) → Said P (form ws)) → (line : List ℕ) →
     Where P (said_by form line)

@@ -206,7 +206,7 @@ sent_where here plans (s ∷ os) (x ∷ xs) same first zero k o plan at =
 sent_where here plans (s ∷ os) (x ∷ xs) same first (suc i) k o plan at =
     let packet : is_planned (output_of here x) ≡ is_packet s s.dir = planned_same here s x same.0.dir same.0.kind in
     go (is_planned (output_of here x)) (sym packet) at
-    (λ n behind. sent_where here plans os xs same.1 n i k o plan behind)
+    (λ n following. sent_where here plans os xs same.1 n i k o plan following)
   where
     go : (c : Bool) → is_packet s s.dir ≡ c →
         slice_get (with_plans plans (if c then Some (first + 1) else Some first) (map (output_of here) xs)) i ≡

@@ -35,7 +35,7 @@ use Rattle.run_mean.specs.Member as member
 use Rattle.run_mean.specs.Member.{Member, inside, out, opened_member, Input, cast, send, leave, tick, datagram, Refusal}
 use Rattle.run_mean.specs.Member.{Entered, announced_ranks, first_task, installed_member, most_turns, output_of}
 use Rattle.run_mean.specs.Member.{step_from}
-use Rattle.run_mean.specs.Member.{member_behind}
+use Rattle.run_mean.specs.Member.{member_following}
 use Rattle.run_mean.specs.World.{World, member_at, packet_number, here_of, stepped_inside, stepped_of, step_happening}
 use Rattle.run_mean.specs.World.{given_packet}
 use Rattle.run_mean.specs.World.{happens}
@@ -194,11 +194,11 @@ installed_stands stack view id ranks = go (next_view view ranks) where
   go None = tt
   go (Some next) = opened_is_standing stack next id
 
-behind_stands : (stack : List LayerTree) (view : View) (id : ℕ) (states : List State) (first : Option ℕ) →
+after_stands : (stack : List LayerTree) (view : View) (id : ℕ) (states : List State) (first : Option ℕ) →
     StandIn view id states →
     IsStanding id (option_map_or (λ m. m) (option_map (installed_member stack view id) first) (inside view states))
-behind_stands stack view id states None h = h
-behind_stands stack view id states (Some ranks) h = installed_stands stack view id ranks
+after_stands stack view id states None h = h
+after_stands stack view id states (Some ranks) h = installed_stands stack view id ranks
 
 run_stands : (view : View) (id turns : ℕ) (stack : List LayerTree) (states : List State) (first : Task Event) →
     StandIn view id states →
@@ -213,7 +213,7 @@ run_stands view id turns stack states first h =
 pub steps_keep_standing : StepsKeepStanding
 steps_keep_standing stack here id states what h =
     let work = (run most_turns stack states (first_task stack here.rank what)).world in
-    behind_stands stack here.view id work.states
+    after_stands stack here.view id work.states
     (slice_get (filter_map announced_ranks (map (output_of here) work.outs)) 0)
     (run_stands here.view id most_turns stack states (first_task stack here.rank what) h)
 
@@ -254,7 +254,7 @@ module _ (stack : List LayerTree) (plans : List Plan) (w : World) (h : IsStandin
   inside_keeps id view states (Err refusal) is = h
   inside_keeps id view states (Ok what) is =
       let here = here_of w view id in
-      set_stays IsStanding w.members id (member_behind view (step_from stack here id states what)) out h
+      set_stays IsStanding w.members id (member_following view (step_from stack here id states what)) out h
       (steps_keep_standing stack here id states what is)
 
   member_keeps : (id : ℕ) (input : Input) (m : Member) → IsStanding id m →

@@ -10,7 +10,7 @@ use Rattle.layer_mean.specs.Queue.{Task, run}
 use Rattle.packet_mean.specs.declared.here.Here.{Here}
 use Rattle.stack_mean.specs.Plan.{Plan}
 use Rattle.script_mean.specs.declared.event.ScriptEvent.{ScriptEvent}
-use Rattle.run_mean.specs.Member.{Member, inside, out, opened_member, Entered, step_from, member_behind}
+use Rattle.run_mean.specs.Member.{Member, inside, out, opened_member, Entered, step_from, member_following}
 use Rattle.run_mean.specs.World.{World, first_world, member_at, happens}
 use Rattle.run_mean.specs.Report.{Moment, moments}
 
@@ -43,7 +43,7 @@ OpenedIsStanding = (stack : List LayerTree) (view : View) (id : ℕ) → IsStand
 abbrev pub StepsKeepStanding : Type 0
 StepsKeepStanding = (stack : List LayerTree) (here : Here) (id : ℕ) (states : List State) (what : Entered) →
     StandIn here.view id states →
-    IsStanding id (member_behind here.view (step_from stack here id states what))
+    IsStanding id (member_following here.view (step_from stack here id states what))
 
 -- Each member of a world stands in its view; so it is at first, and before and after each event.
 abbrev pub IsStandingWorld : World → Type 0

@@ -11,7 +11,7 @@ use Rattle.script_mean.specs.Script.{script_of}
 use Rattle.script_mean.specs.declared.event.ScriptEvent.{ScriptEvent}
 use Rattle.script_mean.specs.declared.script.Script.{Script}
 use Rattle.run_mean.specs.Member.{inside, Step, step_from}
-use Rattle.run_mean.specs.World.{World, member_at, here_of, world_behind, Did, taken}
+use Rattle.run_mean.specs.World.{World, member_at, here_of, world_after, Did, taken}
 use Rattle.run_mean.specs.Report.{Moment, moments, run_of}
 use Rattle.output_mean.specs.Judged.{Means}
 use Rattle.chain_laws.specs.Runs.{TypedStack}
@@ -30,7 +30,7 @@ pub record IsStepOf (stack : List LayerTree) (m : Moment) (s : Step) : Type 0 wh
   pub standing : StandIn view (member_of m.event) states
   pub step : IsStep stack (here_of m.before view (member_of m.event)) states s.entered
   pub is : s ≡ step_from stack (here_of m.before view (member_of m.event)) (member_of m.event) states s.entered
-  pub world : m.happening.world ≡ world_behind m.before view (member_of m.event) s
+  pub world : m.happening.world ≡ world_after m.before view (member_of m.event) s
 
 -- What is refused, isn't there or is shown leaves the world as it was.
 abbrev pub ComesTo : List LayerTree → Moment → Did → Type 0

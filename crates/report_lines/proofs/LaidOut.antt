@@ -219,12 +219,12 @@ firsts_ordered stack place first next is is_next =
     in
     omega (arith, is, is_next, all)
 
-pub number_is : (stack : List LayerTree) (n place tag first next behind : ℕ) → place < n → tag ≢ 0 →
+pub number_is : (stack : List LayerTree) (n place tag first next following : ℕ) → place < n → tag ≢ 0 →
     first ≡ length (declared_headers stack place) →
-    next ≡ length (declared_headers stack (place + 1)) → behind ≡ tag - 1 → behind < next - first →
-    (first + behind < length (declared_headers stack n)) ×
-    (get_or (declared_headers stack n) (first + behind) (header_of 0 0) ≡ header_of place tag)
-number_is stack n place tag first next behind lt some is is_next back less =
+    next ≡ length (declared_headers stack (place + 1)) → following ≡ tag - 1 → following < next - first →
+    (first + following < length (declared_headers stack n)) ×
+    (get_or (declared_headers stack n) (first + following) (header_of 0 0) ≡ header_of place tag)
+number_is stack n place tag first next following lt some is is_next back less =
     let a = declared_headers stack place in
     let b = headers_at stack place in
     let c = flat_map (headers_at stack) (others (place + 1) (n - (place + 1))) in
@@ -234,14 +234,14 @@ number_is stack n place tag first next behind lt some is is_next back less =
     let all = ap length whole ∙ length-append (a ++ b) c in
     let next_is = is_next ∙ ap length (next_first stack place) in
     let count = tagged_count place (tags_at stack place) in
-    let inside : behind < length b = omega (arith, less, next_is, joined, is) in
-    let tag_is : suc behind ≡ tag = omega (arith, back, some) in (
+    let inside : following < length b = omega (arith, less, next_is, joined, is) in
+    let tag_is : suc following ≡ tag = omega (arith, back, some) in (
       omega (arith, all, joined, is, inside),
-      ap (λ ys. get_or ys (first + behind) (header_of 0 0)) (whole ∙ append_assoc a b c)
-          ∙ ap (λ k. get_or (a ++ (b ++ c)) (k + behind) (header_of 0 0)) is
-          ∙ get_or-append-add a (b ++ c) behind (header_of 0 0)
-          ∙ get_or_append_left b c (header_of 0 0) behind inside
-          ∙ tagged_at place (tags_at stack place) behind (header_of 0 0) (omega (arith, inside, count))
+      ap (λ ys. get_or ys (first + following) (header_of 0 0)) (whole ∙ append_assoc a b c)
+          ∙ ap (λ k. get_or (a ++ (b ++ c)) (k + following) (header_of 0 0)) is
+          ∙ get_or-append-add a (b ++ c) following (header_of 0 0)
+          ∙ get_or_append_left b c (header_of 0 0) following inside
+          ∙ tagged_at place (tags_at stack place) following (header_of 0 0) (omega (arith, inside, count))
           ∙ ap (header_of place) tag_is,
     )
 

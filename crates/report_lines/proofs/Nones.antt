@@ -165,10 +165,10 @@ pub nones_next : (hs : List Header) (k first n : ℕ) → drop k hs ≡ nones fi
     drop (k + (n + 1)) hs
 nones_next hs k first n before next =
     let one : suc n ≡ n + 1 = omega arith in
-    let behind : k + n + 1 ≡ k + (n + 1) = omega arith in
+    let following : k + n + 1 ≡ k + (n + 1) = omega arith in
     before ∙ ap (λ rest. nones first n ++ rest) next ∙
     sym (append_assoc (nones first n) (none_of (first + n) ∷ []) (drop (k + n + 1) hs))
-    ∙ (λ i. nones first (one i) ++ drop (behind i) hs)
+    ∙ (λ i. nones first (one i) ++ drop (following i) hs)
 
 -- after headers that were put the others follow
 pub put_front : (stack : List LayerTree) (hs front rest : List Header) (line new : List ℕ) →
@@ -181,14 +181,14 @@ put_front stack hs front rest line new put is =
     (sym (flat_map-append (slashed_header stack) front rest) ∙ ap (slashed_headers stack) (sym is))
 
 -- separators after pieces are those between them, and a last one
-behind : (f : Header → List ℕ) (sep : List ℕ) (hs : List Header) →
+following : (f : Header → List ℕ) (sep : List ℕ) (hs : List Header) →
     sep ++ flat_map (λ h. f h ++ sep) hs ≡ flat_map (λ h. sep ++ f h) hs ++ sep
-behind f sep [] = append-nil sep
-behind f sep (h ∷ hs) =
+following f sep [] = append-nil sep
+following f sep (h ∷ hs) =
     sym (append_assoc sep (f h ++ sep) (flat_map (λ h. f h ++ sep) hs))
     ∙ ap (λ xs. xs ++ flat_map (λ h. f h ++ sep) hs) (sym (append_assoc sep (f h) sep))
     ∙ append_assoc (sep ++ f h) sep (flat_map (λ h. f h ++ sep) hs)
-    ∙ ap (λ xs. (sep ++ f h) ++ xs) (behind f sep hs)
+    ∙ ap (λ xs. (sep ++ f h) ++ xs) (following f sep hs)
     ∙ sym (append_assoc (sep ++ f h) (flat_map (λ h. sep ++ f h) hs) sep)
 
 joined : (stack : List LayerTree) (hs : List Header) → hs ≢ [] → slashed_headers stack hs ≡ chain_text stack hs ++ 47 ∷
@@ -196,7 +196,7 @@ joined : (stack : List LayerTree) (hs : List Header) → hs ≢ [] → slashed_h
 joined stack [] some = absurd (some refl)
 joined stack (h ∷ hs) some =
     append_assoc (header_text stack h) (47 ∷ []) (slashed_headers stack hs)
-    ∙ ap (λ xs. header_text stack h ++ xs) (behind (header_text stack) (47 ∷ []) hs)
+    ∙ ap (λ xs. header_text stack h ++ xs) (following (header_text stack) (47 ∷ []) hs)
     ∙ sym (append_assoc (header_text stack h) (flat_map (λ h. 47 ∷ header_text stack h) hs) (47 ∷ []))
 
 without_last : (xs : List ℕ) (x : ℕ) → take (length (xs ++ x ∷ []) - 1) (xs ++ x ∷ []) ≡ xs

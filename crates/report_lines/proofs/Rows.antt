@@ -11,15 +11,15 @@ use Rattle.report_lines.specs.Lead.{lead}
 use Rattle.report_lines.proofs.Joined.{join_step}
 
 -- pieces that are joined once they are written are joined as they are written
-behind_map : {X : Type 0} (f : X → List ℕ) (sep : List ℕ) (xs : List X) →
+after_map : {X : Type 0} (f : X → List ℕ) (sep : List ℕ) (xs : List X) →
     flat_map (λ piece. sep ++ piece) (map f xs) ≡ flat_map (λ x. sep ++ f x) xs
-behind_map f sep [] = refl
-behind_map f sep (x ∷ xs) = ap (λ rest. (sep ++ f x) ++ rest) (behind_map f sep xs)
+after_map f sep [] = refl
+after_map f sep (x ∷ xs) = ap (λ rest. (sep ++ f x) ++ rest) (after_map f sep xs)
 
 join_map : {X : Type 0} (f : X → List ℕ) (sep : List ℕ) (xs : List X) → join_by (λ piece. piece) sep (map f xs) ≡
     join_by f sep xs
 join_map f sep [] = refl
-join_map f sep (x ∷ xs) = ap (λ rest. f x ++ rest) (behind_map f sep xs)
+join_map f sep (x ∷ xs) = ap (λ rest. f x ++ rest) (after_map f sep xs)
 
 -- a text that was put after a line is the same in other words
 pub in_other_words : {E : Type 0} (r : Result (Unit {0}) E) (line new a b : List ℕ) → a ≡ b → OnOk r (new ≡ line ++ a) →

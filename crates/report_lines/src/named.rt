@@ -130,9 +130,9 @@ impl NamedStack {
         }
         let first = self.fronts.firsts[usize::from(place)];
         let next = self.fronts.firsts[usize::from(place) + 1];
-        let behind = usize::from(tag) - 1;
-        if behind < next - first {
-            Some(first + behind)
+        let following = usize::from(tag) - 1;
+        if following < next - first {
+            Some(first + following)
         } else {
             None
         }

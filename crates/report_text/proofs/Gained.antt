@@ -16,7 +16,7 @@ use Rattle.run_mean.specs.Lines.{refused_line, state_out_line, view_line}
 use Rattle.run_mean.specs.Member.{Member, Output, Refusal, inside, out, deliver_cast, deliver_send, block, announce}
 use Rattle.run_mean.specs.Member.{packet, nowhere, timer, quiet}
 use Rattle.run_mean.specs.Report.{packet_given, Moment, cell_lines, layer_lines, lines_of_outputs, member_lines}
-use Rattle.run_mean.specs.Report.{moment_lines, moments, no_annex, number_behind, output_lines, run_of, first_number}
+use Rattle.run_mean.specs.Report.{moment_lines, moments, no_annex, number_following, output_lines, run_of, first_number}
 use Rattle.run_mean.specs.Tally.{count_of, is_short_packet, short_in, tally}
 use Rattle.run_mean.specs.World as world
 use Rattle.run_mean.specs.World.{World, first_world, happens, member_at}
@@ -212,10 +212,10 @@ outputs_gained : (c : Counts) (stack : List LayerTree) (id k : ℕ) (outs : List
 outputs_gained c stack id k [] = gained_nothing c
 outputs_gained c stack id k (o ∷ outs) =
     let own = output_lines stack id k o.0 in
-    let rest = lines_of_outputs stack no_annex id (number_behind k o.0) outs in
+    let rest = lines_of_outputs stack no_annex id (number_following k o.0) outs in
     let one = cond (is_short_packet o) 1 0 in
     let others = count_by is_short_packet outs in
-    outputs_gained (output_counted c o) stack id (number_behind k o.0) outs
+    outputs_gained (output_counted c o) stack id (number_following k o.0) outs
     ∙ ap (λ d. gained d rest others 0) (output_gained c stack id k o.0 o.1)
     ∙ gained_both c own rest one others 0 0
     ∙ ap (λ lines. gained c (lines ++ rest) (one + others) 0) (sym (append-nil own))

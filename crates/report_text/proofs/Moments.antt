@@ -4,11 +4,11 @@ use Rattle.std.proofs.Common.{Some}
 use Rattle.std.specs.Prelude.{option_to_list}
 use Rattle.run_mean.specs.Mode.{Mode}
 use Rattle.layer_mean.specs.Tree.{LayerTree}
-use Rattle.run_mean.specs.Common.{as_sent, plan_behind, short_from, with_plans}
+use Rattle.run_mean.specs.Common.{as_sent, plan_after, short_from, with_plans}
 use Rattle.run_mean.specs.Lines.{refused_line}
 use Rattle.run_mean.specs.Member.{Member, Output, Step, inside, out}
 use Rattle.run_mean.specs.Report.{Moment, first_number, installed_line, lines_of, lines_of_outputs, member_lines}
-use Rattle.run_mean.specs.Report.{mode_if, moment_lines, no_annex, number_behind, output_lines, step_lines}
+use Rattle.run_mean.specs.Report.{mode_if, moment_lines, no_annex, number_following, output_lines, step_lines}
 use Rattle.run_mean.specs.World as world
 use Rattle.run_mean.specs.World.{member_at}
 use Rattle.script_mean.specs.Event.{member_of}
@@ -34,7 +34,7 @@ plain_lines : (stack : List LayerTree) (plans : List Plan) (a b : Option ℕ) (i
     lines_of_outputs stack no_annex id first (with_plans plans b outputs)
 plain_lines stack plans a b id first [] = refl
 plain_lines stack plans a b id first (o ∷ outputs) = ap (λ rest. output_lines stack id first o ++ [] ++ rest)
-    (plain_lines stack plans (plan_behind a o) (plan_behind b o) id (number_behind first o) outputs)
+    (plain_lines stack plans (plan_after a o) (plan_after b o) id (number_following first o) outputs)
 
 outputs_told : (mode : Mode) (stack : List LayerTree) (plans : List Plan) (wire : Bool) (id first : ℕ) (s : Step) →
     lines_of_outputs stack (annex_of wire plans) id first (as_sent mode stack plans s) ≡

@@ -7,7 +7,7 @@ use Rattle.std.specs.Prelude.{slice_get, Err}
 use Rattle.layer_mean.specs.Tree.{LayerTree}
 use Rattle.outside.specs.declared.sink.SinkError.{SinkError}
 use Rattle.run_mean.specs.Member.{Output}
-use Rattle.run_mean.specs.Report.{Annex, lines_of_outputs, output_lines, number_behind}
+use Rattle.run_mean.specs.Report.{Annex, lines_of_outputs, output_lines, number_following}
 use Rattle.outside.specs.Lines.{Gains, Wrote}
 use Rattle.outside.specs.Tells.{Tells}
 use Rattle.outside.proofs.Gaining.{gains_then, cut_short}
@@ -19,15 +19,15 @@ pub lines_append : (stack : List LayerTree) (annex : Annex) (id k : ℕ) (xs ys 
 lines_append stack annex id k [] ys = refl
 lines_append stack annex id k (o ∷ xs) ys =
     ap (λ rest. output_lines stack id k o.0 ++ annex k o ++ rest)
-    (lines_append stack annex id (number_behind k o.0) xs ys)
+    (lines_append stack annex id (number_following k o.0) xs ys)
     ∙ sym (append_assoc (output_lines stack id k o.0 ++ annex k o)
-    (lines_of_outputs stack annex id (number_behind k o.0) xs)
-    (lines_of_outputs stack annex id (number_after (number_behind k o.0) xs) ys))
+    (lines_of_outputs stack annex id (number_following k o.0) xs)
+    (lines_of_outputs stack annex id (number_after (number_following k o.0) xs) ys))
 
 after_append : (k : ℕ) (xs ys : List (Output × Option ℕ)) →
     number_after k (xs ++ ys) ≡ number_after (number_after k xs) ys
 after_append k [] ys = refl
-after_append k (o ∷ xs) ys = after_append (number_behind k o.0) xs ys
+after_append k (o ∷ xs) ys = after_append (number_following k o.0) xs ys
 
 -- the outputs up to and with number i
 outputs_more : (outs : List (Output × Option ℕ)) (i : ℕ) (o : Output × Option ℕ) → i < length outs →
@@ -38,10 +38,10 @@ outputs_more outs i o lt is = take_more outs i o lt ∙
 
 pub number_more : (outs : List (Output × Option ℕ)) (first i k next : ℕ) (o : Output × Option ℕ) →
     k ≡ number_after first (take i outs) →
-    next ≡ number_behind k o.0 → i < length outs → slice_get outs i ≡ Some o →
+    next ≡ number_following k o.0 → i < length outs → slice_get outs i ≡ Some o →
     next ≡ number_after first (take (i + 1) outs)
 number_more outs first i k next o ek en lt is =
-    en ∙ ap (λ n. number_behind n o.0) ek ∙
+    en ∙ ap (λ n. number_following n o.0) ek ∙
     sym (ap (number_after first) (outputs_more outs i o lt is) ∙ after_append first (take i outs) (o ∷ []))
 
 -- the lines of the outputs up to and with number i

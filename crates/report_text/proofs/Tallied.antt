@@ -26,9 +26,9 @@ ten_parts a b c d e f g h i j = simp append_assoc
 four_parts : (a b c d e f : List ℕ) → a ++ (b ++ (c ++ (d ++ (e ++ f)))) ≡ (a ++ (b ++ (c ++ (d ++ e)))) ++ f
 four_parts a b c d e f = sym (simp append_assoc)
 
-behind_count : (word : List ℕ) (n : ℕ) (a b : List ℕ) → a ≡ b ++ codes "\n" →
+after_count : (word : List ℕ) (n : ℕ) (a b : List ℕ) → a ≡ b ++ codes "\n" →
     count_text word n ++ a ≡ (word ++ (codes " " ++ (decimal n ++ (codes " " ++ b)))) ++ codes "\n"
-behind_count word n a b same =
+after_count word n a b same =
     count_then word n a ∙ ap (λ rest. word ++ (codes " " ++ (decimal n ++ (codes " " ++ rest)))) same
     ∙ four_parts word (codes " ") (decimal n) (codes " ") b (codes "\n")
 
@@ -44,12 +44,12 @@ kinds_joined c = ten_parts (count_text (codes "deliver") c.deliver) (count_text 
     (count_text (codes "block") c.block) (count_text (codes "announce") c.announce) (count_text (codes "view") c.view)
     (count_text (codes "out") c.out) (count_text (codes "refused") c.refused) (count_text (codes "absent") c.absent)
     (end_line c.events)
-    ∙ behind_count (codes "deliver") c.deliver _ _
-    (behind_count (codes "packet") c.packet _ _ (behind_count (codes "timer") c.timer _ _
-    (behind_count (codes "block") c.block _ _
-    (behind_count (codes "announce") c.announce _ _ (behind_count (codes "view") c.view _ _
-    (behind_count (codes "out") c.out _ _
-    (behind_count (codes "refused") c.refused _ _ (behind_count (codes "absent") c.absent _
+    ∙ after_count (codes "deliver") c.deliver _ _
+    (after_count (codes "packet") c.packet _ _ (after_count (codes "timer") c.timer _ _
+    (after_count (codes "block") c.block _ _
+    (after_count (codes "announce") c.announce _ _ (after_count (codes "view") c.view _ _
+    (after_count (codes "out") c.out _ _
+    (after_count (codes "refused") c.refused _ _ (after_count (codes "absent") c.absent _
     (join_by (λ word. word) (codes " ") (codes "end" ∷ decimal c.events ∷ [])) refl))))))))
 
 pub counted_more : (c : Counts) (outs : List (Output × Option ℕ)) (i : ℕ) (o : Output × Option ℕ) (now next : Counts) →

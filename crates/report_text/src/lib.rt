@@ -17,7 +17,7 @@ pub use counts::Counts;
 pub use event::{write_change, write_end, write_event, write_refusal, write_visits};
 pub use laws::{counted_is_the_tally, counted_with_the_moment, told_is_the_moment};
 pub use manner::{Issuer, Manner, Outcome};
-pub use output::{number_behind, put_output};
+pub use output::{number_following, put_output};
 pub use pen::Pen;
 pub use tally::{Tally, write_tally};
 pub use wire::spell;

@@ -5,7 +5,7 @@ ghost use Rattle.event_graph.specs.Answer.{stack_tree};
 ghost use Rattle.packet_full.specs.Sent.{sent_packet};
 ghost use Rattle.run_mean.specs.Common.{wire};
 ghost use Rattle.run_mean.specs.Lines as report;
-ghost use Rattle.run_mean.specs.Report.{lines_of_outputs, number_behind, output_lines, wire_annex};
+ghost use Rattle.run_mean.specs.Report.{lines_of_outputs, number_following, output_lines, wire_annex};
 ghost use Rattle.outside.specs.Lines.{Wrote};
 ghost use Rattle.outside.specs.Tells.{tells_of};
 ghost use Rattle.step_outputs.specs.Views.{output_meant};
@@ -144,9 +144,9 @@ fn write_output<O: Sink>(
 }
 
 /// The number of the next packet after an output: one more after a packet, and after all others the same.
-pub fn number_behind(_here: &Here, number: u64, output: &OutputView<'_>) -> u64
+pub fn number_following(_here: &Here, number: u64, output: &OutputView<'_>) -> u64
     requires { number + 1 < 2 ^ 64 }
-    ensures is { result ≡ number_behind number (output_meant _here.now output.now).0 }
+    ensures is { result ≡ number_following number (output_meant _here.now output.now).0 }
     ensures few { result ≤ number + 1 }
 {
     match output {
@@ -178,7 +178,7 @@ pub(crate) fn write_outputs<O: Sink>(
             number,
         };
         write_output(pen, manner, issuer, &output, out)?;
-        number = number_behind(&here, number, &output);
+        number = number_following(&here, number, &output);
     }
     Ok(())
 }

@@ -6,7 +6,7 @@ use Rattle.std.proofs.lemmas.Bool.{eqb-true}
 use Rattle.std.proofs.lemmas.Bool.Decides.{nat_tests}
 use Rattle.std.proofs.lemmas.List.Folds.{list_any-append}
 use Rattle.audit_mean.specs.Segment.{Name, start, in_view, Entry, same_name, same_content}
-use Rattle.audit_mean.specs.Clash.{Lists, of_each_peer, whole, Placed, same_source, same_place, clashes, clashes_behind}
+use Rattle.audit_mean.specs.Clash.{Lists, of_each_peer, whole, Placed, same_source, same_place, clashes, clashes_after}
 use Rattle.audit_mean.specs.Clash.{lines_at}
 use Rattle.run_audit.specs.Entries.{entry_shown}
 use Rattle.run_audit.specs.Places.{placed_shown, source_of}
@@ -106,7 +106,7 @@ of_contents x y z = record {
 
 -- deliveries among which no two members disagree, and what is seen of them at each place
 pub record Agreed (lists : Lists) (seen : PlaceKey → Option Seen) (all : List Placed) : Type 0 where
-  pub none : clashes_behind lists [] all ≡ []
+  pub none : clashes_after lists [] all ≡ []
   pub known : (e : Placed) → list_any (clashes lists e) all ≡ disagrees (seen (place_key lists e)) e.entry
 
 keyed : (lists : Lists) (a b : Placed) → same_place_key (place_key lists a) (place_key lists b) ≡ same_place lists a b
@@ -217,7 +217,7 @@ pub clash_found : (lists : Lists) (f : PlaceKey → Option Seen) (placed : List 
     true ≡ disagrees seen (entry_shown (get_or placed i d).entry) → front ≡ take i placed →
     option_map (lines_at (placed_shown (get_or placed i d)))
     (find (clashes lists (placed_shown (get_or placed i d))) (map placed_shown front)) ≡
-    least (clashes_behind lists [] (map placed_shown placed))
+    least (clashes_after lists [] (map placed_shown placed))
 clash_found lists f placed i d key seen front inside order agreed key_is seen_is against front_is =
     let x : coded.Placed = get_or placed i d in
     let known : seen ≡ f (place_key lists (placed_shown x)) = seen_is ∙ ap f key_is in
@@ -229,9 +229,9 @@ clash_found lists f placed i d key seen front inside order agreed key_is seen_is
 
 -- no delivery disagrees
 pub no_clash : (lists : Lists) (f : PlaceKey → Option Seen) (placed : List coded.Placed) (i : ℕ) → length placed ≤ i →
-    Agreed lists f (map placed_shown (take i placed)) → None ≡ least (clashes_behind lists [] (map placed_shown placed))
+    Agreed lists f (map placed_shown (take i placed)) → None ≡ least (clashes_after lists [] (map placed_shown placed))
 no_clash lists f placed i past agreed =
-    sym (ap (λ xs. least (clashes_behind lists [] (map placed_shown xs))) (sym (take_all i placed past)) ∙
+    sym (ap (λ xs. least (clashes_after lists [] (map placed_shown xs))) (sym (take_all i placed past)) ∙
     ap least agreed.none)
 
 -- of a list that is gone through by an index, the first that passes

@@ -11,7 +11,7 @@ use Rattle.audit_mean.specs.Segment.{Entry, Name, start, in_view, same_name, sam
 use Rattle.audit_mean.specs.Clash.{Placed}
 use Rattle.run_audit.specs.Lacks.{Known, ended_shown, entries_in, exceeds, goes_with, is_other, lacks, lacks_of_one}
 use Rattle.run_audit.specs.Lacks.{lines_of_lack, ranked_shown}
-use Rattle.run_audit.specs.Marks.{IsClear, IsInLine, IsRanked, Marked, Rises, group_found, has, is_in_front, item_for}
+use Rattle.run_audit.specs.Marks.{IsClear, IsInLine, IsRanked, Marked, Rises, group_found, has, is_before, item_for}
 use Rattle.run_audit.specs.Marks.{item_found, lack_line, lacking, other_than, same_item, sooner, sooner_in, sooner_of}
 use Rattle.run_audit.specs.declared.contents.Ranked.{Ranked}
 use Rattle.run_audit.specs.declared.ended.Ended.{Ended}
@@ -24,30 +24,30 @@ use Rattle.run_audit.proofs.Counts.{both}
 use Rattle.run_audit.proofs.Lacking.{Reaches, OnlyBy, each, for_any, of_kept, kept_of, covered, only_by, others}
 
 -- a line doesn't stand after another
-abbrev pub NotBehind : Option ℕ → Option ℕ → Type 0
-NotBehind line None = Unit {0}
-NotBehind None (Some other) = ⊥
-NotBehind (Some line) (Some other) = line ≤ other
+abbrev pub NotAfter : Option ℕ → Option ℕ → Type 0
+NotAfter line None = Unit {0}
+NotAfter None (Some other) = ⊥
+NotAfter (Some line) (Some other) = line ≤ other
 
-in_turn : (a b c : Option ℕ) → NotBehind a b → NotBehind b c → NotBehind a c
+in_turn : (a b c : Option ℕ) → NotAfter a b → NotAfter b c → NotAfter a c
 in_turn a b None h k = tt
 in_turn a None (Some z) h k = absurd k
 in_turn None (Some y) (Some z) h k = absurd h
 in_turn (Some x) (Some y) (Some z) h k = omega (arith, h, k)
 
-itself : (a : Option ℕ) → NotBehind a a
+itself : (a : Option ℕ) → NotAfter a a
 itself None = tt
 itself (Some x) = omega arith
 
-pick : (x y : ℕ) → NotBehind (cond (nat_lt y x) (Some y) (Some x)) (Some x) ×
-    NotBehind (cond (nat_lt y x) (Some y) (Some x)) (Some y)
-pick x y = elim (nat_lt y x) as (λ t. nat_lt y x ≡ t → NotBehind (cond t (Some y) (Some x)) (Some x) ×
-    NotBehind (cond t (Some y) (Some x)) (Some y)) [
+pick : (x y : ℕ) → NotAfter (cond (nat_lt y x) (Some y) (Some x)) (Some x) ×
+    NotAfter (cond (nat_lt y x) (Some y) (Some x)) (Some y)
+pick x y = elim (nat_lt y x) as (λ t. nat_lt y x ≡ t → NotAfter (cond t (Some y) (Some x)) (Some x) ×
+    NotAfter (cond t (Some y) (Some x)) (Some y)) [
       | true ↦ λ e. let below : y < x = grind (arith, nat_tests) in (omega arith, omega arith)
       | false ↦ λ e. let above : x ≤ y = grind (arith, nat_tests) in (omega arith, omega arith)
     ] refl
 
-soonest : (a b : Option ℕ) → NotBehind (sooner a b) a × NotBehind (sooner a b) b
+soonest : (a b : Option ℕ) → NotAfter (sooner a b) a × NotAfter (sooner a b) b
 soonest None b = (tt, itself b)
 soonest (Some x) None = (omega arith, tt)
 soonest (Some x) (Some y) = pick x y
@@ -55,8 +55,8 @@ soonest (Some x) (Some y) = pick x y
 module _ (items : Item → Option Mark) (groups : Way → Option Group) where
   -- the first of the lines that a segment shows
   shown_lines : (way : Way) (found : Option ℕ) (ds : List Ranked) →
-      NotBehind (fold (sooner_of items groups way) found ds) found ×
-      AllByRecursion (λ r. NotBehind (fold (sooner_of items groups way) found ds)
+      NotAfter (fold (sooner_of items groups way) found ds) found ×
+      AllByRecursion (λ r. NotAfter (fold (sooner_of items groups way) found ds)
       (lack_line (items (item_for way r)) (groups way))) ds
   shown_lines way found [] = (itself found, tt)
   shown_lines way found (d ∷ ds) =
@@ -68,9 +68,9 @@ module _ (items : Item → Option Mark) (groups : Way → Option Group) where
       )
 
   -- and that all segments show
-  all_lines : (found : Option ℕ) (es : List Ended) → NotBehind (fold (sooner_in items groups) found es) found ×
+  all_lines : (found : Option ℕ) (es : List Ended) → NotAfter (fold (sooner_in items groups) found es) found ×
       AllByRecursion (λ e. AllByRecursion
-      (λ r. NotBehind (fold (sooner_in items groups) found es) (lack_line (items (item_for e.way r)) (groups e.way)))
+      (λ r. NotAfter (fold (sooner_in items groups) found es) (lack_line (items (item_for e.way r)) (groups e.way)))
       e.deliveries.items) es
   all_lines found [] = (itself found, tt)
   all_lines found (e ∷ es) =
@@ -98,7 +98,7 @@ all_folded f a found xs i past so_far = so_far ∙ ap (fold f a) (take_all i xs 
 
 -- no line of a lack in a segment's group stands before this
 abbrev Shown : Option ℕ → List Known → Known → Type 0
-Shown line group other = AllByRecursion (λ p. NotBehind line (lack_line (item_found p group) (group_found group)))
+Shown line group other = AllByRecursion (λ p. NotAfter line (lack_line (item_found p group) (group_found group)))
     other.deliveries
 
 mapped : {X Y : Type 0} (P : Y → Type 0) (f : X → Y) (xs : List X) → AllByRecursion (λ x. P (f x)) xs →
@@ -109,13 +109,13 @@ mapped P f (x ∷ xs) all = (all.0, mapped P f xs all.1)
 -- the lines that the code compares are those of the lists
 shown_of : (items : Item → Option Mark) (groups : Way → Option Group) (all : List Known) (line : Option ℕ)
     (es : List Ended) → Marked items groups all →
-    AllByRecursion (λ e. AllByRecursion (λ r. NotBehind line (lack_line (items (item_for e.way r)) (groups e.way)))
+    AllByRecursion (λ e. AllByRecursion (λ r. NotAfter line (lack_line (items (item_for e.way r)) (groups e.way)))
     e.deliveries.items) es → AllByRecursion (λ one. Shown line (filter (goes_with one) all) one) (map ended_shown es)
-shown_of items groups all line es marked behind =
+shown_of items groups all line es marked following =
     mapped _ ended_shown es
     (each (λ e h. mapped _ ranked_shown e.deliveries.items
-    (each (λ r k. subst (λ o. NotBehind line o) (λ i. lack_line (marked.of_items e.way r i) (marked.of_groups e.way i))
-    k) e.deliveries.items h)) es behind)
+    (each (λ r k. subst (λ o. NotAfter line o) (λ i. lack_line (marked.of_items e.way r i) (marked.of_groups e.way i))
+    k) e.deliveries.items h)) es following)
 
 -- what an item that one segment has and another has not tells
 lack_reached : (mark : Option Mark) (group : Option Group) (one other : Known) → Reaches (lacking mark group) one.line →
@@ -130,13 +130,13 @@ lack_reached (Some mark) group one other lacks only parted differ =
       | false ↦ λ e. parted mark.member (λ is. differ (is ∙ sym (only e refl)))
     ] refl
 
-no_lack_in_front : (line first : Option ℕ) (at : ℕ) → is_in_front at line ≡ true → NotBehind line first →
+no_lack_before : (line first : Option ℕ) (at : ℕ) → is_before at line ≡ true → NotAfter line first →
     Reaches first at → ⊥
-no_lack_in_front line None at front behind reaches = reaches
-no_lack_in_front None (Some first) at front behind reaches = behind
-no_lack_in_front (Some line) (Some first) at front behind reaches =
+no_lack_before line None at front following reaches = reaches
+no_lack_before None (Some first) at front following reaches = following
+no_lack_before (Some line) (Some first) at front following reaches =
     let below : at < line = grind (arith, nat_tests) in
-    omega (arith, behind, reaches)
+    omega (arith, following, reaches)
 
 same_self : (bytes : List ℕ) → bytes_eq bytes bytes ≡ true
 same_self [] = refl
@@ -215,7 +215,7 @@ parted_members : (m n : ℕ) → not (m == n) ≡ true → m ≡ n → ⊥
 parted_members m n h e = grind (arith, nat_tests)
 
 -- a segment in front lacks nothing of one in its group
-nothing_of : (line : Option ℕ) (group : List Known) (one other : Known) → is_in_front one.line line ≡ true →
+nothing_of : (line : Option ℕ) (group : List Known) (one other : Known) → is_before one.line line ≡ true →
     Stands group one → IsRanked one → Stands group other → Shown line group other → is_other one other ≡ true →
     lacks one other ≡ []
 nothing_of line group one other front stands ranked there shown apart =
@@ -223,15 +223,15 @@ nothing_of line group one other front stands ranked there shown apart =
     (each (λ p h. by_test p h.0 h.1 (has p one) refl) other.deliveries
     (both_each _ _ other.deliveries shown (has_own other.deliveries [] other refl))))
   where
-    by_test : (p : Placed) → NotBehind line (lack_line (item_found p group) (group_found group)) → has p other ≡ true →
+    by_test : (p : Placed) → NotAfter line (lack_line (item_found p group) (group_found group)) → has p other ≡ true →
         (t : Bool) → has p one ≡ t → exceeds (entries_in one) p ≡ false
-    by_test p behind its true e = enough one p ranked e
-    by_test p behind its false e =
-        absurd (no_lack_in_front line (lack_line (item_found p group) (group_found group)) one.line front behind
+    by_test p following its true e = enough one p ranked e
+    by_test p following its false e =
+        absurd (no_lack_before line (lack_line (item_found p group) (group_found group)) one.line front following
         (lack_reached (item_found p group) (group_found group) one other (stands.lacks p e) (rw its at (there.only p))
         stands.parted (parted_members one.member other.member apart)))
 
-nothing_of_all : (line : Option ℕ) (group : List Known) (one : Known) → is_in_front one.line line ≡ true →
+nothing_of_all : (line : Option ℕ) (group : List Known) (one : Known) → is_before one.line line ≡ true →
     Stands group one → IsRanked one → (rest : List Known) →
     AllByRecursion (λ other. Stands group other × Shown line group other) rest → lacks_of_one one rest ≡ []
 nothing_of_all line group one front stands ranked [] all = refl

@@ -7,7 +7,7 @@ use Rattle.std.proofs.lemmas.Bool.{eqb-true}
 use Rattle.std.proofs.lemmas.List.{append-nil, map-append, length-map, length-take, map_more, take_all}
 use Rattle.std.proofs.lemmas.List.Sums.{fold-append, count_by-le-length}
 use Rattle.audit_mean.specs.Segment.{Entry}
-use Rattle.audit_mean.specs.Clash.{Lists, of_each_peer, whole, same_list, placed_behind}
+use Rattle.audit_mean.specs.Clash.{Lists, of_each_peer, whole, same_list, placed_after}
 use Rattle.run_audit.specs.Entries.{entry_shown}
 use Rattle.run_audit.specs.Places.{Lengthens, list_key, same_key, placed_shown}
 use Rattle.run_audit.specs.declared.segments.Entry as code
@@ -60,7 +60,7 @@ counted_on lists f g before x counted updates e =
 
 -- the places with one more delivery
 pub placed_more : (lists : Lists) (before entries : List Entry) (x : Entry) →
-    placed_behind lists before (entries ++ x ∷ []) ≡ placed_behind lists before entries ++
+    placed_after lists before (entries ++ x ∷ []) ≡ placed_after lists before entries ++
     record { entry = x; place = count_by (λ b. same_list lists b x) (before ++ entries) } ∷ []
 placed_more lists before [] x = rw (append-nil before) refl
 placed_more lists before (e ∷ entries) x =
@@ -69,7 +69,7 @@ placed_more lists before (e ∷ entries) x =
 -- the deliveries placed so far, and the lengths of the lists after them
 pub record IsPlaced (lists : Lists) (lengths : ListKey → Option ℕ) (done : List coded.Placed) (entries : List Entry) :
     Type 0 where
-  pub placed : map placed_shown done ≡ placed_behind lists [] entries
+  pub placed : map placed_shown done ≡ placed_after lists [] entries
   pub counted : (e : Entry) → unwrap_or (lengths (list_key lists e)) 0 ≡ count_by (λ b. same_list lists b e) entries
 
 pub places_on : (lists : Lists) (f g : ListKey → Option ℕ) (done : List coded.Placed) (place : ℕ)
@@ -90,8 +90,8 @@ places_on lists f g done place entries i entry inside so_far here longer =
 
 pub all_placed : (lists : Lists) (f : ListKey → Option ℕ) (done : List coded.Placed) (entries : List code.Entry)
     (i : ℕ) → length entries ≤ i → IsPlaced lists f done (map entry_shown (take i entries)) →
-    map placed_shown done ≡ placed_behind lists [] (map entry_shown entries)
-all_placed lists f done entries i past so_far = so_far.placed ∙ ap (λ es. placed_behind lists [] (map entry_shown es))
+    map placed_shown done ≡ placed_after lists [] (map entry_shown entries)
+all_placed lists f done entries i past so_far = so_far.placed ∙ ap (λ es. placed_after lists [] (map entry_shown es))
     (take_all i entries past)
 
 -- no list is longer than the deliveries are many

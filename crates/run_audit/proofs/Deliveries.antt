@@ -7,7 +7,7 @@ use Rattle.std.proofs.lemmas.List.{append-nil, map-append, length-map, get_or-ma
 use Rattle.std.proofs.lemmas.List.{take_all}
 use Rattle.std.proofs.lemmas.List.FromFn.{get_or-enumerate_from, length-enumerate_from}
 use Rattle.std.proofs.lemmas.List.Sums.{fold-append}
-use Rattle.audit_mean.specs.Segment.{Numbered, first_segment, segment_next, entry_behind, entries_behind, entries_of}
+use Rattle.audit_mean.specs.Segment.{Numbered, first_segment, segment_next, entry_after, entries_after, entries_of}
 use Rattle.run_audit.specs.Reading.{shown_line}
 use Rattle.run_audit.specs.Entries.{Stands, numbered_lines, segment_shown, standing, entry_shown}
 use Rattle.run_audit.specs.declared.line.LineMeaning.{LineMeaning}
@@ -28,13 +28,13 @@ led_on old new before line stands next =
     rw (stands member below) (sym (fold-append (segment_next member) (Some first_segment) before (line ∷ [])))
 
 -- the deliveries with one more line
-pub one_more : (before lines : List Numbered) (line : Numbered) → entries_behind before (lines ++ line ∷ []) ≡
-    entries_behind before lines ++ option_to_list (entry_behind (before ++ lines) line)
-one_more before [] line = append-nil (option_to_list (entry_behind before line)) ∙ rw (append-nil before) refl
+pub one_more : (before lines : List Numbered) (line : Numbered) → entries_after before (lines ++ line ∷ []) ≡
+    entries_after before lines ++ option_to_list (entry_after (before ++ lines) line)
+one_more before [] line = append-nil (option_to_list (entry_after before line)) ∙ rw (append-nil before) refl
 one_more before (first ∷ lines) line =
     rw (one_more (before ++ first ∷ []) lines line, append_assoc before (first ∷ []) lines)
-    (sym (append_assoc (option_to_list (entry_behind before first)) (entries_behind (before ++ first ∷ []) lines)
-    (option_to_list (entry_behind (before ++ first ∷ lines) line))))
+    (sym (append_assoc (option_to_list (entry_after before first)) (entries_after (before ++ first ∷ []) lines)
+    (option_to_list (entry_after (before ++ first ∷ lines) line))))
 
 -- one more of the lines with their numbers
 pub numbered_more : (lines : List LineMeaning) (i : ℕ) (line d : LineMeaning) → i < length lines →
@@ -65,7 +65,7 @@ pub reads_on : (old new : Segments) (read : List Entry) (entry : Option Entry) (
     (line d : LineMeaning) → i < length lines → line ≡ get_or lines i d →
     Follows old read (take i (numbered_lines lines)) →
     ((before : List Numbered) → Stands old before → option_map entry_shown entry ≡
-    entry_behind before (i + 1, shown_line line)) →
+    entry_after before (i + 1, shown_line line)) →
     ((m : ℕ) → standing new m ≡ segment_next m (standing old m) (i + 1, shown_line line)) →
     Follows new (read ++ option_to_list entry) (take (i + 1) (numbered_lines lines))
 reads_on old new read entry lines i line d inside is follows entered advanced =

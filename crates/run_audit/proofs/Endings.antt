@@ -12,13 +12,13 @@ use Rattle.std.proofs.lemmas.List.FromFn.{length-enumerate_from}
 use Rattle.std.proofs.lemmas.List.Elements.{filter-append}
 use Rattle.std.proofs.lemmas.List.Sums.{fold-append}
 use Rattle.audit_mean.specs.Line.{ReportLine, deliver, view, out, end, visits, silent}
-use Rattle.audit_mean.specs.Segment.{Numbered, Segment, first_segment, segment_next, segment_behind, entry_behind}
+use Rattle.audit_mean.specs.Segment.{Numbered, Segment, first_segment, segment_next, segment_after, entry_after}
 use Rattle.audit_mean.specs.Segment.{entries_of}
 use Rattle.audit_mean.specs.Segment as spec
-use Rattle.audit_mean.specs.Lack.{ended_by, ended_behind, is_in}
+use Rattle.audit_mean.specs.Lack.{ended_by, ended_after, is_in}
 use Rattle.run_audit.specs.Reading.{shown_line}
 use Rattle.run_audit.specs.Entries.{Stands, numbered_lines, standing, entry_shown}
-use Rattle.run_audit.specs.Lacks.{Holds, ended_shown, held_behind, is_left, known_segment, list_at}
+use Rattle.run_audit.specs.Lacks.{Holds, ended_shown, held_after, is_left, known_segment, list_at}
 use Rattle.run_audit.specs.declared.line.LineMeaning.{LineMeaning}
 use Rattle.run_audit.specs.declared.segments.Segments.{Segments}
 use Rattle.run_audit.specs.declared.segments.Entry.{Entry}
@@ -28,7 +28,7 @@ use Rattle.run_audit.proofs.Lacking.{each}
 
 -- each segment after these lines, and each delivery in them, is of a segment that began before a line
 pub record Began (number : ℕ) (lines : List Numbered) : Type 0 where
-  pub segments : (member : ℕ) (segment : Segment) → segment_behind member lines ≡ Some segment → segment.began < number
+  pub segments : (member : ℕ) (segment : Segment) → segment_after member lines ≡ Some segment → segment.began < number
   pub entries : AllByRecursion (λ (e : spec.Entry). e.segment.began < number) (entries_of lines)
 
 -- the segments that ended so far, the segments after them, and the deliveries in these
@@ -37,23 +37,23 @@ pub record Leads (number : ℕ) (segments : Segments) (held : ℕ → Option (Ve
   pub stands : Stands segments lines
   pub holds : Holds held lines
   pub began : Began number lines
-  pub ended : map ended_shown all ≡ map known_segment (ended_behind [] lines)
+  pub ended : map ended_shown all ≡ map known_segment (ended_after [] lines)
 
 mapped : {X Y : Type 0} (f : X → Y) (o : Option X) → map f (option_to_list o) ≡ option_to_list (option_map f o)
 mapped f None = refl
 mapped f (Some x) = refl
 
 -- the segments that end with one more line
-ended_more : (before lines : List Numbered) (line : Numbered) → ended_behind before (lines ++ line ∷ []) ≡
-    ended_behind before lines ++ option_to_list (ended_by (before ++ lines) line)
+ended_more : (before lines : List Numbered) (line : Numbered) → ended_after before (lines ++ line ∷ []) ≡
+    ended_after before lines ++ option_to_list (ended_by (before ++ lines) line)
 ended_more before [] line = append-nil (option_to_list (ended_by before line)) ∙ rw (append-nil before) refl
 ended_more before (first ∷ lines) line =
     rw (ended_more (before ++ first ∷ []) lines line, append_assoc before (first ∷ []) lines)
-    (sym (append_assoc (option_to_list (ended_by before first)) (ended_behind (before ++ first ∷ []) lines)
+    (sym (append_assoc (option_to_list (ended_by before first)) (ended_after (before ++ first ∷ []) lines)
     (option_to_list (ended_by (before ++ first ∷ lines) line))))
 
-next_segment : (member : ℕ) (before : List Numbered) (line : Numbered) → segment_behind member (before ++ line ∷ []) ≡
-    segment_next member (segment_behind member before) line
+next_segment : (member : ℕ) (before : List Numbered) (line : Numbered) → segment_after member (before ++ line ∷ []) ≡
+    segment_next member (segment_after member before) line
 next_segment member before line = fold-append (segment_next member) (Some first_segment) before (line ∷ [])
 
 some_of : {A : Type 0} {a b : A} → Some a ≡ Some b → a ≡ b
@@ -73,28 +73,28 @@ began_on number before line began = record {
       subst (AllByRecursion (λ (e : spec.Entry). e.segment.began < number + 1))
       (sym (one_more [] before (number, line)))
       (joined (λ e. e.segment.began < number + 1) (entries_of before)
-      (option_to_list (entry_behind before (number, line)))
+      (option_to_list (entry_after before (number, line)))
       (each (λ e below. omega (arith, below)) (entries_of before) began.entries) (of_entry line));
 }
   where
-    as_before : (member : ℕ) (segment : Segment) → segment_behind member before ≡ Some segment →
+    as_before : (member : ℕ) (segment : Segment) → segment_after member before ≡ Some segment →
         segment.began < number + 1
     as_before member segment e = let below = began.segments member segment e in omega (arith, below)
 
     by_view : (t : Bool) (member ltime mask : ℕ) (segment : Segment) →
-        cond t (Some (record { name = spec.in_view ltime mask; began = number })) (segment_behind member before) ≡
+        cond t (Some (record { name = spec.in_view ltime mask; began = number })) (segment_after member before) ≡
         Some segment → segment.began < number + 1
     by_view true member ltime mask segment e = let at : number ≡ segment.began = ap (λ s. s.began) (some_of e) in
         omega (arith, at)
     by_view false member ltime mask segment e = as_before member segment e
 
-    by_out : (t : Bool) (member : ℕ) (segment : Segment) → cond t None (segment_behind member before) ≡ Some segment →
+    by_out : (t : Bool) (member : ℕ) (segment : Segment) → cond t None (segment_after member before) ≡ Some segment →
         segment.began < number + 1
     by_out true member segment e = absurd cc
     by_out false member segment e = as_before member segment e
 
     of_line : (l : ReportLine) (member : ℕ) (segment : Segment) →
-        segment_next member (segment_behind member before) (number, l) ≡ Some segment → segment.began < number + 1
+        segment_next member (segment_after member before) (number, l) ≡ Some segment → segment.began < number + 1
     of_line (deliver m peer body) member segment e = as_before member segment e
     of_line (view m ltime mask) member segment e = by_view (m == member) member ltime mask segment e
     of_line (out m) member segment e = by_out (m == member) member segment e
@@ -102,7 +102,7 @@ began_on number before line began = record {
     of_line visits member segment e = as_before member segment e
     of_line silent member segment e = as_before member segment e
 
-    of_segment : (member peer : ℕ) (body : List ℕ) (o : Option Segment) → segment_behind member before ≡ o →
+    of_segment : (member peer : ℕ) (body : List ℕ) (o : Option Segment) → segment_after member before ≡ o →
         AllByRecursion (λ (e : spec.Entry). e.segment.began < number + 1)
         (option_to_list (option_map
         (λ s. record { line = number; member = member; segment = s; peer = peer; body = body }) o))
@@ -111,8 +111,8 @@ began_on number before line began = record {
 
     of_entry : (l : ReportLine) →
         AllByRecursion (λ (e : spec.Entry). e.segment.began < number + 1)
-        (option_to_list (entry_behind before (number, l)))
-    of_entry (deliver member peer body) = of_segment member peer body (segment_behind member before) refl
+        (option_to_list (entry_after before (number, l)))
+    of_entry (deliver member peer body) = of_segment member peer body (segment_after member before) refl
     of_entry (view m ltime mask) = tt
     of_entry (out m) = tt
     of_entry end = tt
@@ -139,30 +139,30 @@ none_in member segment (e ∷ entries) all = by_test (none_in member segment ent
 -- the deliveries in each member's segment with one more line
 holds_on : (f g : ℕ → Option (Vec Entry Global)) (before : List Numbered) (number : ℕ) (line : ReportLine)
     (entry : Option Entry) → Holds f before → Began number before → option_map entry_shown entry ≡
-    entry_behind before (number, line) →
-    ((member : ℕ) → list_at (g member) ≡ held_behind entry line member (list_at (f member))) →
+    entry_after before (number, line) →
+    ((member : ℕ) → list_at (g member) ≡ held_after entry line member (list_at (f member))) →
     Holds g (before ++ (number, line) ∷ [])
 holds_on f g before number line entry holds began is held member segment e =
     ap (map entry_shown) (held member)
     ∙ of_line line entry is (sym (next_segment member before (number, line)) ∙ e)
     ∙ sym (filter-append (is_in member segment) (entries_of before)
-    (option_to_list (entry_behind before (number, line))))
+    (option_to_list (entry_after before (number, line))))
     ∙ ap (filter (is_in member segment)) (sym (one_more [] before (number, line)))
   where
     front : List spec.Entry
     front = filter (is_in member segment) (entries_of before)
 
-    as_before : segment_behind member before ≡ Some segment → map entry_shown (list_at (f member)) ≡ front ++ []
+    as_before : segment_after member before ≡ Some segment → map entry_shown (list_at (f member)) ≡ front ++ []
     as_before e = holds member segment e ∙ sym (append-nil front)
 
     no_entry : (entry : Option Entry) (l : ReportLine) → option_map entry_shown entry ≡ None →
         (map entry_shown (cond (is_left l member) [] (list_at (f member))) ≡ front ++ []) →
-        map entry_shown (held_behind entry l member (list_at (f member))) ≡ front ++ []
+        map entry_shown (held_after entry l member (list_at (f member))) ≡ front ++ []
     no_entry None l none h = h
     no_entry (Some x) l none h = absurd cc
 
     by_view : (t : Bool) (ltime mask : ℕ) →
-        cond t (Some (record { name = spec.in_view ltime mask; began = number })) (segment_behind member before) ≡
+        cond t (Some (record { name = spec.in_view ltime mask; began = number })) (segment_after member before) ≡
         Some segment → map entry_shown (cond t [] (list_at (f member))) ≡ front ++ []
     by_view true ltime mask e =
         let at : number ≡ segment.began = ap (λ s. s.began) (some_of e) in
@@ -172,41 +172,41 @@ holds_on f g before number line entry holds began is held member segment e =
         began.entries))
     by_view false ltime mask e = as_before e
 
-    by_out : (t : Bool) → cond t None (segment_behind member before) ≡ Some segment →
+    by_out : (t : Bool) → cond t None (segment_after member before) ≡ Some segment →
         map entry_shown (cond t [] (list_at (f member))) ≡ front ++ []
     by_out true e = absurd cc
     by_out false e = as_before e
 
-    of_segment : (m peer : ℕ) (body : List ℕ) (x : spec.Entry) (o : Option Segment) → segment_behind m before ≡ o →
+    of_segment : (m peer : ℕ) (body : List ℕ) (x : spec.Entry) (o : Option Segment) → segment_after m before ≡ o →
         option_map (λ s. record { line = number; member = m; segment = s; peer = peer; body = body }) o ≡ Some x →
-        segment_behind x.member before ≡ Some x.segment
+        segment_after x.member before ≡ Some x.segment
     of_segment m peer body x None e h = absurd cc
     of_segment m peer body x (Some s) e h =
         let same = some_of h in
-        ap (λ y. segment_behind y.member before) (sym same) ∙ e ∙ ap (λ y. Some y.segment) same
+        ap (λ y. segment_after y.member before) (sym same) ∙ e ∙ ap (λ y. Some y.segment) same
 
     same_began : (m : ℕ) → (m == m) ≡ true
     same_began m = grind (arith, nat_tests)
 
-    of_entry : (x : spec.Entry) → segment_behind member before ≡ Some segment → segment_behind x.member before ≡
+    of_entry : (x : spec.Entry) → segment_after member before ≡ Some segment → segment_after x.member before ≡
         Some x.segment → (t : Bool) → (x.member == member) ≡ t → is_in member segment x ≡ t
     of_entry x e h true same =
         let one : x.segment ≡ segment =
-        some_of (sym h ∙ ap (λ m. segment_behind m before) (eqb-true x.member member same) ∙ e) in
+        some_of (sym h ∙ ap (λ m. segment_after m before) (eqb-true x.member member same) ∙ e) in
         rw (same, one) (same_began segment.began)
     of_entry x e h false same = rw same refl
 
     delivered : (m peer : ℕ) (body : List ℕ) (entry : Option Entry) → option_map entry_shown entry ≡
-        entry_behind before (number, deliver m peer body) → segment_behind member before ≡ Some segment →
-        map entry_shown (held_behind entry (deliver m peer body) member (list_at (f member))) ≡ front ++
-        filter (is_in member segment) (option_to_list (entry_behind before (number, deliver m peer body)))
+        entry_after before (number, deliver m peer body) → segment_after member before ≡ Some segment →
+        map entry_shown (held_after entry (deliver m peer body) member (list_at (f member))) ≡ front ++
+        filter (is_in member segment) (option_to_list (entry_after before (number, deliver m peer body)))
     delivered m peer body None is e = as_before e ∙ ap (λ o. front ++ filter (is_in member segment) (option_to_list o))
         is
     delivered m peer body (Some x) is e =
         by_test (x.member == member) refl ∙ ap (λ o. front ++ filter (is_in member segment) (option_to_list o)) is
       where
-        here : segment_behind x.member before ≡ Some (entry_shown x).segment
-        here = of_segment m peer body (entry_shown x) (segment_behind m before) refl (sym is)
+        here : segment_after x.member before ≡ Some (entry_shown x).segment
+        here = of_segment m peer body (entry_shown x) (segment_after m before) refl (sym is)
 
         by_test : (t : Bool) → (x.member == member) ≡ t →
             map entry_shown (cond t (list_at (f member) ++ x ∷ []) (list_at (f member))) ≡ front ++
@@ -216,10 +216,10 @@ holds_on f g before number line entry holds began is held member segment e =
             (ap (λ xs. xs ++ entry_shown x ∷ []) (holds member segment e))
         by_test false same = rw (of_entry (entry_shown x) e here false same) (as_before e)
 
-    of_line : (l : ReportLine) (entry : Option Entry) → option_map entry_shown entry ≡ entry_behind before (number, l) →
-        segment_next member (segment_behind member before) (number, l) ≡ Some segment →
-        map entry_shown (held_behind entry l member (list_at (f member))) ≡ front ++
-        filter (is_in member segment) (option_to_list (entry_behind before (number, l)))
+    of_line : (l : ReportLine) (entry : Option Entry) → option_map entry_shown entry ≡ entry_after before (number, l) →
+        segment_next member (segment_after member before) (number, l) ≡ Some segment →
+        map entry_shown (held_after entry l member (list_at (f member))) ≡ front ++
+        filter (is_in member segment) (option_to_list (entry_after before (number, l)))
     of_line (deliver m peer body) entry is e = delivered m peer body entry is e
     of_line (view m ltime mask) entry is e = no_entry entry (view m ltime mask) is (by_view (m == member) ltime mask e)
     of_line (out m) entry is e = no_entry entry (out m) is (by_out (m == member) e)
@@ -249,8 +249,8 @@ pub leads_on : (old new : Segments) (f g : ℕ → Option (Vec Entry Global)) (a
     ((before : List Numbered) → Stands old before → Holds f before → option_map ended_shown ended ≡
     option_map known_segment (ended_by before (i + 1, shown_line line))) →
     ((before : List Numbered) → Stands old before → option_map entry_shown entry ≡
-    entry_behind before (i + 1, shown_line line)) →
-    ((member : ℕ) → list_at (g member) ≡ held_behind entry (shown_line line) member (list_at (f member))) →
+    entry_after before (i + 1, shown_line line)) →
+    ((member : ℕ) → list_at (g member) ≡ held_after entry (shown_line line) member (list_at (f member))) →
     ((m : ℕ) → standing new m ≡ segment_next m (standing old m) (i + 1, shown_line line)) →
     Leads (i + 1 + 1) new g (all ++ option_to_list ended) (take (i + 1) (numbered_lines lines))
 leads_on old new f g all ended entry lines i line d inside is leads ends entered held advanced =
@@ -266,7 +266,7 @@ leads_on old new f g all ended entry lines i line d inside is leads ends entered
           ∙ (λ j. leads.ended j ++
           (mapped ended_shown ended ∙ ap option_to_list (ends before leads.stands leads.holds) ∙
           sym (mapped known_segment (ended_by before read))) j)
-          ∙ sym (map-append known_segment (ended_behind [] before) (option_to_list (ended_by before read)))
+          ∙ sym (map-append known_segment (ended_after [] before) (option_to_list (ended_by before read)))
           ∙ ap (map known_segment) (sym (ended_more [] before read));
     }
 
@@ -274,8 +274,8 @@ leads_on old new f g all ended entry lines i line d inside is leads ends entered
 pub all_led : (number : ℕ) (segments : Segments) (held : ℕ → Option (Vec Entry Global)) (all : List Ended)
     (lines : List LineMeaning) (i : ℕ) → length lines ≤ i →
     Leads number segments held all (take i (numbered_lines lines)) →
-    map ended_shown all ≡ map known_segment (ended_behind [] (numbered_lines lines))
+    map ended_shown all ≡ map known_segment (ended_after [] (numbered_lines lines))
 all_led number segments held all lines i past leads =
     let numbers = length-enumerate_from 1 (map shown_line lines) in
     let mapped = length-map lines shown_line in
-    leads.ended ∙ ap (λ ls. map known_segment (ended_behind [] ls)) (take_all i (numbered_lines lines) (omega arith))
+    leads.ended ∙ ap (λ ls. map known_segment (ended_after [] ls)) (take_all i (numbered_lines lines) (omega arith))

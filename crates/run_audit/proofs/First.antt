@@ -11,7 +11,7 @@ use Rattle.audit_mean.specs.Clash.{Placed}
 use Rattle.audit_mean.specs.Finding.{comes_before, lesser, least}
 use Rattle.run_audit.specs.Lacks.{Known, all_lacks, ended_shown, first_of, goes_with, is_other, lacks, lacks_in}
 use Rattle.run_audit.specs.Lacks.{lacks_of_one, lines_of_lack}
-use Rattle.run_audit.specs.Marks.{IsClear, Rises, is_in_front}
+use Rattle.run_audit.specs.Marks.{IsClear, Rises, is_before}
 use Rattle.run_audit.specs.declared.ended.Ended.{Ended}
 use Rattle.run_audit.proofs.Surplus.{least-append, others_more}
 
@@ -85,13 +85,13 @@ at_place P (e ∷ ended) (suc i) d inside all = at_place P ended i d (omega (ari
 -- a segment before the line
 pub clear_further : (line : Option ℕ) (ended : List Ended) (i : ℕ) (d one : Ended) → i < length ended →
     one ≡ get_or ended i d → flat_map (lacks_in (map ended_shown ended)) (map ended_shown (take i ended)) ≡ [] →
-    IsClear line (map ended_shown ended) → is_in_front one.line line ≡ true →
+    IsClear line (map ended_shown ended) → is_before one.line line ≡ true →
     flat_map (lacks_in (map ended_shown ended)) (map ended_shown (take (i + 1) ended)) ≡ []
 clear_further line ended i d one inside at so_far clear front =
     flat_more (lacks_in (map ended_shown ended)) ended i d one inside at so_far
     (ap (λ e. lacks_in (map ended_shown ended) (ended_shown e)) at
-    ∙ at_place (λ o. is_in_front o.line line ≡ true → lacks_in (map ended_shown ended) o ≡ []) ended i d inside clear
-    (ap (λ e. is_in_front e.line line) (sym at) ∙ front))
+    ∙ at_place (λ o. is_before o.line line ≡ true → lacks_in (map ended_shown ended) o ≡ []) ended i d inside clear
+    (ap (λ e. is_before e.line line) (sym at) ∙ front))
 
 pub no_lack : (ended : List Ended) (i : ℕ) → length ended ≤ i →
     flat_map (lacks_in (map ended_shown ended)) (map ended_shown (take i ended)) ≡ [] →
@@ -104,8 +104,8 @@ no_lack ended i past none =
 abbrev At : ℕ → List (ℕ × ℕ) → Type 0
 At line xs = AllByRecursion (λ x. x.1 ≡ line) xs
 
-abbrev Behind : ℕ → List (ℕ × ℕ) → Type 0
-Behind line xs = AllByRecursion (λ x. line < x.1) xs
+abbrev After : ℕ → List (ℕ × ℕ) → Type 0
+After line xs = AllByRecursion (λ x. line < x.1) xs
 
 joined : (P : ℕ × ℕ → Type 0) (xs ys : List (ℕ × ℕ)) → AllByRecursion P xs → AllByRecursion P ys →
     AllByRecursion P (xs ++ ys)
@@ -121,17 +121,17 @@ of_one one [] = tt
 of_one one (other ∷ others) = joined (λ x. x.1 ≡ one.line) (lacks one other) (flat_map (lacks one) others)
     (of_line one.line _) (of_one one others)
 
-at_behind : (m n : ℕ) (xs : List (ℕ × ℕ)) → m < n → At n xs → Behind m xs
-at_behind m n [] below at = tt
-at_behind m n (x ∷ xs) below at = (omega (arith, at.0), at_behind m n xs below at.1)
+at_after : (m n : ℕ) (xs : List (ℕ × ℕ)) → m < n → At n xs → After m xs
+at_after m n [] below at = tt
+at_after m n (x ∷ xs) below at = (omega (arith, at.0), at_after m n xs below at.1)
 
 of_rest : (all : List Known) (line n : ℕ) (rest : List Known) → line ≤ n → Rises n rest →
-    Behind line (flat_map (lacks_in all) rest)
+    After line (flat_map (lacks_in all) rest)
 of_rest all line n [] le rises = tt
 of_rest all line n (one ∷ rest) le rises =
     let above : line < one.line = omega (arith, rises.0) in
     joined (λ x. line < x.1) (lacks_in all one) (flat_map (lacks_in all) rest)
-    (at_behind line one.line (lacks_in all one) above
+    (at_after line one.line (lacks_in all one) above
     (of_one one (filter (is_other one) (filter (goes_with one) all))))
     (of_rest all line one.line rest (omega arith) rises.1)
 
@@ -156,9 +156,9 @@ least_keeps P (y ∷ ys) all x e = through (λ z l. least_keeps P ys all.1 z l) 
     through rest (Some z) l e = chosen (comes_before z y) z (rest z l) e
 
 -- the first of two lists' least pairs, where the second's are after
-stays : (line : ℕ) (xs ys : List (ℕ × ℕ)) → At line xs → Behind line ys → is_some (least xs) ≡ true →
+stays : (line : ℕ) (xs ys : List (ℕ × ℕ)) → At line xs → After line ys → is_some (least xs) ≡ true →
     least (xs ++ ys) ≡ least xs
-stays line xs ys at behind some = least-append xs ys ∙ by_cases (least xs) (least ys) refl refl some
+stays line xs ys at following some = least-append xs ys ∙ by_cases (least xs) (least ys) refl refl some
   where
     later : (x y : ℕ × ℕ) → x.1 ≡ line → line < y.1 → comes_before y x ≡ false
     later x y a b = grind (arith, nat_tests)
@@ -167,7 +167,7 @@ stays line xs ys at behind some = least-append xs ys ∙ by_cases (least xs) (le
     by_cases None b e h s = absurd cc
     by_cases (Some x) None e h s = refl
     by_cases (Some x) (Some y) e h s =
-        rw (later x y (least_keeps (λ z. z.1 ≡ line) xs at x e) (least_keeps (λ z. line < z.1) ys behind y h)) refl
+        rw (later x y (least_keeps (λ z. z.1 ≡ line) xs at x e) (least_keeps (λ z. line < z.1) ys following y h)) refl
 
 rises_from : (n : ℕ) (xs : List Known) (one : Known) (rest : List Known) → Rises n (xs ++ one ∷ rest) →
     Rises one.line rest
@@ -184,7 +184,7 @@ lack_found ended i d one lack inside at rises so_far is some =
     is
     ∙ sym (stays one.line (lacks_in all now) (flat_map (lacks_in all) rest)
     (of_one now (filter (is_other now) (filter (goes_with now) all)))
-    (of_rest all one.line one.line rest (omega arith) behind) (ap is_some (sym is) ∙ some))
+    (of_rest all one.line one.line rest (omega arith) following) (ap is_some (sym is) ∙ some))
     ∙ ap (λ xs. least (xs ++ flat_map (lacks_in all) (now ∷ rest))) (sym so_far)
     ∙ ap least (sym (flat_map-append (lacks_in all) front (now ∷ rest)))
     ∙ ap (λ xs. least (flat_map (lacks_in all) xs)) (sym whole)
@@ -207,5 +207,5 @@ lack_found ended i d one lack inside at rises so_far is some =
         ap (λ xs. take i ended ++ xs) (drop-cons ended i d inside ∙ ap (λ e. e ∷ drop (suc i) ended) (sym at)))
         ∙ map-append ended_shown (take i ended) (one ∷ drop (suc i) ended)
 
-    behind : Rises one.line rest
-    behind = rises_from 0 front now rest (rw whole at rises)
+    following : Rises one.line rest
+    following = rises_from 0 front now rest (rw whole at rises)

@@ -6,9 +6,9 @@ use Rattle.std.specs.List.{AllByRecursion, enumerate_from}
 use Rattle.std.specs.Option.{option_to_list}
 use Rattle.std.proofs.lemmas.List.{append-nil}
 use Rattle.audit_mean.specs.Line.{ReportLine, deliver, view, out, end, visits, silent}
-use Rattle.audit_mean.specs.Segment.{Numbered, Name, in_view, Entry, Segment, same_content, segment_behind, entries_of}
-use Rattle.audit_mean.specs.Lack.{Ended, is_in, ended_by, ended_behind}
-use Rattle.run_audit.specs.Lacks.{known_segment, ranked_behind}
+use Rattle.audit_mean.specs.Segment.{Numbered, Name, in_view, Entry, Segment, same_content, segment_after, entries_of}
+use Rattle.audit_mean.specs.Lack.{Ended, is_in, ended_by, ended_after}
+use Rattle.run_audit.specs.Lacks.{known_segment, ranked_after}
 use Rattle.run_audit.specs.Marks.{IsInLine, IsRanked, Rises}
 use Rattle.run_audit.proofs.Clear.{content_self}
 use Rattle.run_audit.proofs.Counts.{count_more}
@@ -31,7 +31,7 @@ ended_of_line : (before : List Numbered) (number : ℕ) (line : ReportLine) →
 ended_of_line before number (deliver member peer body) = tt
 ended_of_line before number (view member ltime mask) =
     of_view number member (in_view ltime mask) (λ s. filter (is_in member s) (entries_of before))
-    (segment_behind member before)
+    (segment_after member before)
 ended_of_line before number (out member) = tt
 ended_of_line before number end = tt
 ended_of_line before number visits = tt
@@ -44,11 +44,11 @@ rises_with line number None (e ∷ rest) above is rises = (omega (arith, rises.0
 rises_with line number (Some e) rest above is rises = (omega (arith, is), rw is rises)
 
 ends_rising : (before : List Numbered) (line number : ℕ) (lines : List ReportLine) → line < number →
-    Rises line (map known_segment (ended_behind before (enumerate_from number lines)))
+    Rises line (map known_segment (ended_after before (enumerate_from number lines)))
 ends_rising before line number [] above = tt
 ends_rising before line number (l ∷ lines) above =
     rises_with line number (ended_by before (number, l))
-    (ended_behind (before ++ (number, l) ∷ []) (enumerate_from (number + 1) lines)) above
+    (ended_after (before ++ (number, l) ∷ []) (enumerate_from (number + 1) lines)) above
     (ended_of_line before number l)
     (ends_rising (before ++ (number, l) ∷ []) number (number + 1) lines (omega arith))
 
@@ -63,7 +63,7 @@ count_grows p xs (y ∷ ys) =
 
 ranked_few : (before entries : List Entry) →
     AllByRecursion (λ placed. placed.place < count_by (same_content placed.entry) (before ++ entries))
-    (ranked_behind before entries)
+    (ranked_after before entries)
 ranked_few before [] = tt
 ranked_few before (e ∷ entries) =
     let first : count_by (same_content e) (before ++ e ∷ []) ≡ count_by (same_content e) before + 1 =
@@ -74,18 +74,18 @@ ranked_few before (e ∷ entries) =
     let whole = ap (count_by (same_content e)) all in (
       omega (arith, first, more, whole),
       each (λ p less. subst (λ es. p.place < count_by (same_content p.entry) es) all less)
-          (ranked_behind (before ++ e ∷ []) entries) (ranked_few (before ++ e ∷ []) entries),
+          (ranked_after (before ++ e ∷ []) entries) (ranked_few (before ++ e ∷ []) entries),
     )
 
 all_ranked : (ends : List Ended) → AllByRecursion IsRanked (map known_segment ends)
 all_ranked [] = tt
 all_ranked (one ∷ ends) = (
   subst (λ es. AllByRecursion (λ placed. placed.place < count_by (same_content placed.entry) es)
-      (ranked_behind [] one.entries)) (sym (entries_ranked [] one.entries)) (ranked_few [] one.entries),
+      (ranked_after [] one.entries)) (sym (entries_ranked [] one.entries)) (ranked_few [] one.entries),
   all_ranked ends,
 )
 
 -- the segments that the lines of a report end
-pub in_line : (lines : List ReportLine) → IsInLine (map known_segment (ended_behind [] (enumerate_from 1 lines)))
+pub in_line : (lines : List ReportLine) → IsInLine (map known_segment (ended_after [] (enumerate_from 1 lines)))
 in_line lines = record
-    { rises = ends_rising [] 0 1 lines (omega arith); ranked = all_ranked (ended_behind [] (enumerate_from 1 lines)) }
+    { rises = ends_rising [] 0 1 lines (omega arith); ranked = all_ranked (ended_after [] (enumerate_from 1 lines)) }

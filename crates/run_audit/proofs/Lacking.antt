@@ -123,19 +123,20 @@ pub covered : (p : Placed) (n : ℕ) (group : List Known) → Rises n group →
 covered p n [] rises = tt
 covered p n (one ∷ group) rises =
     let mark = item_found p group in
-    let behind = group_found group in
+    let following = group_found group in
     let above : Above one.line mark = found_above p one.line group rises.1 in
     elim (has p one) as (λ t. has p one ≡ t →
     AllByRecursion (λ o. has p o ≡ false →
-    Reaches (lacking (cond t (Some (mark_with mark behind one.member one.line)) mark)
-    (Some (group_with behind one.member one.line))) o.line) (one ∷ group)) [
+    Reaches (lacking (cond t (Some (mark_with mark following one.member one.line)) mark)
+    (Some (group_with following one.member one.line))) o.line) (one ∷ group)) [
       | true ↦ λ e. (
         λ h. absurd cc,
-        each (λ o r h. subst (λ line. Reaches line o.line) (sym (still_lacking mark behind one.member one.line above))
+        each (λ o r h. subst (λ line. Reaches line o.line)
+            (sym (still_lacking mark following one.member one.line above))
             (r h)) group (covered p one.line group rises.1),
       )
       | false ↦ λ e.
-          let now = sym (now_lacking mark behind one.member one.line above) in (
+          let now = sym (now_lacking mark following one.member one.line above) in (
             λ h. subst (λ line. Reaches line one.line) now (omega arith),
             each (λ o r h. subst (λ line. Reaches line o.line) now r) group
                 (reaches_all one.line one.line group (omega arith) rises.1),
@@ -181,15 +182,15 @@ pub only_by : (p : Placed) (n : ℕ) (group : List Known) → Rises n group →
 only_by p n [] rises = tt
 only_by p n (one ∷ group) rises =
     let mark = item_found p group in
-    let behind = group_found group in
+    let following = group_found group in
     let above : Above one.line mark = found_above p one.line group rises.1 in
     let rest = only_by p one.line group rises.1 in
     elim (has p one) as (λ t. has p one ≡ t →
-    AllByRecursion (λ o. OnlyBy (cond t (Some (mark_with mark behind one.member one.line)) mark) (has p o) o.member)
+    AllByRecursion (λ o. OnlyBy (cond t (Some (mark_with mark following one.member one.line)) mark) (has p o) o.member)
     (one ∷ group)) [
       | true ↦ λ e. (
-        first_only mark behind one.member one.line (has p one) above,
-        each (λ o only. still_only mark behind one.member one.line (has p o) o.member above only) group rest,
+        first_only mark following one.member one.line (has p one) above,
+        each (λ o only. still_only mark following one.member one.line (has p o) o.member above only) group rest,
       )
       | false ↦ λ e. (not_there mark (has p one) one.member e, rest)
     ] refl
@@ -199,13 +200,13 @@ pub others : (member n : ℕ) (group : List Known) → Rises n group →
     AllByRecursion (λ one. (one.member ≡ member → ⊥) → Reaches (other_than member (group_found group)) one.line) group
 others member n [] rises = tt
 others member n (one ∷ group) rises =
-    let behind = group_found group in
+    let following = group_found group in
     elim (one.member == member) as (λ t. (one.member == member) ≡ t →
     AllByRecursion (λ o. (o.member ≡ member → ⊥) →
-    Reaches (cond t (other_than one.member behind) (Some one.line)) o.line) (one ∷ group)) [
+    Reaches (cond t (other_than one.member following) (Some one.line)) o.line) (one ∷ group)) [
       | true ↦ λ e. (
         λ differ. absurd (differ (eqb-true one.member member e)),
-        each (λ o r differ. subst (λ m. Reaches (other_than m behind) o.line) (sym (eqb-true one.member member e))
+        each (λ o r differ. subst (λ m. Reaches (other_than m following) o.line) (sym (eqb-true one.member member e))
             (r differ)) group (others member one.line group rises.1),
       )
       | false ↦ λ e. (

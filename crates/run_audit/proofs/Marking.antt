@@ -67,28 +67,28 @@ item_keyed w way d r = λ i. same_way w way && (sym (turned_content r.entry d.en
 
 -- marks with those of some deliveries of one more segment
 abbrev pub IsMarkedBy : (old new : Item → Option Mark) → Option Group → Ended → List Ranked → Type 0
-IsMarkedBy old new behind one done = (way : Way) (r : Ranked) →
+IsMarkedBy old new following one done = (way : Way) (r : Ranked) →
     new (item_for way r) ≡ cond (same_way one.way way && list_any (same_item (ranked_shown r)) (map ranked_shown done))
-    (Some (mark_with (old (item_for way r)) behind one.member one.line)) (old (item_for way r))
+    (Some (mark_with (old (item_for way r)) following one.member one.line)) (old (item_for way r))
 
-twice : (mark : Option Mark) (behind : Option Group) (member line : ℕ) →
-    mark_with (Some (mark_with mark behind member line)) behind member line ≡ mark_with mark behind member line
-twice mark behind member line =
+twice : (mark : Option Mark) (following : Option Group) (member line : ℕ) →
+    mark_with (Some (mark_with mark following member line)) following member line ≡ mark_with mark following member line
+twice mark following member line =
     let same : (line == line) ≡ true = grind (arith, nat_tests) in
-    let guarded : ((mark_with mark behind member line).front == line) ≡ true =
-    ap (λ n. n == line) (front_marked mark behind member line) ∙ same in
+    let guarded : ((mark_with mark following member line).front == line) ≡ true =
+    ap (λ n. n == line) (front_marked mark following member line) ∙ same in
     rw guarded refl
 
-pub marked_on : (old f g : Item → Option Mark) (behind : Option Group) (one : Ended) (ds : List Ranked) (j : ℕ)
+pub marked_on : (old f g : Item → Option Mark) (following : Option Group) (one : Ended) (ds : List Ranked) (j : ℕ)
     (d : Ranked) (x : Item) (mark : Mark) → j < length ds → ((a b : Item) → same_item_key a b ≡ true → f a ≡ f b) →
-    IsMarkedBy old f behind one (take j ds) → x ≡ item_for one.way (get_or ds j d) →
-    mark ≡ mark_with (f x) behind one.member one.line →
+    IsMarkedBy old f following one (take j ds) → x ≡ item_for one.way (get_or ds j d) →
+    mark ≡ mark_with (f x) following one.member one.line →
     ((q : Item) → g q ≡ cond (same_item_key x q) (Some mark) (f q)) →
-    IsMarkedBy old g behind one (take (j + 1) ds)
-marked_on old f g behind one ds j d x mark inside steady so_far x_is mark_is updates way r =
+    IsMarkedBy old g following one (take (j + 1) ds)
+marked_on old f g following one ds j d x mark inside steady so_far x_is mark_is updates way r =
     updates (item_for way r)
     ∙ (λ i. cond (same_item_key x (item_for way r)) (Some (mark_is i)) (f (item_for way r)))
-    ∙ (λ i. cond (same_item_key x (item_for way r)) (Some (mark_with (f x) behind one.member one.line))
+    ∙ (λ i. cond (same_item_key x (item_for way r)) (Some (mark_with (f x) following one.member one.line))
     (so_far way r i))
     ∙ by_tests (same_way one.way way) there here keys (so_far way r)
     ∙ (λ i. cond (same_way one.way way && sym any_more i) (Some new) (old (item_for way r)))
@@ -103,7 +103,7 @@ marked_on old f g behind one ds j d x mark inside steady so_far x_is mark_is upd
     here = same_item (ranked_shown r) (ranked_shown now)
 
     new : Mark
-    new = mark_with (old (item_for way r)) behind one.member one.line
+    new = mark_with (old (item_for way r)) following one.member one.line
 
     keys : same_item_key x (item_for way r) ≡ (same_way one.way way && here)
     keys = ap (λ k. same_item_key k (item_for way r)) x_is ∙ item_keyed one.way way now r
@@ -114,28 +114,28 @@ marked_on old f g behind one ds j d x mark inside steady so_far x_is mark_is upd
 
     by_tests : (a l s : Bool) → same_item_key x (item_for way r) ≡ (a && s) →
         f (item_for way r) ≡ cond (a && l) (Some new) (old (item_for way r)) →
-        cond (same_item_key x (item_for way r)) (Some (mark_with (f x) behind one.member one.line))
+        cond (same_item_key x (item_for way r)) (Some (mark_with (f x) following one.member one.line))
         (cond (a && l) (Some new) (old (item_for way r))) ≡
         cond (a && (l || (s || false))) (Some new) (old (item_for way r))
     by_tests false l s k e = rw k refl
     by_tests true true true k e =
-        rw (k, steady x (item_for way r) k, e) (ap Some (twice (old (item_for way r)) behind one.member one.line))
+        rw (k, steady x (item_for way r) k, e) (ap Some (twice (old (item_for way r)) following one.member one.line))
     by_tests true true false k e = rw k refl
     by_tests true false true k e = rw (k, steady x (item_for way r) k, e) refl
     by_tests true false false k e = rw k refl
 
-pub all_marked : (old f : Item → Option Mark) (behind : Option Group) (one : Ended) (ds : List Ranked) (j : ℕ) →
-    length ds ≤ j → IsMarkedBy old f behind one (take j ds) → IsMarkedBy old f behind one ds
-all_marked old f behind one ds j past so_far = subst (IsMarkedBy old f behind one) (take_all j ds past) so_far
+pub all_marked : (old f : Item → Option Mark) (following : Option Group) (one : Ended) (ds : List Ranked) (j : ℕ) →
+    length ds ≤ j → IsMarkedBy old f following one (take j ds) → IsMarkedBy old f following one ds
+all_marked old f following one ds j past so_far = subst (IsMarkedBy old f following one) (take_all j ds past) so_far
 
 -- the segments with one more in front
 pub one_more : (items_old items_new : Item → Option Mark) (groups_old groups_new : Way → Option Group) (one : Ended)
-    (rest : List Known) (behind : Option Group) (group : Group) → Marked items_old groups_old rest →
-    behind ≡ groups_old one.way → group ≡ group_with behind one.member one.line →
-    IsMarkedBy items_old items_new behind one one.deliveries.items →
+    (rest : List Known) (following : Option Group) (group : Group) → Marked items_old groups_old rest →
+    following ≡ groups_old one.way → group ≡ group_with following one.member one.line →
+    IsMarkedBy items_old items_new following one one.deliveries.items →
     ((q : Way) → groups_new q ≡ cond (same_way one.way q) (Some group) (groups_old q)) →
     Marked items_new groups_new (ended_shown one ∷ rest)
-one_more items_old items_new groups_old groups_new one rest behind group marked_so_far behind_is group_is marks
+one_more items_old items_new groups_old groups_new one rest following group marked_so_far after_is group_is marks
     updates = record {
       of_items = λ way r. marks way r ∙ item_by way r (same_way one.way way) refl ∙
           (λ i. item_found (ranked_shown r)
@@ -145,8 +145,8 @@ one_more items_old items_new groups_old groups_new one rest behind group marked_
           (filter (goes way) rest)));
     }
   where
-    found : (way : Way) → same_way one.way way ≡ true → behind ≡ group_found (filter (goes way) rest)
-    found way same = behind_is ∙ marked_so_far.of_groups one.way ∙
+    found : (way : Way) → same_way one.way way ≡ true → following ≡ group_found (filter (goes way) rest)
+    found way same = after_is ∙ marked_so_far.of_groups one.way ∙
         ap (λ w. group_found (filter (goes w) rest)) (one_way one.way way same)
 
     group_by : (way : Way) (t : Bool) → same_way one.way way ≡ t → cond t (Some group) (groups_old way) ≡
@@ -156,7 +156,7 @@ one_more items_old items_new groups_old groups_new one rest behind group marked_
 
     item_by : (way : Way) (r : Ranked) (t : Bool) → same_way one.way way ≡ t →
         cond (t && list_any (same_item (ranked_shown r)) (map ranked_shown one.deliveries.items))
-        (Some (mark_with (items_old (item_for way r)) behind one.member one.line)) (items_old (item_for way r)) ≡
+        (Some (mark_with (items_old (item_for way r)) following one.member one.line)) (items_old (item_for way r)) ≡
         item_found (ranked_shown r) (cond t (ended_shown one ∷ filter (goes way) rest) (filter (goes way) rest))
     item_by way r true same = λ i. cond (list_any (same_item (ranked_shown r)) (map ranked_shown one.deliveries.items))
         (Some (mark_with (marked_so_far.of_items way r i) (found way same i) one.member one.line))
@@ -165,18 +165,19 @@ one_more items_old items_new groups_old groups_new one rest behind group marked_
 
 -- of the segments from the last on, one more
 pub marks_on : (items_old items_new : Item → Option Mark) (groups_old groups_new : Way → Option Group)
-    (ended : List Ended) (n i : ℕ) (d one : Ended) (behind : Option Group) (group : Group) → n ≡ suc i →
+    (ended : List Ended) (n i : ℕ) (d one : Ended) (following : Option Group) (group : Group) → n ≡ suc i →
     i < length ended → one ≡ get_or ended i d → Marked items_old groups_old (map ended_shown (drop n ended)) →
-    behind ≡ groups_old one.way → group ≡ group_with behind one.member one.line →
-    IsMarkedBy items_old items_new behind one one.deliveries.items →
+    following ≡ groups_old one.way → group ≡ group_with following one.member one.line →
+    IsMarkedBy items_old items_new following one one.deliveries.items →
     ((q : Way) → groups_new q ≡ cond (same_way one.way q) (Some group) (groups_old q)) →
     Marked items_new groups_new (map ended_shown (drop i ended))
-marks_on items_old items_new groups_old groups_new ended n i d one behind group next inside is so_far behind_is group_is
+marks_on items_old items_new groups_old groups_new ended n i d one following group next inside is so_far after_is
+    group_is
     marks updates =
     subst (λ es. Marked items_new groups_new (map ended_shown es))
     (sym (drop-cons ended i d inside ∙ ap (λ e. e ∷ drop (suc i) ended) (sym is)))
-    (one_more items_old items_new groups_old groups_new one (map ended_shown (drop (suc i) ended)) behind group
-    (subst (λ m. Marked items_old groups_old (map ended_shown (drop m ended))) next so_far) behind_is group_is marks
+    (one_more items_old items_new groups_old groups_new one (map ended_shown (drop (suc i) ended)) following group
+    (subst (λ m. Marked items_old groups_old (map ended_shown (drop m ended))) next so_far) after_is group_is marks
     updates)
 
 -- at first none is marked

@@ -10,7 +10,7 @@ use Rattle.std.proofs.lemmas.List.Sums.{count_by-le-length}
 use Rattle.audit_mean.specs.Segment as spec
 use Rattle.audit_mean.specs.Segment.{same_content}
 use Rattle.run_audit.specs.Entries.{entry_shown}
-use Rattle.run_audit.specs.Lacks.{Counts, OneMore, content_of, ranked_behind, ranked_shown, same_content_key}
+use Rattle.run_audit.specs.Lacks.{Counts, OneMore, content_of, ranked_after, ranked_shown, same_content_key}
 use Rattle.run_audit.specs.declared.segments.Entry.{Entry}
 use Rattle.run_audit.specs.declared.contents.Content.{Content}
 use Rattle.run_audit.specs.declared.contents.Ranked.{Ranked}
@@ -47,15 +47,15 @@ counts_on f g before x steady counts more e =
         ap (λ n. n + 1) (counts e)
     by_test false same = counts e ∙ omega arith
 
-ranked_more : (before entries : List spec.Entry) (x : spec.Entry) → ranked_behind before (entries ++ x ∷ []) ≡
-    ranked_behind before entries ++ record { entry = x; place = count_by (same_content x) (before ++ entries) } ∷ []
+ranked_more : (before entries : List spec.Entry) (x : spec.Entry) → ranked_after before (entries ++ x ∷ []) ≡
+    ranked_after before entries ++ record { entry = x; place = count_by (same_content x) (before ++ entries) } ∷ []
 ranked_more before [] x = rw (append-nil before) refl
 ranked_more before (e ∷ entries) x = rw (ranked_more (before ++ e ∷ []) entries x, append_assoc before (e ∷ []) entries)
     refl
 
 -- the deliveries ranked so far, and how often each content came
 pub record IsRanked (counts : Content → Option ℕ) (done : List Ranked) (entries : List spec.Entry) : Type 0 where
-  pub ranked : map ranked_shown done ≡ ranked_behind [] entries
+  pub ranked : map ranked_shown done ≡ ranked_after [] entries
   pub counted : Counts counts entries
 
 pub ranks_on : (f g : Content → Option ℕ) (done : List Ranked) (place : ℕ) (entries : List Entry) (i : ℕ)
@@ -75,9 +75,9 @@ ranks_on f g done place entries i entry inside steady so_far here more =
 
 pub all_ranked : (f : Content → Option ℕ) (done : List Ranked) (entries : List Entry) (i : ℕ) → length entries ≤ i →
     IsRanked f done (map entry_shown (take i entries)) →
-    map ranked_shown done ≡ ranked_behind [] (map entry_shown entries)
+    map ranked_shown done ≡ ranked_after [] (map entry_shown entries)
 all_ranked f done entries i past so_far = so_far.ranked ∙
-    ap (λ es. ranked_behind [] (map entry_shown es)) (take_all i entries past)
+    ap (λ es. ranked_after [] (map entry_shown es)) (take_all i entries past)
 
 -- no content comes more often than there are deliveries
 pub few_of : (f : Content → Option ℕ) (before : List spec.Entry) (e : Entry) → Counts f before →

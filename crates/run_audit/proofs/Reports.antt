@@ -6,7 +6,7 @@ use Rattle.std.proofs.lemmas.List.{length-take}
 use Rattle.std.proofs.lemmas.List.Sums.{count_by-le-length}
 use Rattle.std.proofs.lemmas.List.Splits.{length-slice_split}
 use Rattle.audit_mean.specs.Line.{ReportLine, line_said}
-use Rattle.audit_mean.specs.Report.{Stage, ◌>>=◌, stage_behind, running, report_from}
+use Rattle.audit_mean.specs.Report.{Stage, ◌>>=◌, stage_after, running, report_from}
 use Rattle.audit_mean.specs.Text.{lines_of, unended}
 
 -- the lines read so far, before what the others say
@@ -21,24 +21,24 @@ front_more front said (Err number) = refl
 
 -- with one more line read, those read and the others still are the whole
 pub goes_on : (front : List ReportLine) (stage next : Stage) (number : ℕ) (line : List ℕ) (said : ReportLine)
-    (all behind : List (List ℕ)) (whole : Result (List ReportLine) ℕ) → all ≡ line ∷ behind →
-    line_said line ≡ Some said → stage_behind stage said ≡ Some next → with_front front (report_from stage number all) ≡
-    whole → with_front (front ++ said ∷ []) (report_from next (number + 1) behind) ≡ whole
-goes_on front stage next number line said all behind whole split reads stands e =
-    front_more front said (report_from next (number + 1) behind) ∙ rw (split, reads, stands) at e
+    (all following : List (List ℕ)) (whole : Result (List ReportLine) ℕ) → all ≡ line ∷ following →
+    line_said line ≡ Some said → stage_after stage said ≡ Some next → with_front front (report_from stage number all) ≡
+    whole → with_front (front ++ said ∷ []) (report_from next (number + 1) following) ≡ whole
+goes_on front stage next number line said all following whole split reads stands e =
+    front_more front said (report_from next (number + 1) following) ∙ rw (split, reads, stands) at e
 
 -- a line that says nothing in form is the first fault
-pub no_line : (front : List ReportLine) (stage : Stage) (number : ℕ) (line : List ℕ) (all behind : List (List ℕ))
-    (whole : Result (List ReportLine) ℕ) → all ≡ line ∷ behind → line_said line ≡ None →
+pub no_line : (front : List ReportLine) (stage : Stage) (number : ℕ) (line : List ℕ) (all following : List (List ℕ))
+    (whole : Result (List ReportLine) ℕ) → all ≡ line ∷ following → line_said line ≡ None →
     with_front front (report_from stage number all) ≡ whole → whole ≡ Err number
-no_line front stage number line all behind whole split reads e = sym (rw (split, reads) at e)
+no_line front stage number line all following whole split reads e = sym (rw (split, reads) at e)
 
 -- and so is one out of place
 pub no_place : (front : List ReportLine) (stage : Stage) (number : ℕ) (line : List ℕ) (said : ReportLine)
-    (all behind : List (List ℕ)) (whole : Result (List ReportLine) ℕ) → all ≡ line ∷ behind →
-    line_said line ≡ Some said → stage_behind stage said ≡ None → with_front front (report_from stage number all) ≡
+    (all following : List (List ℕ)) (whole : Result (List ReportLine) ℕ) → all ≡ line ∷ following →
+    line_said line ≡ Some said → stage_after stage said ≡ None → with_front front (report_from stage number all) ≡
     whole → whole ≡ Err number
-no_place front stage number line said all behind whole split reads stands e = sym (rw (split, reads, stands) at e)
+no_place front stage number line said all following whole split reads stands e = sym (rw (split, reads, stands) at e)
 
 -- nothing in front changes nothing
 nothing : (whole : Result (List ReportLine) ℕ) → with_front [] whole ≡ whole

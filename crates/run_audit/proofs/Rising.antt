@@ -7,8 +7,8 @@ use Rattle.std.specs.Option.{option_to_list}
 use Rattle.std.proofs.lemmas.Bool.Decides.{nat_tests}
 use Rattle.std.proofs.lemmas.List.{append-nil}
 use Rattle.audit_mean.specs.Line.{ReportLine, deliver, view, out, end, visits, silent}
-use Rattle.audit_mean.specs.Segment.{Numbered, Entry, Segment, segment_behind, entry_behind, entries_behind}
-use Rattle.audit_mean.specs.Clash.{Lists, Placed, placed_behind, clashes, clashes_behind, lines_at}
+use Rattle.audit_mean.specs.Segment.{Numbered, Entry, Segment, segment_after, entry_after, entries_after}
+use Rattle.audit_mean.specs.Clash.{Lists, Placed, placed_after, clashes, clashes_after, lines_at}
 use Rattle.audit_mean.specs.Finding.{comes_before, lesser, least}
 use Rattle.run_audit.specs.Clashes.{IsInOrder}
 
@@ -22,28 +22,28 @@ none_before-append x [] zs a b = b
 none_before-append x (y ∷ ys) zs a b = (a.0, none_before-append x ys zs a.1 b)
 
 -- the first of pairs is the least where none of the others comes before it
-least_behind : (x : ℕ × ℕ) (ys : List (ℕ × ℕ)) → NoneBefore x ys → lesser x (least ys) ≡ x
-least_behind x [] none = refl
-least_behind x (y ∷ ys) none = through (least ys) (behind ys none.1)
+least_after : (x : ℕ × ℕ) (ys : List (ℕ × ℕ)) → NoneBefore x ys → lesser x (least ys) ≡ x
+least_after x [] none = refl
+least_after x (y ∷ ys) none = through (least ys) (following ys none.1)
   where
-    Behind : Option (ℕ × ℕ) → Type 0
-    Behind None = Unit {0}
-    Behind (Some z) = comes_before z x ≡ false
+    After : Option (ℕ × ℕ) → Type 0
+    After None = Unit {0}
+    After (Some z) = comes_before z x ≡ false
 
     chosen : (t : Bool) (y z : ℕ × ℕ) → comes_before y x ≡ false → comes_before z x ≡ false →
         comes_before (cond t z y) x ≡ false
     chosen true y z a b = b
     chosen false y z a b = a
 
-    one : (y : ℕ × ℕ) (o : Option (ℕ × ℕ)) → comes_before y x ≡ false → Behind o → comes_before (lesser y o) x ≡ false
+    one : (y : ℕ × ℕ) (o : Option (ℕ × ℕ)) → comes_before y x ≡ false → After o → comes_before (lesser y o) x ≡ false
     one y None a b = a
     one y (Some z) a b = chosen (comes_before z y) y z a b
 
-    behind : (zs : List (ℕ × ℕ)) → NoneBefore x zs → Behind (least zs)
-    behind [] none = tt
-    behind (z ∷ zs) none = one z (least zs) none.0 (behind zs none.1)
+    following : (zs : List (ℕ × ℕ)) → NoneBefore x zs → After (least zs)
+    following [] none = tt
+    following (z ∷ zs) none = one z (least zs) none.0 (following zs none.1)
 
-    through : (o : Option (ℕ × ℕ)) → Behind o → lesser x (Some (lesser y o)) ≡ x
+    through : (o : Option (ℕ × ℕ)) → After o → lesser x (Some (lesser y o)) ≡ x
     through o b = rw (one y o none.0 b) refl
 
 -- what is in order after one line is so after an earlier
@@ -53,11 +53,11 @@ earlier m n (x ∷ xs) le order = (omega arith, order.1)
 
 -- pairs whose second line is after another's come after it
 later : (lists : Lists) (a b : ℕ) (before rest : List Placed) → IsInOrder b rest →
-    NoneBefore (a, b) (clashes_behind lists before rest)
+    NoneBefore (a, b) (clashes_after lists before rest)
 later lists a b before [] order = tt
 later lists a b before (x ∷ rest) order =
     none_before-append (a, b) (map (lines_at x) (filter (clashes lists x) before))
-    (clashes_behind lists (before ++ x ∷ []) rest)
+    (clashes_after lists (before ++ x ∷ []) rest)
     (each (filter (clashes lists x) before))
     (later lists a b (before ++ x ∷ []) rest (earlier b x.entry.line rest (omega (arith, order.0)) order.1))
   where
@@ -74,16 +74,16 @@ pub record First (p : Placed → Bool) (b : Placed) (xs : List Placed) : Type 0 
   pub others : List Placed
   pub found : find p xs ≡ Some first
   pub kept : filter p xs ≡ first ∷ others
-  pub behind : NoneBefore (lines_at b first) (map (lines_at b) others)
+  pub following : NoneBefore (lines_at b first) (map (lines_at b) others)
 
 same_end : (m n b : ℕ) → n < m → comes_before (m, b) (n, b) ≡ false
 same_end m n b above = grind (arith, nat_tests)
 
-all_behind : (p : Placed → Bool) (b x : Placed) (xs : List Placed) → IsInOrder x.entry.line xs →
+all_after : (p : Placed → Bool) (b x : Placed) (xs : List Placed) → IsInOrder x.entry.line xs →
     NoneBefore (lines_at b x) (map (lines_at b) (filter p xs))
-all_behind p b x [] order = tt
-all_behind p b x (y ∷ ys) order =
-    let rest = all_behind p b x ys (earlier x.entry.line y.entry.line ys (omega (arith, order.0)) order.1) in
+all_after p b x [] order = tt
+all_after p b x (y ∷ ys) order =
+    let rest = all_after p b x ys (earlier x.entry.line y.entry.line ys (omega (arith, order.0)) order.1) in
     elim (p y) as (λ t. NoneBefore (lines_at b x) (map (lines_at b) (cond t (y ∷ filter p ys) (filter p ys)))) [
       | true ↦ (same_end y.entry.line x.entry.line b.entry.line order.0, rest)
       | false ↦ rest
@@ -99,8 +99,8 @@ first_of_those p b n (x ∷ xs) order some =
         others = filter p xs;
         found = rw e refl;
         kept = rw e refl;
-        behind =
-            all_behind p b x xs order.1;
+        following =
+            all_after p b x xs order.1;
       }
       | false ↦ λ e.
           let rest = first_of_those p b x.entry.line xs order.1 (rw e at some) in
@@ -109,8 +109,8 @@ first_of_those p b n (x ∷ xs) order some =
             others = rest.others;
             found = rw e rest.found;
             kept = rw e rest.kept;
-            behind =
-                rest.behind;
+            following =
+                rest.following;
           }
     ] refl
 
@@ -122,17 +122,17 @@ filter_none p (x ∷ xs) e =
       | false ↦ λ h. filter_none p xs h
     ] e
 
-clashes-append : (lists : Lists) (before xs ys : List Placed) → clashes_behind lists before (xs ++ ys) ≡
-    clashes_behind lists before xs ++ clashes_behind lists (before ++ xs) ys
+clashes-append : (lists : Lists) (before xs ys : List Placed) → clashes_after lists before (xs ++ ys) ≡
+    clashes_after lists before xs ++ clashes_after lists (before ++ xs) ys
 clashes-append lists before [] ys = rw (append-nil before) refl
 clashes-append lists before (x ∷ xs) ys =
     rw (clashes-append lists (before ++ x ∷ []) xs ys, append_assoc before (x ∷ []) xs)
-    (sym (append_assoc (map (lines_at x) (filter (clashes lists x) before)) (clashes_behind lists (before ++ x ∷ []) xs)
-    (clashes_behind lists (before ++ x ∷ xs) ys)))
+    (sym (append_assoc (map (lines_at x) (filter (clashes lists x) before)) (clashes_after lists (before ++ x ∷ []) xs)
+    (clashes_after lists (before ++ x ∷ xs) ys)))
 
 -- one more delivery that clashes with none leaves them without a clash
-pub still_none : (lists : Lists) (xs : List Placed) (x : Placed) → clashes_behind lists [] xs ≡ [] →
-    list_any (clashes lists x) xs ≡ false → clashes_behind lists [] (xs ++ x ∷ []) ≡ []
+pub still_none : (lists : Lists) (xs : List Placed) (x : Placed) → clashes_after lists [] xs ≡ [] →
+    list_any (clashes lists x) xs ≡ false → clashes_after lists [] (xs ++ x ∷ []) ≡ []
 still_none lists xs x none e = clashes-append lists [] xs (x ∷ []) ∙ rw (none, filter_none (clashes lists x) xs e) refl
 
 order_split : (n : ℕ) (xs : List Placed) (x : Placed) (ys : List Placed) → IsInOrder n (xs ++ x ∷ ys) →
@@ -144,16 +144,16 @@ order_split n (y ∷ xs) x ys order =
 
 -- the first delivery that clashes with one in front, and the first of those, are the least clash
 pub first_is_least : (lists : Lists) (xs : List Placed) (x : Placed) (ys : List Placed) → IsInOrder 0 (xs ++ x ∷ ys) →
-    clashes_behind lists [] xs ≡ [] → list_any (clashes lists x) xs ≡ true →
-    option_map (lines_at x) (find (clashes lists x) xs) ≡ least (clashes_behind lists [] (xs ++ x ∷ ys))
+    clashes_after lists [] xs ≡ [] → list_any (clashes lists x) xs ≡ true →
+    option_map (lines_at x) (find (clashes lists x) xs) ≡ least (clashes_after lists [] (xs ++ x ∷ ys))
 first_is_least lists xs x ys order none some =
     let parts = order_split 0 xs x ys order in
     let one = first_of_those (clashes lists x) x 0 xs parts.0 some in
-    let rest = clashes_behind lists (xs ++ x ∷ []) ys in
-    let behind = none_before-append (lines_at x one.first) (map (lines_at x) one.others) rest one.behind
+    let rest = clashes_after lists (xs ++ x ∷ []) ys in
+    let following = none_before-append (lines_at x one.first) (map (lines_at x) one.others) rest one.following
     (later lists one.first.entry.line x.entry.line (xs ++ x ∷ []) ys parts.1) in
     rw (clashes-append lists [] xs (x ∷ ys), none, one.found, one.kept)
-    (ap Some (sym (least_behind (lines_at x one.first) (map (lines_at x) one.others ++ rest) behind)))
+    (ap Some (sym (least_after (lines_at x one.first) (map (lines_at x) one.others ++ rest) following)))
 
 -- deliveries in the order of their lines, all after this line
 abbrev pub Rises : ℕ → List Entry → Type 0
@@ -172,8 +172,8 @@ of_segment line member peer body None = tt
 of_segment line member peer body (Some s) = refl
 
 of_line : (before : List Numbered) (number : ℕ) (line : ReportLine) →
-    IsOfLine number (entry_behind before (number, line))
-of_line before number (deliver member peer body) = of_segment number member peer body (segment_behind member before)
+    IsOfLine number (entry_after before (number, line))
+of_line before number (deliver member peer body) = of_segment number member peer body (segment_after member before)
 of_line before number (view member ltime mask) = tt
 of_line before number (out member) = tt
 of_line before number end = tt
@@ -188,29 +188,29 @@ rises_with line number (Some e) rest above is rises = rw is (above, rises)
 
 -- the deliveries of numbered lines are in order
 rising : (before : List Numbered) (line number : ℕ) (lines : List ReportLine) → line < number →
-    Rises line (entries_behind before (enumerate_from number lines))
+    Rises line (entries_after before (enumerate_from number lines))
 rising before line number [] above = tt
 rising before line number (l ∷ lines) above =
-    rises_with line number (entry_behind before (number, l))
-    (entries_behind (before ++ (number, l) ∷ []) (enumerate_from (number + 1) lines)) above (of_line before number l)
+    rises_with line number (entry_after before (number, l))
+    (entries_after (before ++ (number, l) ∷ []) (enumerate_from (number + 1) lines)) above (of_line before number l)
     (rising (before ++ (number, l) ∷ []) number (number + 1) lines (omega arith))
 
 placed_rising : (lists : Lists) (line : ℕ) (before entries : List Entry) → Rises line entries →
-    IsInOrder line (placed_behind lists before entries)
+    IsInOrder line (placed_after lists before entries)
 placed_rising lists line before [] rises = tt
 placed_rising lists line before (e ∷ entries) rises =
     (rises.0, placed_rising lists e.line (before ++ e ∷ []) entries rises.1)
 
 -- and so are they with their places
 pub in_order : (lists : Lists) (lines : List ReportLine) →
-    IsInOrder 0 (placed_behind lists [] (entries_behind [] (enumerate_from 1 lines)))
-in_order lists lines = placed_rising lists 0 [] (entries_behind [] (enumerate_from 1 lines))
+    IsInOrder 0 (placed_after lists [] (entries_after [] (enumerate_from 1 lines)))
+in_order lists lines = placed_rising lists 0 [] (entries_after [] (enumerate_from 1 lines))
     (rising [] 0 1 lines (omega arith))
 
 -- there are no more deliveries than lines
-pub few_entries : (before lines : List Numbered) → length (entries_behind before lines) ≤ length lines
+pub few_entries : (before lines : List Numbered) → length (entries_after before lines) ≤ length lines
 few_entries before [] = omega arith
-few_entries before (line ∷ lines) = at_most_one (entry_behind before line) (entries_behind (before ++ line ∷ []) lines)
+few_entries before (line ∷ lines) = at_most_one (entry_after before line) (entries_after (before ++ line ∷ []) lines)
     (few_entries (before ++ line ∷ []) lines)
   where
     at_most_one : (entry : Option Entry) (rest : List Entry) → length rest ≤ length lines →

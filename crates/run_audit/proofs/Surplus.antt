@@ -8,19 +8,19 @@ use Rattle.std.proofs.lemmas.List.{append-nil, map-append, map_more}
 use Rattle.std.proofs.lemmas.List.Concat.{flat_map-append}
 use Rattle.std.proofs.lemmas.List.Elements.{filter-append}
 use Rattle.audit_mean.specs.Segment.{Entry, Numbered, same_content}
-use Rattle.audit_mean.specs.Lack.{Ended, ended_behind, goes_along, surplus_behind, lacks_of}
+use Rattle.audit_mean.specs.Lack.{Ended, ended_after, goes_along, surplus_after, lacks_of}
 use Rattle.audit_mean.specs.Lack as spec
 use Rattle.run_audit.specs.declared.contents.Ranked.{Ranked}
 use Rattle.audit_mean.specs.Finding.{comes_before, lesser, least}
-use Rattle.run_audit.specs.Lacks.{Known, known_segment, ranked_behind, ranked_shown, exceeds, lines_of_lack, surplus}
+use Rattle.run_audit.specs.Lacks.{Known, known_segment, ranked_after, ranked_shown, exceeds, lines_of_lack, surplus}
 use Rattle.run_audit.specs.Lacks.{lacks}
 use Rattle.run_audit.specs.Lacks.{is_other, lacks_of_one, goes_with, lacks_in, all_lacks, first_of}
 
 passes_on : (x y z : ℕ × ℕ) → comes_before y x ≡ true → comes_before z y ≡ true → comes_before z x ≡ true
 passes_on x y z a b = grind (arith, nat_tests)
 
-stays_behind : (x y z : ℕ × ℕ) → comes_before y x ≡ false → comes_before z y ≡ false → comes_before z x ≡ false
-stays_behind x y z a b = grind (arith, nat_tests)
+stays_after : (x y z : ℕ × ℕ) → comes_before y x ≡ false → comes_before z y ≡ false → comes_before z x ≡ false
+stays_after x y z a b = grind (arith, nat_tests)
 
 -- of three the first is the same however they are grouped
 of_three : (x y z : ℕ × ℕ) → lesser (lesser x (Some y)) (Some z) ≡ lesser x (Some (lesser y (Some z)))
@@ -35,7 +35,7 @@ of_three x y z =
       | false ↦ λ e.
           elim (comes_before z y) as (λ q. comes_before z y ≡ q → lesser x (Some z) ≡ lesser x (Some (cond q z y))) [
             | true ↦ λ h. refl
-            | false ↦ λ h. rw (stays_behind x y z e h, e) refl
+            | false ↦ λ h. rw (stays_after x y z e h, e) refl
           ] refl
     ] refl
 
@@ -88,22 +88,22 @@ others_more one xs ys =
     ∙ least-append (lacks_of_one one xs) (lacks_of_one one ys)
 
 -- ranks change no delivery
-pub entries_ranked : (before entries : List Entry) → map (λ placed. placed.entry) (ranked_behind before entries) ≡
+pub entries_ranked : (before entries : List Entry) → map (λ placed. placed.entry) (ranked_after before entries) ≡
     entries
 entries_ranked before [] = refl
 entries_ranked before (e ∷ entries) = ap (λ es. e ∷ es) (entries_ranked (before ++ e ∷ []) entries)
 
-same_surplus : (line : ℕ) (all before entries : List Entry) → surplus line all (ranked_behind before entries) ≡
-    map (λ entry. (entry.line, line)) (surplus_behind all before entries)
+same_surplus : (line : ℕ) (all before entries : List Entry) → surplus line all (ranked_after before entries) ≡
+    map (λ entry. (entry.line, line)) (surplus_after all before entries)
 same_surplus line all before [] = refl
 same_surplus line all before (e ∷ entries) =
     let rest = same_surplus line all (before ++ e ∷ []) entries in
     elim (count_by (same_content e) before == count_by (same_content e) all) as
     (λ t. map (lines_of_lack line)
     (cond t (record { entry = e; place = count_by (same_content e) before } ∷
-    filter (exceeds all) (ranked_behind (before ++ e ∷ []) entries))
-    (filter (exceeds all) (ranked_behind (before ++ e ∷ []) entries))) ≡
-    map (λ entry. (entry.line, line)) (cond t (e ∷ []) [] ++ surplus_behind all (before ++ e ∷ []) entries)) [
+    filter (exceeds all) (ranked_after (before ++ e ∷ []) entries))
+    (filter (exceeds all) (ranked_after (before ++ e ∷ []) entries))) ≡
+    map (λ entry. (entry.line, line)) (cond t (e ∷ []) [] ++ surplus_after all (before ++ e ∷ []) entries)) [
       | true ↦ ap (λ ys. (e.line, line) ∷ ys) rest
       | false ↦ rest
     ]
@@ -142,5 +142,5 @@ of_each all [] = refl
 of_each all (one ∷ ones) = λ i. of_group one all i ++ of_each all ones i
 
 -- what is found are the lacks that the definition means
-pub same_finding : (lines : List Numbered) → all_lacks (map known_segment (ended_behind [] lines)) ≡ lacks_of lines
-same_finding lines = of_each (ended_behind [] lines) (ended_behind [] lines)
+pub same_finding : (lines : List Numbered) → all_lacks (map known_segment (ended_after [] lines)) ≡ lacks_of lines
+same_finding lines = of_each (ended_after [] lines) (ended_after [] lines)

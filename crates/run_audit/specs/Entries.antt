@@ -2,7 +2,7 @@
 use Rattle.std.specs.Prelude.{◌≡◌, ℕ, ◌<◌, List, Option, Some, None, map, option_map, slice_index_or}
 use Rattle.std.specs.List.{enumerate_from}
 use Rattle.audit_mean.specs.Segment as spec
-use Rattle.audit_mean.specs.Segment.{Name, start, in_view, Numbered, segment_behind}
+use Rattle.audit_mean.specs.Segment.{Name, start, in_view, Numbered, segment_after}
 use Rattle.run_audit.specs.Reading.{shown_line}
 use Rattle.run_audit.specs.declared.line.LineMeaning.{LineMeaning}
 use Rattle.run_audit.specs.declared.segments.Segment.{Segment}
@@ -36,4 +36,4 @@ standing segments member = option_map segment_shown (slice_index_or segments.of_
 
 -- each member is in its segment after these lines; a member's number is of a byte
 abbrev pub Stands : Segments → List Numbered → Type 0
-Stands segments before = (member : ℕ) → member < 256 → standing segments member ≡ segment_behind member before
+Stands segments before = (member : ℕ) → member < 256 → standing segments member ≡ segment_after member before

@@ -4,7 +4,7 @@ use Rattle.std.specs.Prelude.{filter, count_by, Option, Some, None, Vec, bytes_e
 use Rattle.std.specs.List.{flat_map}
 use Rattle.std.specs.Option.{option_eq}
 use Rattle.audit_mean.specs.Segment as spec
-use Rattle.audit_mean.specs.Segment.{Name, in_view, Numbered, same_name, same_content, segment_behind, entries_of}
+use Rattle.audit_mean.specs.Segment.{Name, in_view, Numbered, same_name, same_content, segment_after, entries_of}
 use Rattle.audit_mean.specs.Line as said
 use Rattle.audit_mean.specs.Line.{ReportLine}
 use Rattle.audit_mean.specs.Clash.{Placed}
@@ -21,10 +21,10 @@ use Rattle.run_audit.specs.declared.ended.Way.{Way}
 use Rattle.std.specs.declared.alloc.Global.{Global}
 
 -- deliveries that stand after others, each with how many of these and of its own kind come before it
-abbrev pub ranked_behind : List spec.Entry → List spec.Entry → List Placed
-ranked_behind before [] = []
-ranked_behind before (entry ∷ entries) = record { entry = entry; place = count_by (same_content entry) before } ∷
-    ranked_behind (before ++ entry ∷ []) entries
+abbrev pub ranked_after : List spec.Entry → List spec.Entry → List Placed
+ranked_after before [] = []
+ranked_after before (entry ∷ entries) = record { entry = entry; place = count_by (same_content entry) before } ∷
+    ranked_after (before ++ entry ∷ []) entries
 
 abbrev pub ranked_shown : Ranked → Placed
 ranked_shown ranked = record { entry = entry_shown ranked.entry; place = ranked.place }
@@ -60,7 +60,7 @@ known_segment ended = record {
   name = ended.name;
   next = ended.next;
   deliveries =
-      ranked_behind [] ended.entries;
+      ranked_after [] ended.entries;
 }
 
 abbrev pub next_shown : ℕ × ℕ → Name
@@ -82,7 +82,7 @@ list_at (Some list) = list.items
 
 -- the deliveries in the segment that each member is in
 abbrev pub Holds : (ℕ → Option (Vec Entry Global)) → List Numbered → Type 0
-Holds held before = (member : ℕ) (segment : spec.Segment) → segment_behind member before ≡ Some segment →
+Holds held before = (member : ℕ) (segment : spec.Segment) → segment_after member before ≡ Some segment →
     map entry_shown (list_at (held member)) ≡ filter (is_in member segment) (entries_of before)
 
 -- whether a line ends a member's segment
@@ -92,9 +92,9 @@ is_left (said.out m) member = m == member
 is_left _ member = false
 
 -- a member's deliveries after a line, which is a delivery in a segment, or may end one
-abbrev pub held_behind : Option Entry → ReportLine → ℕ → List Entry → List Entry
-held_behind (Some entry) line member held = if entry.member == member then held ++ entry ∷ [] else held
-held_behind None line member held = if is_left line member then [] else held
+abbrev pub held_after : Option Entry → ReportLine → ℕ → List Entry → List Entry
+held_after (Some entry) line member held = if entry.member == member then held ++ entry ∷ [] else held
+held_after None line member held = if is_left line member then [] else held
 
 abbrev pub same_way : Way → Way → Bool
 same_way a b = option_eq same_view a.from b.from && same_view a.to b.to

@@ -108,10 +108,10 @@ pub record IsInLine (all : List Known) : Type 0 where
   pub ranked : AllByRecursion IsRanked all
 
 -- a line stands before another, which may be none
-abbrev pub is_in_front : ℕ → Option ℕ → Bool
-is_in_front line None = true
-is_in_front line (Some other) = nat_lt line other
+abbrev pub is_before : ℕ → Option ℕ → Bool
+is_before line None = true
+is_before line (Some other) = nat_lt line other
 
 -- segments that were ended before this line lack nothing
 abbrev pub IsClear : Option ℕ → List Known → Type 0
-IsClear line all = AllByRecursion (λ one. is_in_front one.line line ≡ true → lacks_in all one ≡ []) all
+IsClear line all = AllByRecursion (λ one. is_before one.line line ≡ true → lacks_in all one ≡ []) all

@@ -2,7 +2,7 @@
 use Rattle.std.specs.Prelude.{◌≡◌, ℕ, ◌&&◌, ◌||◌, nat_le, Bool, List, Option, Some, None, option_map, map, Result, Ok}
 use Rattle.std.specs.Prelude.{Err, Vec}
 use Rattle.script_mean.specs.Words.{Word}
-use Rattle.script_text.specs.Parts.{parts_behind}
+use Rattle.script_text.specs.Parts.{parts_after}
 use Rattle.audit_mean.specs.Line as spec
 use Rattle.audit_mean.specs.Line.{ReportLine}
 use Rattle.run_audit.specs.declared.line.LineMeaning.{LineMeaning}
@@ -22,7 +22,7 @@ is_hex_digit byte = (nat_le 48 byte && nat_le byte 57) || (nat_le 97 byte && nat
 
 -- the parts that are left
 abbrev pub parts_left : Parts → List Word
-parts_left parts = parts_behind parts.at parts.rest
+parts_left parts = parts_after parts.at parts.rest
 
 -- a line as the definitions see it
 abbrev pub shown_line : LineMeaning → ReportLine
@@ -35,13 +35,13 @@ shown_line Silent = spec.silent
 
 -- what a form took from the words, and the words after it
 abbrev pub Takes : {A : Type 0} → Option (A × List Word) → Option A → List Word → Type 0
-Takes taken (Some value) behind = taken ≡ Some (value, behind)
-Takes taken None behind = taken ≡ None
+Takes taken (Some value) following = taken ≡ Some (value, following)
+Takes taken None following = taken ≡ None
 
 -- the same of a word
 abbrev pub TakesWord : Option (Word × List Word) → Option (Bor (List ℕ)) → List Word → Type 0
-TakesWord taken (Some word) behind = taken ≡ Some (word.now, behind)
-TakesWord taken None behind = taken ≡ None
+TakesWord taken (Some word) following = taken ≡ Some (word.now, following)
+TakesWord taken None following = taken ≡ None
 
 -- what a form said of a whole line
 abbrev pub Says : Option (ReportLine × List Word) → Option LineMeaning → Type 0
@@ -56,7 +56,7 @@ stage_shown Closed = report.closed
 
 -- the stage after a line
 abbrev pub NextStage : ReportPart → LineMeaning → Option ReportPart → Type 0
-NextStage stage line next = option_map stage_shown next ≡ report.stage_behind (stage_shown stage) (shown_line line)
+NextStage stage line next = option_map stage_shown next ≡ report.stage_after (stage_shown stage) (shown_line line)
 
 -- the lines of a report, or the first out of form; want of memory says nothing
 abbrev pub Reads : Result (List ReportLine) ℕ → Result (Vec LineMeaning Global) AuditError → Type 0

@@ -40,7 +40,7 @@ pub(crate) fn least_clash<'a>(
 ) -> Result<Option<(u32, u32)>, AllocError>
     requires { IsInOrder 0 (map placed_shown placed.now) }
     ensures { IfOk result
-        (λ found. found ≡ least (spec.clashes_behind (lists_shown lists) [] (map placed_shown placed.now))) }
+        (λ found. found ≡ least (spec.clashes_after (lists_shown lists) [] (map placed_shown placed.now))) }
 {
     let mut agreed = HashMap::new(alloc);
     for (index, entry) in placed.iter().enumerate() {

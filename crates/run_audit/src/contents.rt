@@ -2,7 +2,7 @@
 ghost use Rattle.std.specs.Prelude.{◌≡◌, ◌<◌, map, unwrap_or, [], IfOk};
 ghost use Rattle.std.specs.HashMap as hash;
 ghost use Rattle.run_audit.specs.Entries.{entry_shown};
-ghost use Rattle.run_audit.specs.Lacks.{Counts, OneMore, content_of, ranked_behind, ranked_shown, same_content_key};
+ghost use Rattle.run_audit.specs.Lacks.{Counts, OneMore, content_of, ranked_after, ranked_shown, same_content_key};
 
 use crate::segments::Entry;
 use std::alloc::{AllocError, Global};
@@ -24,7 +24,7 @@ pub(crate) struct Ranked<'a> {
 
 /// The deliveries of one segment with their ranks.
 pub(crate) fn rank<'a>(alloc: Global, entries: &[Entry<'a>]) -> Result<Vec<Ranked<'a>>, AllocError>
-    ensures { IfOk result (λ ranked. map ranked_shown ranked.items ≡ ranked_behind [] (map entry_shown entries.now)) }
+    ensures { IfOk result (λ ranked. map ranked_shown ranked.items ≡ ranked_after [] (map entry_shown entries.now)) }
 {
     let mut counts = HashMap::new(alloc);
     let mut ranked = Vec::with_capacity(alloc, entries.len())?;

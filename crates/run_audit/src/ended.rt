@@ -7,7 +7,7 @@ ghost use Rattle.audit_mean.specs.Segment.{Numbered};
 ghost use Rattle.audit_mean.specs.Lack as spec;
 ghost use Rattle.run_audit.specs.Entries.{Stands, entry_shown, numbered_lines};
 ghost use Rattle.run_audit.specs.Reading.{shown_line};
-ghost use Rattle.run_audit.specs.Lacks.{Holds, ended_shown, held_behind, known_segment, list_at, ranked_behind};
+ghost use Rattle.run_audit.specs.Lacks.{Holds, ended_shown, held_after, known_segment, list_at, ranked_after};
 ghost use Rattle.run_audit.specs.Lacks.{ranked_shown};
 
 use crate::contents::{Ranked, rank};
@@ -40,7 +40,7 @@ pub(crate) fn ended_segments<'a>(
 ) -> Result<Vec<Ended<'a>>, AllocError>
     requires { length lines.now < 2 ^ 32 }
     ensures { IfOk result
-        (λ ended. map ended_shown ended.items ≡ map known_segment (spec.ended_behind [] (numbered_lines lines.now))) }
+        (λ ended. map ended_shown ended.items ≡ map known_segment (spec.ended_after [] (numbered_lines lines.now))) }
 {
     let mut segments = Segments::first();
     let mut held = HashMap::new(alloc);
@@ -93,7 +93,7 @@ fn rank_at<'a>(
 ) -> Result<Vec<Ranked<'a>>, AllocError>
     ensures { IfOk result
         (λ ranked. map ranked_shown ranked.items ≡
-        ranked_behind [] (map entry_shown (list_at (hash.get nat_eq held.now member)))) }
+        ranked_after [] (map entry_shown (list_at (hash.get nat_eq held.now member)))) }
 {
     match held.get(&member) {
         Some(entries) => rank(alloc, entries.as_slice()),
@@ -118,7 +118,7 @@ fn follow<'a>(
     line: &LineMeaning<'_>,
 ) -> Result<(), AllocError>
     ensures { IfOk result (λ done. (member : ℕ) → list_at (hash.get nat_eq held.new member) ≡
-        held_behind entry.entry (shown_line line.now) member (list_at (hash.get nat_eq held.old member))) }
+        held_after entry.entry (shown_line line.now) member (list_at (hash.get nat_eq held.old member))) }
 {
     if let Some(entry) = entry {
         add(alloc, held, entry)?;
@@ -150,7 +150,7 @@ fn add<'a>(
 /// A segment that a line ends, its deliveries with it.
 fn drop_ended<'a>(held: &mut HashMap<u8, Vec<Entry<'a>>>, line: &LineMeaning<'_>)
     ensures { (member : ℕ) → list_at (hash.get nat_eq held.new member) ≡
-        held_behind None (shown_line line.now) member (list_at (hash.get nat_eq held.old member)) }
+        held_after None (shown_line line.now) member (list_at (hash.get nat_eq held.old member)) }
 {
     match line {
         LineMeaning::View(member, _, _) | LineMeaning::Out(member) => {

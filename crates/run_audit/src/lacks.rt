@@ -5,7 +5,7 @@ ghost use Rattle.audit_mean.specs.Segment as segment;
 ghost use Rattle.audit_mean.specs.Finding.{least};
 ghost use Rattle.run_audit.specs.Lacks.{Counts, all_lacks, ended_shown, entries_in, exceeds, first_of, goes_with};
 ghost use Rattle.run_audit.specs.Lacks.{is_other, lacks_in, lacks_of_one, ranked_shown, same_content_key, surplus};
-ghost use Rattle.run_audit.specs.Marks.{IsInLine, is_in_front};
+ghost use Rattle.run_audit.specs.Marks.{IsInLine, is_before};
 
 use crate::contents::{Content, Ranked, content_of, count, count_of};
 use crate::ended::Ended;
@@ -24,7 +24,7 @@ pub(crate) fn least_lack<'a>(
 {
     let line = first_lacking(alloc, ended)?;
     for one in ended {
-        if !is_in_front(one.line, line) {
+        if !is_before(one.line, line) {
             let lack = lack_of(alloc, ended, one)?;
             if lack.is_some() {
                 return Ok(lack);
@@ -124,8 +124,8 @@ fn first_of(a: Option<(u32, u32)>, b: Option<(u32, u32)>) -> Option<(u32, u32)>
 }
 
 /// Whether a line stands before another, which may be none.
-fn is_in_front(line: u32, other: Option<u32>) -> bool
-    ensures { result ≡ is_in_front line other }
+fn is_before(line: u32, other: Option<u32>) -> bool
+    ensures { result ≡ is_before line other }
 {
     match other {
         Some(other) => line < other,

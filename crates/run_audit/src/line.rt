@@ -50,11 +50,11 @@ pub(crate) fn line_said(line: &[u8]) -> Option<LineMeaning<'_>>
 {
     let mut words = Parts::words(line);
     let verb = words.next()?;
-    behind_first(verb, words)
+    after_first(verb, words)
 }
 
-fn behind_first<'a>(verb: &[u8], words: Parts<'a>) -> Option<LineMeaning<'a>>
-    ensures { Says (spec.behind_first verb.now (parts_left words.entry)) result }
+fn after_first<'a>(verb: &[u8], words: Parts<'a>) -> Option<LineMeaning<'a>>
+    ensures { Says (spec.after_first verb.now (parts_left words.entry)) result }
 {
     if verb == b"deliver".as_slice() {
         deliver(words)

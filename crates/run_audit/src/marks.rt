@@ -74,9 +74,9 @@ fn mark_all<'a>(alloc: Global, ended: &[Ended<'a>]) -> Result<Marks<'a>, AllocEr
     let mut items = HashMap::new(alloc);
     for index in (0..ended.len()).rev() {
         let one = &ended[index];
-        let behind = group_at(&groups, one.way);
-        mark_segment(&mut items, behind, one)?;
-        groups.insert(one.way, group_with(behind, one))?;
+        let following = group_at(&groups, one.way);
+        mark_segment(&mut items, following, one)?;
+        groups.insert(one.way, group_with(following, one))?;
     }
     Ok(Marks { groups, items })
 }
@@ -84,18 +84,19 @@ fn mark_all<'a>(alloc: Global, ended: &[Ended<'a>]) -> Result<Marks<'a>, AllocEr
 /// One more segment before those of its group.
 fn mark_segment<'a>(
     items: &mut HashMap<Item<'a>, Mark>,
-    behind: Option<Group>,
+    following: Option<Group>,
     one: &Ended<'a>,
 ) -> Result<(), AllocError>
     ensures { IfOk result (λ done. (way : Way) (r : Ranked) → hash.get same_item_key items.new (item_for way r) ≡
         (if same_way one.now.way way &&
         list_any (same_item (ranked_shown r)) (map ranked_shown one.now.deliveries.items) then Some
-        (mark_with (hash.get same_item_key items.old (item_for way r)) behind one.now.member one.now.line) else hash.get
+        (mark_with (hash.get same_item_key items.old (item_for way r)) following one.now.member one.now.line) else
+        hash.get
         same_item_key items.old (item_for way r))) }
 {
     for delivery in &one.deliveries {
         let item = item_of(one.way, delivery);
-        let mark = mark_with(mark_at(items, item), behind, one);
+        let mark = mark_with(mark_at(items, item), following, one);
         items.insert(item, mark)?;
     }
     Ok(())
@@ -124,8 +125,8 @@ fn group_at(groups: &HashMap<Way, Group>, way: Way) -> Option<Group>
 }
 
 /// The mark of an item that this segment has too, before its group.
-fn mark_with(mark: Option<Mark>, behind: Option<Group>, one: &Ended<'_>) -> Mark
-    ensures { result ≡ mark_with mark behind one.now.member one.now.line }
+fn mark_with(mark: Option<Mark>, following: Option<Group>, one: &Ended<'_>) -> Mark
+    ensures { result ≡ mark_with mark following one.now.member one.now.line }
 {
     match mark {
         Some(mark) if mark.front == one.line => mark,
@@ -133,13 +134,13 @@ fn mark_with(mark: Option<Mark>, behind: Option<Group>, one: &Ended<'_>) -> Mark
             member: mark.member,
             more_members: mark.more_members || mark.member != one.member,
             front: one.line,
-            gap: lacking(Some(mark), behind),
+            gap: lacking(Some(mark), following),
         },
         None => Mark {
             member: one.member,
             more_members: false,
             front: one.line,
-            gap: lacking(None, behind),
+            gap: lacking(None, following),
         },
     }
 }

@@ -81,8 +81,8 @@ impl<'a> Iterator for Parts<'a> {
     ghost remaining = { item_count parts_left };
 
     fn next(&mut self) -> Option<&'a [u8]> {
-        let (part, behind) = cut(self.at, self.rest?);
-        self.rest = behind;
+        let (part, following) = cut(self.at, self.rest?);
+        self.rest = following;
         Some(part)
     }
 }

@@ -53,7 +53,7 @@ pub(crate) fn place<'a>(
     requires { length entries.now < 2 ^ 32 }
     ensures { IfOk result
         (λ placed. map placed_shown placed.items ≡
-        spec.placed_behind (lists_shown lists) [] (map entry_shown entries.now)) }
+        spec.placed_after (lists_shown lists) [] (map entry_shown entries.now)) }
 {
     let mut counts = HashMap::new(alloc);
     let mut placed = Vec::new(alloc);

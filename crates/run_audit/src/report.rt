@@ -19,7 +19,7 @@ pub(crate) enum ReportPart {
 
 impl ReportPart {
     /// The stage after a line, if the line may stand there.
-    fn behind(self, line: &LineMeaning<'_>) -> Option<ReportPart>
+    fn following(self, line: &LineMeaning<'_>) -> Option<ReportPart>
         ensures { NextStage self line.now result }
     {
         match (self, line) {
@@ -48,7 +48,7 @@ pub(crate) fn read_lines<'a>(
         let Some(said) = line_said(line) else {
             return Err(AuditError::Line(number));
         };
-        let Some(next) = stage.behind(&said) else {
+        let Some(next) = stage.following(&said) else {
             return Err(AuditError::Line(number));
         };
         stage = next;

@@ -80,7 +80,7 @@ impl Segments {
     /// The delivery of a line in a segment, if it is one.
     pub(crate) fn entry<'a>(&self, number: u32, line: &LineMeaning<'a>) -> Option<Entry<'a>>
         ensures { (before : List spec.Numbered) → Stands self.now before → option_map entry_shown result ≡
-            spec.entry_behind before (number, shown_line line.now) }
+            spec.entry_after before (number, shown_line line.now) }
     {
         match line {
             LineMeaning::Deliver(member, peer, body) => {

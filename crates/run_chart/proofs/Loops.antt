@@ -23,12 +23,12 @@ escaped_more text i d lt =
     ∙ ap (λ last. escaped (take i text) ++ last) (append-nil (escaped_byte (get_or text i d)))
 
 -- one more of the lines of a text
-pub line_more : (front : List (Bor (List ℕ))) (line : Bor (List ℕ)) (behind whole : List (List ℕ)) →
-    texts_shown front ++ line.now ∷ behind ≡ whole →
-    texts_shown (front ++ line ∷ []) ++ behind ≡ whole
-line_more front line behind whole is =
-    ap (λ shown. shown ++ behind) (map-append text_shown front (line ∷ [])) ∙
-    append_assoc (texts_shown front) (line.now ∷ []) behind ∙ is
+pub line_more : (front : List (Bor (List ℕ))) (line : Bor (List ℕ)) (following whole : List (List ℕ)) →
+    texts_shown front ++ line.now ∷ following ≡ whole →
+    texts_shown (front ++ line ∷ []) ++ following ≡ whole
+line_more front line following whole is =
+    ap (λ shown. shown ++ following) (map-append text_shown front (line ∷ [])) ∙
+    append_assoc (texts_shown front) (line.now ∷ []) following ∙ is
 
 short : (last : Bool) (text : List ℕ) → length (if last then take (length text - 1) text else text) ≤ length text
 short true text = omega (arith, length-take (length text - 1) text)

@@ -15,16 +15,16 @@ use Rattle.run_chart.specs.declared.lines.DrawnLine.{DrawnLine}
 use Rattle.run_chart.specs.declared.marks.Body.{Body}
 
 -- the mark of a line after others
-abbrev pub mark_behind : List spec.Line → spec.Line → List ℕ
-mark_behind before line = mark (bringer (bearer before) line.says) line
+abbrev pub mark_after : List spec.Line → spec.Line → List ℕ
+mark_after before line = mark (bringer (bearer before) line.says) line
 
 one_more : (before lines : List spec.Line) (line : spec.Line) → marks before (lines ++ line ∷ []) ≡
-    marks before lines ++ mark_behind (before ++ lines) line ∷ []
-one_more before [] line = ap (λ front. mark_behind front line ∷ []) (sym (append-nil before))
+    marks before lines ++ mark_after (before ++ lines) line ∷ []
+one_more before [] line = ap (λ front. mark_after front line ∷ []) (sym (append-nil before))
 one_more before (first ∷ lines) line =
-    ap (λ more. mark_behind before first ∷ more)
+    ap (λ more. mark_after before first ∷ more)
     (one_more (before ++ first ∷ []) lines line
-    ∙ ap (λ front. marks (before ++ first ∷ []) lines ++ mark_behind front line ∷ [])
+    ∙ ap (λ front. marks (before ++ first ∷ []) lines ++ mark_after front line ∷ [])
     (append_assoc before (first ∷ []) lines))
 
 shown_more : (lines : List DrawnLine) (i : ℕ) (d : DrawnLine) → i < length lines →
@@ -36,10 +36,10 @@ shown_more lines i d lt = ap (map line_shown) (take_more lines i d lt) ∙
 pub marks_more : (lines : List DrawnLine) (i : ℕ) (d : DrawnLine) → i < length lines →
     concat (marks [] (map line_shown (take (i + 1) lines)))
     ≡ concat (marks [] (map line_shown (take i lines))) ++
-    mark_behind (map line_shown (take i lines)) (line_shown (get_or lines i d))
+    mark_after (map line_shown (take i lines)) (line_shown (get_or lines i d))
 marks_more lines i d lt =
     let front = map line_shown (take i lines) in
-    let last = mark_behind front (line_shown (get_or lines i d)) in
+    let last = mark_after front (line_shown (get_or lines i d)) in
     ap (λ ls. concat (marks [] ls)) (shown_more lines i d lt)
     ∙ ap concat (one_more [] front (line_shown (get_or lines i d)))
     ∙ concat-append (marks [] front) (last ∷ [])
@@ -66,8 +66,8 @@ pub drawn_more : (lines : List DrawnLine) (i : ℕ) (d : DrawnLine) (start text 
 drawn_more lines i d start text more sent old new lt is agrees brings drew next =
     let front = map line_shown (take i lines) in
     let line = line_shown (get_or lines i d) in (
-      drew ∙ ap (λ s. text ++ mark s line) (brings front agrees) ∙ ap (λ t. t ++ mark_behind front line) is
-          ∙ append_assoc start (concat (marks [] front)) (mark_behind front line) ∙
+      drew ∙ ap (λ s. text ++ mark s line) (brings front agrees) ∙ ap (λ t. t ++ mark_after front line) is
+          ∙ append_assoc start (concat (marks [] front)) (mark_after front line) ∙
           ap (λ t. start ++ t) (sym (marks_more lines i d lt)),
       agrees_more old new lines i d lt agrees next,
     )

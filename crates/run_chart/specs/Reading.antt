@@ -1,7 +1,7 @@
 -- What the readers of words and lines answer, and what their values are in the definitions.
 use Rattle.std.specs.Prelude.{◌≡◌, ℕ, List, Option, Some, None, option_map, map}
 use Rattle.script_mean.specs.Words.{Word}
-use Rattle.script_text.specs.Parts.{parts_behind}
+use Rattle.script_text.specs.Parts.{parts_after}
 use Rattle.chart_mean.specs.Says as spec
 use Rattle.chart_mean.specs.Place as place
 use Rattle.chart_mean.specs.Words as words
@@ -14,7 +14,7 @@ use denote.Ref.{Bor}
 
 -- the pieces that are left
 abbrev pub pieces_left : Pieces → List Word
-pieces_left pieces = parts_behind pieces.at pieces.rest
+pieces_left pieces = parts_after pieces.at pieces.rest
 
 abbrev pub says_shown : Says → spec.Says
 says_shown (Deliver kind member body) = spec.deliver kind.now member body.now
@@ -41,13 +41,13 @@ word_shown word = option_map text_shown word
 
 -- what a form took from the words, and the words after it
 abbrev pub Takes : {A : Type 0} → Option (A × List Word) → Option A → List Word → Type 0
-Takes taken (Some value) behind = taken ≡ Some (value, behind)
-Takes taken None behind = taken ≡ None
+Takes taken (Some value) following = taken ≡ Some (value, following)
+Takes taken None following = taken ≡ None
 
 -- the same of a word
 abbrev pub TakesWord : Option (Word × List Word) → Option (Bor (List ℕ)) → List Word → Type 0
-TakesWord taken (Some word) behind = taken ≡ Some (word.now, behind)
-TakesWord taken None behind = taken ≡ None
+TakesWord taken (Some word) following = taken ≡ Some (word.now, following)
+TakesWord taken None following = taken ≡ None
 
 -- what a form said of a whole line
 abbrev pub IsSaid : Option (spec.Says × List Word) → Option Says → Type 0

@@ -94,8 +94,8 @@ impl<'a> Iterator for Pieces<'a> {
     ghost remaining = { item_count pieces_left };
 
     fn next(&mut self) -> Option<&'a [u8]> {
-        let (piece, behind) = cut(self.at, self.rest?);
-        self.rest = behind;
+        let (piece, following) = cut(self.at, self.rest?);
+        self.rest = following;
         Some(piece)
     }
 }

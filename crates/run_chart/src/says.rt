@@ -90,11 +90,11 @@ fn any_line(mut words: Pieces<'_>) -> Option<Says<'_>>
     ensures { IsSaid (spec.any_line (pieces_left words.entry)) result }
 {
     let verb = words.word()?;
-    behind_first(verb, words)
+    after_first(verb, words)
 }
 
-fn behind_first<'a>(verb: &'a [u8], words: Pieces<'a>) -> Option<Says<'a>>
-    ensures { IsSaid (spec.behind_first verb.now (pieces_left words.entry)) result }
+fn after_first<'a>(verb: &'a [u8], words: Pieces<'a>) -> Option<Says<'a>>
+    ensures { IsSaid (spec.after_first verb.now (pieces_left words.entry)) result }
 {
     if verb == b"deliver".as_slice() {
         deliver(words)

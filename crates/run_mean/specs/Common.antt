@@ -91,13 +91,13 @@ abbrev pub plan_for : List Plan → Option ℕ → Output → Option ℕ
 plan_for plans next o = if is_planned o then option_and_then (λ k. option_map (λ plan. k) (slice_get plans k)) next else
     None
 
-abbrev pub plan_behind : Option ℕ → Output → Option ℕ
-plan_behind next o = if is_planned o then option_map (λ k. k + 1) next else next
+abbrev pub plan_after : Option ℕ → Output → Option ℕ
+plan_after next o = if is_planned o then option_map (λ k. k + 1) next else next
 
 -- Outputs with the plans under which they are sent short, where they are.
 abbrev pub with_plans : List Plan → Option ℕ → List Output → List (Output × Option ℕ)
 with_plans plans next [] = []
-with_plans plans next (o ∷ outputs) = (o, plan_for plans next o) ∷ with_plans plans (plan_behind next o) outputs
+with_plans plans next (o ∷ outputs) = (o, plan_for plans next o) ∷ with_plans plans (plan_after next o) outputs
 
 -- The outputs of a step as they are sent in a mode.
 abbrev pub as_sent : Mode → List LayerTree → List Plan → Step → List (Output × Option ℕ)

@@ -180,5 +180,5 @@ step_from stack here id states what =
     }
 
 -- The member after a step that was taken.
-abbrev pub member_behind : View → Step → Member
-member_behind view s = option_map_or (λ m. m) s.installs (inside view s.work.states)
+abbrev pub member_following : View → Step → Member
+member_following view s = option_map_or (λ m. m) s.installs (inside view s.work.states)

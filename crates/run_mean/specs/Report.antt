@@ -32,9 +32,9 @@ output_lines stack id k (timer a) = number_line (codes "timer") id a ∷ []
 output_lines stack id k (quiet dir event) = []
 
 -- The number of the next packet after an output.
-abbrev pub number_behind : ℕ → Output → ℕ
-number_behind k (packet p) = k + 1
-number_behind k _ = k
+abbrev pub number_following : ℕ → Output → ℕ
+number_following k (packet p) = k + 1
+number_following k _ = k
 
 -- What stands after the lines of an output, of which the packet's number is told and the plan under which it is sent
 -- short.
@@ -45,7 +45,7 @@ Annex = ℕ → Output × Option ℕ → List (List ℕ)
 abbrev pub lines_of_outputs : List LayerTree → Annex → ℕ → ℕ → List (Output × Option ℕ) → List (List ℕ)
 lines_of_outputs stack annex id k [] = []
 lines_of_outputs stack annex id k (o ∷ outputs) =
-    output_lines stack id k o.0 ++ annex k o ++ lines_of_outputs stack annex id (number_behind k o.0) outputs
+    output_lines stack id k o.0 ++ annex k o ++ lines_of_outputs stack annex id (number_following k o.0) outputs
 
 -- Nothing, or the line with the bytes of a packet as it is sent.
 abbrev pub no_annex : Annex

@@ -16,7 +16,7 @@ use Rattle.packet_mean.specs.declared.here.Here.{Here}
 use Rattle.msg_core.specs.View.{rank}
 use Rattle.run_mean.specs.View.{first_view}
 use Rattle.run_mean.specs.Member.{Member, inside, out, opened_member, Input, cast, send, leave, tick, datagram, Refusal}
-use Rattle.run_mean.specs.Member.{is_out, Entered, entered_input, Step, step_from, member_behind, packet_in}
+use Rattle.run_mean.specs.Member.{is_out, Entered, entered_input, Step, step_from, member_following, packet_in}
 
 -- A group at a moment: its name and its stamp, its members by id, and every packet ever sent, in the order of output.
 -- The first packet has the number 1.
@@ -63,9 +63,9 @@ here_of w view id =
     record { group = w.group; stamp = w.stamp; view = view; rank = option_map_or (λ r. r) (rank view id) 0 }
 
 -- The world after a step that a member took: its packets are after all others.
-abbrev pub world_behind : World → View → ℕ → Step → World
-world_behind w view id s = record w {
-  members = slice_set w.members id (member_behind view s);
+abbrev pub world_after : World → View → ℕ → Step → World
+world_after w view id s = record w {
+  members = slice_set w.members id (member_following view s);
   packets = w.packets ++ filter_map packet_in s.outputs;
 }
 
@@ -74,7 +74,7 @@ abbrev pub stepped_inside : List LayerTree → World → ℕ → View → List S
 stepped_inside stack w id view states (Err refusal) = only w (refused refusal)
 stepped_inside stack w id view states (Ok what) =
     let s = step_from stack (here_of w view id) id states what in
-    record { world = world_behind w view id s; did = taken s }
+    record { world = world_after w view id s; did = taken s }
 
 -- A step of a member; one that is out refuses all.
 abbrev pub stepped_of : List LayerTree → List Plan → World → ℕ → Input → Member → Happening

@@ -67,8 +67,8 @@ state_line = do
   ends (Show member)
 
 -- what stands after the first word of an event's line
-abbrev pub event_behind : Word → Form ScriptEvent
-event_behind verb =
+abbrev pub event_after : Word → Form ScriptEvent
+event_after verb =
     if bytes_eq verb (codes "cast") then cast_line
     else if bytes_eq verb (codes "send") then send_line
     else if bytes_eq verb (codes "leave") then leave_line
@@ -82,7 +82,7 @@ event_behind verb =
 abbrev pub event_line : Form ScriptEvent
 event_line = do
   verb ← a_word
-  event_behind verb
+  event_after verb
 
 -- what a whole line says by a form
 abbrev pub said_by : {A : Type 0} → Form A → List ℕ → Option A

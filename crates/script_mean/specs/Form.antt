@@ -15,7 +15,7 @@ abbrev pub ◌>>=◌ : {A B : Type 0} → Form A → (A → Form B) → Form B
 -- one word, by what it spells
 abbrev pub one : {A : Type 0} → (Word → Option A) → Form A
 one spelled [] = None
-one spelled (word ∷ behind) = option_map (λ value. (value, behind)) (spelled word)
+one spelled (word ∷ following) = option_map (λ value. (value, following)) (spelled word)
 
 -- any word
 abbrev pub a_word : Form Word
@@ -40,4 +40,4 @@ a_body = one body_of
 -- the line ends here, and says this
 abbrev pub ends : {A : Type 0} → A → Form A
 ends value [] = Some (value, [])
-ends value (word ∷ behind) = None
+ends value (word ∷ following) = None

@@ -79,7 +79,7 @@ draws (suc k) bound = do
   more ← draws k bound
   made (first ∷ more)
 
--- the bytes in front of a datagram's headers: a full form where the drawn number is even and else a short one, group
+-- the preamble of a datagram: a full form where the drawn number is even and else a short one, group
 -- and stamp 1, the first view of n members, a sender, and that it is for all
 abbrev pub a_preamble : ℕ → ℕ → ℕ → List ℕ
 a_preamble form members sender =

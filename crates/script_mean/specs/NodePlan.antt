@@ -18,7 +18,7 @@ peers_of member (line ∷ lines) = do
 
 -- the peers, if there is one for each of n members; else the line after the last is at fault
 abbrev pub for_each : ℕ → ℕ → List Peer → Result (List Peer) ScriptFault
-for_each members behind peers = if nat_lt (length peers) members then Err (bad_line behind) else Ok peers
+for_each members following peers = if nat_lt (length peers) members then Err (bad_line following) else Ok peers
 
 -- the turn of a numbered line; its form, which has no earlier turn than this, is judged before its member
 abbrev pub turn_of : ℕ → ℕ → ℕ × List ℕ → Result (ℕ × ScriptEvent) ScriptFault
@@ -36,13 +36,13 @@ turns_of members earliest (line ∷ lines) = do
   Ok (turn ∷ turns)
 
 -- the plan of the lines that say something: the group's line, a line for each member's peer, and turns;
--- `behind` is the number of the line after the last
+-- `following` is the number of the line after the last
 abbrev pub plan_of_lines : ℕ → List (ℕ × List ℕ) → Result NodePlan ScriptFault
-plan_of_lines behind [] = Err (bad_line 1)
-plan_of_lines behind (first ∷ lines) = do
+plan_of_lines following [] = Err (bad_line 1)
+plan_of_lines following (first ∷ lines) = do
   opening ← in_form first.0 (said_by group_line first.1)
   found ← peers_of 0 (take opening.members lines)
-  peers ← for_each opening.members behind found
+  peers ← for_each opening.members following found
   turns ← turns_of opening.members 0 (drop opening.members lines)
   Ok (record { group = opening.group; stamp = opening.stamp; peers = peers; turns = turns })
 

@@ -38,7 +38,7 @@ pub fn find_faults()
     ensures largest_member { script_of (codes "group 1 stamp 7 members 3\n# three\n\nleave 4294967295\n") ≡
         Err (no_member 4) }
     ensures tab { script_of (codes "group 1 stamp 7 members 3\ngive\t1 0\n") ≡ Err (bad_line 2) }
-    ensures comment_behind { script_of (codes "group 1 stamp 7 members 3\nstate 0 # shown\n") ≡ Err (bad_line 2) }
+    ensures comment_after { script_of (codes "group 1 stamp 7 members 3\nstate 0 # shown\n") ≡ Err (bad_line 2) }
     ensures no_body { script_of (codes "group 1 stamp 7 members 3\nraw 0\n") ≡ Err (bad_line 2) }
     ensures form_before_member { script_of (codes "group 1 stamp 7 members 3\ncast 40 6\n") ≡ Err (bad_line 2) }
 {}

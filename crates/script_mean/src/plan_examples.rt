@@ -33,7 +33,7 @@ pub fn find_plan_faults()
     ensures peer_for_turn { node_plan (codes "group 1 stamp 7 members 1\npeer 0 127.0.0.1:4000\n"
         ++ codes "peer 1 127.0.0.1:4001\n") ≡ Err (bad_line 3) }
     ensures octet { node_plan (codes "group 1 stamp 7 members 1\npeer 0 127.0.0.256:4000\n") ≡ Err (bad_line 2) }
-    ensures zero_in_front { node_plan (codes "group 1 stamp 7 members 1\npeer 0 127.0.0.01:4000\n") ≡ Err (bad_line 2) }
+    ensures leading_zero { node_plan (codes "group 1 stamp 7 members 1\npeer 0 127.0.0.01:4000\n") ≡ Err (bad_line 2) }
     ensures three_octets { node_plan (codes "group 1 stamp 7 members 1\npeer 0 127.0.1:4000\n") ≡ Err (bad_line 2) }
     ensures port { node_plan (codes "group 1 stamp 7 members 1\npeer 0 127.0.0.1:65536\n") ≡ Err (bad_line 2) }
     ensures no_port { node_plan (codes "group 1 stamp 7 members 1\npeer 0 127.0.0.1\n") ≡ Err (bad_line 2) }

@@ -9,11 +9,11 @@ use Rattle.script_mean.specs.declared.event.ScriptEvent.TheVariants.{Raw}
 -- with that many of the numbers drawn, these and the others are all
 pub record DrawnSoFar (count done : ℕ) (front bytes : List ℕ) (start seed : ℕ) : Type 0 where
   pub values : bytes ++ (draws (count - done) 4 seed).0 ≡ front ++ (draws count 4 start).0
-  pub behind : (draws (count - done) 4 seed).1 ≡ (draws count 4 start).1
+  pub following : (draws (count - done) 4 seed).1 ≡ (draws count 4 start).1
 
 pub none_drawn : (count : ℕ) (front : List ℕ) (start : ℕ) → DrawnSoFar count 0 front front start start
 none_drawn count front start = let all : count - 0 ≡ count = omega arith in
-    record { values = rw all refl; behind = rw all refl }
+    record { values = rw all refl; following = rw all refl }
 
 pub one_drawn : (count done : ℕ) (front bytes : List ℕ) (start seed value next : ℕ) → done < count →
     DrawnSoFar count done front bytes start seed → a_draw 4 seed ≡ (value, next) →
@@ -23,7 +23,7 @@ one_drawn count done front bytes start seed value next inside so_far drawn =
     subst (λ (d : ℕ × ℕ). DrawnSoFar count (done + 1) front (bytes ++ d.0 ∷ []) start d.1) drawn record {
       values = append_assoc bytes ((a_draw 4 seed).0 ∷ []) (draws (count - (done + 1)) 4 (a_draw 4 seed).1).0 ∙
           (rw left at so_far.values);
-      behind = rw left at so_far.behind;
+      following = rw left at so_far.following;
     }
 
 pub all_drawn : (count done : ℕ) (front bytes : List ℕ) (start seed : ℕ) → count ≤ done →
@@ -31,7 +31,7 @@ pub all_drawn : (count done : ℕ) (front bytes : List ℕ) (start seed : ℕ) �
     (seed ≡ (draws count 4 start).1)
 all_drawn count done front bytes start seed past so_far =
     let none : count - done ≡ 0 = omega arith in
-    (sym (append-nil bytes) ∙ (rw none at so_far.values), rw none at so_far.behind)
+    (sym (append-nil bytes) ∙ (rw none at so_far.values), rw none at so_far.following)
 
 -- a datagram, draw by draw
 abbrev with_way : (members member form sender : ℕ) → List ℕ → ℕ → Drawn ScriptEvent
@@ -55,12 +55,13 @@ pub datagram_drawn : (members member form sender count way s0 s1 s2 s3 s4 s5 s6 
     rest ≡ a_preamble form members sender ++ (draws count 4 s3).0 → s4 ≡ (draws count 4 s3).1 →
     a_draw 8 s4 ≡ (way, s5) → cut_short rest way s5 ≡ (bytes, s6) → a_datagram members member s0 ≡
     (Raw member bytes, s6)
-datagram_drawn members member form sender count way s0 s1 s2 s3 s4 s5 s6 rest bytes first second third all behind fifth
+datagram_drawn members member form sender count way s0 s1 s2 s3 s4 s5 s6 rest bytes first second third all following
+    fifth
     last =
     ap (λ (d : ℕ × ℕ). with_form members member d.0 d.1) first
     ∙ ap (λ (d : ℕ × ℕ). with_sender members member form d.0 d.1) second
     ∙ ap (λ (d : ℕ × ℕ). with_count members member form sender d.0 d.1) third
-    ∙ ap (λ s. with_rest members member form sender (draws count 4 s3).0 s) (sym behind)
+    ∙ ap (λ s. with_rest members member form sender (draws count 4 s3).0 s) (sym following)
     ∙ ap (λ (d : ℕ × ℕ). with_way members member form sender (draws count 4 s3).0 d.0 d.1) fifth
     ∙ ap (λ bs. (cut_short bs way >>= λ b. made (Raw member b)) s5) (sym all)
     ∙ ap (λ (d : List ℕ × ℕ). (Raw member d.0, d.1)) last

@@ -35,8 +35,9 @@ front_more front one (Err fault) = refl
 
 -- with one more event read, those read and the other lines still spell the whole
 pub goes_on : (members : ℕ) (front : List ScriptEvent) (line : ℕ × List ℕ) (event : ScriptEvent)
-    (all behind : List (ℕ × List ℕ)) (whole : Result (List ScriptEvent) ScriptFault) → all ≡ line ∷ behind →
+    (all following : List (ℕ × List ℕ)) (whole : Result (List ScriptEvent) ScriptFault) → all ≡ line ∷ following →
     event_of members line ≡ Ok event → with_front front (events_of members all) ≡ whole →
-    with_front (front ++ event ∷ []) (events_of members behind) ≡ whole
-goes_on members front line event all behind whole split reads e = front_more front event (events_of members behind) ∙
+    with_front (front ++ event ∷ []) (events_of members following) ≡ whole
+goes_on members front line event all following whole split reads e =
+    front_more front event (events_of members following) ∙
     rw (split, reads) at e

@@ -13,8 +13,8 @@ value byte = unwrap_or (hex_digit byte) 16
 
 -- the bytes so far and those after them, if all digits so far are some
 abbrev pub joined : Bool → List ℕ → Option (List ℕ) → Option (List ℕ)
-joined true front behind = option_map (λ bytes. front ++ bytes) behind
-joined false front behind = None
+joined true front following = option_map (λ bytes. front ++ bytes) following
+joined false front following = None
 
 -- a value is below sixteen
 pub bounded : (byte : ℕ) → IfSome (hex_digit byte) (λ value. value < 16)
@@ -59,7 +59,7 @@ pub goes_on : (digits bytes : List ℕ) (i most high low above next : ℕ) (whol
 goes_on digits bytes i most high low above next whole within double high_is low_is above_is next_is so_far =
     let one = drop_more digits (2 * i) 0 (omega arith) in
     let two = drop_more digits (2 * i + 1) 0 (omega arith) in
-    let behind : 2 * (i + 1) ≡ 2 * i + 1 + 1 = omega arith in
+    let following : 2 * (i + 1) ≡ 2 * i + 1 + 1 = omega arith in
     let a = slice_index digits (2 * i) in
     let b = slice_index digits (2 * i + 1) in
     let step = pair most (take i bytes) (hex_digit a) (hex_digit b) (hex_bytes (drop (2 * i + 1 + 1) digits))
@@ -70,7 +70,7 @@ goes_on digits bytes i most high low above next whole within double high_is low_
       above_is,
       high_is,
       low_is,
-      behind,
+      following,
       take_more_set bytes i ((value a * 16 % 256 + value b) % 256) within,
     ) step
 
@@ -78,11 +78,11 @@ goes_on digits bytes i most high low above next whole within double high_is low_
 pub odd_none : (word : List ℕ) → length word % 2 ≢ 0 → hex_bytes word ≡ None
 odd_none [] odd = absurd (odd (omega arith))
 odd_none (one ∷ []) odd = refl
-odd_none (high ∷ low ∷ more) odd = nothing_behind (hex_digit high) (hex_digit low) (hex_bytes more)
+odd_none (high ∷ low ∷ more) odd = nothing_after (hex_digit high) (hex_digit low) (hex_bytes more)
     (odd_none more (λ even. odd (omega arith)))
   where
-    nothing_behind : (h l : Option ℕ) (rest : Option (List ℕ)) → rest ≡ None →
+    nothing_after : (h l : Option ℕ) (rest : Option (List ℕ)) → rest ≡ None →
         (h >>= λ x. l >>= λ y. rest >>= λ bytes. Some ((x * 16 + y) ∷ bytes)) ≡ None
-    nothing_behind None l rest e = refl
-    nothing_behind (Some x) None rest e = refl
-    nothing_behind (Some x) (Some y) rest e = rw e refl
+    nothing_after None l rest e = refl
+    nothing_after (Some x) None rest e = refl
+    nothing_after (Some x) (Some y) rest e = rw e refl

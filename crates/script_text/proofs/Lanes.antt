@@ -77,31 +77,31 @@ one_pair (Some h) (Some l) true bytes (Some rest) whole first second is =
     rw (is, ltb_is h first, ltb_is l second) (ap (λ b. Some (b ∷ bytes ++ rest)) byte)
 
 -- what digits spell after an even number of others
-hex_behind : (n : ℕ) (xs ys : List ℕ) → length xs ≡ 2 * n → hex_bytes (xs ++ ys)
+hex_after : (n : ℕ) (xs ys : List ℕ) → length xs ≡ 2 * n → hex_bytes (xs ++ ys)
     ≡ (if all_small (map digit_value xs) then option_map (λ more. combined (map digit_value xs) ++ more) (hex_bytes ys)
     else None)
-hex_behind zero [] ys long = same (hex_bytes ys)
+hex_after zero [] ys long = same (hex_bytes ys)
   where
     same : (o : Option (List ℕ)) → o ≡ option_map (λ more. [] ++ more) o
     same None = refl
     same (Some more) = refl
-hex_behind zero (a ∷ xs) ys long = absurd (omega (arith, long))
-hex_behind (suc n) [] ys long = absurd (omega (arith, long))
-hex_behind (suc n) (a ∷ []) ys long = absurd (omega (arith, long))
-hex_behind (suc n) (a ∷ b ∷ xs) ys long =
+hex_after zero (a ∷ xs) ys long = absurd (omega (arith, long))
+hex_after (suc n) [] ys long = absurd (omega (arith, long))
+hex_after (suc n) (a ∷ []) ys long = absurd (omega (arith, long))
+hex_after (suc n) (a ∷ b ∷ xs) ys long =
     one_pair (hex_digit a) (hex_digit b) (all_small (map digit_value xs)) (combined (map digit_value xs)) (hex_bytes ys)
     (hex_bytes (xs ++ ys)) (bounded a) (bounded b)
-    (hex_behind n xs ys (omega (arith, long)))
+    (hex_after n xs ys (omega (arith, long)))
 
 map_both : (xs ys : List ℕ) → map digit_value (xs ++ ys) ≡ map digit_value xs ++ map digit_value ys
 map_both [] ys = refl
 map_both (x ∷ xs) ys = ap (λ vs. digit_value x ∷ vs) (map_both xs ys)
 
-in_front : (front block : List ℕ) (rest : Option (List ℕ)) →
+front_joined : (front block : List ℕ) (rest : Option (List ℕ)) →
     option_map (λ more. front ++ more) (option_map (λ more. block ++ more) rest)
     ≡ option_map (λ more. (front ++ block) ++ more) rest
-in_front front block None = refl
-in_front front block (Some rest) = ap Some (sym (append_assoc front block rest))
+front_joined front block None = refl
+front_joined front block (Some rest) = ap Some (sym (append_assoc front block rest))
 
 -- a block of bytes is written, if its digits are some
 pub writes : (at : ℕ) (digits old fs bs : List ℕ) (result : Bool) → 2 * at + 32 ≤ length digits → at + 16 ≤ length old →
@@ -128,39 +128,40 @@ writes at digits old fs bs result many room front back is = by_result result is
     long_vs : length (fs ++ bs) ≡ 2 * 16
     long_vs = ap length (sym vs) ∙ length-map (c1 ++ c2) digit_value ∙ long
 
-    behind : List ℕ
-    behind = drop (2 * (at + 16)) digits
+    following : List ℕ
+    following = drop (2 * (at + 16)) digits
 
-    split : drop (2 * at) digits ≡ (c1 ++ c2) ++ behind
+    split : drop (2 * at) digits ≡ (c1 ++ c2) ++ following
     split =
         let last : 2 * at + 16 + 16 ≡ 2 * (at + 16) = omega arith in
         chunk-drop (2 * at) 16 digits ∙
         ap (λ xs. c1 ++ xs) (chunk-drop (2 * at + 16) 16 digits ∙ ap (λ k. c2 ++ drop k digits) last)
-        ∙ sym (append_assoc c1 c2 behind)
+        ∙ sym (append_assoc c1 c2 following)
 
     whole : hex_bytes (drop (2 * at) digits)
         ≡ (if all_small fs && all_small bs then option_map (λ more. pairs_from 0 16 (fs ++ bs) ++ more)
-        (hex_bytes behind) else None)
+        (hex_bytes following) else None)
     whole =
-        ap hex_bytes split ∙ hex_behind 16 (c1 ++ c2) behind long
-        ∙ ap (λ ws. if all_small ws then option_map (λ more. combined ws ++ more) (hex_bytes behind) else None) vs
+        ap hex_bytes split ∙ hex_after 16 (c1 ++ c2) following long
+        ∙ ap (λ ws. if all_small ws then option_map (λ more. combined ws ++ more) (hex_bytes following) else None) vs
         ∙ (λ i. if list_all-append (λ v. nat_lt v 16) fs bs i then option_map
-        (λ more. combined_is 16 (fs ++ bs) long_vs i ++ more) (hex_bytes behind) else None)
+        (λ more. combined_is 16 (fs ++ bs) long_vs i ++ more) (hex_bytes following) else None)
 
     by_result : (r : Bool) → r ≡ (all_small fs && all_small bs) →
         WritesBlock at digits old (put_chunk at old (pairs_from 0 16 (fs ++ bs))) r
     by_result true e = (
       length-put_chunk at old (pairs_from 0 16 (fs ++ bs)),
       ap (option_map (λ more. take at old ++ more))
-          (whole ∙ ap (λ b. if b then option_map (λ more. pairs_from 0 16 (fs ++ bs) ++ more) (hex_bytes behind) else
+          (whole ∙ ap (λ b. if b then option_map (λ more. pairs_from 0 16 (fs ++ bs) ++ more) (hex_bytes following) else
           None) (sym e))
-          ∙ in_front (take at old) (pairs_from 0 16 (fs ++ bs)) (hex_bytes behind)
-          ∙ ap (λ t. option_map (λ more. t ++ more) (hex_bytes behind))
+          ∙ front_joined (take at old) (pairs_from 0 16 (fs ++ bs)) (hex_bytes following)
+          ∙ ap (λ t. option_map (λ more. t ++ more) (hex_bytes following))
           (sym (take_more_put_chunk at old (pairs_from 0 16 (fs ++ bs)) (at + 16) refl room)),
     )
     by_result false e = (
       length-put_chunk at old (pairs_from 0 16 (fs ++ bs)),
-      whole ∙ ap (λ b. if b then option_map (λ more. pairs_from 0 16 (fs ++ bs) ++ more) (hex_bytes behind) else None)
+      whole ∙ ap (λ b. if b then option_map (λ more. pairs_from 0 16 (fs ++ bs) ++ more) (hex_bytes following) else
+          None)
           (sym e),
     )
 

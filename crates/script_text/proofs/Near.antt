@@ -27,9 +27,9 @@ none_in_lanes at xs many none =
 
 by_lane : (lane : Bool) (m run n : ℕ) → cond lane 1 0 + 2 * m ≢ 0 → (m ≢ 0 → run < n) →
     cond (not lane) (1 + run) 0 < 1 + n
-by_lane true m run n some behind = omega arith
-by_lane false m run n some behind =
-    let less = behind (λ none. some (omega (arith, none))) in omega (arith, less)
+by_lane true m run n some following = omega arith
+by_lane false m run n some following =
+    let less = following (λ none. some (omega (arith, none))) in omega (arith, less)
 
 some_lane : (p : ℕ → Bool) (xs : List ℕ) → mask_l (map p xs) ≢ 0 → prefix_len (λ x. not (p x)) xs < length xs
 some_lane p [] some = absurd (some refl)

@@ -17,7 +17,7 @@ use Rattle.script_text.proofs.Faults.{front_more, with_front}
 -- the peers of n members that are read so far, and the lines after theirs
 pub record PeersSoFar (members done : ℕ) (lines left : List (ℕ × List ℕ)) (peers : List Peer) : Type 0 where
   pub spelled : with_front peers (peers_of done (take (members - done) left)) ≡ peers_of 0 (take members lines)
-  pub behind : left ≡ drop done lines
+  pub following : left ≡ drop done lines
   pub count : length peers ≡ done
   pub few : done ≤ members
 
@@ -37,7 +37,7 @@ no_peers members lines =
     record {
       spelled = let all : members - 0 ≡ members = omega arith in
           rw all (plain (peers_of 0 (take members lines)));
-      behind = refl;
+      following = refl;
       count = refl;
       few = omega arith;
     }
@@ -57,7 +57,7 @@ one_more_peer members done lines left rest line peers peer inside so_far split r
     record {
       spelled = front_more peers peer (peers_of (done + 1) (take (members - (done + 1)) rest)) ∙
           rw (next, split, reads) at so_far.spelled;
-      behind = rw one (dropped done lines rest line (sym so_far.behind ∙ split));
+      following = rw one (dropped done lines rest line (sym so_far.following ∙ split));
       count = let long = length-append peers (peer ∷ []) in omega (arith, so_far.count);
       few = omega arith;
     }
@@ -71,17 +71,18 @@ passed_on part whole (NoMember line) h on = on (no_member line) h
 passed_on part whole Memory h on = tt
 
 -- a line that says no peer
-pub bad_peer : (members behind done : ℕ) (lines left rest : List (ℕ × List ℕ)) (line : ℕ × List ℕ) (peers : List Peer)
+pub bad_peer : (members following done : ℕ) (lines left rest : List (ℕ × List ℕ)) (line : ℕ × List ℕ)
+    (peers : List Peer)
     (fault : ScriptFault) → done < members → PeersSoFar members done lines left peers → left ≡ line ∷ rest →
-    in_form line.0 (said_by (peer_line done) line.1) ≡ Err fault → first_peers members behind lines ≡ Err fault
-bad_peer members behind done lines left rest line peers fault inside so_far split reads =
+    in_form line.0 (said_by (peer_line done) line.1) ≡ Err fault → first_peers members following lines ≡ Err fault
+bad_peer members following done lines left rest line peers fault inside so_far split reads =
     let next : members - done ≡ suc (members - (done + 1)) = omega arith in
-    ap (λ found. found >>= for_each members behind) (sym (rw (next, split, reads) at so_far.spelled))
+    ap (λ found. found >>= for_each members following) (sym (rw (next, split, reads) at so_far.spelled))
 
 -- one more turn
 pub one_more_turn : (members earliest : ℕ) (front : List (ℕ × ScriptEvent)) (line : ℕ × List ℕ) (turn : ℕ × ScriptEvent)
-    (all behind : List (ℕ × List ℕ)) (whole : Result (List (ℕ × ScriptEvent)) ScriptFault) → all ≡ line ∷ behind →
+    (all following : List (ℕ × List ℕ)) (whole : Result (List (ℕ × ScriptEvent)) ScriptFault) → all ≡ line ∷ following →
     turn_of members earliest line ≡ Ok turn → with_front front (turns_of members earliest all) ≡ whole →
-    with_front (front ++ turn ∷ []) (turns_of members turn.0 behind) ≡ whole
-one_more_turn members earliest front line turn all behind whole split reads e =
-    front_more front turn (turns_of members turn.0 behind) ∙ rw (split, reads) at e
+    with_front (front ++ turn ∷ []) (turns_of members turn.0 following) ≡ whole
+one_more_turn members earliest front line turn all following whole split reads e =
+    front_more front turn (turns_of members turn.0 following) ∙ rw (split, reads) at e

@@ -144,34 +144,35 @@ asks_state words = first (a_number words)
     first (Some t) = last t.0 t.1
 
 -- the lines of the three requests
-pub asked_cast : (words behind : List Word) (verb : Word) → words ≡ verb ∷ behind → bytes_eq verb (codes "cast") ≡
-    true → request_line words ≡ cast_line behind
-asked_cast words behind verb split is = rw (split, is) (asks_cast behind)
+pub asked_cast : (words following : List Word) (verb : Word) → words ≡ verb ∷ following → bytes_eq verb (codes "cast") ≡
+    true → request_line words ≡ cast_line following
+asked_cast words following verb split is = rw (split, is) (asks_cast following)
 
-pub asked_send : (words behind : List Word) (verb : Word) → words ≡ verb ∷ behind → bytes_eq verb (codes "cast") ≡
-    false → bytes_eq verb (codes "send") ≡ true → request_line words ≡ send_line behind
-asked_send words behind verb split one is = rw (split, one, is) (asks_send behind)
+pub asked_send : (words following : List Word) (verb : Word) → words ≡ verb ∷ following → bytes_eq verb (codes "cast") ≡
+    false → bytes_eq verb (codes "send") ≡ true → request_line words ≡ send_line following
+asked_send words following verb split one is = rw (split, one, is) (asks_send following)
 
-pub asked_leave : (words behind : List Word) (verb : Word) → words ≡ verb ∷ behind → bytes_eq verb (codes "cast") ≡
+pub asked_leave : (words following : List Word) (verb : Word) → words ≡ verb ∷ following →
+    bytes_eq verb (codes "cast") ≡
     false → bytes_eq verb (codes "send") ≡ false → bytes_eq verb (codes "leave") ≡ true →
-    request_line words ≡ leave_line behind
-asked_leave words behind verb split one two is = rw (split, one, two, is) (asks_leave behind)
+    request_line words ≡ leave_line following
+asked_leave words following verb split one two is = rw (split, one, two, is) (asks_leave following)
 
 -- and no other line is one
-pub no_request : (words behind : List Word) (verb : Word) → words ≡ verb ∷ behind → bytes_eq verb (codes "cast") ≡
+pub no_request : (words following : List Word) (verb : Word) → words ≡ verb ∷ following → bytes_eq verb (codes "cast") ≡
     false → bytes_eq verb (codes "send") ≡ false → bytes_eq verb (codes "leave") ≡ false → request_line words ≡ None
-no_request words behind verb split one two three =
+no_request words following verb split one two three =
     rw (split, one, two, three)
     (of_four (bytes_eq verb (codes "tick")) (bytes_eq verb (codes "give")) (bytes_eq verb (codes "raw"))
     (bytes_eq verb (codes "state")))
   where
     of_four : (t g r s : Bool) →
         ((if t then tick_line else if g then give_line else if r then raw_line else if s then state_line else
-        (λ words. None)) >>= asked) behind ≡ None
-    of_four true g r s = asks_tick behind
-    of_four false true r s = asks_give behind
-    of_four false false true s = asks_raw behind
-    of_four false false false true = asks_state behind
+        (λ words. None)) >>= asked) following ≡ None
+    of_four true g r s = asks_tick following
+    of_four false true r s = asks_give following
+    of_four false false true s = asks_raw following
+    of_four false false false true = asks_state following
     of_four false false false false = refl
 
 -- a request in its turn, where the line ends
@@ -197,10 +198,10 @@ whole_request turn words = of_event (event_line words)
     of_event (Some t) = of_rest (is_request t.0) t.0 t.1
 
 -- a turn's line, after its first two words
-pub turn_behind : (earliest turn : ℕ) (words one two : List Word) → the_word (codes "turn") words ≡ Some (tt, one) →
+pub turn_after : (earliest turn : ℕ) (words one two : List Word) → the_word (codes "turn") words ≡ Some (tt, one) →
     a_number_within earliest 4294967295 one ≡ Some (turn, two) →
     turn_line earliest words ≡ option_map (λ t. ((turn, t.0), [])) (request_line two)
-turn_behind earliest turn words one two first second = rw (first, second) (whole_request turn two)
+turn_after earliest turn words one two first second = rw (first, second) (whole_request turn two)
 
 pub turn_refused : (members turn : ℕ) (taken : Option (ScriptEvent × List Word)) (e : LineError) →
     IsEvent members taken (Err e) → IsTurn members (option_map (λ t. ((turn, t.0), [])) taken) (Err e)

@@ -8,15 +8,15 @@ use Rattle.std.proofs.lemmas.Option.{none-some}
 use Rattle.std.proofs.lemmas.List.Splits.{length-slice_split, slice_split_none}
 use Rattle.script_mean.specs.Words.{◌>>=◌, Word, body_of, hex_digit, hex_bytes, most_digits, words_of}
 use Rattle.script_mean.specs.Form.{a_body, ends, one}
-use Rattle.script_text.specs.Parts.{parts_behind}
+use Rattle.script_text.specs.Parts.{parts_after}
 use denote.Ref.{Bor}
 
 -- both digits of a byte are some, and so are those after them
 record AreSome (high low : Option ℕ) (more : Option (List ℕ)) : Type 0 where
   pub high_some : high ≢ None
   pub low_some : low ≢ None
-  pub behind : List ℕ
-  pub more_is : more ≡ Some behind
+  pub following : List ℕ
+  pub more_is : more ≡ Some following
 
 are_some : (high low : Option ℕ) (more : Option (List ℕ)) (bytes : List ℕ) →
     (high >>= λ h. low >>= λ l. more >>= λ rest. Some ((h * 16 + l) ∷ rest)) ≡ Some bytes → AreSome high low more
@@ -26,7 +26,7 @@ are_some (Some h) (Some l) None bytes is = absurd (none-some _ is)
 are_some (Some h) (Some l) (Some rest) bytes is = record {
   high_some = λ none. none-some _ (sym none);
   low_some = λ none. none-some _ (sym none);
-  behind = rest;
+  following = rest;
   more_is = refl;
 }
 
@@ -48,7 +48,7 @@ no_spaces (high ∷ low ∷ more) bytes is (suc zero) d within =
     no_space low (are_some (hex_digit high) (hex_digit low) (hex_bytes more) bytes is).low_some
 no_spaces (high ∷ low ∷ more) bytes is (suc (suc k)) d within =
     let parts = are_some (hex_digit high) (hex_digit low) (hex_bytes more) bytes is in
-    no_spaces more parts.behind parts.more_is k d (omega (arith, within))
+    no_spaces more parts.following parts.more_is k d (omega (arith, within))
 
 not_dash : (text bytes : List ℕ) → hex_bytes text ≡ Some bytes → bytes_eq text (codes "-") ≡ false
 not_dash [] bytes is = refl
@@ -80,8 +80,8 @@ not_ended_on (word ∷ words) some = refl
 
 -- a rest has a word
 pub not_ended : (rest : Option (Bor (List ℕ))) (text : Bor (List ℕ)) → rest ≡ Some text →
-    ends {A = Unit {0}} tt (parts_behind 32 rest) ≡ None
+    ends {A = Unit {0}} tt (parts_after 32 rest) ≡ None
 not_ended rest text is =
     let count = length-slice_split (λ byte. byte == 32) text.now in
-    ap (λ left. ends {A = Unit {0}} tt (parts_behind 32 left)) is
+    ap (λ left. ends {A = Unit {0}} tt (parts_after 32 left)) is
     ∙ not_ended_on (words_of text.now) (omega (arith, count))

@@ -11,8 +11,8 @@ Makes made (Err error) seed = Unit {0}
 
 -- the same of an event, with the cursors after it
 abbrev pub MakesEvent : (ScriptEvent × List ℕ) × ℕ → Result ScriptEvent AllocError → Maker → Type 0
-MakesEvent made (Ok event) behind = made ≡ ((event, behind.cursors.items), behind.seed.value)
-MakesEvent made (Err error) behind = Unit {0}
+MakesEvent made (Ok event) following = made ≡ ((event, following.cursors.items), following.seed.value)
+MakesEvent made (Err error) following = Unit {0}
 
 -- no cursor is beyond two for each event
 abbrev pub IsWithin : ℕ → List ℕ → Type 0

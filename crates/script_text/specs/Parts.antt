@@ -4,6 +4,6 @@ use Rattle.std.specs.List.{slice_split}
 use denote.Ref.{Bor}
 
 -- the parts of the rest, which is cut at a byte; no rest has no part, and an empty one has an empty part
-abbrev pub parts_behind : ℕ → Option (Bor (List ℕ)) → List (List ℕ)
-parts_behind at None = []
-parts_behind at (Some rest) = slice_split (λ byte. byte == at) rest.now
+abbrev pub parts_after : ℕ → Option (Bor (List ℕ)) → List (List ℕ)
+parts_after at None = []
+parts_after at (Some rest) = slice_split (λ byte. byte == at) rest.now

@@ -9,7 +9,7 @@ use Rattle.msg_core.specs.View.{most_members}
 
 -- where each of n members is reached, as the first lines say; the line of this number is after the last
 abbrev pub first_peers : ℕ → ℕ → List (ℕ × List ℕ) → Result (List Peer) ScriptFault
-first_peers members behind lines = peers_of 0 (take members lines) >>= for_each members behind
+first_peers members following lines = peers_of 0 (take members lines) >>= for_each members following
 
 -- a plan whose turns can be run: it has 1 to 32 members, and each turn is of one of them
 pub record IsRunnable (plan : NodePlan) : Type 0 where

@@ -9,7 +9,7 @@ use Rattle.script_mean.specs.Words.{Word, words_of}
 use Rattle.script_mean.specs.Form.{a_body}
 use Rattle.script_mean.specs.Event.{member_of}
 use Rattle.script_mean.specs.declared.event.ScriptEvent.{ScriptEvent}
-use Rattle.script_text.specs.Parts.{parts_behind}
+use Rattle.script_text.specs.Parts.{parts_after}
 use Rattle.script_text.specs.declared.error.LineError.{LineError}
 use Rattle.script_text.specs.declared.error.LineError.TheVariants.{Form, NoMember, Memory}
 use Rattle.script_text.specs.declared.error.ScriptError.{ScriptError}
@@ -24,7 +24,7 @@ numbered_line line = (line.number, line.text.now)
 
 -- the lines that are left
 abbrev pub all_left : Lines → List (ℕ × List ℕ)
-all_left lines = enumerate_from lines.number (parts_behind 10 lines.rest)
+all_left lines = enumerate_from lines.number (parts_after 10 lines.rest)
 
 -- those of them that say something
 abbrev pub lines_left : Lines → List (ℕ × List ℕ)
@@ -32,7 +32,7 @@ lines_left lines = speaking_lines (all_left lines)
 
 -- the words that are left of a line
 abbrev pub words_left : Words → List Word
-words_left words = parts_behind 32 words.rest
+words_left words = parts_after 32 words.rest
 
 -- a line's error as an error of the script
 abbrev pub error_at : ℕ → LineError → ScriptError
@@ -58,10 +58,10 @@ IsWholeBody text (Some bytes) = a_body (words_of text) ≡ Some (bytes, [])
 
 -- what a form took from the words and the words after it, or memory was wanted
 abbrev pub Takes : {A : Type 0} → Option (A × List Word) → Result A LineError → List Word → Type 0
-Takes taken (Ok value) behind = taken ≡ Some (value, behind)
-Takes taken (Err Form) behind = taken ≡ None
-Takes taken (Err NoMember) behind = ⊥
-Takes taken (Err Memory) behind = Unit {0}
+Takes taken (Ok value) following = taken ≡ Some (value, following)
+Takes taken (Err Form) following = taken ≡ None
+Takes taken (Err NoMember) following = ⊥
+Takes taken (Err Memory) following = Unit {0}
 
 -- what a form said of a whole line, or memory was wanted
 abbrev pub Says : {A : Type 0} → Option (A × List Word) → Result A LineError → Type 0

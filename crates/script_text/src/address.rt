@@ -11,9 +11,9 @@ use outside::Peer;
 pub(crate) fn peer_of(word: &[u8]) -> Option<Peer>
     ensures { result ≡ spec.peer_of word.now }
 {
-    let (host, behind) = cut(b':', word);
-    let (port, behind) = cut(b':', behind?);
-    if behind.is_some() {
+    let (host, following) = cut(b':', word);
+    let (port, following) = cut(b':', following?);
+    if following.is_some() {
         return None;
     }
     let ip = octets_of(host)?;
@@ -24,11 +24,11 @@ pub(crate) fn peer_of(word: &[u8]) -> Option<Peer>
 fn octets_of(host: &[u8]) -> Option<[u8; 4]>
     ensures { result ≡ spec.octets_of (slice_split (λ byte. byte == 46) host.now) }
 {
-    let (one, behind) = cut(b'.', host);
-    let (two, behind) = cut(b'.', behind?);
-    let (three, behind) = cut(b'.', behind?);
-    let (four, behind) = cut(b'.', behind?);
-    if behind.is_some() {
+    let (one, following) = cut(b'.', host);
+    let (two, following) = cut(b'.', following?);
+    let (three, following) = cut(b'.', following?);
+    let (four, following) = cut(b'.', following?);
+    if following.is_some() {
         return None;
     }
     octets(one, two, three, four)

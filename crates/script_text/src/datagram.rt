@@ -51,7 +51,7 @@ pub(crate) fn datagram(
     Ok(ScriptEvent::Raw(member, Bytes::of(bytes)))
 }
 
-/// The bytes in front of a datagram's headers.
+/// The preamble of a datagram.
 fn preamble(memory: Vec<u8>, form: u32, members: u8, sender: u8) -> Result<Vec<u8>, AllocError>
     requires { members ≤ most_members }
     ensures { IfOk result (λ bytes. bytes.items ≡ spec.a_preamble form members sender) }

@@ -63,11 +63,11 @@ pub(crate) fn event_on(
 fn event(alloc: Global, members: u8, line: &[u8]) -> Result<ScriptEvent, LineError>
     ensures { IsEvent members (spec.event_line (words_of line.now)) result }
 {
-    if let [b'g', b'i', b'v', b'e', b' ', behind @ ..] = line {
-        return give(members, Words::on(behind));
+    if let [b'g', b'i', b'v', b'e', b' ', following @ ..] = line {
+        return give(members, Words::on(following));
     }
-    if let [b'c', b'a', b's', b't', b' ', behind @ ..] = line {
-        return cast(alloc, members, Words::on(behind));
+    if let [b'c', b'a', b's', b't', b' ', following @ ..] = line {
+        return cast(alloc, members, Words::on(following));
     }
     any_event(alloc, members, Words::on(line))
 }

@@ -2,10 +2,10 @@
 ghost use Rattle.std.specs.Prelude.{◌≡◌, ◌+◌, ◌<◌, ◌≤◌, ◌^◌, ◌==◌, not, length, count_by};
 ghost use Rattle.std.specs.List.{after_last};
 ghost use Rattle.script_mean.specs.Lines as spec;
-ghost use Rattle.script_text.specs.Parts.{parts_behind};
+ghost use Rattle.script_text.specs.Parts.{parts_after};
 
 use crate::reading::MOST_LINES;
-use crate::splits::cut_in_front;
+use crate::splits::cut_before;
 
 /// How many bytes are counted at once.
 const BLOCK: usize = 192;
@@ -23,7 +23,7 @@ pub(crate) struct NumberedLine<'a> {
 pub(crate) struct Lines<'a> {
     rest: Option<&'a [u8]>,
     number: u32,
-    ghost counted: { number + length (parts_behind 10 rest) < 2 ^ 32 },
+    ghost counted: { number + length (parts_after 10 rest) < 2 ^ 32 },
 }
 
 impl<'a> Lines<'a> {
@@ -43,10 +43,10 @@ impl<'a> Lines<'a> {
     fn next_line(&mut self) -> Option<NumberedLine<'a>>
         ensures { YieldsFirstBy numbered_line all_left self.old result self.new }
     {
-        let (text, behind) = cut_in_front(b'\n', self.rest?);
+        let (text, following) = cut_before(b'\n', self.rest?);
         let number = self.number;
         *self = Lines {
-            rest: behind,
+            rest: following,
             number: number + 1,
         };
         Some(NumberedLine { number, text })
@@ -97,9 +97,9 @@ fn line_feeds(text: &[u8]) -> usize
     let mut count = 0;
     let mut rest = text;
     while rest.len() > BLOCK {
-        let (block, behind) = rest.split_at(BLOCK);
+        let (block, following) = rest.split_at(BLOCK);
         count += usize::from(line_feeds_of_block(block));
-        rest = behind;
+        rest = following;
     }
     count + usize::from(line_feeds_of_block(rest))
 }

@@ -43,17 +43,17 @@ pub fn read_plan(alloc: Global, text: &[u8]) -> Result<NodePlan, ScriptError>
 fn peers(
     alloc: Global,
     members: u8,
-    behind: u32,
+    following: u32,
     lines: &mut Lines<'_>,
 ) -> Result<Peers, ScriptError>
-    ensures spelled { Answers (first_peers members behind (lines_left lines.old)) result }
+    ensures spelled { Answers (first_peers members following (lines_left lines.old)) result }
     ensures count { IfOk result (λ peers. length peers ≡ members) }
     ensures left { IfOk result (λ peers. lines_left lines.new ≡ drop members (lines_left lines.old)) }
 {
     let mut peers = Vec::new(alloc);
     for member in 0..members {
         let Some(line) = lines.next() else {
-            return Err(ScriptError::BadLine(behind));
+            return Err(ScriptError::BadLine(following));
         };
         peers.push(peer_on(member, line)?)?;
     }

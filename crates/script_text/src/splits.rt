@@ -2,7 +2,7 @@
 ghost use Rattle.std.specs.Prelude.{◌≡◌, ◌≤◌, ◌==◌, ◌∷◌, IfSome, length, take};
 ghost use Rattle.std.specs.List.{slice_split};
 ghost use Rattle.memchr.specs.Find.{IsFirst, IsFirstByte, Nowhere, Passes, is_byte};
-ghost use Rattle.script_text.specs.Parts.{parts_behind};
+ghost use Rattle.script_text.specs.Parts.{parts_after};
 
 use memchr::memchr;
 use std::simd::prelude::*;
@@ -15,30 +15,30 @@ const LANES: usize = 16;
 
 /// The text before the first such byte, and what stands after it where there is one.
 pub fn cut(at: u8, text: &[u8]) -> (&[u8], Option<&[u8]>)
-    ensures { slice_split (λ byte. byte == at) text.now ≡ result.0.now ∷ parts_behind at result.1 }
+    ensures { slice_split (λ byte. byte == at) text.now ≡ result.0.now ∷ parts_after at result.1 }
 {
     parted(at, text, memchr(at, text))
 }
 
 /// The same, faster where most often such a byte stands near.
 pub(crate) fn cut_near(at: u8, text: &[u8]) -> (&[u8], Option<&[u8]>)
-    ensures { slice_split (λ byte. byte == at) text.now ≡ result.0.now ∷ parts_behind at result.1 }
+    ensures { slice_split (λ byte. byte == at) text.now ≡ result.0.now ∷ parts_after at result.1 }
 {
     parted(at, text, first_near(at, text))
 }
 
 /// The same, faster where often such a byte stands among the first 16.
 #[inline(always)]
-pub(crate) fn cut_in_front(at: u8, text: &[u8]) -> (&[u8], Option<&[u8]>)
-    ensures { slice_split (λ byte. byte == at) text.now ≡ result.0.now ∷ parts_behind at result.1 }
+pub(crate) fn cut_before(at: u8, text: &[u8]) -> (&[u8], Option<&[u8]>)
+    ensures { slice_split (λ byte. byte == at) text.now ≡ result.0.now ∷ parts_after at result.1 }
 {
-    parted(at, text, first_in_front(at, text))
+    parted(at, text, first_before(at, text))
 }
 
 /// The text before the first such byte, which stands at that place, and what stands after it.
 fn parted(_at: u8, text: &[u8], place: Option<usize>) -> (&[u8], Option<&[u8]>)
     requires { IsFirstByte (is_byte _at) text.now place }
-    ensures { slice_split (λ byte. byte == _at) text.now ≡ result.0.now ∷ parts_behind _at result.1 }
+    ensures { slice_split (λ byte. byte == _at) text.now ≡ result.0.now ∷ parts_after _at result.1 }
 {
     match place {
         Some(end) => (&text[..end], Some(&text[end + 1..])),
@@ -52,7 +52,7 @@ fn parted(_at: u8, text: &[u8], place: Option<usize>) -> (&[u8], Option<&[u8]>)
 pub(crate) fn cut_at(at: u8, text: &[u8], place: usize) -> Option<(&[u8], Option<&[u8]>)>
     requires { (place ≤ length text.now) × Nowhere (Passes (is_byte at) text.now) 0 place }
     ensures { IfSome result (λ parts. (parts.0.now ≡ take place text.now)
-        × (slice_split (λ byte. byte == at) text.now ≡ parts.0.now ∷ parts_behind at parts.1)) }
+        × (slice_split (λ byte. byte == at) text.now ≡ parts.0.now ∷ parts_after at parts.1)) }
 {
     if place == text.len() {
         return Some((text, None));
@@ -85,7 +85,7 @@ fn first_near(at: u8, text: &[u8]) -> Option<usize>
 
 /// Where the first such byte stands, by one comparison if that is among the first 16.
 #[inline(always)]
-fn first_in_front(at: u8, text: &[u8]) -> Option<usize>
+fn first_before(at: u8, text: &[u8]) -> Option<usize>
     ensures { IsFirstByte (is_byte at) text.now result }
 {
     if text.len() >= LANES {

@@ -69,7 +69,7 @@ fn value_within(low: u32, high: u32, word: &[u8]) -> Option<u32>
 
 /// How many digits stand before a text, of at most nine, and their value.
 #[inline(always)]
-pub(crate) fn digits_in_front(text: &[u8]) -> (usize, u32)
+pub(crate) fn leading_digits(text: &[u8]) -> (usize, u32)
     ensures { IsAllDigits (take result.0 text.now) result.1 × (result.0 ≤ length text.now) }
 {
     let most = text.len().min(MOST_PLACES);

@@ -4,7 +4,7 @@ ghost use Rattle.std.specs.Iterator.{YieldsFirstRef, item_count};
 ghost use Rattle.script_mean.specs.Words.{words_of};
 ghost use Rattle.script_mean.specs.Address.{peer_of};
 ghost use Rattle.script_mean.specs.Form as form;
-ghost use Rattle.script_text.specs.Parts.{parts_behind};
+ghost use Rattle.script_text.specs.Parts.{parts_after};
 ghost use Rattle.script_text.specs.Reading.{Takes, words_left};
 
 use crate::error::LineError;
@@ -23,12 +23,12 @@ pub(crate) struct Words<'a> {
 /// The number of the first word of a text, if it is one within bounds, and what stands after the word.
 #[inline(never)]
 fn any_number_within(low: u32, high: u32, text: &[u8]) -> (Result<u32, LineError>, Option<&[u8]>)
-    ensures { Takes (form.a_number_within low high (words_of text.now)) result.0 (parts_behind 32 result.1) }
+    ensures { Takes (form.a_number_within low high (words_of text.now)) result.0 (parts_after 32 result.1) }
 {
-    let (word, behind) = cut_near(b' ', text);
+    let (word, following) = cut_near(b' ', text);
     match values::number_within(low, high, word) {
-        Some(number) => (Ok(number), behind),
-        None => (Err(LineError::Form), behind),
+        Some(number) => (Ok(number), following),
+        None => (Err(LineError::Form), following),
     }
 }
 
@@ -53,13 +53,13 @@ impl<'a> Words<'a> {
         ensures { Takes (form.a_number_within low high (words_left self.old)) result (words_left self.new) }
     {
         let text = self.rest.ok_or(LineError::Form)?;
-        let (count, value) = values::digits_in_front(text);
-        let Some((word, behind)) = cut_at(b' ', text, count) else {
-            let (number, behind) = any_number_within(low, high, text);
-            self.rest = behind;
+        let (count, value) = values::leading_digits(text);
+        let Some((word, following)) = cut_at(b' ', text, count) else {
+            let (number, following) = any_number_within(low, high, text);
+            self.rest = following;
             return number;
         };
-        self.rest = behind;
+        self.rest = following;
         values::valued_within(low, high, word, value).ok_or(LineError::Form)
     }
 
@@ -77,8 +77,8 @@ impl<'a> Words<'a> {
             self.rest = None;
             return Ok(bytes);
         }
-        let (word, behind) = cut(b' ', text);
-        self.rest = behind;
+        let (word, following) = cut(b' ', text);
+        self.rest = following;
         values::body(alloc, word)
     }
 
@@ -108,8 +108,8 @@ impl<'a> Iterator for Words<'a> {
     ghost remaining = { item_count words_left };
 
     fn next(&mut self) -> Option<&'a [u8]> {
-        let (word, behind) = cut_near(b' ', self.rest?);
-        self.rest = behind;
+        let (word, following) = cut_near(b' ', self.rest?);
+        self.rest = following;
         Some(word)
     }
 }

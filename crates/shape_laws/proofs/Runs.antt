@@ -84,13 +84,13 @@ module _ (case : Case) (at : ℕ) (dir : Dir) (maker : Option Source) (d : Drawn
       Alike (after_visit at dir (marking d maker) z.tasks z.world.visits z.world.outs (drawn_turn p (Ok dv)))
       (after_visit at dir (marking e maker) r.tasks r.world.visits r.world.outs (visit_turn at w v))
   visit_alike dv v alike sent = record {
-    tasks = pairs_append TaskIs z.tasks _ r.tasks _ alike.tasks behind;
+    tasks = pairs_append TaskIs z.tasks _ r.tasks _ alike.tasks following;
     visits = pairs_append LoggedIs z.world.visits _ r.world.visits _ alike.visits (log_same, tt);
     outs = alike.outs;
   } where
-    behind : Pairwise TaskIs (tasks_of at (marked_sent (length z.world.visits) dv.sent))
+    following : Pairwise TaskIs (tasks_of at (marked_sent (length z.world.visits) dv.sent))
         (tasks_of at (marked_sent (length r.world.visits) v.sent))
-    behind = subst (λ n. Pairwise TaskIs (tasks_of at (marked_sent (length z.world.visits) dv.sent))
+    following = subst (λ n. Pairwise TaskIs (tasks_of at (marked_sent (length z.world.visits) dv.sent))
         (tasks_of at (marked_sent n v.sent)))
         (same_length z.world.visits r.world.visits alike.visits)
         (sent_from at (length z.world.visits) dv.sent v.sent 0 sent)

@@ -12,7 +12,7 @@ use Rattle.layer_mean.specs.Tree.{HandlerTree, LayerTree}
 use Rattle.layer_mean.specs.State.{State}
 use Rattle.layer_mean.specs.Value.{Scope}
 use Rattle.layer_mean.specs.Effect.{Outcome, unusual}
-use Rattle.layer_mean.specs.Visit.{Met, behind, met, handler_for, with_room, entered_scope, sent_on, unhandled_visit}
+use Rattle.layer_mean.specs.Visit.{Met, following, met, handler_for, with_room, entered_scope, sent_on, unhandled_visit}
 use Rattle.layer_mean.specs.Visit.{handled_visit, step}
 use Rattle.layer_mean.specs.Way.{Step, handler_way, way_length}
 use Rattle.stack_mean.specs.NoShape.{NoShape, drawn_from}
@@ -54,7 +54,7 @@ abbrev MetSame : DrawnMet → Met → Type 0
 MetSame d m = (d.tag ≡ m.tag) × MessageIs d.headers m.message
 
 popped_same : (hs : List DrawnHeader) (ns : List Header) (body : List ℕ) → HeadersAre hs ns →
-    MetSame (popped_of hs) (behind (first_of ns) (popped (record { headers = ns; body = body })))
+    MetSame (popped_of hs) (following (first_of ns) (popped (record { headers = ns; body = body })))
 popped_same [] [] body e = (refl, tt)
 popped_same (h ∷ hs) (n ∷ ns) body e = (e.0.tag, e.1)
 popped_same [] (n ∷ ns) body e = absurd e

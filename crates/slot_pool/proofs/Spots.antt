@@ -233,11 +233,11 @@ adds ps ls n q view f block new last bs is last_is fewer s =
     }
 
 -- a place is changed, and then its link
-pub linked_behind : (old mid new : Run Spot) (i first : ℕ) (v : Spot) → i < length old.values →
+pub linked_after : (old mid new : Run Spot) (i first : ℕ) (v : Spot) → i < length old.values →
     mid ≡ run (set old.values i v) old.capacity
     → new ≡ run (set mid.values i (record (spot_at mid.values i) { next = first })) mid.capacity →
     new ≡ run (set old.values i (record v { next = first })) old.capacity
-linked_behind old mid new i first v lt was is =
+linked_after old mid new i first v lt was is =
     let here : spot_at mid.values i ≡ v = ap (λ (r : Run Spot). spot_at r.values i) was ∙
     get_or-set_same old.values i v no_spot lt in
     is ∙ (λ j. run (set (was j).values i (record (here j) { next = first })) (was j).capacity) ∙

@@ -99,14 +99,14 @@ draw_steps place [] d = Ok d
 draw_steps place (x ∷ xs) d = drawn_from (draw_steps place xs) (draw_step place x d)
 
 -- Whether steps meet a condition with two predicted ways before they end or one of them can't be drawn.
-abbrev pub forks_behind : (Drawing → Bool) → Result Drawing NoShape → Bool
-forks_behind go (Ok d) = go d
-forks_behind go (Err reason) = false
+abbrev pub forks_after : (Drawing → Bool) → Result Drawing NoShape → Bool
+forks_after go (Ok d) = go d
+forks_after go (Err reason) = false
 
 abbrev pub steps_fork : ℕ → List Step → Drawing → Bool
 steps_fork place [] d = false
 steps_fork place (fork case e ∷ xs) d = true
-steps_fork place (x ∷ xs) d = forks_behind (steps_fork place xs) (draw_step place x d)
+steps_fork place (x ∷ xs) d = forks_after (steps_fork place xs) (draw_step place x d)
 
 -- What a visit sends, and how many predicted statements and arguments it counts for.
 pub record DrawnVisit : Type 0 where

@@ -111,7 +111,7 @@ module _ (mode : Mode) (stack : List LayerTree) (plans : List Plan) (w : Workloa
     pub all_counted : w.events ≤ k → counts ≡ counts_of mode stack plans (run_of stack plans (script_for w))
     all_counted all = counted_last mode stack plans (script_for w) k r counts held.counted (omega (arith, all, many))
 
-    module _ (behind : Course) (event : ScriptEvent) (next : IsNext script behind event) where
+    module _ (following : Course) (event : ScriptEvent) (next : IsNext script following event) where
       -- it is the next event of the script
       next_is : slice_get (script_for w).events k ≡ Some event
       next_is = rw held.course at next.event_is
@@ -122,7 +122,7 @@ module _ (mode : Mode) (stack : List LayerTree) (plans : List Plan) (w : Workloa
 
       pub next_counted : (r' : Playing) (after : Counts) → Keeps r.group.mode stack plans r r' →
           IsCounted r.group.mode stack plans (stands_at stack plans (script_for w) k) event r' counts after →
-          CountedSoFar mode stack plans w (k + 1) r' after behind
+          CountedSoFar mode stack plans w (k + 1) r' after following
       next_counted r' after kept c = record {
         counted = counted_more mode stack plans (script_for w) k event r r' counts after held.counted kept c
             (slice_get_within (script_for w).events k event next_is)

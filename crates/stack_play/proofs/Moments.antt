@@ -12,19 +12,19 @@ use Rattle.stack_play.specs.Turns.{moment_at}
 
 module _ (stack : List LayerTree) (plans : List Plan) where
   -- the world after events
-  abbrev pub behind : World → List ScriptEvent → World
-  behind w [] = w
-  behind w (e ∷ events) = behind (happens stack plans w e).world events
+  abbrev pub following : World → List ScriptEvent → World
+  following w [] = w
+  following w (e ∷ events) = following (happens stack plans w e).world events
 
   moments_append : (w : World) (xs ys : List ScriptEvent) → moments stack plans w (xs ++ ys) ≡
-      moments stack plans w xs ++ moments stack plans (behind w xs) ys
+      moments stack plans w xs ++ moments stack plans (following w xs) ys
   moments_append w [] ys = refl
   moments_append w (e ∷ xs) ys =
       ap (λ ms. moment_at stack plans w e ∷ ms) (moments_append (happens stack plans w e).world xs ys)
 
-  behind_append : (w : World) (xs ys : List ScriptEvent) → behind w (xs ++ ys) ≡ behind (behind w xs) ys
-  behind_append w [] ys = refl
-  behind_append w (e ∷ xs) ys = behind_append (happens stack plans w e).world xs ys
+  after_append : (w : World) (xs ys : List ScriptEvent) → following w (xs ++ ys) ≡ following (following w xs) ys
+  after_append w [] ys = refl
+  after_append w (e ∷ xs) ys = after_append (happens stack plans w e).world xs ys
 
   pub moments_length : (w : World) (events : List ScriptEvent) → length (moments stack plans w events) ≡ length events
   moments_length w [] = refl
@@ -33,7 +33,7 @@ module _ (stack : List LayerTree) (plans : List Plan) where
   module _ (s : Script) where
     -- the world after the first events of a script, and their moments
     abbrev pub stands_at : ℕ → World
-    stands_at k = behind (first_world stack s.group s.stamp s.members) (take k s.events)
+    stands_at k = following (first_world stack s.group s.stamp s.members) (take k s.events)
 
     abbrev pub front : ℕ → List Moment
     front k = moments stack plans (first_world stack s.group s.stamp s.members) (take k s.events)
@@ -47,8 +47,8 @@ module _ (stack : List LayerTree) (plans : List Plan) where
           ∙ moments_append (first_world stack s.group s.stamp s.members) (take k s.events) (event ∷ [])
 
       pub stands_more : stands_at (k + 1) ≡ (happens stack plans (stands_at k) event).world
-      stands_more = ap (behind (first_world stack s.group s.stamp s.members)) taken
-          ∙ behind_append (first_world stack s.group s.stamp s.members) (take k s.events) (event ∷ [])
+      stands_more = ap (following (first_world stack s.group s.stamp s.members)) taken
+          ∙ after_append (first_world stack s.group s.stamp s.members) (take k s.events) (event ∷ [])
 
       -- the moments after those
       abbrev pub rest : List Moment

@@ -121,7 +121,7 @@ module _ (b : Begun) (well : BeginsWell b) (p : List Held) (states : List State)
         let all = times-append i refs (tasks_refs (t ∷ rest) ++ sent_refs n.out) in
         let tasks_and_out = times-append i (tasks_refs (t ∷ rest)) (sent_refs n.out) in
         let first = times-append i b.refs (sent_refs b.out) in
-        let out = ap (λ xs. times i (sent_refs xs)) g.behind in
+        let out = ap (λ xs. times i (sent_refs xs)) g.following in
         let news = each_both (λ (x : Dir × PoolEvent). event_refs x.1) b.out g.news i in
         let some_refs = times-most i refs in
         let some_tasks = times-most i (tasks_refs (t ∷ rest)) in

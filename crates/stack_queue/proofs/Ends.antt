@@ -30,7 +30,7 @@ use Rattle.layer_stage.specs.Room.{CountsWithin}
 use Rattle.stack_queue.specs.declared.tasks.PoolTask.{PoolTask}
 use Rattle.stack_queue.specs.Pending.{task_seen, tasks_refs}
 use Rattle.stack_queue.specs.Stages.{most_at_first}
-use Rattle.stack_queue.specs.Taken.{counted_on, visited_for, taken_within, taken_behind}
+use Rattle.stack_queue.specs.Taken.{counted_on, visited_for, taken_within, taken_after}
 use Rattle.stack_queue.specs.Going.{Begun, Now, BeginsWell, Going}
 use Rattle.stack_queue.proofs.Refs.{all_as}
 
@@ -131,7 +131,7 @@ module _ (stack : List LayerTree) (typed : TypedStack stack) (accepts : acceptan
     states = refl;
     outs = sym (append-nil (sent_seen p out));
     news = [];
-    behind = sym (append-nil out);
+    following = sym (append-nil out);
     predicted = refl;
     visits = omega arith;
     weight = omega arith;
@@ -173,7 +173,7 @@ pub record Ended (b : Begun) (p : List Held) (n : Now) : Type 0 where
   pub outs : sent_seen p n.out ≡ sent_seen b.pool b.out ++ line.world.outs
   pub predicted : n.predicted ≡ as_predicted line.world.decided
   pub visits : n.visits ≡ b.visits + line.world.visits
-  pub taken : n.taken ≡ taken_behind b.stack b.states b.first b.taken
+  pub taken : n.taken ≡ taken_after b.stack b.states b.first b.taken
   pub done : line.tasks ≡ []
   pub moved : Moved b.pool p (b.refs ++ sent_refs b.out) (n.refs ++ sent_refs n.out)
   pub spent : spare b.pool ≤ spare p + task_joins b.stack b.first

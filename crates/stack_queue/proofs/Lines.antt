@@ -23,27 +23,28 @@ module _ (stack : List LayerTree) (typed : TypedStack stack) (off : first_on_cyc
     (t : Task Event) (rest : List (Task Event))
     (chained : IsChainedLine stack (record { world = w; tasks = t ∷ rest })) where
   -- the line after a turn
-  abbrev pub behind : Line Work Event
-  behind = next_of (length stack) (layers stack) (t ∷ rest) w
+  abbrev pub following : Line Work Event
+  following = next_of (length stack) (layers stack) (t ∷ rest) w
 
-  pub chained_behind : IsChainedLine stack behind
-  chained_behind = turns_keep_chains stack (record { world = w; tasks = t ∷ rest }) typed chained
+  pub chained_after : IsChainedLine stack following
+  chained_after = turns_keep_chains stack (record { world = w; tasks = t ∷ rest }) typed chained
 
-  known_behind : AllByRecursion (IsKnown stack) behind.tasks
-  known_behind = all_as (IsChainedTask stack) (IsKnown stack) (chained_is_known stack) behind.tasks chained_behind.tasks
+  known_after : AllByRecursion (IsKnown stack) following.tasks
+  known_after = all_as (IsChainedTask stack) (IsKnown stack) (chained_is_known stack) following.tasks
+      chained_after.tasks
 
   turn : IsTurn stack w t rest
   turn = record {
     orderly = typed_is_orderly stack typed;
     no_cycle = off;
     before = all_as (IsChainedTask stack) (IsKnown stack) (chained_is_known stack) (t ∷ rest) chained.tasks;
-    behind = known_behind;
+    following = known_after;
   }
 
-  pub lighter : 1 + pending_weight stack behind.tasks ≤ pending_weight stack (t ∷ rest)
+  pub lighter : 1 + pending_weight stack following.tasks ≤ pending_weight stack (t ∷ rest)
   lighter = turns_lighten stack w t rest turn
 
-  pub joins_less : turn_joins stack w t + pending_joins stack behind.tasks ≤ pending_joins stack (t ∷ rest)
+  pub joins_less : turn_joins stack w t + pending_joins stack following.tasks ≤ pending_joins stack (t ∷ rest)
   joins_less = turns_join_less stack w t rest turn
 
   -- at a place the turn is a visit
@@ -52,21 +53,21 @@ module _ (stack : List LayerTree) (typed : TypedStack stack) (off : first_on_cyc
     orderly = turn.orderly;
     place = placed;
     known = turn.before.0;
-    sent = all_right (IsKnown stack) rest (sent_tasks stack (state_at w t.at) t) (rw placed at known_behind);
+    sent = all_right (IsKnown stack) rest (sent_tasks stack (state_at w t.at) t) (rw placed at known_after);
   }
 
-  pub visited_behind : is_place (length stack) t.at ≡ true →
-      behind ≡ taken_turn t.at rest
+  pub visited_after : is_place (length stack) t.at ≡ true →
+      following ≡ taken_turn t.at rest
       (visit_turn t.at w (step (t.at - 1) (layer_at stack t.at) (state_at w t.at) t.dir t.event))
-  visited_behind placed = ap
+  visited_after placed = ap
       (λ (c : Bool). if◌then◌else◌ {A = Line Work Event} c
       (taken_turn t.at rest ((layers stack).visit t.at t.dir t.event w))
       (record { world = (layers stack).output t.dir t.event w; tasks = rest }))
       placed
 
-  pub put_out_behind : is_place (length stack) t.at ≡ false →
-      behind ≡ record { world = record w { outs = w.outs ++ (t.dir, t.event) ∷ [] }; tasks = rest }
-  put_out_behind edge = ap
+  pub put_out_after : is_place (length stack) t.at ≡ false →
+      following ≡ record { world = record w { outs = w.outs ++ (t.dir, t.event) ∷ [] }; tasks = rest }
+  put_out_after edge = ap
       (λ (c : Bool). if◌then◌else◌ {A = Line Work Event} c
       (taken_turn t.at rest ((layers stack).visit t.at t.dir t.event w))
       (record { world = (layers stack).output t.dir t.event w; tasks = rest }))
@@ -76,17 +77,17 @@ module _ (stack : List LayerTree) (typed : TypedStack stack) (off : first_on_cyc
   module _ (end : Line Work Event) (left : ℕ)
       (comes : run_for (length stack) (layers stack) left (record { world = w; tasks = t ∷ rest }) ≡ end)
       (enough : pending_weight stack (t ∷ rest) ≤ left) where
-    pub comes_behind : run_for (length stack) (layers stack) (left - 1) behind ≡ end
-    comes_behind = go left refl comes where
+    pub comes_after : run_for (length stack) (layers stack) (left - 1) following ≡ end
+    comes_after = go left refl comes where
       go : (n : ℕ) → n ≡ left → run_for (length stack) (layers stack) n (record { world = w; tasks = t ∷ rest }) ≡ end →
-          run_for (length stack) (layers stack) (left - 1) behind ≡ end
+          run_for (length stack) (layers stack) (left - 1) following ≡ end
       go zero is e = absurd (omega (arith, enough, lighter))
       go (suc n) is e =
           let one : left - 1 ≡ n = omega (arith, is) in
-          ap (λ m. run_for (length stack) (layers stack) m behind) one ∙ e
+          ap (λ m. run_for (length stack) (layers stack) m following) one ∙ e
 
-    pub enough_behind : pending_weight stack behind.tasks ≤ left - 1
-    enough_behind = omega (arith, enough, lighter)
+    pub enough_after : pending_weight stack following.tasks ≤ left - 1
+    enough_after = omega (arith, enough, lighter)
 
   -- and its visits to the same counts
   module _ (all counts : List ℕ) (left : ℕ)
@@ -99,21 +100,21 @@ module _ (stack : List LayerTree) (typed : TypedStack stack) (off : first_on_cyc
     one_turn true visited = refl
     one_turn false visited = refl
 
-    pub counts_behind : (c : Bool) → is_place (length stack) t.at ≡ c →
-        counted_on (visited_for (length stack) (layers stack) (left - 1) behind)
+    pub counts_after : (c : Bool) → is_place (length stack) t.at ≡ c →
+        counted_on (visited_for (length stack) (layers stack) (left - 1) following)
         (if c then counted_at counts t.at else counts) ≡ all
-    counts_behind c is = go left refl counted where
+    counts_after c is = go left refl counted where
       go : (n : ℕ) → n ≡ left →
           counted_on (visited_for (length stack) (layers stack) n (record { world = w; tasks = t ∷ rest })) counts ≡
           all →
-          counted_on (visited_for (length stack) (layers stack) (left - 1) behind)
+          counted_on (visited_for (length stack) (layers stack) (left - 1) following)
           (if c then counted_at counts t.at else counts) ≡ all
       go zero same e = absurd (omega (arith, enough, lighter))
       go (suc n) same e =
           let one : left - 1 ≡ n = omega (arith, same) in
-          ap (λ m. counted_on (visited_for (length stack) (layers stack) m behind)
+          ap (λ m. counted_on (visited_for (length stack) (layers stack) m following)
           (if c then counted_at counts t.at else counts)) one
-          ∙ one_turn c (visited_for (length stack) (layers stack) n behind)
+          ∙ one_turn c (visited_for (length stack) (layers stack) n following)
           ∙ ap (λ (d : Bool). counted_on
-          ((if d then t.at ∷ [] else []) ++ visited_for (length stack) (layers stack) n behind) counts) (sym is)
+          ((if d then t.at ∷ [] else []) ++ visited_for (length stack) (layers stack) n following) counts) (sym is)
           ∙ e

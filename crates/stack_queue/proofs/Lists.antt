@@ -97,12 +97,12 @@ pub rest_at : (places : List ℕ) (xs : List (Dir × PoolEvent)) (tasks : List P
     tasks_at (drop 1 places) (drop 1 xs) ≡ drop 1 tasks
 rest_at places xs tasks same view = rest_goes places xs same ∙ ap (drop 1) view
 
-pub same_behind : (places : List ℕ) (xs : List (Dir × PoolEvent)) → length places ≡ length xs →
+pub same_after : (places : List ℕ) (xs : List (Dir × PoolEvent)) → length places ≡ length xs →
     length (drop 1 places) ≡ length (drop 1 xs)
-same_behind [] [] same = refl
-same_behind [] (x ∷ xs) same = absurd (omega (arith, same))
-same_behind (at ∷ places) [] same = absurd (omega (arith, same))
-same_behind (at ∷ places) (x ∷ xs) same = omega (arith, same)
+same_after [] [] same = refl
+same_after [] (x ∷ xs) same = absurd (omega (arith, same))
+same_after (at ∷ places) [] same = absurd (omega (arith, same))
+same_after (at ∷ places) (x ∷ xs) same = omega (arith, same)
 
 -- what they refer to, and that they lie
 pub refs_at : (places : List ℕ) (xs : List (Dir × PoolEvent)) → length places ≡ length xs →
@@ -133,19 +133,19 @@ sent_on q at [] = refl
 sent_on q at (y ∷ ys) = ap (λ ts. record { at = beyond y.0 at; dir = y.0; event = event_seen q y.1 } ∷ ts)
     (sent_on q at ys)
 
-pub sent_behind : (p q : List Held) (at : ℕ) (places : List ℕ) (xs ys : List (Dir × PoolEvent))
+pub sent_after : (p q : List Held) (at : ℕ) (places : List ℕ) (xs ys : List (Dir × PoolEvent))
     (sent : List (Dir × Event)) →
     length places ≡ length xs → sent_seen q ys ≡ sent_seen p xs ++ sent →
     tasks_seen q (tasks_at (places ++ places_on at (drop (length places) ys)) ys) ≡ tasks_seen p (tasks_at places xs) ++
     tasks_of at sent
-sent_behind p q at [] [] ys sent same is = sent_on q at ys ∙ ap (tasks_of at) is
-sent_behind p q at [] (x ∷ xs) ys sent same is = absurd (omega (arith, same))
-sent_behind p q at (to ∷ places) [] ys sent same is = absurd (omega (arith, same))
-sent_behind p q at (to ∷ places) (x ∷ xs) [] sent same is = absurd (cc is)
-sent_behind p q at (to ∷ places) (x ∷ xs) (y ∷ ys) sent same is =
-    let behind = sent_behind p q at places xs ys sent (omega (arith, same)) (ap (drop 1) is) in
+sent_after p q at [] [] ys sent same is = sent_on q at ys ∙ ap (tasks_of at) is
+sent_after p q at [] (x ∷ xs) ys sent same is = absurd (omega (arith, same))
+sent_after p q at (to ∷ places) [] ys sent same is = absurd (omega (arith, same))
+sent_after p q at (to ∷ places) (x ∷ xs) [] sent same is = absurd (cc is)
+sent_after p q at (to ∷ places) (x ∷ xs) (y ∷ ys) sent same is =
+    let following = sent_after p q at places xs ys sent (omega (arith, same)) (ap (drop 1) is) in
     let first = ap (λ (es : List (Dir × Event)). get_or es 0 (x.0, event_seen p x.1)) is in
-    λ k. record { at = to; dir = (first k).0; event = (first k).1 } ∷ behind k
+    λ k. record { at = to; dir = (first k).0; event = (first k).1 } ∷ following k
 
 -- there are no fewer events after a visit
 pub more_now : (p q : List Held) (xs ys : List (Dir × PoolEvent)) (sent : List (Dir × Event)) →
@@ -197,9 +197,9 @@ alone_goes_on at (p ∷ []) [] dir to room now one other next there is = absurd 
 alone_goes_on at (p ∷ []) (y ∷ z ∷ ys) dir to room now one other next there is = absurd (omega (arith, other))
 
 -- the same after the places that are left once the first is gone
-pub goes_behind : (at : ℕ) (places : List ℕ) (ys : List (Dir × PoolEvent)) (room : ℕ) (left now : Buffer ℕ) →
+pub goes_after : (at : ℕ) (places : List ℕ) (ys : List (Dir × PoolEvent)) (room : ℕ) (left now : Buffer ℕ) →
     left ≡ buffer (drop 1 places) room →
     now ≡ buffer (left.items ++ places_on at (drop (length left.items) ys)) left.capacity →
     now ≡ buffer (drop 1 places ++ places_on at (drop (length (drop 1 places)) ys)) room
-goes_behind at places ys room left now is on =
+goes_after at places ys room left now is on =
     on ∙ ap (λ (b : Buffer ℕ). buffer (b.items ++ places_on at (drop (length b.items) ys)) b.capacity) is

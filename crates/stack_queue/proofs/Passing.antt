@@ -104,14 +104,14 @@ module _ {S : Type 0} (place : S → ℕ) (layer : S → LayerTree) (refs : S �
             (same_layer : layer s' ≡ layer old)
             (more : taken s' ≡ one_more (taken old))
             (passes : (p : List Held) → is_passed (layer old) sent.0 (event_seen p sent.1) ≡ true) where
-          abbrev behind : Dir × PoolEvent
-          behind = (sent.0, passed_by (place old) sent.0 sent.1)
+          abbrev following : Dir × PoolEvent
+          following = (sent.0, passed_by (place old) sent.0 sent.1)
 
           abbrev after : List PoolTask
-          after = standing_at (beyond sent.0 at) behind ∷ []
+          after = standing_at (beyond sent.0 at) following ∷ []
 
           visit : step (place old) (layer old) (state r.pool old) sent.0 (event_seen r.pool sent.1) ≡
-              sends (state r.pool old) sent.0 (event_seen r.pool behind.1)
+              sends (state r.pool old) sent.0 (event_seen r.pool following.1)
           visit = passes_on (place old) (state r.pool old) (layer old) r.pool sent.0 sent.1 (passes r.pool)
 
           refs_are : refs s' ++ tasks_refs after ≡ refs old ++ tasks_refs (standing_at at sent ∷ [])

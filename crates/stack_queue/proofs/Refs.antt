@@ -77,12 +77,12 @@ module _ {A : Type 0} (f : A → List ℕ) where
         AllByRecursion P xs → Q y → AllByRecursion Q (set xs k y) × (map w (set xs k y) ≡ set (map v xs) k (w y))
     others_stay [] k y d lt covers h new = absurd (omega arith)
     others_stay (x ∷ xs) zero y d lt covers h new =
-        let behind : Covers p (a ++ flat_map f xs) = record {
+        let following : Covers p (a ++ flat_map f xs) = record {
           covers = λ i.
               let there = covers i in let both = times-append i (f x) (flat_map f xs) in let right =
               times-append i a (flat_map f xs) in omega arith;
         } in
-        let rest = each_stays f P Q v w p a one xs behind h.1 in
+        let rest = each_stays f P Q v w p a one xs following h.1 in
         ((new, rest.0), ap (λ zs. w y ∷ zs) rest.1)
     others_stay (x ∷ xs) (suc k) y d lt covers h new =
         let front : Covers p (a ++ f x) = record {

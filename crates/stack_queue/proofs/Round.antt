@@ -23,7 +23,7 @@ use Rattle.pool_message.specs.declared.event.PoolEvent.{PoolEvent}
 use Rattle.stack_queue.specs.declared.tasks.PoolTask.{PoolTask}
 use Rattle.stack_queue.specs.Pending.{first_task, task_seen, tasks_seen, tasks_refs, TasksLie, tasks_at}
 use Rattle.stack_queue.specs.Round.{HasPassed, HasGoneRound, sent_by}
-use Rattle.stack_queue.proofs.Lists.{first_event, rest_at, same_behind, pushed}
+use Rattle.stack_queue.proofs.Lists.{first_event, rest_at, same_after, pushed}
 use Rattle.stack_queue.proofs.Refs.{all_both, each_both}
 
 -- where nothing was decided, what was decided before stays
@@ -53,8 +53,8 @@ module _ {S : Type 0} (place : S → ℕ) (layer : S → LayerTree) (refs : S �
         to = to_is ∙ (λ j. beyond (way j) (sym first j));
         round = (λ j. buffer (tasks_at (placed j).items (turned j)) ((placed j).capacity - 1))
             ∙ ap (λ ts. buffer ts (ps.capacity - 1))
-            (pushed (drop 1 ps.items) (drop 1 es) to w.0 w.1 (same_behind ps.items es same))
-            ∙ (λ j. buffer (behind j ++ record { at = to; direction = w.0; event = w.1 } ∷ [])
+            (pushed (drop 1 ps.items) (drop 1 es) to w.0 w.1 (same_after ps.items es same))
+            ∙ (λ j. buffer (following j ++ record { at = to; direction = w.0; event = w.1 } ∷ [])
             ((ap (λ b. b.capacity) view) j));
       } where
         was : sent_by (first_task tasks.items) ≡ first_sent es
@@ -63,8 +63,8 @@ module _ {S : Type 0} (place : S → ℕ) (layer : S → LayerTree) (refs : S �
         way : dir ≡ (first_task tasks.items).direction
         way = dir_is ∙ ap (λ (x : Dir × PoolEvent). x.0) (sym was)
 
-        behind : tasks_at (drop 1 ps.items) (drop 1 es) ≡ drop 1 tasks.items
-        behind = rest_at ps.items es tasks.items same (ap (λ b. b.items) view)
+        following : tasks_at (drop 1 ps.items) (drop 1 es) ≡ drop 1 tasks.items
+        following = rest_at ps.items es tasks.items same (ap (λ b. b.items) view)
 
   -- What that is: the visit of a layer that has no handler for the event.
   module _ (p : List Held) (tasks after : Buffer PoolTask)

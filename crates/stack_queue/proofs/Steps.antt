@@ -19,7 +19,7 @@ use Rattle.weight_laws.specs.Runs.{pending_weight, pending_joins}
 use Rattle.chain_laws.specs.Runs.{IsChainedLine}
 use Rattle.layer_eval.specs.declared.predicted.Predicted.{Predicted}
 use Rattle.layer_eval.specs.Did.{as_predicted, both}
-use Rattle.layer_eval.proofs.Acts.{predicted_behind}
+use Rattle.layer_eval.proofs.Acts.{predicted_after}
 use Rattle.pool_message.specs.Seen.{event_refs, event_seen, EventLies}
 use Rattle.pool_message.specs.Sent.{sent_refs, sent_seen, SentLie}
 use Rattle.pool_message.specs.declared.event.PoolEvent.{PoolEvent}
@@ -27,11 +27,11 @@ use Rattle.pool_message.proofs.Stays.{sent_stay}
 use Rattle.layer_stage.specs.Room.{slots_needed}
 use Rattle.stack_queue.specs.declared.tasks.PoolTask.{PoolTask}
 use Rattle.stack_queue.specs.Pending.{task_seen, tasks_seen, tasks_refs, TasksLie}
-use Rattle.stack_queue.specs.Taken.{counted_at, counted_on, visited_for, taken_behind}
+use Rattle.stack_queue.specs.Taken.{counted_at, counted_on, visited_for, taken_after}
 use Rattle.stack_queue.specs.Going.{Begun, Now, BeginsWell, Going, line_of, weight_of, joins_of}
 use Rattle.stack_queue.proofs.Refs.{all_both, each_both}
-use Rattle.stack_queue.proofs.Lines.{behind, chained_behind, lighter, joins_less, visited_behind, put_out_behind}
-use Rattle.stack_queue.proofs.Lines.{comes_behind, enough_behind, counts_behind}
+use Rattle.stack_queue.proofs.Lines.{following, chained_after, lighter, joins_less, visited_after, put_out_after}
+use Rattle.stack_queue.proofs.Lines.{comes_after, enough_after, counts_after}
 use Rattle.stack_queue.proofs.Asked.{fits, slots_are}
 
 -- one more is seen after others
@@ -48,28 +48,28 @@ module _ (b : Begun) (well : BeginsWell b) (p : List Held) (states : List State)
     (rest : List PoolTask)
     (n : Now) (g : Going b p (record n { states = states; refs = refs; tasks = t ∷ rest })) where
   abbrev next : Line Work Event
-  next = behind b.stack well.typed well.no_cycle g.world (task_seen p t) (tasks_seen p rest) g.chained
+  next = following b.stack well.typed well.no_cycle g.world (task_seen p t) (tasks_seen p rest) g.chained
 
   chained_next : IsChainedLine b.stack next
-  chained_next = chained_behind b.stack well.typed well.no_cycle g.world (task_seen p t) (tasks_seen p rest) g.chained
+  chained_next = chained_after b.stack well.typed well.no_cycle g.world (task_seen p t) (tasks_seen p rest) g.chained
 
   lighter_next : 1 + pending_weight b.stack next.tasks ≤ weight_of b p (t ∷ rest)
   lighter_next = lighter b.stack well.typed well.no_cycle g.world (task_seen p t) (tasks_seen p rest) g.chained
 
   comes_next : run_for (length b.stack) (layers b.stack) (g.left - 1) next ≡ run weight_limit b.stack b.states b.first
-  comes_next = comes_behind b.stack well.typed well.no_cycle g.world (task_seen p t) (tasks_seen p rest) g.chained
+  comes_next = comes_after b.stack well.typed well.no_cycle g.world (task_seen p t) (tasks_seen p rest) g.chained
       (run weight_limit b.stack b.states b.first) g.left g.comes g.enough
 
   enough_next : pending_weight b.stack next.tasks ≤ g.left - 1
-  enough_next = enough_behind b.stack well.typed well.no_cycle g.world (task_seen p t) (tasks_seen p rest) g.chained
+  enough_next = enough_after b.stack well.typed well.no_cycle g.world (task_seen p t) (tasks_seen p rest) g.chained
       (run weight_limit b.stack b.states b.first) g.left g.comes g.enough
 
   counts_next : (c : Bool) → is_place (length b.stack) t.at ≡ c →
       counted_on (visited_for (length b.stack) (layers b.stack) (g.left - 1) next)
       (if c then counted_at n.taken t.at else n.taken)
-      ≡ taken_behind b.stack b.states b.first b.taken
-  counts_next = counts_behind b.stack well.typed well.no_cycle g.world (task_seen p t) (tasks_seen p rest) g.chained
-      (taken_behind b.stack b.states b.first b.taken) n.taken g.left g.counts g.enough
+      ≡ taken_after b.stack b.states b.first b.taken
+  counts_next = counts_after b.stack well.typed well.no_cycle g.world (task_seen p t) (tasks_seen p rest) g.chained
+      (taken_after b.stack b.states b.first b.taken) n.taken g.left g.counts g.enough
 
   cover : (i : ℕ) → times i refs + times i (event_refs t.event) + times i (tasks_refs rest) + times i (sent_refs n.out)
       ≤ count_at p i
@@ -113,7 +113,7 @@ module _ (b : Begun) (well : BeginsWell b) (p : List Held) (states : List State)
     line_next = ap (λ ts.
         record { world = (visit_turn t.at g.world (visit_of b p g.world.states t)).world; tasks = ts })
         tasks_next
-        ∙ sym (visited_behind b.stack well.typed well.no_cycle g.world (task_seen p t) (tasks_seen p rest) g.chained
+        ∙ sym (visited_after b.stack well.typed well.no_cycle g.world (task_seen p t) (tasks_seen p rest) g.chained
         placed)
 
     weight_next : weight_of b q after ≡ pending_weight b.stack next.tasks
@@ -160,10 +160,10 @@ module _ (b : Begun) (well : BeginsWell b) (p : List Held) (states : List State)
       states = (λ k. set (g.states k) (t.at - 1) (visit_of b p (g.states k) t).state) ∙ sym state_is;
       outs = out_stays.1 ∙ g.outs;
       news = g.news;
-      behind = g.behind;
+      following = g.following;
       predicted = (λ k. both (g.predicted k) (decided_is k)) ∙
           ap (λ (x : Visited). both (as_predicted g.world.decided) (as_predicted x.decided)) same_visit
-          ∙ sym (predicted_behind g.world.decided (visit_of b p g.world.states t).decided);
+          ∙ sym (predicted_after g.world.decided (visit_of b p g.world.states t).decided);
       visits = omega (arith, g.visits);
       weight = omega (arith, g.weight, lighter_next, weight_next);
       slots = omega (
@@ -187,7 +187,7 @@ module _ (b : Begun) (well : BeginsWell b) (p : List Held) (states : List State)
     arith,
     lighter_next,
     ap (λ (r : Line Work Event). pending_weight b.stack r.tasks)
-        (put_out_behind b.stack well.typed well.no_cycle g.world (task_seen p t) (tasks_seen p rest) g.chained edge),
+        (put_out_after b.stack well.typed well.no_cycle g.world (task_seen p t) (tasks_seen p rest) g.chained edge),
   )
 
   -- and so does an output
@@ -195,7 +195,7 @@ module _ (b : Begun) (well : BeginsWell b) (p : List Held) (states : List State)
       Going b p (record n { states = states; refs = refs; tasks = rest; out = n.out ++ (t.direction, t.event) ∷ [] })
   output_goes edge =
       let x : Dir × PoolEvent = (t.direction, t.event) in
-      let next_is = put_out_behind b.stack well.typed well.no_cycle g.world (task_seen p t) (tasks_seen p rest)
+      let next_is = put_out_after b.stack well.typed well.no_cycle g.world (task_seen p t) (tasks_seen p rest)
       g.chained edge in
       let less = joins_less b.stack well.typed well.no_cycle g.world (task_seen p t) (tasks_seen p rest) g.chained in
       let light = ap (λ (r : Line Work Event). pending_weight b.stack r.tasks) next_is in
@@ -223,7 +223,7 @@ module _ (b : Begun) (well : BeginsWell b) (p : List Held) (states : List State)
         outs = one_more (λ (y : Dir × PoolEvent). (y.0, event_seen p y.1)) n.out x (sent_seen b.pool b.out) g.world.outs
             g.outs;
         news = g.news ++ x ∷ [];
-        behind = ap (λ ys. ys ++ x ∷ []) g.behind ∙ append_assoc b.out g.news (x ∷ []);
+        following = ap (λ ys. ys ++ x ∷ []) g.following ∙ append_assoc b.out g.news (x ∷ []);
         predicted = g.predicted;
         visits = g.visits;
         weight = omega (arith, g.weight, lighter_next, light, length-append g.news (x ∷ []));

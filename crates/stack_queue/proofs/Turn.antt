@@ -145,7 +145,7 @@ module _ {S : Type 0} (place : S → ℕ) (layer : S → LayerTree) (refs : S �
     arith,
     front.weight,
     few_tasks b well p now front,
-    ap length front.behind,
+    ap length front.following,
     length-append b.out front.news,
   )
 

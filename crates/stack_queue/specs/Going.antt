@@ -21,7 +21,7 @@ use Rattle.pool_message.specs.declared.event.PoolEvent.{PoolEvent}
 use Rattle.stack_queue.specs.declared.tasks.PoolTask.{PoolTask}
 use Rattle.stack_queue.specs.Pending.{tasks_seen, tasks_refs, TasksLie}
 use Rattle.stack_queue.specs.Stages.{most_at_first}
-use Rattle.stack_queue.specs.Taken.{visited_for, counted_on, taken_behind}
+use Rattle.stack_queue.specs.Taken.{visited_for, counted_on, taken_after}
 
 -- How a run began: its stack, the pool, the states of the layers, the first task, the references of the stages and of
 -- that task, what had come out before, how many visits there had been, and how many events each layer had taken.
@@ -79,13 +79,13 @@ pub record Going (b : Begun) (p : List Held) (n : Now) : Type 0 where
   pub comes : run_for (length b.stack) (layers b.stack) left (line_of world p n.tasks) ≡
       run weight_limit b.stack b.states b.first
   pub counts : counted_on (visited_for (length b.stack) (layers b.stack) left (line_of world p n.tasks)) n.taken ≡
-      taken_behind b.stack b.states b.first b.taken
+      taken_after b.stack b.states b.first b.taken
   pub enough : weight_of b p n.tasks ≤ left
   pub chained : IsChainedLine b.stack (line_of world p n.tasks)
   pub states : world.states ≡ n.states
   pub outs : sent_seen p n.out ≡ sent_seen b.pool b.out ++ world.outs
   pub news : List (Dir × PoolEvent)
-  pub behind : n.out ≡ b.out ++ news
+  pub following : n.out ≡ b.out ++ news
   pub predicted : n.predicted ≡ as_predicted world.decided
   pub visits : n.visits ≡ b.visits + world.visits
   pub weight : world.visits + length news + weight_of b p n.tasks ≤ task_weight b.stack b.first

@@ -33,5 +33,5 @@ taken_within most stack states first counts =
     counted_on (visited_for (length stack) (layers stack) most (starting (unstarted_work states) first)) counts
 
 -- What was taken, after the run of a stack from one task.
-abbrev pub taken_behind : List LayerTree → List State → Task Event → List ℕ → List ℕ
-taken_behind stack states first counts = taken_within weight_limit stack states first counts
+abbrev pub taken_after : List LayerTree → List State → Task Event → List ℕ → List ℕ
+taken_after stack states first counts = taken_within weight_limit stack states first counts

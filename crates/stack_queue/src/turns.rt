@@ -16,7 +16,7 @@ ghost use Rattle.pool_message.specs.Sent.{sent_refs, sent_seen, SentLie};
 ghost use Rattle.layer_stage.specs.Room.{CountsWithin};
 ghost use Rattle.stack_queue.specs.Pending.{first_task, task_seen};
 ghost use Rattle.stack_queue.specs.Stages.{Stand, most_at_first, run_of};
-ghost use Rattle.stack_queue.specs.Taken.{taken_behind};
+ghost use Rattle.stack_queue.specs.Taken.{taken_after};
 
 use crate::tasks::Tasks;
 use event_graph::Stack;
@@ -72,7 +72,7 @@ pub fn run<S: Stage>(
     ensures visits { visits.new ≡
         visits.old + (run_of (stack_tree stack.now) (map (S.state pool.old) stages.old)
         (task_seen pool.old (first_task tasks.old.items))).world.visits }
-    ensures taken { map S.taken stages.new ≡ taken_behind (stack_tree stack.now) (map (S.state pool.old) stages.old)
+    ensures taken { map S.taken stages.new ≡ taken_after (stack_tree stack.now) (map (S.state pool.old) stages.old)
         (task_seen pool.old (first_task tasks.old.items)) (map S.taken stages.old) }
     ensures done { (run_of (stack_tree stack.now) (map (S.state pool.old) stages.old)
         (task_seen pool.old (first_task tasks.old.items))).tasks ≡ [] }

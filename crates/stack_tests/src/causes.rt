@@ -230,7 +230,7 @@ fn each_cause_stands_at_its_place(rt: HostRuntime) {
 }
 
 #[test]
-fn stacks_are_judged_behind_their_files(rt: HostRuntime) {
+fn stacks_are_judged_after_their_files(rt: HostRuntime) {
     let texts: [(&[u8], FileError); 3] = [
         (
             b"layer echo { down Cast(p, m) { up Cast(p, m); } up Cast(o, m) { down Cast(o, m); } } \

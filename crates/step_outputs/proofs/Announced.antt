@@ -44,9 +44,9 @@ first_found list n k ranks within none is =
     let parts : all_announced list ≡ all_announced (take n list) ++ all_announced (drop n list) =
     ap all_announced (sym (take-append-drop n list)) ∙ filter_map-append (λ k. announced_by k.what) (take n list)
     (drop n list) in
-    let behind : all_announced (drop n list) ≡ cons_option (Some ranks) (all_announced (drop (suc n) list)) =
+    let following : all_announced (drop n list) ≡ cons_option (Some ranks) (all_announced (drop (suc n) list)) =
     ap all_announced (drop-cons list n k within) ∙ ap (λ o. cons_option o (all_announced (drop (suc n) list))) is in
-    ap (λ xs. slice_get xs 0) (parts ∙ (λ i. none i ++ behind i))
+    ap (λ xs. slice_get xs 0) (parts ∙ (λ i. none i ++ following i))
 
 -- one more that announces nothing
 pub none_more : (list : List Kept) (n : ℕ) (k : Kept) → n < length list → all_announced (take n list) ≡ [] →

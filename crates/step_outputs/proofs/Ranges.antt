@@ -47,10 +47,10 @@ all_lie bytes more [] k lie within = (within, tt)
 all_lie bytes more (x ∷ list) k lie within =
     (within_stays bytes more x.body lie.0, all_lie bytes more list k lie.1 within)
 
-pub still_kept : (places room bodies bodies_behind : ℕ) (bytes more : List ℕ) (list : List Kept) (k : Kept) →
-    AreKept places room bodies bytes list → length list < places → bodies ≤ bodies_behind → length more ≤ longest_body →
-    LiesWithin (bytes ++ more) k.body → AreKept places room bodies_behind (bytes ++ more) (list ++ k ∷ [])
-still_kept places room bodies bodies_behind bytes more list k kept free rises short within =
+pub still_kept : (places room bodies bodies_after : ℕ) (bytes more : List ℕ) (list : List Kept) (k : Kept) →
+    AreKept places room bodies bytes list → length list < places → bodies ≤ bodies_after → length more ≤ longest_body →
+    LiesWithin (bytes ++ more) k.body → AreKept places room bodies_after (bytes ++ more) (list ++ k ∷ [])
+still_kept places room bodies bodies_after bytes more list k kept free rises short within =
     let bytes_both = length-append bytes more in
     let list_both = length-append list (k ∷ []) in record {
       outputs = kept.outputs;
@@ -61,24 +61,24 @@ still_kept places room bodies bodies_behind bytes more list k kept free rises sh
     }
 
 -- a list of one more, with the bytes of all
-pub put_keeps : (places room bodies room_behind bodies_behind : ℕ) (bytes more bytes_behind : List ℕ)
-    (list list_behind : List Kept) (k : Kept)
-    (span : Span) → AreKept places room bodies bytes list → length list < places → bytes_behind ≡ bytes ++ more →
-    list_behind ≡ list ++ k ∷ [] →
-    room_behind ≡ room → bodies ≤ bodies_behind → length more ≤ longest_body → k.body ≡ span →
-    LiesWithin bytes_behind span →
-    AreKept places room_behind bodies_behind bytes_behind list_behind
-put_keeps places room bodies room_behind bodies_behind bytes more bytes_behind list list_behind k s kept free bytes_is
+pub put_keeps : (places room bodies room_after bodies_after : ℕ) (bytes more bytes_after : List ℕ)
+    (list list_after : List Kept) (k : Kept)
+    (span : Span) → AreKept places room bodies bytes list → length list < places → bytes_after ≡ bytes ++ more →
+    list_after ≡ list ++ k ∷ [] →
+    room_after ≡ room → bodies ≤ bodies_after → length more ≤ longest_body → k.body ≡ span →
+    LiesWithin bytes_after span →
+    AreKept places room_after bodies_after bytes_after list_after
+put_keeps places room bodies room_after bodies_after bytes more bytes_after list list_after k s kept free bytes_is
     list_is room_is rises few at there =
-    rw (bytes_is, list_is, room_is) (still_kept places room bodies bodies_behind bytes more list k kept free rises few
-    (subst (λ bs. LiesWithin bs k.body) bytes_is (subst (λ x. LiesWithin bytes_behind x) (sym at) there)))
+    rw (bytes_is, list_is, room_is) (still_kept places room bodies bodies_after bytes more list k kept free rises few
+    (subst (λ bs. LiesWithin bs k.body) bytes_is (subst (λ x. LiesWithin bytes_after x) (sym at) there)))
 
-pub put_tells : (here : Here) (bytes more bytes_behind : List ℕ) (list list_behind : List Kept) (k : Kept)
+pub put_tells : (here : Here) (bytes more bytes_after : List ℕ) (list list_after : List Kept) (k : Kept)
     (o : member.Output × Option ℕ) →
-    AllByRecursion (λ k. LiesWithin bytes k.body) list → bytes_behind ≡ bytes ++ more → list_behind ≡ list ++ k ∷ [] →
-    output_in here bytes_behind k ≡ o → map (output_in here bytes_behind) list_behind ≡
+    AllByRecursion (λ k. LiesWithin bytes k.body) list → bytes_after ≡ bytes ++ more → list_after ≡ list ++ k ∷ [] →
+    output_in here bytes_after k ≡ o → map (output_in here bytes_after) list_after ≡
     map (output_in here bytes) list ++ o ∷ []
-put_tells here bytes more bytes_behind list list_behind k o lie bytes_is list_is is =
+put_tells here bytes more bytes_after list list_after k o lie bytes_is list_is is =
     rw (bytes_is, list_is)
     (with_one_more here bytes more list k o lie (subst (λ bs. output_in here bs k ≡ o) bytes_is is))
 

@@ -71,14 +71,14 @@ abbrev pub number_below : ℕ → ℕ → Option ℕ
 number_below count k = if nat_lt k count then Some k else None
 
 -- The next number after it; those that no plan has are all the same.
-abbrev pub number_behind : ℕ → ℕ → What → ℕ
-number_behind count k what = if takes_number what && nat_lt k count then k + 1 else k
+abbrev pub number_following : ℕ → ℕ → What → ℕ
+number_following count k what = if takes_number what && nat_lt k count then k + 1 else k
 
 -- Outputs that take their numbers in order, from this one on.
 abbrev pub numbered_outputs : ℕ → ℕ → List Kept → List Kept
 numbered_outputs count k [] = []
 numbered_outputs count k (x ∷ list) = record x { what = under (number_below count k) x.what } ∷
-    numbered_outputs count (number_behind count k x.what) list
+    numbered_outputs count (number_following count k x.what) list
 
 -- Outputs are kept in `places` places: there is room for the rest of them, and for the longest body of each.
 pub record AreKept (places room room_of_bytes : ℕ) (bytes : List ℕ) (list : List Kept) : Type 0 where

@@ -16,7 +16,7 @@ ghost use Rattle.packet_mean.specs.declared.here.Here.{Here};
 ghost use Rattle.pool_message.specs.Seen.{event_seen, EventLies};
 ghost use Rattle.run_mean.specs.Member.{content};
 ghost use Rattle.stack_mean.specs.Plans.{plans_limit};
-ghost use Rattle.step_outputs.specs.Kept.{announced_by, bytes_in, number_below, number_behind, under, LiesWithin};
+ghost use Rattle.step_outputs.specs.Kept.{announced_by, bytes_in, number_below, number_following, under, LiesWithin};
 ghost use Rattle.step_outputs.specs.Kept.{output_with, span_of, IsFor};
 ghost use Rattle.step_outputs.specs.Views.{output_meant, signal_meant};
 
@@ -76,7 +76,7 @@ pub(crate) fn body_of<'p>(event: &'p PoolEvent, pool: &'p Pool) -> &'p [u8]
 }
 
 /// Where a body is to stand, after those of the others.
-pub(crate) fn span_behind(body: &[u8], bytes: &Vec<u8>) -> Span
+pub(crate) fn span_after(body: &[u8], bytes: &Vec<u8>) -> Span
     ensures { result ≡ span_of bytes.now.items body.now }
 {
     let from = bytes.len();
@@ -95,7 +95,7 @@ pub(crate) fn keep_bytes(body: &[u8], bytes: &mut Vec<u8>) -> Span
     ensures within { LiesWithin bytes.new.items result }
     ensures capacity { vec_capacity bytes.old ≤ vec_capacity bytes.new }
 {
-    let span = span_behind(body, bytes);
+    let span = span_after(body, bytes);
     if !body.is_empty() {
         put_body(body, bytes);
     }
@@ -239,7 +239,7 @@ fn number_more(next: u32, count: u32) -> u32
 pub(crate) fn take_number(kept: &mut Kept, next: u32, count: u32) -> u32
     requires { count ≤ plans_limit }
     ensures kept { kept.new ≡ record kept.old { what = under (number_below count next) kept.old.what } }
-    ensures behind { result ≡ number_behind count next kept.old.what }
+    ensures following { result ≡ number_following count next kept.old.what }
 {
     match kept.what {
         What::Packet(dest, _) => {

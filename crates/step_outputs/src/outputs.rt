@@ -17,7 +17,7 @@ ghost use Rattle.step_outputs.specs.Gathered.{full_output};
 ghost use Rattle.step_outputs.specs.Views.{output_meant};
 
 use crate::kept::{
-    announces, body_of, keep, keep_bytes, shown, span_behind, what_bare, what_carried, what_of,
+    announces, body_of, keep, keep_bytes, shown, span_after, what_bare, what_carried, what_of,
 };
 use crate::list::KeptList;
 use crate::view::OutputView;
@@ -129,7 +129,7 @@ impl Outputs {
         } }
     {
         let what = what_carried(&self.here, direction, envelope);
-        let span = span_behind(body, &self.bytes);
+        let span = span_after(body, &self.bytes);
         self.list.push(what, headers, span);
         keep_bytes(body, &mut self.bytes);
     }

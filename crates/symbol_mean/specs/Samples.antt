@@ -11,8 +11,8 @@ use Rattle.symbol_mean.specs.Value.{set_square, push, take, output}
 use Rattle.symbol_mean.specs.Symbolic.{symbolic}
 
 -- Cell 0 of place 0, after that many writes.
-abbrev pub cell_behind : ℕ → NumberValue
-cell_behind n = element (record { place = 0; cell = 0; writes = n }) (number 0)
+abbrev pub cell_after : ℕ → NumberValue
+cell_after n = element (record { place = 0; cell = 0; writes = n }) (number 0)
 
 abbrev pub next : TraceNumber → TraceNumber
 next e = trace.binary Add e (lit 1)
@@ -31,8 +31,8 @@ written_out = bind (cell 0 0) ∷ trace.set 0 0 (lit 0) (next (atom (bound 0))) 
     put_out (trace.peer ∷ []) (bound 0 ∷ []) ∷ []
 
 abbrev pub counted_acts : List Act
-counted_acts = set 0 0 (number 0) (binary Add (cell_behind 0) (number 1)) ∷ output Down Cast (peer ∷ []) (Some (record {
-  chain = record { place = 0; tag = 1; fields = cell_behind 0 ∷ [] } ∷ [];
+counted_acts = set 0 0 (number 0) (binary Add (cell_after 0) (number 1)) ∷ output Down Cast (peer ∷ []) (Some (record {
+  chain = record { place = 0; tag = 1; fields = cell_after 0 ∷ [] } ∷ [];
   message = body;
 })) ∷ []
 
@@ -73,9 +73,9 @@ across = bind (cell 0 0) ∷ sets ∷ trace.set_square 0 0 (lit 0) (lit 0) (lit 
 abbrev pub WritesCount : Type 0
 WritesCount = symbolic across ≡ set 0 0 (number 0) (number 7) ∷ set_square 0 0 (number 0) (number 0) (number 7) ∷
     push 0 0 (number 0) [] None ∷ take 0 0 (number 0) ∷ set 0 1 (number 0) (number 7) ∷ set 1 0 (number 0) (number 7) ∷
-    output Down Cast (cell_behind 0 ∷ [])
+    output Down Cast (cell_after 0 ∷ [])
     (Some (record { chain = record { place = 0; tag = 1; fields = [] } ∷ []; message = body })) ∷
-    check (cell_behind 4) ∷ []
+    check (cell_after 4) ∷ []
 
 -- A message that is noted once, or once more where it is pushed.
 abbrev pub first_bytes : Operation

@@ -213,7 +213,7 @@ well_one : (ms : List Meant) (old : List Form) (x : Form) → AreWell ms old →
 well_one ms [] x h b = (b, tt)
 well_one ms (y ∷ old) x h b = (h.0, well_one (with_next ms y) old x h.1 b)
 
-pub one_behind : (old new : List Form) (x : Form) → new ≡ old ++ x ∷ [] → AreWell [] old → IsWell (meanings old) x →
+pub one_after : (old new : List Form) (x : Form) → new ≡ old ++ x ∷ [] → AreWell [] old → IsWell (meanings old) x →
     AreWell [] new
 unfolding meanings
-one_behind old new x e h b = subst (λ l. AreWell [] l) (sym e) (well_one [] old x h b)
+one_after old new x e h b = subst (λ l. AreWell [] l) (sym e) (well_one [] old x h b)

@@ -33,8 +33,8 @@ stands_grown {a} {b} {k} {x} g s = record {
 pub made_then : {a b c : List Form} {k : ℕ} {x : Meant} → Made a b k x → Grown b c → Made a c k x
 made_then m g = record { grows = grown_on m.grows g; stands = stands_grown g m.stands }
 
-pub made_behind : {a b c : List Form} {k : ℕ} {x : Meant} → Grown a b → Made b c k x → Made a c k x
-made_behind g m = record { grows = grown_on g m.grows; stands = m.stands }
+pub made_after : {a b c : List Form} {k : ℕ} {x : Meant} → Grown a b → Made b c k x → Made a c k x
+made_after g m = record { grows = grown_on g m.grows; stands = m.stands }
 
 pub made_as : {a b : List Form} {k : ℕ} {x y : Meant} → Made a b k x → x ≡ y → Made a b k y
 made_as {a} {b} {k} m e = subst (λ t. Made a b k t) e m

@@ -28,8 +28,8 @@ pub ruleset of_first_apart = (same_more, ends_apart, ends_same)
 -- For `learn`.
 pub ruleset of_learn = (set_learns, take_learns, pass_learns)
 
--- For `row_behind`.
-pub ruleset of_row_behind = (row_end, row_next, row_there, number_kept)
+-- For `row_after`.
+pub ruleset of_row_after = (row_end, row_next, row_there, number_kept)
 
 -- For `chain`.
 pub ruleset of_chain = (chain_end, chain_next, row_there, chain_there, chain_later, knows_made)

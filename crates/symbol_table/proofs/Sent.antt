@@ -20,7 +20,7 @@ use Rattle.symbol_table.specs.Meant.{Meant, a_number, a_message, a_row, a_chain,
 use Rattle.symbol_table.specs.Meant.{message_in, row_in, chain_in, meanings}
 use Rattle.symbol_table.specs.Table.{Stands, IsNumber, IsRow, IsChain, Made}
 use Rattle.symbol_table.specs.Walk.{known_to, AreNumbers, AllNumbers, AllMade, SomeMade}
-use Rattle.symbol_table.proofs.Growing.{grown_on, not_grown, stands_grown, made_as, made_behind, number_is}
+use Rattle.symbol_table.proofs.Growing.{grown_on, not_grown, stands_grown, made_as, made_after, number_is}
 use Rattle.symbol_table.proofs.Growing.{number_there, message_is, zip_last, numbers_grown, all_grown}
 
 -- One more after the first of some.
@@ -131,7 +131,7 @@ pub row_next : {a b c : List Form} {k r : ℕ} (ks : List ℕ) (first x : ℕ) �
     Made a b r (a_row (map (number_in (meanings a)) (drop (first + 1) ks))) →
     Made b c k (a_row (number_in (meanings b) x ∷ row_in (meanings b) r)) →
     Made a c k (a_row (map (number_in (meanings a)) (drop first ks)))
-row_next {a} {b} {c} {k} {r} ks first x lt h e rest m = made_as (made_behind rest.grows m) same
+row_next {a} {b} {c} {k} {r} ks first x lt h e rest m = made_as (made_after rest.grows m) same
   where
     number : number_in (meanings b) x ≡ number_in (meanings a) x
     number = number_is (stands_grown rest.grows (number_of_all (meanings a) ks x first h lt e))
@@ -156,7 +156,7 @@ pub chain_next : {a b c d : List Form} {k r f : ℕ} (v : Values) (ls rest : Lis
     Made c d k (a_chain (record { place = l.place; tag = l.tag; fields = row_in (meanings c) f } ∷ chain_in
     (meanings c) r)) →
     Made a d k (a_chain (map (link_value v) ls))
-chain_next {a} {b} {c} {d} {k} {r} {f} v ls rest l e mr mf m = made_as (made_behind (grown_on mr.grows mf.grows) m)
+chain_next {a} {b} {c} {d} {k} {r} {f} v ls rest l e mr mf m = made_as (made_after (grown_on mr.grows mf.grows) m)
     ((λ t. a_chain (record { place = l.place; tag = l.tag; fields = ap row_of mf.stands.stands t } ∷
     ap chain_of (stands_grown mf.grows mr.stands).stands t))
     ∙ ap (λ x. a_chain (map (link_value v) x)) (sym e))
@@ -165,7 +165,7 @@ pub message_sent : {a b c d : List Form} {k i j : ℕ} {ls : List LinkValue} {x 
     Made a b i (a_chain ls) → Made b c j (a_message x) →
     Made c d k (a_sending (Some (record { chain = chain_in (meanings c) i; message = message_in (meanings c) j }))) →
     Made a d k (a_sending (Some (record { chain = ls; message = x })))
-message_sent ml mx m = made_as (made_behind (grown_on ml.grows mx.grows) m)
+message_sent ml mx m = made_as (made_after (grown_on ml.grows mx.grows) m)
     (λ t. a_sending (Some
     (record { chain = ap chain_of (stands_grown mx.grows ml.stands).stands t; message = message_is mx.stands t })))
 
@@ -183,7 +183,7 @@ chain_later m n = chain_there (stands_grown n.grows m.stands)
 pub row_of_numbers : {a b c : List Form} {r many : ℕ} {xs : List NumberValue} (ks : List ℕ) → SomeMade a b xs many ks →
     Made b c r (a_row (map (number_in (meanings b)) ks)) → Made a c r (a_row xs)
 row_of_numbers {a} {b} {c} {r} {many} {xs} ks m n =
-    made_as (made_behind m.grows n) (ap a_row (numbers_are (meanings b) ks xs m.stand))
+    made_as (made_after m.grows n) (ap a_row (numbers_are (meanings b) ks xs m.stand))
 
 -- An atom that isn't there.
 pub no_atom : (xs : List Atom) (n : ℕ) → None ≡ slice_get xs n → atoms.Number 0 ≡ slice_index_or xs n (atoms.Number 0)

@@ -10,7 +10,7 @@ use Rattle.symbol_table.specs.declared.table.TheConstants.{MOST_VALUES}
 use Rattle.symbol_table.specs.Meant.{meant_of, meanings}
 use Rattle.symbol_table.specs.Table.{IsWell, AreWell, Made}
 use Rattle.symbol_table.specs.Set.{IsPut, Puts}
-use Rattle.symbol_table.proofs.Earlier.{form_found, last_stays, one_behind}
+use Rattle.symbol_table.proofs.Earlier.{form_found, last_stays, one_after}
 
 pub key_put : (b : Bool) (old new : List Form) (x : Form) → new ≡ (if b then old else old ++ x ∷ []) →
     (new ≡ old) ⊎ (new ≡ old ++ x ∷ [])
@@ -22,7 +22,7 @@ pub put_well : (old new : List Form) (x : Form) (k : ℕ) → IsPut old new x k 
 put_well old new x k put h b = go put.grown where
   go : (new ≡ old) ⊎ (new ≡ old ++ x ∷ []) → AreWell [] new
   go (inl e) = subst (λ l. AreWell [] l) (sym e) h
-  go (inr e) = one_behind old new x e h b
+  go (inr e) = one_after old new x e h b
 
 pub put_made : (old new : List Form) (x : Form) (k : ℕ) → IsPut old new x k → AreWell [] old → IsWell (meanings old) x →
     Made old new k (meant_of (meanings old) x)

@@ -23,7 +23,7 @@ use Rattle.symbol_table.specs.Meant.{Meant, a_number, a_message, meant_of, meani
 use Rattle.symbol_table.specs.Table.{Stands, IsWell, Made}
 use Rattle.symbol_table.specs.Parts.{sort_of, parts_of, AreBelow, seen_in, form_of}
 use Rattle.symbol_table.specs.Walk.{known_to, meant_by, meant_at, AreNumbers, Knows, AllMade, NumbersMade}
-use Rattle.symbol_table.proofs.Growing.{made_as, made_behind}
+use Rattle.symbol_table.proofs.Growing.{made_as, made_after}
 use Rattle.symbol_table.proofs.Compound.{parts_below, atom_sort, core_sort, form_is, number_meant_is, message_meant_is}
 
 -- The terms of a walk's trace.
@@ -75,7 +75,7 @@ form_made {a} {b} w node many x parts ks f h e well s p n m i =
 pub form_meant : {a b c : List Form} {k many : ℕ} {xs : List Meant} {ks : List ℕ} (w : Walk) (node : ℕ) (f : Form) →
     AllMade a b xs many ks →
     FormMade b w node f → Made b c k (meant_of (meanings b) f) → Made a c k (meant_at w node)
-form_meant w node f m i made = made_as (made_behind m.grows made) i.is
+form_meant w node f m i made = made_as (made_after m.grows made) i.is
 
 pub below_at : (n : ℕ) (ks : List ℕ) (i k : ℕ) → AreBelow n ks → i < length ks → k ≡ slice_index ks i → k < n
 below_at n [] i k h lt e = absurd (omega (arith, lt))

@@ -54,8 +54,8 @@ fn atom_values(
 }
 
 /// The row of some numbers, without the first.
-#[tactic(auto, using(crate::proofs::Rules::of_row_behind))]
-fn row_behind(table: &mut Table, numbers: &Fields, first: u32) -> Result<u32, AllocError>
+#[tactic(auto, using(crate::proofs::Rules::of_row_after))]
+fn row_after(table: &mut Table, numbers: &Fields, first: u32) -> Result<u32, AllocError>
     requires numbers { AllNumbers (meanings table.old) numbers.now }
     ensures { Makes table.old table.new (a_row (map (number_in (meanings table.old)) (drop first numbers.now))) result }
 {
@@ -63,7 +63,7 @@ fn row_behind(table: &mut Table, numbers: &Fields, first: u32) -> Result<u32, Al
         let made = table.put(Form::Sent(SentForm::NoNumbers))?;
         return Ok(made);
     }
-    let rest = row_behind(table, numbers, first + 1)?;
+    let rest = row_after(table, numbers, first + 1)?;
     let made = table.put(Form::Sent(SentForm::Numbers {
         first: numbers.at(first),
         rest,
@@ -76,7 +76,7 @@ pub(crate) fn row(table: &mut Table, numbers: &Fields) -> Result<u32, AllocError
     requires numbers { AllNumbers (meanings table.old) numbers.now }
     ensures { Makes table.old table.new (a_row (map (number_in (meanings table.old)) numbers.now)) result }
 {
-    let made = row_behind(table, numbers, 0)?;
+    let made = row_after(table, numbers, 0)?;
     Ok(made)
 }
 

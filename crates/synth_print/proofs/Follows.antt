@@ -85,15 +85,15 @@ module _ (stack : List LayerTree) (many : ℕ) (w : mean.Written) where
   more_bare [] = refl
   more_bare (l ∷ ls) = λ t. (codes "/" ++ link_bare l t) ++ more_bare ls t
 
-  behind_bare : (ls : List trace.Link) → mean.behind stack (counting many w) ls ≡ mean.behind stack w ls
-  behind_bare [] = refl
-  behind_bare (l ∷ ls) = λ t. codes " " ++ (link_bare l t ++ more_bare ls t)
+  after_bare : (ls : List trace.Link) → mean.following stack (counting many w) ls ≡ mean.following stack w ls
+  after_bare [] = refl
+  after_bare (l ∷ ls) = λ t. codes " " ++ (link_bare l t ++ more_bare ls t)
 
   message_parts : (m : Option trace.Chained) →
       map (mean.pushed_text stack (counting many w)) (option_to_list m) ≡
       map (mean.pushed_text stack w) (option_to_list m)
   message_parts None = refl
-  message_parts (Some m) = λ t. (core_bare m.core t ++ behind_bare m.chain t) ∷ []
+  message_parts (Some m) = λ t. (core_bare m.core t ++ after_bare m.chain t) ∷ []
 
   core_parts : (m : Option trace.Chained) →
       map (λ (m : trace.Chained). core_text (counting many w) m.core) (option_to_list m) ≡
@@ -102,10 +102,10 @@ module _ (stack : List LayerTree) (many : ℕ) (w : mean.Written) where
   core_parts (Some m) = λ t. core_bare m.core t ∷ []
 
   header_parts : (m : Option trace.Chained) →
-      option_map_or (λ (m : trace.Chained). mean.behind stack (counting many w) m.chain) m []
-      ≡ option_map_or (λ (m : trace.Chained). mean.behind stack w m.chain) m []
+      option_map_or (λ (m : trace.Chained). mean.following stack (counting many w) m.chain) m []
+      ≡ option_map_or (λ (m : trace.Chained). mean.following stack w m.chain) m []
   header_parts None = refl
-  header_parts (Some m) = behind_bare m.chain
+  header_parts (Some m) = after_bare m.chain
 
 line_bare : (stack : List LayerTree) (w : mean.Written) (o : Operation) → line_of stack (bare w) o ≡ line_of stack w o
 line_bare stack w (trace.bind e) = λ t. codes "bind t." ++ decimal w.binds ++ codes " = " ++

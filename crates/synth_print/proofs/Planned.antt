@@ -17,8 +17,8 @@ use Rattle.trace_mean.specs.Trace.{Atom, Link}
 pub all_first : {X : Type 0} (xs : List X) (n : ℕ) → length xs ≤ n → xs ≡ take n xs
 all_first xs n le = sym (take_all n xs le)
 
-pub none_behind : {X : Type 0} (xs rest : List X) (n : ℕ) → length xs ≤ n → rest ≡ [] → rest ≡ drop n xs
-none_behind xs rest n le is = is ∙ sym (drop_all n xs le)
+pub none_after : {X : Type 0} (xs rest : List X) (n : ℕ) → length xs ≤ n → rest ≡ [] → rest ≡ drop n xs
+none_after xs rest n le is = is ∙ sym (drop_all n xs le)
 
 -- the fields of a header
 atoms_planned : (n : ℕ) (fields : List (Option ℕ)) → map planned_field (field_atoms n fields) ≡ map field_text fields
@@ -26,15 +26,15 @@ atoms_planned n [] = refl
 atoms_planned n (Some m ∷ fields) = ap (λ ls. field_text (Some m) ∷ ls) (atoms_planned n fields)
 atoms_planned n (None ∷ fields) = ap (λ ls. field_text None ∷ ls) (atoms_planned (suc n) fields)
 
-behind_map : {X : Type 0} (f : X → List ℕ) (sep : List ℕ) (xs : List X) →
+after_map : {X : Type 0} (f : X → List ℕ) (sep : List ℕ) (xs : List X) →
     flat_map (λ piece. sep ++ piece) (map f xs) ≡ flat_map (λ x. sep ++ f x) xs
-behind_map f sep [] = refl
-behind_map f sep (x ∷ xs) = ap (λ rest. (sep ++ f x) ++ rest) (behind_map f sep xs)
+after_map f sep [] = refl
+after_map f sep (x ∷ xs) = ap (λ rest. (sep ++ f x) ++ rest) (after_map f sep xs)
 
 join_map : {X : Type 0} (f : X → List ℕ) (sep : List ℕ) (xs : List X) → join_by (λ piece. piece) sep (map f xs) ≡
     join_by f sep xs
 join_map f sep [] = refl
-join_map f sep (x ∷ xs) = ap (λ rest. f x ++ rest) (behind_map f sep xs)
+join_map f sep (x ∷ xs) = ap (λ rest. f x ++ rest) (after_map f sep xs)
 
 first_atoms : (k n : ℕ) (fields : List (Option ℕ)) → take k (field_atoms n fields) ≡ field_atoms n (take k fields)
 first_atoms zero n fields = refl

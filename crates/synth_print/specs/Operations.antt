@@ -1,7 +1,7 @@
 -- The parts of operations, as text.
 use Rattle.std.specs.Prelude.{ℕ, Bool, true, false, List, [], ◌++◌, codes, map, Option, Some, None, option_map}
 use Rattle.std.specs.Prelude.{option_to_list}
-use Rattle.bypass_mean.specs.Text.{Written, behind, core_text, bracketed_list, number_text, pushed_text}
+use Rattle.bypass_mean.specs.Text.{Written, following, core_text, bracketed_list, number_text, pushed_text}
 use Rattle.layer_mean.specs.Tree.{LayerTree}
 use Rattle.report_lines.specs.Lead.{lead}
 use Rattle.synth_print.specs.Headers.{atom_texts}
@@ -36,8 +36,8 @@ core_of w m = core_text w (core_tree m.core)
 abbrev pub pushed_of : List LayerTree → Written → List (List trace.Link) → Chained → List ℕ
 pushed_of stack w cs m = pushed_text stack w (chained_in cs m)
 
-abbrev pub behind_of : List LayerTree → Written → trace.Chained → List ℕ
-behind_of stack w m = behind stack w m.chain
+abbrev pub after_of : List LayerTree → Written → trace.Chained → List ℕ
+after_of stack w m = following stack w m.chain
 
 -- The parts of an output, and those of a row that is pushed.
 abbrev pub listed_cores : Written → List (List trace.Link) → List Atom → Option Chained → List ℕ

@@ -1,7 +1,7 @@
 //! Known headers, as text.
 
 ghost use Rattle.std.specs.Prelude.{◌≡◌, ◌++◌, [], OnOk, slice_get, slice_index_or};
-ghost use Rattle.bypass_mean.specs.Text.{atom_text, behind, link_text, pushed_text};
+ghost use Rattle.bypass_mean.specs.Text.{atom_text, following, link_text, pushed_text};
 ghost use Rattle.event_graph.specs.Answer.{stack_tree};
 ghost use Rattle.layer_mean.specs.Headers.{header_of_tag};
 ghost use Rattle.synth_print.specs.Cells.{layer_or_none};
@@ -43,7 +43,7 @@ fn push_declared(line: &mut Line, layer: Option<&TypedLayer>, number: usize) -> 
 }
 
 /// The name of the header with a tag: `none`, or a declared one.
-#[tactic(auto, using(crate::proofs::Chains::declared_behind))]
+#[tactic(auto, using(crate::proofs::Chains::declared_after))]
 fn push_tag(line: &mut Line, layer: Option<&TypedLayer>, tag: u8) -> Result<(), Memory>
     ensures { OnOk result (line.new ≡ line.old ++ header_called (header_of_tag (layer_or_none layer.entry) tag)) }
 {
@@ -120,11 +120,11 @@ fn push_rest(line: &mut Line, scope: &Scope<'_>, chain: u32) -> Result<(), Memor
 }
 
 /// Known headers after what they are of, where there are any.
-#[tactic(auto, using(crate::proofs::Chains::behind_read, crate::proofs::Chains::behind_empty))]
-pub(crate) fn push_behind(line: &mut Line, scope: &Scope<'_>, chain: u32) -> Result<(), Memory>
+#[tactic(auto, using(crate::proofs::Chains::after_read, crate::proofs::Chains::after_empty))]
+pub(crate) fn push_after(line: &mut Line, scope: &Scope<'_>, chain: u32) -> Result<(), Memory>
     requires { IsChain (chains_in scope.now) chain }
     ensures { OnOk result (line.new ≡ line.old
-        ++ behind (layers_in scope.now) (written_in scope.now) (chain_in (chains_in scope.now) chain)) }
+        ++ following (layers_in scope.now) (written_in scope.now) (chain_in (chains_in scope.now) chain)) }
 {
     match scope.source.links.front(chain) {
         Some(link) => {
@@ -147,5 +147,5 @@ pub(crate) fn push_chained(
         ++ pushed_text (layers_in scope.now) (written_in scope.now) (chained_in (chains_in scope.now) message)) }
 {
     push_core(line, scope, message.core)?;
-    push_behind(line, scope, message.chain)
+    push_after(line, scope, message.chain)
 }

@@ -5,14 +5,14 @@ ghost use Rattle.std.specs.Option.{option_map_or};
 ghost use Rattle.bypass_mean.specs.Text.{cell_name, bracketed_index};
 ghost use Rattle.layer_ast.specs.Printed.{direction_sign};
 ghost use Rattle.synth_print.specs.Headers.{atom_texts, comma_list};
-ghost use Rattle.synth_print.specs.Operations.{behind_of, core_of, is_change, last_part, listed_cores, listed_rows};
+ghost use Rattle.synth_print.specs.Operations.{after_of, core_of, is_change, last_part, listed_cores, listed_rows};
 ghost use Rattle.synth_print.specs.Operations.{number_texts, pushed_of};
 ghost use Rattle.synth_print.specs.Texts.{chains_in, layers_in, number_at, operation_text, terms_in, written_in};
 ghost use Rattle.trace_core.specs.Operations.{HasChain, IsPart, chained_in};
 ghost use Rattle.trace_core.specs.declared.operation.Operation.TheVariants as operations;
 
 use crate::cells::push_cell_name;
-use crate::headers::{push_atoms, push_behind, push_chained};
+use crate::headers::{push_after, push_atoms, push_chained};
 use crate::numbers::{push_cell, push_core, push_indexed, push_number};
 use crate::scope::Scope;
 use crate::words::{direction_text, kind_text};
@@ -145,11 +145,11 @@ fn push_output_headers(
     message: Option<Chained>,
 ) -> Result<(), Memory>
     requires { HasChain (chains_in scope.now) message }
-    ensures { OnOk result (line.new ≡ line.old ++ option_map_or (behind_of (layers_in scope.now) (written_in scope.now))
+    ensures { OnOk result (line.new ≡ line.old ++ option_map_or (after_of (layers_in scope.now) (written_in scope.now))
         (option_map (chained_in (chains_in scope.now)) message) []) }
 {
     match message {
-        Some(message) => push_behind(line, scope, message.chain),
+        Some(message) => push_after(line, scope, message.chain),
         None => Ok(()),
     }
 }

@@ -67,7 +67,7 @@ fn declared_count(layer: Option<&TypedLayer>, number: usize) -> usize
 }
 
 /// How many fields the header of a layer that there may be with a tag has.
-#[tactic(auto, using(crate::proofs::Chains::count_behind))]
+#[tactic(auto, using(crate::proofs::Chains::count_after))]
 fn count_at(layer: Option<&TypedLayer>, tag: u8) -> usize
     ensures { result ≡ fields_of (layer_or_none layer.entry) tag }
 {
@@ -91,7 +91,7 @@ fn first_fields(fields: &[Option<u32>], count: usize) -> &[Option<u32>]
 }
 
 /// The fields after the first `count`.
-#[tactic(auto, using(crate::proofs::Planned::none_behind))]
+#[tactic(auto, using(crate::proofs::Planned::none_after))]
 fn later_fields(fields: &[Option<u32>], count: usize) -> &[Option<u32>]
     ensures { result.now ≡ drop count fields.now }
 {

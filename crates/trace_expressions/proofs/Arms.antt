@@ -100,8 +100,8 @@ application_read inner function t0 t1 t2 t3 a b c i k opened m close made = numb
     (apply_made m.made made)
 
 -- what follows an operator's word
-abbrev behind_word : Inner → TraceNumber → List ℕ × List ℕ → Option (TraceNumber × List ℕ)
-behind_word inner first x =
+abbrev after_word : Inner → TraceNumber → List ℕ × List ℕ → Option (TraceNumber × List ℕ)
+after_word inner first x =
     (option_reader (operator_named x.0) >>= λ operator. the_text (codes " ") >>= λ _. inner.number >>= λ second.
     the_text (codes ")") >>= λ _. yields (binary operator first second)) x.1
 
@@ -114,7 +114,7 @@ pub operation_read : (inner : Inner) (o : Operator) (t0 t1 t2 t3 t4 t5 t6 : List
 operation_read inner o t0 t1 t2 t3 t4 t5 t6 word a b c d i j k m space worded found again n close made =
     number_read _ _ _ _ _ _
     (onto _ m.is (onto _ space
-    (onto (behind_word inner (number_in (terms b) i)) worded (onto _ (ap (option_map (λ v. (v, t3))) (sym found))
+    (onto (after_word inner (number_in (terms b) i)) worded (onto _ (ap (option_map (λ v. (v, t3))) (sym found))
     (onto _ again (onto _ n.is (onto _ close refl)))))))
     (binary_made m.made n.made made)
 

@@ -14,7 +14,7 @@ use Rattle.trace_core.specs.declared.node.Node.TheVariants as nodes
 use Rattle.trace_core.specs.declared.node.Atom.TheVariants as atoms
 use Rattle.trace_core.specs.View.{a_number, number_in, term_of, terms}
 use Rattle.trace_core.specs.Arena.{Made}
-use Rattle.trace_core.proofs.Makes.{behind, element_made, is_number, made_as, stays}
+use Rattle.trace_core.proofs.Makes.{following, element_made, is_number, made_as, stays}
 use Rattle.trace_words.specs.View.{pair_of}
 use Rattle.trace_words.specs.declared.error.LineError.{LineError}
 use Rattle.trace_words.specs.declared.spot.Spot.{Spot}
@@ -102,7 +102,7 @@ pub square_read : (taken : Option (TraceNumber × List ℕ)) (spot : Spot) (t : 
 square_read taken spot t a b c i j k h made = number_read _ _ _ _ _ _ h.is square_both
   where
     square_both : Made a c k (a_number (square spot.place spot.cell (number_in (terms b) i) (number_in (terms b) j)))
-    square_both = behind h.made.1 made
+    square_both = following h.made.1 made
 
 -- a cell without an index has the index 0
 pub one_read : (inner : Inner) (spot : Spot) (t : List ℕ) (a b : List Node) (i : ℕ) →
@@ -125,7 +125,7 @@ pub both_read : (inner : Inner) (spot : Spot) (sort : Option Sort) (t0 t1 t2 : L
 both_read inner spot sort t0 t1 t2 a b c i j e m n = record {
   is = ap (λ o. number_by_sort inner spot.place spot.cell o t0) e ∙ (onto _ m.is (onto _ n.is refl))
       ∙ ap (λ x. Some (square spot.place spot.cell x (number_in (terms c) j), t2)) (sym same);
-  made = (made_as (stays m.made n.made) (ap a_number (sym same)), behind m.made n.made);
+  made = (made_as (stays m.made n.made) (ap a_number (sym same)), following m.made n.made);
 }
   where
     same : number_in (terms c) i ≡ number_in (terms b) i

@@ -26,7 +26,7 @@ use Rattle.stack_mean.specs.NoShape.{NoShape, drawn_from}
 use Rattle.stack_mean.specs.NoShape as no_shape
 use Rattle.stack_mean.specs.Shape.{Known, visits_limit, entry_place}
 use Rattle.weight_laws.specs.Orderly.{IsOrderly}
-use Rattle.weight_laws.specs.Costs.{behind_arrows}
+use Rattle.weight_laws.specs.Costs.{after_arrows}
 use Rattle.weight_laws.specs.Runs.{Enters}
 use Rattle.weight_laws.proofs.Members.{In, in_map}
 use Rattle.weight_laws.proofs.Costs.{follows}
@@ -231,17 +231,17 @@ module _ (case : Case) (stack : List LayerTree) (orderly : IsOrderly stack) (off
     weighs : turns + pending_worth (weight stack) pending ≤ most
     fit : AllByRecursion (TaskFits stack) pending
 
-  abbrev behind : Task TracedEvent → ℕ
-  behind t = behind_arrows (weight stack) (handler_arrows stack (task_node t) (entered_handler stack (task_node t)))
+  abbrev following : Task TracedEvent → ℕ
+  following t = after_arrows (weight stack) (handler_arrows stack (task_node t) (entered_handler stack (task_node t)))
 
   weighs_one : (t : Task TracedEvent) → TaskFits stack t → 1 ≤ weight stack (task_node t)
   weighs_one t fits = omega (arith, follows stack orderly off (λ node. 1) (task_node t) (task_is_node stack t fits))
 
   costs : (t : Task TracedEvent) → TaskFits stack t → is_place (length stack) t.at ≡ true → weight stack (task_node t) ≡
-      1 + behind t
+      1 + following t
   costs t fits place =
       follows stack orderly off (λ node. 1) (task_node t) (task_is_node stack t fits)
-      ∙ ap (λ b. 1 + behind_arrows (weight stack)
+      ∙ ap (λ b. 1 + after_arrows (weight stack)
       (if b then handler_arrows stack (task_node t) (entered_handler stack (task_node t)) else [])) place
 
   output_keeps : (n : ℕ) (f : Fused) (t : Task TracedEvent) (rest : List (Task TracedEvent)) → Good n f (t ∷ rest) →

@@ -22,7 +22,7 @@ use Rattle.stack_mean.specs.Acceptance.{largest}
 use Rattle.stack_mean.specs.NoShape.{NoShape, drawn_from}
 use Rattle.stack_mean.specs.NoShape as no_shape
 use Rattle.weight_laws.specs.Orderly.{IsOrderly, IsOrderlyHandler, IsOrderlyBlock}
-use Rattle.weight_laws.specs.Costs.{behind_arrows}
+use Rattle.weight_laws.specs.Costs.{after_arrows}
 use Rattle.chain_laws.proofs.Lists.{each_room}
 use Rattle.weight_laws.proofs.Members.{In}
 use Rattle.weight_laws.proofs.Nodes.{had_in, zero_had, orderly_at, found, for_these}
@@ -121,7 +121,7 @@ module _ (stack : List LayerTree) (at : ℕ) (here : (1 ≤ at) × (at ≤ lengt
       pub joined : trace_joins v.made.operations ≤ joins
 
     arrows_total : (n : Node) (rs : List Repeated) →
-        behind_arrows f (map (emission_arrow stack n) rs) ≡ sum_by (λ r. r.times * bound_of stack f n r.emission) rs
+        after_arrows f (map (emission_arrow stack n) rs) ≡ sum_by (λ r. r.times * bound_of stack f n r.emission) rs
     arrows_total n [] = refl
     arrows_total n (r ∷ rs) =
         sum_by-cons (λ arrow. arrow.times * largest (map f arrow.targets)) (emission_arrow stack n r)
@@ -132,7 +132,7 @@ module _ (stack : List LayerTree) (at : ℕ) (here : (1 ≤ at) × (at ≤ lengt
     -- an event that passes
     passed : (dir : Dir) (event : TracedEvent) (way : Dir) (m : Made) (message : Option Chained) (tags : List ℕ) →
         MessageFits stack (sent_gap way at) event.kind message → In (traced_tag message) tags →
-        VisitComes (node_at at dir event) (behind_arrows f (arrow_to 1 (node_at at dir event) way event.kind tags ∷ []))
+        VisitComes (node_at at dir event) (after_arrows f (arrow_to 1 (node_at at dir event) way event.kind tags ∷ []))
         (trace_joins m.operations)
         (traced_on m way event message)
     passed dir event way m message tags fits is = record {
@@ -153,7 +153,7 @@ module _ (stack : List LayerTree) (at : ℕ) (here : (1 ≤ at) × (at ≤ lengt
         MessageFits stack (at - 1) event.kind (Some (record { chain = chain; core = c })) →
         let e : TracedEvent = record event { message = Some (record { chain = chain; core = c }) } in
         let met : TracedMet = popped_chain c chain in
-        IfMade (VisitComes (node_at at Up e) (behind_arrows f (passing stack (node_at at Up e) Up))
+        IfMade (VisitComes (node_at at Up e) (after_arrows f (passing stack (node_at at Up e) Up))
         (trace_joins m.operations))
         (traced_unhandled (at - 1) m Up e met.tag met.message)
     up_one event m c [] fits =
@@ -170,7 +170,7 @@ module _ (stack : List LayerTree) (at : ℕ) (here : (1 ≤ at) × (at ≤ lengt
       go : (b : Bool) → let e : TracedEvent = record event { message = Some (record { chain = l ∷ ls; core = c }) } in
           let n : Node = node_at at Up e in
           IfMade (VisitComes n
-          (behind_arrows f (if b then arrow_to 1 n Up event.kind (tags_for event.kind (layer_at stack (at + 1))) ∷
+          (after_arrows f (if b then arrow_to 1 n Up event.kind (tags_for event.kind (layer_at stack (at + 1))) ∷
           [] else []))
           (trace_joins m.operations))
           (if b then Ok (traced_on m Up e (Some (record { chain = ls; core = c }))) else Err (no_shape.rare (at - 1)))
@@ -183,7 +183,7 @@ module _ (stack : List LayerTree) (at : ℕ) (here : (1 ≤ at) × (at ≤ lengt
         MessageFits stack (arrival dir at) event.kind message →
         let e : TracedEvent = record event { message = message } in
         let met : TracedMet = traced_met dir message in
-        IfMade (VisitComes (node_at at dir e) (behind_arrows f (passing stack (node_at at dir e) dir))
+        IfMade (VisitComes (node_at at dir e) (after_arrows f (passing stack (node_at at dir e) dir))
         (trace_joins m.operations))
         (traced_unhandled (at - 1) m dir e met.tag met.message)
     passes Up event m None is fits = passed Up (record event { message = None }) Up m None _ tt
@@ -207,7 +207,7 @@ module _ (stack : List LayerTree) (at : ℕ) (here : (1 ≤ at) × (at ≤ lengt
         priced (step_sends (bound_of stack f (node_at at dir event))) steps ≤ total_in
         (bound_of stack f (node_at at dir event)) h.block →
         let n : Node = node_at at dir event in
-        IfMade (VisitComes n (behind_arrows f (map (emission_arrow stack n) (emissions_in 1 h.block)))
+        IfMade (VisitComes n (after_arrows f (map (emission_arrow stack n) (emissions_in 1 h.block)))
         (trace_joins m.operations + joins))
         (traced_way (layer_at stack at) (at - 1) m (Some steps) (traced_entered h event (traced_met dir event.message)))
     way_made case dir event m h steps joins fits orderly le sends =
@@ -218,7 +218,7 @@ module _ (stack : List LayerTree) (at : ℕ) (here : (1 ≤ at) × (at ≤ lengt
         record { names = entered_fits h dir event fits; each = tt; sent = omega arith; joined = omega arith } in
         from_made (Comes stack f n (0 + priced (step_sends (bound_of stack f n)) steps)
         (trace_joins m.operations + priced step_joins steps))
-        (VisitComes n (behind_arrows f (map (emission_arrow stack n) (emissions_in 1 h.block)))
+        (VisitComes n (after_arrows f (map (emission_arrow stack n) (emissions_in 1 h.block)))
         (trace_joins m.operations + joins))
         (λ y. Ok (record { made = y.made; sent = y.sent })) (trace_steps (layer_at stack at) (at - 1) steps start)
         (steps_come stack f n (layer_at stack at) steps start 0 (trace_joins m.operations) here orderly begun)
@@ -238,7 +238,7 @@ module _ (stack : List LayerTree) (at : ℕ) (here : (1 ≤ at) × (at ≤ lengt
         MessageFits stack (arrival dir at) event.kind event.message →
         AllByRecursion (OrderlyStep (layer_at stack at) (goes_down dir event.kind)) (ways case h.block) →
         let n : Node = node_at at dir event in
-        IfMade (VisitComes n (behind_arrows f (map (emission_arrow stack n) (emissions_in 1 h.block)))
+        IfMade (VisitComes n (after_arrows f (map (emission_arrow stack n) (emissions_in 1 h.block)))
         (trace_joins m.operations + (joins_expected x + joins_of h.block)))
         (traced_way (layer_at stack at) (at - 1) m (expected_way x (ways case h.block))
         (traced_entered h event (traced_met dir event.message)))
@@ -257,11 +257,11 @@ module _ (stack : List LayerTree) (at : ℕ) (here : (1 ≤ at) × (at ≤ lengt
         (goes_down h.direction h.kind ≡ goes_down dir event.kind)) →
         MessageFits stack (arrival dir at) event.kind event.message →
         let n : Node = node_at at dir event in
-        IfMade (VisitComes n (behind_arrows f (handler_arrows stack n o))
+        IfMade (VisitComes n (after_arrows f (handler_arrows stack n o))
         (trace_joins m.operations + option_map_or handler_joins o 0))
         (traced_handled case (layer_at stack at) (at - 1) m o dir event (traced_met dir event.message))
     handled case dir event m None is fits = more_made _
-        (VisitComes (node_at at dir event) (behind_arrows f (handler_arrows stack (node_at at dir event) None))
+        (VisitComes (node_at at dir event) (after_arrows f (handler_arrows stack (node_at at dir event) None))
         (trace_joins m.operations + 0)) _
         (passes dir event m event.message refl fits)
         (λ v h. record { each = h.each; sent = h.sent; joined = omega (arith, h.joined) })
@@ -275,13 +275,13 @@ module _ (stack : List LayerTree) (at : ℕ) (here : (1 ≤ at) × (at ≤ lengt
     pub visit_comes : (case : Case) (dir : Dir) (event : TracedEvent) (m : Made) → IsOrderly stack →
         MessageFits stack (arrival dir at) event.kind event.message →
         let n : Node = node_at at dir event in
-        IfMade (VisitComes n (behind_arrows f (handler_arrows stack n (entered_handler stack n)))
+        IfMade (VisitComes n (after_arrows f (handler_arrows stack n (entered_handler stack n)))
         (trace_joins m.operations + option_map_or handler_joins (entered_handler stack n) 0))
         (traced_visit case (layer_at stack at) (at - 1) m dir event)
     visit_comes case dir event m orderly fits =
         let n : Node = node_at at dir event in
         subst (λ tag. IfMade (VisitComes n
-        (behind_arrows f (handler_arrows stack n (handler_for (layer_at stack at) dir event.kind tag)))
+        (after_arrows f (handler_arrows stack n (handler_for (layer_at stack at) dir event.kind tag)))
         (trace_joins m.operations + option_map_or handler_joins (handler_for (layer_at stack at) dir event.kind tag) 0))
         (traced_visit case (layer_at stack at) (at - 1) m dir event))
         (met_tag dir event)

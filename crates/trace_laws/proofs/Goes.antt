@@ -10,7 +10,7 @@ use Rattle.trace_mean.specs.Trace.{take, output}
 use Rattle.trace_mean.specs.Follow.{Trail, Followed, on, stopped_at, goes_on, follows}
 use Rattle.trace_mean.specs.Fuse.{core_if_settled, notes_of}
 use Rattle.trace_laws.specs.Safe.{SafeFrom, SafeTrace}
-use Rattle.trace_laws.proofs.Later.{stays, behind}
+use Rattle.trace_laws.proofs.Later.{stays, following}
 use Rattle.trace_mean.specs.Worth.{Input, number_of}
 
 -- where following begins, over which stack
@@ -32,7 +32,7 @@ pub goes_more : (stack : List LayerTree) (i : Input) (os more : List Operation) 
     Goes stack i os f g → Goes stack i more g x →
     Goes stack i (os ++ more) f x
 goes_more stack i os more f g x a b = record {
-  leads = behind i os more f g a.leads ∙ b.leads;
+  leads = following i os more f g a.leads ∙ b.leads;
   safe = safe_append stack i os more f a.safe (subst (SafeTrace stack i more) (sym a.leads) b.safe);
 }
 

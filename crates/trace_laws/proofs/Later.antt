@@ -88,9 +88,9 @@ pub stays : (i : Input) (os : List Operation) (n : ℕ) → follows i os (stoppe
 stays i [] n = refl
 stays i (o ∷ os) n = stays i os n
 
-pub behind : (i : Input) (os more : List Operation) (f g : Followed) → follows i os f ≡ g →
+pub following : (i : Input) (os more : List Operation) (f g : Followed) → follows i os f ≡ g →
     follows i (os ++ more) f ≡ follows i more g
-behind i os more f g is = fold-append (goes_on i) f os more ∙ ap (λ x. fold (goes_on i) x more) is
+following i os more f g is = fold-append (goes_on i) f os more ∙ ap (λ x. fold (goes_on i) x more) is
 
 pub checked : (i : Input) (e : TraceNumber) (os : List Operation) (t : Trail) (b : Bool) →
     is_true (number_of i t.kept t.states e) ≡ b →

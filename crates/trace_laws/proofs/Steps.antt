@@ -49,7 +49,8 @@ use Rattle.trace_laws.proofs.Walks.{Walked, went, missed, decides_it, one_more}
 use Rattle.trace_laws.proofs.Worth.{Apart, together, told_apart, Split, scope_of, named_at, split_at, worded_at}
 use Rattle.trace_laws.proofs.Worth.{apart_of, together_is, Plain, apart_plain, known_apart, number_worth, message_worth}
 use Rattle.trace_laws.proofs.Later.{Begins, begins_self, Later, later_self, later_on, more_numbers, more_messages}
-use Rattle.trace_laws.proofs.Later.{more_rows, later_numbers, later_messages, later_rows, nth, stays, behind, checked}
+use Rattle.trace_laws.proofs.Later.{more_rows, later_numbers, later_messages, later_rows, nth, stays, following}
+use Rattle.trace_laws.proofs.Later.{checked}
 use Rattle.trace_laws.proofs.Later.{with_numbers, binds_follow, bounds_worth, with_notes, note_values, notes_follow}
 use Rattle.trace_laws.proofs.Later.{notes_count, core_worth}
 use Rattle.trace_mean.specs.Worth.{Input, Kept, atom_at, core_at, state_of, number_of, message_of, header_at}
@@ -60,7 +61,7 @@ abbrev pub Shown : Type 0
 Shown = Event × Option Apart
 
 abbrev pub chained_at : Input → Kept → Chained → Apart
-chained_at i k c = record { known = true; headers = map (header_at i k) c.chain; behind = core_at i k c.core }
+chained_at i k c = record { known = true; headers = map (header_at i k) c.chain; following = core_at i k c.core }
 
 abbrev pub shown_at : Input → Kept → TracedEvent → Shown
 shown_at i k e = (event_at i k e, option_map (chained_at i k) e.message)
@@ -173,20 +174,20 @@ slots_leave (k ∷ slots) (v ∷ values) l = slots_leave slots values _
 
 -- a row's message, apart
 abbrev row_apart : Carried → Row → Apart
-row_apart carried row = record { known = is_part carried; headers = []; behind = message_in carried (Some row) }
+row_apart carried row = record { known = is_part carried; headers = []; following = message_in carried (Some row) }
 
 abbrev fill_apart : Option (ℕ × Carried) → Row → List Apart → List Apart
 fill_apart None row xs = xs
 fill_apart (Some slot) row xs = slice_set xs slot.0 (row_apart slot.1 row)
 
-plain_set : (xs : List Apart) (k : ℕ) (x : Apart) → Plain xs → (x.known ≡ true → x.behind.headers ≡ []) →
+plain_set : (xs : List Apart) (k : ℕ) (x : Apart) → Plain xs → (x.known ≡ true → x.following.headers ≡ []) →
     Plain (slice_set xs k x)
 plain_set [] k x h one = tt
 plain_set (y ∷ xs) zero x h one = (one, h.1)
 plain_set (y ∷ xs) (suc k) x h one = (h.0, plain_set xs k x h.1 one)
 
 row_plain : (carried : Carried) (row : Row) → BareRow carried (Some row) → (row_apart carried row).known ≡ true →
-    (row_apart carried row).behind.headers ≡ []
+    (row_apart carried row).following.headers ≡ []
 row_plain part row bare known = bare
 row_plain (whole blank) row bare known = absurd (cc known)
 
@@ -233,7 +234,7 @@ fill_named i u r row found None ns xs same = same
 fill_named i u r row found (Some slot) ns xs same =
     map-set (named_at i u) ns slot.0 (taken_name r slot.1)
     ∙ (λ t. slice_set (same t) slot.0
-    (record { known = is_part slot.1; headers = []; behind = message_in slot.1 (found t) }))
+    (record { known = is_part slot.1; headers = []; following = message_in slot.1 (found t) }))
 
 -- whether there is a front row
 abbrev has_front : Option Row → Bool
@@ -336,9 +337,9 @@ module _ (i : Input) (f : Start) (base : List State) (layer : LayerTree) (p : �
     whole_here m = together_is m h.state split ∙ ap (mval m h.state) scope_here
 
     -- more operations
-    pub goes_behind : (os : List Operation) (g : Followed) → Goes f.stack i os (on t) g →
+    pub goes_after : (os : List Operation) (g : Followed) → Goes f.stack i os (on t) g →
         Goes f.stack i (y.made.operations ++ os) f.followed g
-    goes_behind os g h = goes_more f.stack i y.made.operations os f.followed (on t) g st.is_on h
+    goes_after os g h = goes_more f.stack i y.made.operations os f.followed (on t) g st.is_on h
 
     -- the state is another
     pub write_here : (s s' : State) → s ≡ s' → slice_set t.states p s ≡ slice_set base p s'
@@ -375,7 +376,7 @@ module _ (i : Input) (f : Start) (base : List State) (layer : LayerTree) (p : �
       checks = checks;
       outs = m.outs;
       stands = record {
-        is_on = goes_behind os (on t') m.goes;
+        is_on = goes_after os (on t') m.goes;
         states = m.states;
         of = m.of;
         binds = m.binds ∙ ap (λ x. x + b) st.binds;
@@ -411,7 +412,7 @@ module _ (i : Input) (f : Start) (base : List State) (layer : LayerTree) (p : �
       outs = refl;
     }) (t.checks + 1) refl
     check_came e false is =
-        goes_behind (check e ∷ []) (stopped_at t.checks) (record { leads = checked i e [] t false is; safe = (tt, tt) })
+        goes_after (check e ∷ []) (stopped_at t.checks) (record { leads = checked i e [] t false is; safe = (tt, tt) })
 
     true_came : (e : ExpressionTree) →
         StepClaim t (Ok (stepping y (check (traced_number p y.names e) ∷ []) 0 0 0 y.names)) true
@@ -563,29 +564,31 @@ module _ (i : Input) (f : Start) (base : List State) (layer : LayerTree) (p : �
 
     -- the message of a push or an emission, noted
     core_here : (u : Kept) (m : MessageTree) → Later t.kept u →
-        Begins (t.kept.messages ++ note_values (traced_message p y.names m).message (apart_of m h.state split).behind)
+        Begins (t.kept.messages ++
+        note_values (traced_message p y.names m).message (apart_of m h.state split).following)
         u.messages →
-        core_at i u (core_of y.made.notes (traced_message p y.names m).message) ≡ (apart_of m h.state split).behind
+        core_at i u (core_of y.made.notes (traced_message p y.names m).message) ≡ (apart_of m h.state split).following
     core_here u m later b = core_worth i u t.states (traced_message p y.names m).message
-        (apart_of m h.state split).behind t.kept.messages
-        y.made.notes st.notes b (ap (λ a. a.behind) (message_here u later m))
+        (apart_of m h.state split).following t.kept.messages
+        y.made.notes st.notes b (ap (λ a. a.following) (message_here u later m))
 
     noted_here : (m : MessageTree) (t2 : Trail) → t2.states ≡ t.states → Later t.kept t2.kept →
         follows i (notes_of (traced_message p y.names m).message) (on t2) ≡
-        on (with_notes t2 (note_values (traced_message p y.names m).message (apart_of m h.state split).behind))
+        on (with_notes t2 (note_values (traced_message p y.names m).message (apart_of m h.state split).following))
     noted_here m t2 same later = notes_follow i (traced_message p y.names m).message t2
-        (apart_of m h.state split).behind
+        (apart_of m h.state split).following
         (ap (λ ss. message_of i t2.kept ss (traced_message p y.names m).message) same ∙
-        ap (λ a. a.behind) (message_here t2.kept later m))
+        ap (λ a. a.following) (message_here t2.kept later m))
 
     content_here : (u : Kept) (m : MessageTree) → Later t.kept u →
-        Begins (t.kept.messages ++ note_values (traced_message p y.names m).message (apart_of m h.state split).behind)
+        Begins (t.kept.messages ++
+        note_values (traced_message p y.names m).message (apart_of m h.state split).following)
         u.messages →
         content_at i u (chained_of y.made.notes (traced_message p y.names m)) ≡ mval m h.state h.scope
     content_here u m later b = (λ r. together (record {
       known = true;
       headers = ap (λ a. a.headers) (message_here u later m) r;
-      behind = core_here u m later b r;
+      following = core_here u m later b r;
     })) ∙ whole_here m
 
     pushed_came : (c : ℕ) (e : ExpressionTree) (row : RowTree) (ms : List Content) (n : ℕ) (os : List Operation)
@@ -694,15 +697,15 @@ module _ (i : Input) (f : Start) (base : List State) (layer : LayerTree) (p : �
               })
           stored true has is (Some m) pushed =
               let x = traced_message p y.names m in
-              let ms : List Content = note_values x.message (apart_of m h.state split).behind in
+              let ms : List Content = note_values x.message (apart_of m h.state split).following in
               pushed_came c e (record row { message = Some m }) ms (notes_in x.message)
               (check room ∷ pushing p y.names c e row.numbers y.made.notes (Some x)) (Some (chained_of y.made.notes x))
-              (notes_count x.message (apart_of m h.state split).behind t.kept.messages (length t.kept.messages) refl)
+              (notes_count x.message (apart_of m h.state split).following t.kept.messages (length t.kept.messages) refl)
               (ap Some (content_here (more_messages t.kept ms) m (later_messages t.kept ms)
               (begins_self (t.kept.messages ++ ms))))
               (record {
                 leads = checked i room (pushing p y.names c e row.numbers y.made.notes (Some x)) t true is
-                    ∙ behind i (notes_of x.message)
+                    ∙ following i (notes_of x.message)
                     (trace.push p c (traced_number p y.names e) (map (traced_number p y.names) row.numbers)
                     (Some (chained_of y.made.notes x)) ∷ [])
                     (on t1) (on (with_notes t1 ms)) (noted_here m t1 refl (later_self t.kept));
@@ -724,7 +727,7 @@ module _ (i : Input) (f : Start) (base : List State) (layer : LayerTree) (p : �
                     )));
               })
           stored false has is m pushed =
-              goes_behind (check room ∷
+              goes_after (check room ∷
               pushing p y.names c e row.numbers y.made.notes (option_map (traced_message p y.names) m))
               (stopped_at t.checks)
               (missing room (pushing p y.names c e row.numbers y.made.notes (option_map (traced_message p y.names) m))
@@ -760,7 +763,7 @@ module _ (i : Input) (f : Start) (base : List State) (layer : LayerTree) (p : �
       go : (row : Option Row) → row_at h.state c (val e h.state h.scope) 0 ≡ row → BareTaken taken.message row ×
           HasItems (items_of (form_at layer c)) row →
           StepClaim t (trace_step layer p (get c e taken) y) true (took c (val e h.state h.scope) taken h row)
-      go None is fit = goes_behind (check check_row ∷ os) (stopped_at t.checks)
+      go None is fit = goes_after (check check_row ∷ os) (stopped_at t.checks)
           (missing check_row os (is_there None is))
       go (Some row) is fit =
           came (check check_row ∷ os) 0 0 1 (taken_names y.made.takes (items_of (form_at layer c)) taken y.names)
@@ -842,7 +845,7 @@ module _ (i : Input) (f : Start) (base : List State) (layer : LayerTree) (p : �
           checks = checks;
           outs = outs;
           stands = record {
-            is_on = goes_behind os (on t') goes;
+            is_on = goes_after os (on t') goes;
             states = states ∙ st.states;
             of = st.of;
             binds = long_numbers ∙ ap (λ x. x + b) st.binds;
@@ -883,7 +886,7 @@ module _ (i : Input) (f : Start) (base : List State) (layer : LayerTree) (p : �
       with_one c bare known = sent_came e _ (length (e.numbers ++ c.fields)) (notes_in x.message) _ t'
           (Some (content_of c))
           (record {
-            leads = behind i (binding p y.names (e.numbers ++ c.fields)) (notes_of x.message) (on t) (on t2)
+            leads = following i (binding p y.names (e.numbers ++ c.fields)) (notes_of x.message) (on t) (on t2)
                 (binds_follow i (traced_number p y.names) worth (e.numbers ++ c.fields) t
                 (λ u later x. number_here u later x))
                 ∙ noted_here c.message t2 refl first;
@@ -893,7 +896,7 @@ module _ (i : Input) (f : Start) (base : List State) (layer : LayerTree) (p : �
           })
           reached refl refl refl
           (long_append worth t.kept.numbers (e.numbers ++ c.fields) (length t.kept.numbers) refl)
-          (notes_count x.message a.behind t.kept.messages (length t.kept.messages) refl)
+          (notes_count x.message a.following t.kept.messages (length t.kept.messages) refl)
           refl
           (λ u later. bounds_worth i u worth e.numbers t.kept.numbers y.made.binds st.binds
           (begins_front worth t.kept.numbers e.numbers c.fields u.numbers later.numbers))
@@ -908,16 +911,16 @@ module _ (i : Input) (f : Start) (base : List State) (layer : LayerTree) (p : �
             t2 = with_numbers t (map worth (e.numbers ++ c.fields))
 
             t' : Trail
-            t' = with_notes t2 (note_values x.message a.behind)
+            t' = with_notes t2 (note_values x.message a.following)
 
             first : Later t.kept t2.kept
             first = later_numbers t.kept (map worth (e.numbers ++ c.fields))
 
             reached : Later t.kept t'.kept
-            reached = later_on t.kept t2.kept t'.kept first (later_messages t2.kept (note_values x.message a.behind))
+            reached = later_on t.kept t2.kept t'.kept first (later_messages t2.kept (note_values x.message a.following))
 
-            none_behind : a.behind.headers ≡ []
-            none_behind = apart_plain c.message h.state split st.plain
+            none_after : a.following.headers ≡ []
+            none_after = apart_plain c.message h.state split st.plain
                 (subst (BareMessage c.message h.state) (sym scope_here) bare)
                 (ap (λ z. z.known) (sym (message_here t.kept (later_self t.kept) c.message)) ∙ known)
 
@@ -925,7 +928,7 @@ module _ (i : Input) (f : Start) (base : List State) (layer : LayerTree) (p : �
                 ◌≡◌ {A = Apart} (record {
                   known = true;
                   headers = map (header_at i u) x.chain;
-                  behind =
+                  following =
                       core_at i u (core_of y.made.notes x.message);
                 })
                 (told_apart (mval c.message h.state h.scope))
@@ -934,8 +937,8 @@ module _ (i : Input) (f : Start) (base : List State) (layer : LayerTree) (p : �
                 (λ r. record {
                   known = true;
                   headers = ap (λ z. z.headers) (message_here u further c.message) r;
-                  behind = core_here u c.message further later.messages r;
-                }) ∙ known_apart a.headers a.behind none_behind ∙ ap told_apart (whole_here c.message)
+                  following = core_here u c.message further later.messages r;
+                }) ∙ known_apart a.headers a.following none_after ∙ ap told_apart (whole_here c.message)
 
             fields : (u : Kept) → Later t'.kept u →
                 map (atom_at i u) (bounds (y.made.binds + length e.numbers) c.fields) ≡ map worth c.fields
@@ -953,7 +956,7 @@ module _ (i : Input) (f : Start) (base : List State) (layer : LayerTree) (p : �
             fronted u later Down = λ r. record {
               known = true;
               headers = record { layer = p; tag = c.tag; fields = fields u later r } ∷ (told u later r).headers;
-              behind = (told u later r).behind;
+              following = (told u later r).following;
             }
 
       look : (c : ContentTree) → BareMessage c.message h.state h.scope → (b : Bool) →

@@ -16,7 +16,7 @@ use Rattle.layer_mean.specs.Event.{carries, event_of, arguments}
 use Rattle.layer_mean.specs.Tree.{HandlerTree, LayerTree}
 use Rattle.layer_mean.specs.State.{State}
 use Rattle.layer_mean.specs.Effect.{unusual, Outcome, in_order, acts}
-use Rattle.layer_mean.specs.Visit.{Met, behind, met, handler_for, with_room, entered_scope, none_header, Visited}
+use Rattle.layer_mean.specs.Visit.{Met, following, met, handler_for, with_room, entered_scope, none_header, Visited}
 use Rattle.layer_mean.specs.Visit.{sent_on}
 use Rattle.layer_mean.specs.Visit.{unhandled_visit, expecting, handled_visit, step, no_state}
 use Rattle.layer_mean.specs.Way.{Step, handler_way}
@@ -119,24 +119,24 @@ record MetSame (i : Input) (u : Kept) (d : TracedMet) (m : Met) : Type 0 where
 
 popped_same : (i : Input) (u : Kept) (c : Core) (chain : List Link) (bytes : List ℕ) → core_at i u c ≡ plain bytes →
     let m : Content = record { headers = map (header_at i u) chain; body = bytes } in
-    MetSame i u (popped_chain c chain) (behind (first_of m.headers) (popped m))
+    MetSame i u (popped_chain c chain) (following (first_of m.headers) (popped m))
 popped_same i u c [] bytes same = record {
   tag = refl;
   fields = refl;
-  message = λ r. Some (record { known = true; headers = []; behind = same r });
+  message = λ r. Some (record { known = true; headers = []; following = same r });
 }
 popped_same i u c (l ∷ ls) bytes same = record {
   tag = refl;
   fields = refl;
-  message = λ r. Some (record { known = true; headers = map (header_at i u) ls; behind = same r });
+  message = λ r. Some (record { known = true; headers = map (header_at i u) ls; following = same r });
 }
 
 met_one : (i : Input) (u : Kept) (dir : Dir) (c : Chained) (m : Content) → chained_at i u c ≡ told_apart m →
     MetSame i u (traced_met dir (Some c)) (met dir (Some m))
 met_one i u Up c m same =
-    subst (λ (n : Content). MetSame i u (popped_chain c.core c.chain) (behind (first_of n.headers) (popped n)))
+    subst (λ (n : Content). MetSame i u (popped_chain c.core c.chain) (following (first_of n.headers) (popped n)))
     (λ r. record { headers = (same r).headers; body = m.body })
-    (popped_same i u c.core c.chain m.body (ap (λ a. a.behind) same))
+    (popped_same i u c.core c.chain m.body (ap (λ a. a.following) same))
 met_one i u Down c m same = record { tag = refl; fields = refl; message = ap Some same }
 
 met_same : (i : Input) (u : Kept) (dir : Dir) (c : Option Chained) (m : Option Content) →

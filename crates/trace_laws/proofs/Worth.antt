@@ -21,17 +21,17 @@ use Rattle.trace_mean.specs.Worth.{Input, Kept, atom_at, core_at, state_of, numb
 pub record Apart : Type 0 where
   pub known : Bool
   pub headers : List Header
-  pub behind : Content
+  pub following : Content
 
 abbrev pub together : Apart → Content
-together a = record { headers = a.headers ++ a.behind.headers; body = a.behind.body }
+together a = record { headers = a.headers ++ a.following.headers; body = a.following.body }
 
 -- a message that is known: all its headers in front
 abbrev pub told_apart : Content → Apart
-told_apart m = record { known = true; headers = m.headers; behind = plain m.body }
+told_apart m = record { known = true; headers = m.headers; following = plain m.body }
 
 abbrev pub no_apart : Apart
-no_apart = record { known = true; headers = []; behind = plain [] }
+no_apart = record { known = true; headers = []; following = plain [] }
 
 -- a scope whose messages are apart
 pub record Split : Type 0 where
@@ -45,7 +45,7 @@ abbrev pub named_at : Input → Kept → Named → Apart
 named_at i k x = record {
   known = x.known;
   headers = map (header_at i k) x.message.chain;
-  behind =
+  following =
       core_at i k x.message.core;
 }
 
@@ -56,7 +56,7 @@ abbrev pub worded_at : Input → Kept → List State → Worded → Apart
 worded_at i k ss x = record {
   known = x.known;
   headers = map (header_at i k) x.chain;
-  behind =
+  following =
       message_of i k ss x.message;
 }
 
@@ -67,17 +67,17 @@ apart_of tree.nothing s l = no_apart
 apart_of (tree.held c e row carried) s l = record {
   known = is_part carried;
   headers = [];
-  behind = message_in carried (row_at s c (val e s (scope_of l)) (val row s (scope_of l)));
+  following = message_in carried (row_at s c (val e s (scope_of l)) (val row s (scope_of l)));
 }
 apart_of (tree.cut m from n) s l = record {
   known = true;
   headers = [];
-  behind = parts.cut (apart_of m s l).behind (val from s (scope_of l)) (val n s (scope_of l));
+  following = parts.cut (apart_of m s l).following (val from s (scope_of l)) (val n s (scope_of l));
 }
 apart_of (tree.tail m from) s l =
-    let x = apart_of m s l in record x { behind = parts.tail x.behind (val from s (scope_of l)) }
+    let x = apart_of m s l in record x { following = parts.tail x.following (val from s (scope_of l)) }
 apart_of (tree.join q m) s l =
-    let x = apart_of m s l in record x { behind = parts.join (apart_of q s l).behind x.behind }
+    let x = apart_of m s l in record x { following = parts.join (apart_of q s l).following x.following }
 
 abbrev fronted : List Header → Content → Content
 fronted headers m = record { headers = headers ++ m.headers; body = m.body }
@@ -101,22 +101,22 @@ pub together_is : (m : MessageTree) (s : State) (l : Split) → together (apart_
 together_is (tree.message k) s l = sym (get_or-map together l.messages k no_apart)
 together_is tree.nothing s l = refl
 together_is (tree.held c e row carried) s l = refl
-together_is (tree.cut m from n) s l = cut_bodies (apart_of m s l).behind (mval m s (scope_of l)) _ _
+together_is (tree.cut m from n) s l = cut_bodies (apart_of m s l).following (mval m s (scope_of l)) _ _
     (ap (λ x. x.body) (together_is m s l))
 together_is (tree.tail m from) s l = ap (λ x. parts.tail x (val from s (scope_of l))) (together_is m s l)
 together_is (tree.join q m) s l =
-    join_apart (apart_of q s l).behind (apart_of m s l).headers (apart_of m s l).behind
-    ∙ join_bodies (apart_of q s l).behind (mval q s (scope_of l)) (together (apart_of m s l))
+    join_apart (apart_of q s l).following (apart_of m s l).headers (apart_of m s l).following
+    ∙ join_bodies (apart_of q s l).following (mval q s (scope_of l)) (together (apart_of m s l))
     (ap (λ x. x.body) (together_is q s l))
     ∙ ap (parts.join (mval q s (scope_of l))) (together_is m s l)
 
 -- what is known has no headers after those in front
 abbrev pub Plain : List Apart → Type 0
 Plain [] = Unit {0}
-Plain (x ∷ xs) = (x.known ≡ true → x.behind.headers ≡ []) × Plain xs
+Plain (x ∷ xs) = (x.known ≡ true → x.following.headers ≡ []) × Plain xs
 
 plain_at : (xs : List Apart) (k : ℕ) → Plain xs → (slice_index_or xs k no_apart).known ≡ true →
-    (slice_index_or xs k no_apart).behind.headers ≡ []
+    (slice_index_or xs k no_apart).following.headers ≡ []
 plain_at [] k h known = refl
 plain_at (x ∷ xs) zero h known = h.0 known
 plain_at (x ∷ xs) (suc k) h known = plain_at xs k h.1 known
@@ -128,7 +128,7 @@ join_headers p m = go (nat_le (length p.body + length m.body) 8192) where
   go false = refl
 
 pub apart_plain : (m : MessageTree) (s : State) (l : Split) → Plain l.messages → BareMessage m s (scope_of l) →
-    (apart_of m s l).known ≡ true → (apart_of m s l).behind.headers ≡ []
+    (apart_of m s l).known ≡ true → (apart_of m s l).following.headers ≡ []
 apart_plain (tree.message k) s l plain bare known = plain_at l.messages k plain known
 apart_plain tree.nothing s l plain bare known = refl
 apart_plain (tree.held c e row part) s l plain bare known = bare
@@ -136,15 +136,16 @@ apart_plain (tree.held c e row (whole blank)) s l plain bare known = absurd (cc 
 apart_plain (tree.cut m from n) s l plain bare known = refl
 apart_plain (tree.tail m from) s l plain bare known = apart_plain m s l plain bare known
 apart_plain (tree.join q m) s l plain bare known =
-    join_headers (apart_of q s l).behind (apart_of m s l).behind ∙ apart_plain m s l plain bare known
+    join_headers (apart_of q s l).following (apart_of m s l).following ∙ apart_plain m s l plain bare known
 
 -- a known message is told apart
-pub known_apart : (headers : List Header) (behind : Content) → behind.headers ≡ [] →
-    ◌≡◌ {A = Apart} (record { known = true; headers = headers; behind = behind })
-    (told_apart (record { headers = headers ++ behind.headers; body = behind.body }))
-known_apart headers behind none =
-    let longer : headers ≡ headers ++ behind.headers = sym (append-nil headers) ∙ ap (λ hs. headers ++ hs) (sym none) in
-    λ t. record { known = true; headers = longer t; behind = record { headers = none t; body = behind.body } }
+pub known_apart : (headers : List Header) (following : Content) → following.headers ≡ [] →
+    ◌≡◌ {A = Apart} (record { known = true; headers = headers; following = following })
+    (told_apart (record { headers = headers ++ following.headers; body = following.body }))
+known_apart headers following none =
+    let longer : headers ≡ headers ++ following.headers = sym (append-nil headers) ∙
+    ap (λ hs. headers ++ hs) (sym none) in
+    λ t. record { known = true; headers = longer t; following = record { headers = none t; body = following.body } }
 
 module _ (i : Input) (k : Kept) (ss : List State) (p : ℕ) (l : Names) (of : IsOf i (state_of ss p)) where
   abbrev pub s : State
@@ -165,7 +166,7 @@ module _ (i : Input) (k : Kept) (ss : List State) (p : ℕ) (l : Names) (of : Is
         number_at s c (flat_index (sym of.count t) (number_worth row t) (number_worth column t))
     number_worth (tree.rows c e) = ap (λ n. length (rows_at s c n)) (number_worth e)
     number_worth (tree.item c e row n) = λ t. number_in n (row_at s c (number_worth e t) (number_worth row t))
-    number_worth (tree.size m) = ap (λ x. length x.behind.body) (message_worth m) ∙
+    number_worth (tree.size m) = ap (λ x. length x.following.body) (message_worth m) ∙
         ap (λ x. length x.body) (together_is m s v)
     number_worth (tree.binary operator a b) = λ t. applied operator (number_worth a t) (number_worth b t)
     number_worth (tree.apply function a) = ap (function_of function) (number_worth a)
@@ -177,14 +178,15 @@ module _ (i : Input) (k : Kept) (ss : List State) (p : ℕ) (l : Names) (of : Is
     message_worth (tree.held c e row carried) = λ t. record {
       known = is_part carried;
       headers = [];
-      behind = message_in carried (row_at s c (number_worth e t) (number_worth row t));
+      following = message_in carried (row_at s c (number_worth e t) (number_worth row t));
     }
     message_worth (tree.cut m from n) = λ t. record {
       known = true;
       headers = [];
-      behind = parts.cut (message_worth m t).behind (number_worth from t) (number_worth n t);
+      following = parts.cut (message_worth m t).following (number_worth from t) (number_worth n t);
     }
     message_worth (tree.tail m from) = λ t.
-        record (message_worth m t) { behind = parts.tail (message_worth m t).behind (number_worth from t) }
+        record (message_worth m t) { following = parts.tail (message_worth m t).following (number_worth from t) }
     message_worth (tree.join q m) = λ t.
-        record (message_worth m t) { behind = parts.join (message_worth q t).behind (message_worth m t).behind }
+        record (message_worth m t)
+        { following = parts.join (message_worth q t).following (message_worth m t).following }

@@ -44,7 +44,7 @@ fn chain_after(
     place: u32,
     most: u32,
 ) -> Result<u32, LineError>
-    ensures { ReadsChain (operation.links_behind (layers_in scope.now) (named_in scope.now) place most
+    ensures { ReadsChain (operation.links_after (layers_in scope.now) (named_in scope.now) place most
         (left text.old)) links.old links.new (left text.new) result }
 {
     if most == 0 {

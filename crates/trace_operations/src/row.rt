@@ -92,8 +92,8 @@ pub(crate) fn row_numbers(
 }
 
 /// The comma after the numbers of a row, where there are some.
-fn comma_behind(text: &mut Text<'_>, names: &[Word]) -> Result<(), LineError>
-    ensures { Takes (operation.comma_behind names.now (left text.old)) result (left text.new) }
+fn comma_after(text: &mut Text<'_>, names: &[Word]) -> Result<(), LineError>
+    ensures { Takes (operation.comma_after names.now (left text.old)) result (left text.new) }
 {
     if names.is_empty() {
         return Ok(());
@@ -116,7 +116,7 @@ fn some_message(
     match items.message {
         None => Ok(None),
         Some(_) => {
-            comma_behind(text, items.numbers.as_slice())?;
+            comma_after(text, items.numbers.as_slice())?;
             let message = chained(text, scope, links, place)?;
             Ok(Some(message))
         }

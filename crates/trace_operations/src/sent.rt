@@ -102,7 +102,7 @@ pub(crate) fn sent_message(
     links: &mut Links,
     message: Option<Core>,
 ) -> Result<Option<Chained>, LineError>
-    ensures { ReadsMessage (operation.chained_behind (layers_in scope.now) (named_in scope.now)
+    ensures { ReadsMessage (operation.chained_after (layers_in scope.now) (named_in scope.now)
         (option_map core_tree message) (left text.old)) links.old links.new (left text.new) result }
 {
     match message {

@@ -93,14 +93,14 @@ chain_worth i u place (layer ∷ above) [] atoms chain same = absurd chain
 chain_worth i u place (layer ∷ above) (h ∷ hs) atoms chain same =
     there (header_of_tag layer h.tag) _ chain (λ d listed is. one d listed is
     (λ inner. chain_worth i u (suc place) above hs (drop (fuse.fields_of layer h.tag) atoms) inner
-    (behind d listed is.1))) where
+    (following d listed is.1))) where
       many : (d : HeaderTree) → header_of_tag layer h.tag ≡ Some d → length h.fields ≡ d.fields →
           length h.fields ≡ fuse.fields_of layer h.tag
       many d listed long = long ∙ ap (λ o. option_map_or (λ (x : HeaderTree). x.fields) o 0) (sym listed)
 
-      behind : (d : HeaderTree) → header_of_tag layer h.tag ≡ Some d → length h.fields ≡ d.fields →
+      following : (d : HeaderTree) → header_of_tag layer h.tag ≡ Some d → length h.fields ≡ d.fields →
           map (atom_at i u) (drop (fuse.fields_of layer h.tag) atoms) ≡ flat_map (λ h. h.fields) hs
-      behind d listed long = map_drop (atom_at i u) (fuse.fields_of layer h.tag) atoms ∙
+      following d listed long = map_drop (atom_at i u) (fuse.fields_of layer h.tag) atoms ∙
           ap (drop (fuse.fields_of layer h.tag)) same
           ∙ drop_first h.fields (flat_map (λ h. h.fields) hs) (fuse.fields_of layer h.tag) (many d listed long)
 

@@ -29,34 +29,34 @@ pub front_equal : (wanted text : List ℕ) → bytes_eq wanted (take (length wan
 front_equal wanted text = swap wanted (take (length wanted) text)
 
 -- what is after a text that stands at the front
-abbrev rest_behind : List ℕ → List ℕ → Option (List ℕ)
-rest_behind [] text = Some text
-rest_behind (x ∷ wanted) [] = None
-rest_behind (x ∷ wanted) (y ∷ text) = if nat_eq y x then rest_behind wanted text else None
+abbrev rest_after : List ℕ → List ℕ → Option (List ℕ)
+rest_after [] text = Some text
+rest_after (x ∷ wanted) [] = None
+rest_after (x ∷ wanted) (y ∷ text) = if nat_eq y x then rest_after wanted text else None
 
 abbrev with_unit : Option (List ℕ) → Option (Unit {0} × List ℕ)
 with_unit o = option_map (λ rest. (tt, rest)) o
 
-rest_is : (wanted text : List ℕ) → the_text wanted text ≡ with_unit (rest_behind wanted text)
+rest_is : (wanted text : List ℕ) → the_text wanted text ≡ with_unit (rest_after wanted text)
 rest_is [] text = refl
 rest_is (x ∷ wanted) [] = refl
 rest_is (x ∷ wanted) (y ∷ text) = go (nat_eq y x) (rest_is wanted text) where
-  go : (b : Bool) → the_text wanted text ≡ with_unit (rest_behind wanted text) →
+  go : (b : Bool) → the_text wanted text ≡ with_unit (rest_after wanted text) →
       (if b && bytes_eq (take (length wanted) text) wanted then Some (tt, drop (length wanted) text) else None)
-      ≡ with_unit (if b then rest_behind wanted text else None)
+      ≡ with_unit (if b then rest_after wanted text else None)
   go true e = e
   go false e = refl
 
 abbrev onward : Option (List ℕ) → List ℕ → Option (List ℕ)
 onward None wanted = None
-onward (Some text) wanted = rest_behind wanted text
+onward (Some text) wanted = rest_after wanted text
 
-rest_both : (a b text : List ℕ) → rest_behind (a ++ b) text ≡ onward (rest_behind a text) b
+rest_both : (a b text : List ℕ) → rest_after (a ++ b) text ≡ onward (rest_after a text) b
 rest_both [] b text = refl
 rest_both (x ∷ a) b [] = refl
 rest_both (x ∷ a) b (y ∷ text) = go (nat_eq y x) (rest_both a b text) where
-  go : (c : Bool) → rest_behind (a ++ b) text ≡ onward (rest_behind a text) b →
-      (if c then rest_behind (a ++ b) text else None) ≡ onward (if c then rest_behind a text else None) b
+  go : (c : Bool) → rest_after (a ++ b) text ≡ onward (rest_after a text) b →
+      (if c then rest_after (a ++ b) text else None) ≡ onward (if c then rest_after a text else None) b
   go true e = e
   go false e = refl
 
@@ -67,7 +67,7 @@ then_text b taken = option_and_then (λ (t : Unit {0} × List ℕ). the_text b t
 -- two texts, one after the other
 pub text_both : (a b text : List ℕ) → the_text (a ++ b) text ≡ (the_text a >>= λ _. the_text b) text
 text_both a b text = rest_is (a ++ b) text ∙
-    (ap with_unit (rest_both a b text) ∙ go (rest_behind a text) (rest_is a text)) where
+    (ap with_unit (rest_both a b text) ∙ go (rest_after a text) (rest_is a text)) where
       go : (o : Option (List ℕ)) → the_text a text ≡ with_unit o →
           with_unit (onward o b) ≡ (the_text a >>= λ _. the_text b) text
       go None e = ap (then_text b) (sym e)

@@ -68,9 +68,9 @@ next_if : (b : Bool) (k : ℕ) → (if b then Some (k + 1) else None) ≡ next (
 next_if true k = refl
 next_if false k = refl
 
-behind_first : {X : Type 0} (p : X → Bool) (x : X) (xs : List X) → p x ≡ false →
+after_first : {X : Type 0} (p : X → Bool) (x : X) (xs : List X) → p x ≡ false →
     position p (x ∷ xs) ≡ next (position p xs)
-behind_first p x xs fails =
+after_first p x xs fails =
     ap (λ b. let k = if not b then 1 + position_or_len p xs else 0 in
     if nat_lt k (suc (length xs)) then Some k else None) fails
     ∙ later_place (position_or_len p xs) (length xs) (nat_lt (position_or_len p xs) (length xs)) refl
@@ -80,26 +80,26 @@ pub none_first : (word : List ℕ) (headers : List HeaderForm) → bytes_eq word
     Some 0 ≡ place_of word (map (λ h. h.name) (header_none ∷ map header_tree headers))
 none_first word headers is = first (bytes_eq word) (codes "none") (map (λ h. h.name) (map header_tree headers)) is
 
-pub header_behind : (word : List ℕ) (headers : List HeaderForm) (k : ℕ) → bytes_eq word (codes "none") ≡ false →
+pub header_after : (word : List ℕ) (headers : List HeaderForm) (k : ℕ) → bytes_eq word (codes "none") ≡ false →
     Some k ≡ position (λ (h : HeaderForm). bytes_eq word h.name) headers →
     Some (k + 1) ≡ place_of word (map (λ h. h.name) (header_none ∷ map header_tree headers))
-header_behind word headers k other is = ap next (is ∙ header_found word headers)
-    ∙ sym (behind_first (bytes_eq word) (codes "none") (map (λ h. h.name) (map header_tree headers)) other)
+header_after word headers k other is = ap next (is ∙ header_found word headers)
+    ∙ sym (after_first (bytes_eq word) (codes "none") (map (λ h. h.name) (map header_tree headers)) other)
 
 pub no_header : (word : List ℕ) (headers : List HeaderForm) → bytes_eq word (codes "none") ≡ false →
     None ≡ position (λ (h : HeaderForm). bytes_eq word h.name) headers →
     None ≡ place_of word (map (λ h. h.name) (header_none ∷ map header_tree headers))
 no_header word headers other is = ap next (is ∙ header_found word headers)
-    ∙ sym (behind_first (bytes_eq word) (codes "none") (map (λ h. h.name) (map header_tree headers)) other)
+    ∙ sym (after_first (bytes_eq word) (codes "none") (map (λ h. h.name) (map header_tree headers)) other)
 
 -- a declared header stands after `none`
 later_get : {X : Type 0} (x : X) (xs : List X) (k : ℕ) → 0 < k → slice_get (x ∷ xs) k ≡ slice_get xs (k - 1)
 later_get x xs zero lt = absurd (omega (arith, lt))
 later_get x xs (suc k) lt = let same : k ≡ suc k - 1 = omega arith in ap (slice_get xs) same
 
-pub fields_behind : (layer : LayerTree) (tag number count : ℕ) → 0 < tag → number ≡ tag - 1 →
+pub fields_after : (layer : LayerTree) (tag number count : ℕ) → 0 < tag → number ≡ tag - 1 →
     count ≡ option_map_or (λ h. h.fields) (slice_get layer.headers number) 0 → count ≡ fields_of layer tag
-fields_behind layer tag number count lt is found =
+fields_after layer tag number count lt is found =
     found ∙ ap (λ h. option_map_or (λ h. h.fields) h 0)
     (ap (slice_get layer.headers) is ∙ sym (later_get header_none layer.headers tag lt))
 

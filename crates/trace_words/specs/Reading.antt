@@ -10,9 +10,9 @@ left text = text.rest.now
 
 -- What a reader took from the front, and the bytes after it.
 abbrev pub Takes : {A : Type 0} → Option (A × List ℕ) → Result A LineError → List ℕ → Type 0
-Takes taken (Ok value) behind = taken ≡ Some (value, behind)
-Takes taken (Err Form) behind = taken ≡ None
-Takes taken (Err Memory) behind = ⊥
+Takes taken (Ok value) following = taken ≡ Some (value, following)
+Takes taken (Err Form) following = taken ≡ None
+Takes taken (Err Memory) following = ⊥
 
 -- A text that doesn't begin with a byte.
 abbrev pub StartsOther : ℕ → List ℕ → Type 0

@@ -278,7 +278,7 @@ fn declared_fields(layer: Option<&TypedLayer>, number: usize) -> u8
 }
 
 /// How many fields a header of a layer has.
-#[tactic(auto, using(crate::proofs::Places::fields_behind))]
+#[tactic(auto, using(crate::proofs::Places::fields_after))]
 pub fn fields_of(layer: Option<&TypedLayer>, tag: u8) -> u8
     ensures { result ≡ fuse.fields_of (layer_shown layer.entry) tag }
 {

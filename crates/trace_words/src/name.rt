@@ -21,19 +21,19 @@ impl<'a> Name<'a> {
     pub(crate) fn of(text: &'a [u8]) -> Name<'a>
         ensures { words_in result ≡ slice_split (λ byte. byte == 46) text.now }
     {
-        let (first, behind) = cut(b'.', text);
-        let Some(behind) = behind else {
+        let (first, following) = cut(b'.', text);
+        let Some(following) = following else {
             return Name::One(first);
         };
-        let (second, behind) = cut(b'.', behind);
-        let Some(behind) = behind else {
+        let (second, following) = cut(b'.', following);
+        let Some(following) = following else {
             return Name::Two(first, second);
         };
-        let (third, behind) = cut(b'.', behind);
-        let Some(behind) = behind else {
+        let (third, following) = cut(b'.', following);
+        let Some(following) = following else {
             return Name::Three(first, second, third);
         };
-        let (fourth, behind) = cut(b'.', behind);
-        Name::More(first, second, third, fourth, behind)
+        let (fourth, following) = cut(b'.', following);
+        Name::More(first, second, third, fourth, following)
     }
 }

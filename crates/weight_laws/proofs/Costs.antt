@@ -16,9 +16,9 @@ use Rattle.stack_mean.specs.Graph.{first_on_cycle}
 use Rattle.stack_mean.specs.Acceptance.{largest, cost_in, cost}
 use Rattle.weight_laws.specs.Nodes.{IsNode}
 use Rattle.weight_laws.specs.Orderly.{IsOrderly}
-use Rattle.weight_laws.specs.Costs.{behind_arrows, CostsFollowArrows}
+use Rattle.weight_laws.specs.Costs.{after_arrows, CostsFollowArrows}
 use Rattle.weight_laws.proofs.Members.{In, in_left, in_right}
-use Rattle.weight_laws.proofs.Reach.{unknown_by, reached_by, behind, rank, rank_falls, rank_below}
+use Rattle.weight_laws.proofs.Reach.{unknown_by, reached_by, reachable, rank, rank_falls, rank_below}
 use Rattle.weight_laws.proofs.Nodes.{listed, next_node}
 
 -- the test of nodes tells equal ones
@@ -71,26 +71,26 @@ same_map : (f g : Node → ℕ) (ts : List Node) → ((t : Node) → In t ts →
 same_map f g [] h = refl
 same_map f g (t ∷ ts) h = λ i. h t (inl refl) i ∷ same_map f g ts (λ x m. h x (inr m)) i
 
-same_behind : (f g : Node → ℕ) (arrs : List Arrow) →
+same_after : (f g : Node → ℕ) (arrs : List Arrow) →
     ((t : Node) → In t (flat_map (λ arrow. arrow.targets) arrs) → f t ≡ g t) →
-    behind_arrows f arrs ≡ behind_arrows g arrs
-same_behind f g [] h = refl
-same_behind f g (a ∷ arrs) h =
+    after_arrows f arrs ≡ after_arrows g arrs
+same_after f g [] h = refl
+same_after f g (a ∷ arrs) h =
     sum_by-cons (λ arrow. arrow.times * largest (map f arrow.targets)) a arrs
     ∙ (λ i. a.times * largest (same_map f g a.targets (λ t m. h t (in_left t a.targets _ m)) i)
-    + same_behind f g arrs (λ t m. h t (in_right t a.targets _ m)) i)
+    + same_after f g arrs (λ t m. h t (in_right t a.targets _ m)) i)
     ∙ sym (sum_by-cons (λ arrow. arrow.times * largest (map g arrow.targets)) a arrs)
 
 -- a node is on a cycle where it is after itself
 pub cycle_is : (stack : List LayerTree) (n : Node) →
-    is_on_cycle stack n ≡ list_any (same_node n) (behind same_node (following stack) (nodes stack) n)
+    is_on_cycle stack n ≡ list_any (same_node n) (reachable same_node (following stack) (nodes stack) n)
 cycle_is stack n = ap (list_any (same_node n))
     (ap (reached_nodes (length (nodes stack)) stack []) (unknown_is [] (following stack n))
     ∙ reached_is stack (length (nodes stack)) [] (unknown_by same_node [] (following stack n)))
 
 module _ (stack : List LayerTree) (orderly : IsOrderly stack) (off : first_on_cycle stack ≡ None) where
   pub cycle_free : (n : Node) → IsNode stack n →
-      list_any (same_node n) (behind same_node (following stack) (nodes stack) n) ≡ false
+      list_any (same_node n) (reachable same_node (following stack) (nodes stack) n) ≡ false
   cycle_free n is = sym (cycle_is stack n) ∙ none_found (is_on_cycle stack) (nodes stack) n off (listed stack n is)
 
   -- the number of steps changes nothing once it is above the rank
@@ -98,7 +98,7 @@ module _ (stack : List LayerTree) (orderly : IsOrderly stack) (off : first_on_cy
       cost_in k stack own n ≡ cost_in (suc k) stack own n
   steady own zero n is less = absurd (omega arith)
   steady own (suc k) n is less =
-      ap (λ s. own n + s) (same_behind (cost_in k stack own) (cost_in (suc k) stack own) (arrows stack n)
+      ap (λ s. own n + s) (same_after (cost_in k stack own) (cost_in (suc k) stack own) (arrows stack n)
       (λ t m.
       let next = next_node stack orderly n t is m in
       let falls = rank_falls same_node sound itself (following stack) (nodes stack) (IsNode stack) (listed stack)
@@ -106,7 +106,7 @@ module _ (stack : List LayerTree) (orderly : IsOrderly stack) (off : first_on_cy
       steady own k t next (omega arith)))
 
   pub follows : (own : Node → ℕ) (n : Node) → IsNode stack n →
-      cost stack own n ≡ own n + behind_arrows (cost stack own) (arrows stack n)
+      cost stack own n ≡ own n + after_arrows (cost stack own) (arrows stack n)
   follows own n is = steady own (length (nodes stack)) n is
       (rank_below same_node sound itself (following stack) (nodes stack) (IsNode stack) (listed stack)
       (next_node stack orderly) n is (cycle_free n is))

@@ -20,11 +20,11 @@ reached_by same follow (suc steps) known (x ∷ xs) = let all = known ++ x ∷ x
     reached_by same follow steps all (unknown_by same all (flat_map follow (x ∷ xs)))
 
 -- what follows from a node, and how many of all nodes that are
-abbrev pub behind : {A : Type 0} → (A → A → Bool) → (A → List A) → List A → A → List A
-behind same follow all n = reached_by same follow (length all) [] (unknown_by same [] (follow n))
+abbrev pub reachable : {A : Type 0} → (A → A → Bool) → (A → List A) → List A → A → List A
+reachable same follow all n = reached_by same follow (length all) [] (unknown_by same [] (follow n))
 
 abbrev pub rank : {A : Type 0} → (A → A → Bool) → (A → List A) → List A → A → ℕ
-rank same follow all n = count (λ m. list_any (same m) (behind same follow all n)) all
+rank same follow all n = count (λ m. list_any (same m) (reachable same follow all n)) all
 
 module _ {A : Type 0} (same : A → A → Bool) (sound : (a b : A) → same a b ≡ true → a ≡ b)
     (itself : (a : A) → same a a ≡ true)
@@ -152,29 +152,29 @@ module _ {A : Type 0} (same : A → A → Bool) (sound : (a b : A) → same a b 
         (unknown_has y all_of found (in_flat_map follow y x (z ∷ zs) k f)))
         (in_either x known (z ∷ zs) m))
 
-    behind_closed : (n : A) → Is n → Closed (behind same follow all n)
-    behind_closed n is = reached_closed (length all) [] (unknown_by same [] (follow n))
+    after_closed : (n : A) → Is n → Closed (reachable same follow all n)
+    after_closed n is = reached_closed (length all) [] (unknown_by same [] (follow n))
         (count_at_most (λ a. not (list_any (same a) [])) all)
         (λ x m. next n x is (unknown_sub x [] (follow n) m)) (λ x m. refl) (λ x y m f. absurd m)
 
-    behind_first : (n t : A) → In t (follow n) → In t (behind same follow all n)
-    behind_first n t m = reached_keeps (length all) [] (unknown_by same [] (follow n)) t
+    after_first : (n t : A) → In t (follow n) → In t (reachable same follow all n)
+    after_first n t m = reached_keeps (length all) [] (unknown_by same [] (follow n)) t
         (⊎_elim (λ k. absurd k) (λ k. k) (unknown_has t [] (follow n) m))
 
-    behind_more : (n t : A) → Is n → In t (follow n) → (x : A) → In x (behind same follow all t) →
-        In x (behind same follow all n)
-    behind_more n t is m = reached_has (λ x. In x (behind same follow all n)) (λ x y p f. behind_closed n is x y p f)
+    after_more : (n t : A) → Is n → In t (follow n) → (x : A) → In x (reachable same follow all t) →
+        In x (reachable same follow all n)
+    after_more n t is m = reached_has (λ x. In x (reachable same follow all n)) (λ x y p f. after_closed n is x y p f)
         (length all) [] (unknown_by same [] (follow t))
         (λ x k. absurd k)
-        (λ x k. behind_closed n is t x (behind_first n t m) (unknown_sub x [] (follow t) k))
+        (λ x k. after_closed n is t x (after_first n t m) (unknown_sub x [] (follow t) k))
 
-    pub rank_falls : (n t : A) → Is n → In t (follow n) → list_any (same t) (behind same follow all t) ≡ false →
+    pub rank_falls : (n t : A) → Is n → In t (follow n) → list_any (same t) (reachable same follow all t) ≡ false →
         rank same follow all t < rank same follow all n
-    rank_falls n t is m off = count_less (λ x. list_any (same x) (behind same follow all t))
-        (λ x. list_any (same x) (behind same follow all n)) t all
-        (λ x k. told x (behind same follow all n) (behind_more n t is m x (tells x (behind same follow all t) k)))
-        (listed t (next n t is m)) off (told t (behind same follow all n) (behind_first n t m))
+    rank_falls n t is m off = count_less (λ x. list_any (same x) (reachable same follow all t))
+        (λ x. list_any (same x) (reachable same follow all n)) t all
+        (λ x k. told x (reachable same follow all n) (after_more n t is m x (tells x (reachable same follow all t) k)))
+        (listed t (next n t is m)) off (told t (reachable same follow all n) (after_first n t m))
 
-    pub rank_below : (n : A) → Is n → list_any (same n) (behind same follow all n) ≡ false →
+    pub rank_below : (n : A) → Is n → list_any (same n) (reachable same follow all n) ≡ false →
         rank same follow all n < length all
-    rank_below n is off = count_below (λ x. list_any (same x) (behind same follow all n)) n all (listed n is) off
+    rank_below n is off = count_below (λ x. list_any (same x) (reachable same follow all n)) n all (listed n is) off

@@ -13,7 +13,7 @@ use Rattle.stack_mean.specs.Graph.{Node, Arrow, tags_for, header_layer, nodes_of
 use Rattle.stack_mean.specs.Acceptance.{largest, cost_in, own_joins, entries, held_at_most}
 use Rattle.weight_laws.specs.Nodes.{IsNode}
 use Rattle.weight_laws.specs.Orderly.{IsOrderly}
-use Rattle.weight_laws.specs.Costs.{behind_arrows}
+use Rattle.weight_laws.specs.Costs.{after_arrows}
 use Rattle.weight_laws.specs.Tables.{node_number, Vertex, no_vertex, edge_of, vertex_of, IsTable}
 use Rattle.weight_laws.specs.Rounds.{with_edge, vertex_cost, round, rounds, one_task, joins_of_vertex, RoundsAreCosts}
 use Rattle.weight_laws.specs.Rounds.{largest_entry, LargestInRounds, HeldIsJudged, RoundsSettle}
@@ -32,7 +32,7 @@ same_costs costs f (t ∷ ts) h = λ i. h t (inl refl) i ∷ same_costs costs f 
 pub edges_cost : (costs : List ℕ) (f : Node → ℕ) (x : ℕ) (arrs : List Arrow) →
     ((t : Node) → In t (flat_map (λ arrow. arrow.targets) arrs) → slice_index costs (node_number t) ≡
     held_at_most (f t)) →
-    fold (with_edge costs) (held_at_most x) (map edge_of arrs) ≡ held_at_most (x + behind_arrows f arrs)
+    fold (with_edge costs) (held_at_most x) (map edge_of arrs) ≡ held_at_most (x + after_arrows f arrs)
 edges_cost costs f x [] h = ap held_at_most (omega arith)
 edges_cost costs f x (a ∷ arrs) h =
     ap (λ sum. fold (with_edge costs) sum (map edge_of arrs)) here

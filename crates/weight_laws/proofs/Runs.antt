@@ -43,7 +43,7 @@ module _ (stack : List LayerTree) (orderly : IsOrderly stack) (off : first_on_cy
       AllByRecursion (IsKnown stack) (next_of (length stack) (layers stack) (t ∷ rest) w).tasks →
       price w t + sum_by (λ x. cost stack own (task_node x)) (next_of (length stack) (layers stack) (t ∷ rest) w).tasks
       ≤ sum_by (λ x. cost stack own (task_node x)) (t ∷ rest)
-  turn_takes t rest w before behind = go (is_place (length stack) t.at) refl behind where
+  turn_takes t rest w before following = go (is_place (length stack) t.at) refl following where
     f : Node → ℕ
     f = cost stack own
 
@@ -93,12 +93,12 @@ joins_fit stack w t = go (is_place (length stack) t.at) refl where
 pub turns_lighten : TurnsLighten
 turns_lighten stack w t rest turn =
     turn_takes stack turn.orderly turn.no_cycle (λ node. 1) (λ v x. 1) (λ v x. omega arith) t rest w turn.before
-    turn.behind
+    turn.following
 
 pub turns_join_less : TurnsJoinLess
 turns_join_less stack w t rest turn =
     turn_takes stack turn.orderly turn.no_cycle (own_joins stack) (turn_joins stack) (joins_fit stack) t rest w
-    turn.before turn.behind
+    turn.before turn.following
 
 -- each task weighs something
 at_least_one : (stack : List LayerTree) → IsOrderly stack → first_on_cycle stack ≡ None → (t : Task Event) →
@@ -134,14 +134,14 @@ visit_of stack w t rest turn placed = record {
   orderly = turn.orderly;
   place = placed;
   known = turn.before.0;
-  sent = all_right (IsKnown stack) rest (sent_tasks stack (state_at w t.at) t) (rw placed at turn.behind);
+  sent = all_right (IsKnown stack) rest (sent_tasks stack (state_at w t.at) t) (rw placed at turn.following);
 }
 
 pub turns_fit : TurnsFit
 turns_fit stack w t rest left free turn enough room =
     let light = turns_lighten stack w t rest turn in
     let joined = turns_join_less stack w t rest turn in
-    let pending = tasks_weigh stack turn.orderly turn.no_cycle _ turn.behind in record {
+    let pending = tasks_weigh stack turn.orderly turn.no_cycle _ turn.following in record {
       sent = λ placed.
           let visit = visit_of stack w t rest turn placed in
           omega (

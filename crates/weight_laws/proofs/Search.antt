@@ -11,7 +11,7 @@ use Rattle.std.proofs.lemmas.List.Folds.{list_any-append}
 use Rattle.stack_mean.specs.Graph.{same_node, Arrow, arrows, following, nodes}
 use Rattle.weight_laws.specs.Nodes.{IsNode}
 use Rattle.weight_laws.specs.Tables.{node_number, Vertex, edge_of}
-use Rattle.weight_laws.specs.Search.{Search, is_seen, see, see_targets, see_vertex, see_behind, search_round}
+use Rattle.weight_laws.specs.Search.{Search, is_seen, see, see_targets, see_vertex, see_after, search_round}
 use Rattle.weight_laws.specs.Search.{search_after}
 use Rattle.weight_laws.specs.Search.{search_from, SearchTellsCycles, SearchSettles}
 use Rattle.weight_laws.proofs.Members.{In, from_flat_map}
@@ -28,7 +28,7 @@ first_round vertices (suc k) s = ap (search_round vertices) (first_round vertice
 
 idle : (vertices : List Vertex) (s : Search) → s.last ≡ [] → search_round vertices s ≡ s
 idle vertices s none =
-    ap (see_behind vertices (record { seen = s.seen; last = [] })) none ∙
+    ap (see_after vertices (record { seen = s.seen; last = [] })) none ∙
     (λ i. record { seen = s.seen; last = sym none i })
 
 stays : (vertices : List Vertex) (k : ℕ) (s : Search) → s.last ≡ [] → search_after vertices k s ≡ s
@@ -68,10 +68,10 @@ module _ {A : Type 0} (same : A → A → Bool) (sound : (a b : A) → same a b 
     flags : (x : A) → Is x → is_seen s (number x) ≡ list_any (same x) known
 
   see_nodes : (s : Search) (xs : List A) → ((x : A) → In x xs → Is x) →
-      see_behind vertices s (map number xs) ≡ fold see s (map number (flat_map follow xs))
+      see_after vertices s (map number xs) ≡ fold see s (map number (flat_map follow xs))
   see_nodes s [] are = refl
   see_nodes s (x ∷ xs) are =
-      ap (λ q. see_behind vertices q (map number xs)) (sees s x (are x (inl refl)))
+      ap (λ q. see_after vertices q (map number xs)) (sees s x (are x (inl refl)))
       ∙ see_nodes (fold see s (map number (follow x))) xs (λ y m. are y (inr m))
       ∙ sym (fold-append see s (map number (follow x)) (map number (flat_map follow xs)))
       ∙ ap (fold see s) (sym (map-append number (follow x) (flat_map follow xs)))
@@ -144,7 +144,7 @@ module _ {A : Type 0} (same : A → A → Bool) (sound : (a b : A) → same a b 
       Met (search_round vertices s) (known ++ new) [] (unknown_by same (known ++ new) (flat_map follow new))
   round_meets known new s are t last =
       subst (λ q. Met q (known ++ new) [] (unknown_by same (known ++ new) (flat_map follow new)))
-      (sym (ap (see_behind vertices (record { seen = s.seen; last = [] })) last ∙
+      (sym (ap (see_after vertices (record { seen = s.seen; last = [] })) last ∙
       see_nodes (record { seen = s.seen; last = [] }) new are))
       (meet (flat_map follow new) (known ++ new) [] (record { seen = s.seen; last = [] })
       (λ x m. from_flat_map follow x new (λ w k n. next w x (are w k) n) m)

@@ -24,7 +24,7 @@ use Rattle.layer_mean.specs.State.{State}
 use Rattle.layer_mean.specs.Value.{Scope, val, mval, is_true, message_in}
 use Rattle.layer_mean.specs.Effect.{Outcome, usual, unusual, in_order, acts, with_slot, with_slots, with_message}
 use Rattle.layer_mean.specs.Effect.{with_taken, header_of, sent_as, emitted_event, decides}
-use Rattle.layer_mean.specs.Visit.{Met, behind, met, is_for, handler_for, with_room, entered_scope, none_header}
+use Rattle.layer_mean.specs.Visit.{Met, following, met, is_for, handler_for, with_room, entered_scope, none_header}
 use Rattle.layer_mean.specs.Visit.{Visited}
 use Rattle.layer_mean.specs.Visit.{sent_on, unhandled_visit, expecting, handled_visit, step}
 use Rattle.layer_mean.specs.Queue.{Task, beyond, layer_at, tasks_of}
@@ -35,7 +35,7 @@ use Rattle.stack_mean.specs.Graph.{handler_arrows}
 use Rattle.stack_mean.specs.Acceptance.{largest}
 use Rattle.weight_laws.specs.Nodes.{can_have, front_tag, message_tag, node_of, task_node, IsKnown}
 use Rattle.weight_laws.specs.Orderly.{KeepsMessage, IsOrderlyBlock, IsOrderlyHandler, IsOrderly}
-use Rattle.weight_laws.specs.Costs.{behind_arrows}
+use Rattle.weight_laws.specs.Costs.{after_arrows}
 use Rattle.weight_laws.specs.Visits.{SendsFollowArrows}
 use Rattle.weight_laws.proofs.Members.{In, in_map}
 use Rattle.weight_laws.proofs.Nodes.{tag_in, had_in, is_zero, orderly_at, found, for_these}
@@ -228,7 +228,7 @@ module _ (stack : List LayerTree) (f : Node → ℕ) (n : Node) where
       (emission_leads place e e.direction e.kind e.content s l holds)
 
   arrows_total : (rs : List Repeated) →
-      behind_arrows f (map (emission_arrow stack n) rs) ≡ sum_by (λ r. r.times * bound_of stack f n r.emission) rs
+      after_arrows f (map (emission_arrow stack n) rs) ≡ sum_by (λ r. r.times * bound_of stack f n r.emission) rs
   arrows_total [] = refl
   arrows_total (r ∷ rs) =
       sum_by-cons (λ arrow. arrow.times * largest (map f arrow.targets)) (emission_arrow stack n r)
@@ -236,7 +236,7 @@ module _ (stack : List LayerTree) (f : Node → ℕ) (n : Node) where
       ∙ ap (λ x. r.times * bound_of stack f n r.emission + x) (arrows_total rs)
       ∙ sym (sum_by-cons (λ q. q.times * bound_of stack f n q.emission) r rs)
 
-  one_arrow : (a : Arrow) → a.times ≡ 1 → behind_arrows f (a ∷ []) ≡ largest (map f a.targets)
+  one_arrow : (a : Arrow) → a.times ≡ 1 → after_arrows f (a ∷ []) ≡ largest (map f a.targets)
   one_arrow a once = rw once (omega arith)
 
 expected_sends : (e : Expected) (s : State) (l : Scope) (o : Outcome) → (expecting e s l o).sent ≡ o.sent
@@ -254,7 +254,7 @@ module _ (stack : List LayerTree) (f : Node → ℕ) (at : ℕ) (dir : Dir) (eve
   -- one event that is sent on
   passed : (way : Dir) (m : Option Content) (tags : List ℕ) →
       (can_have event.kind (header_layer stack way (beyond way at)) (message_tag m) ≡ true → In (message_tag m) tags) →
-      sum_by (counted stack f at) ((way, record event { message = m }) ∷ []) ≤ behind_arrows f
+      sum_by (counted stack f at) ((way, record event { message = m }) ∷ []) ≤ after_arrows f
       (arrow_to 1 (node_of at dir event) way event.kind tags ∷ [])
   passed way m tags has =
       let le = may_guarded stack f (node_of at dir event) way event.kind tags (message_tag m) has in
@@ -267,16 +267,16 @@ module _ (stack : List LayerTree) (f : Node → ℕ) (at : ℕ) (dir : Dir) (eve
 
 passes_down : (stack : List LayerTree) (f : Node → ℕ) (at place : ℕ) (event : Event) (s : State) (m : Option Content) →
     sum_by (counted stack f at) (unhandled_visit place s Down event (met Down m) (met Down m).message).sent
-    ≤ behind_arrows f (passing stack (node_of at Down event) Down)
+    ≤ after_arrows f (passing stack (node_of at Down event) Down)
 passes_down stack f at place event s None = passed stack f at Down event Down None (0 ∷ []) (λ had. inl refl)
 passes_down stack f at place event s (Some c) =
     passed stack f at Down event Down (Some (pushed (none_header place) c)) (0 ∷ []) (λ had. inl refl)
 
 up_one : (stack : List LayerTree) (f : Node → ℕ) (at place : ℕ) (event : Event) (s : State) (hs : List Header)
     (c : Content) →
-    let m : Met = behind (first_of hs) c in
+    let m : Met = following (first_of hs) c in
     sum_by (counted stack f at) (unhandled_visit place s Up event m m.message).sent
-    ≤ behind_arrows f (passing stack (record { at = at; dir = Up; kind = event.kind; tag = front_tag hs }) Up)
+    ≤ after_arrows f (passing stack (record { at = at; dir = Up; kind = event.kind; tag = front_tag hs }) Up)
 up_one stack f at place event s [] c =
     passed stack f at Up event Up (Some c) (tags_for event.kind (layer_at stack (at + 1)))
     (up_tags stack f at Up event (Some c))
@@ -285,7 +285,7 @@ up_one stack f at place event s (h ∷ hs) c = go (h.tag == 0) where
       sum_by (counted stack f at)
       (if◌then◌else◌ {A = Visited} b (sent_on s Up event (Some c))
       (record { state = s; sent = []; decided = unusual ∷ [] })).sent
-      ≤ behind_arrows f (if b then arrow_to 1 (record { at = at; dir = Up; kind = event.kind; tag = h.tag }) Up
+      ≤ after_arrows f (if b then arrow_to 1 (record { at = at; dir = Up; kind = event.kind; tag = h.tag }) Up
       event.kind (tags_for event.kind (layer_at stack (at + 1))) ∷ [] else [])
   go true = passed stack f at Up event Up (Some c) (tags_for event.kind (layer_at stack (at + 1)))
       (up_tags stack f at Up event (Some c))
@@ -293,7 +293,7 @@ up_one stack f at place event s (h ∷ hs) c = go (h.tag == 0) where
 
 passes_up : (stack : List LayerTree) (f : Node → ℕ) (at place : ℕ) (event : Event) (s : State) (m : Option Content) →
     sum_by (counted stack f at) (unhandled_visit place s Up event (met Up m) (met Up m).message).sent
-    ≤ behind_arrows f (passing stack (record { at = at; dir = Up; kind = event.kind; tag = message_tag m }) Up)
+    ≤ after_arrows f (passing stack (record { at = at; dir = Up; kind = event.kind; tag = message_tag m }) Up)
 passes_up stack f at place event s None =
     passed stack f at Up event Up None (tags_for event.kind (layer_at stack (at + 1)))
     (up_tags stack f at Up event None)
@@ -301,7 +301,7 @@ passes_up stack f at place event s (Some c) = up_one stack f at place event s c.
 
 passes : (stack : List LayerTree) (f : Node → ℕ) (at place : ℕ) (dir : Dir) (event : Event) (s : State) →
     let m : Met = met dir event.message in
-    sum_by (counted stack f at) (unhandled_visit place s dir event m m.message).sent ≤ behind_arrows f
+    sum_by (counted stack f at) (unhandled_visit place s dir event m m.message).sent ≤ after_arrows f
     (passing stack (node_of at dir event) dir)
 passes stack f at place Up event s = passes_up stack f at place event s event.message
 passes stack f at place Down event s = passes_down stack f at place event s event.message
@@ -313,7 +313,7 @@ handled_leads : (stack : List LayerTree) (f : Node → ℕ) (at place : ℕ) (di
     ((h : HandlerTree) → o ≡ Some h →
     IsOrderlyHandler layer h × (goes_down h.direction h.kind ≡ goes_down dir event.kind)) →
     sum_by (counted stack f at) (handled_visit place o s dir event (met dir event.message)).sent
-    ≤ behind_arrows f (handler_arrows stack (node_of at dir event) o)
+    ≤ after_arrows f (handler_arrows stack (node_of at dir event) o)
 handled_leads stack f at place dir event s layer None here = passes stack f at place dir event s
 handled_leads stack f at place dir event s layer (Some h) here =
     let chosen = here h refl in
@@ -322,7 +322,7 @@ handled_leads stack f at place dir event s layer (Some h) here =
     let sends = block_sends layer (goes_down dir event.kind) place (counted stack f at) (bound_of stack f n) (Holds n)
     (λ k x m holds. holds) (taken_keeps n) (emitted_leads stack f n place) h.block
     (subst (λ b. IsOrderlyBlock layer b h.block) chosen.1 chosen.0) s l (entered_holds at dir event h) in
-    subst (λ sent. sum_by (counted stack f at) sent ≤ behind_arrows f
+    subst (λ sent. sum_by (counted stack f at) sent ≤ after_arrows f
     (map (emission_arrow stack n) (emissions_in 1 h.block)))
     (sym (expected_sends h.expected s l (in_order (acts place h.block) s l)))
     (omega (arith, sends, arrows_total stack f n (emissions_in 1 h.block), total_in_is (bound_of stack f n) h.block 1))
@@ -330,7 +330,7 @@ handled_leads stack f at place dir event s layer (Some h) here =
 pub popped_is : (at : ℕ) (dir : Dir) (event : Event) → (met dir event.message).tag ≡
     popped_tag (node_of at dir event) dir
 popped_is at dir event = go dir event.message where
-  front : (hs : List Header) (c : Content) → (behind (first_of hs) c).tag ≡ front_tag hs
+  front : (hs : List Header) (c : Content) → (following (first_of hs) c).tag ≡ front_tag hs
   front [] c = refl
   front (h ∷ hs) c = refl
 
@@ -344,11 +344,11 @@ popped_is at dir event = go dir event.message where
 visit_leads : (stack : List LayerTree) (f : Node → ℕ) (at : ℕ) (dir : Dir) (event : Event) (s : State) →
     IsOrderly stack →
     sum_by (counted stack f at) (step (at - 1) (layer_at stack at) s dir event).sent
-    ≤ behind_arrows f (handler_arrows stack (node_of at dir event) (entered_handler stack (node_of at dir event)))
+    ≤ after_arrows f (handler_arrows stack (node_of at dir event) (entered_handler stack (node_of at dir event)))
 unfolding step
 visit_leads stack f at dir event s orderly =
     subst (λ tag. sum_by (counted stack f at) (step (at - 1) (layer_at stack at) s dir event).sent
-    ≤ behind_arrows f (handler_arrows stack (node_of at dir event)
+    ≤ after_arrows f (handler_arrows stack (node_of at dir event)
     (handler_for (layer_at stack at) dir event.kind tag)))
     (popped_is at dir event)
     (handled_leads stack f at (at - 1) dir event s (layer_at stack at)

@@ -9,11 +9,11 @@ use Rattle.weight_laws.specs.Orderly.{IsOrderly}
 
 -- What some arrows cost, where each node costs so much: that many times as each stands for the largest cost of its
 -- targets.
-abbrev pub behind_arrows : (Node → ℕ) → List Arrow → ℕ
-behind_arrows f = sum_by (λ arrow. arrow.times * largest (map f arrow.targets))
+abbrev pub after_arrows : (Node → ℕ) → List Arrow → ℕ
+after_arrows f = sum_by (λ arrow. arrow.times * largest (map f arrow.targets))
 
 -- Where no node of a stack lies on a cycle, a node costs its own and what its arrows cost.
 abbrev pub CostsFollowArrows : Type 0
 CostsFollowArrows = (stack : List LayerTree) (own : Node → ℕ) (node : Node) →
     IsOrderly stack → first_on_cycle stack ≡ None → IsNode stack node →
-    cost stack own node ≡ own node + behind_arrows (cost stack own) (arrows stack node)
+    cost stack own node ≡ own node + after_arrows (cost stack own) (arrows stack node)

@@ -46,7 +46,7 @@ pub record IsTurn (stack : List LayerTree) (w : Work) (t : Task Event) (rest : L
   pub orderly : IsOrderly stack
   pub no_cycle : first_on_cycle stack ≡ None
   pub before : AllByRecursion (IsKnown stack) (t ∷ rest)
-  pub behind : AllByRecursion (IsKnown stack) (next_of (length stack) (layers stack) (t ∷ rest) w).tasks
+  pub following : AllByRecursion (IsKnown stack) (next_of (length stack) (layers stack) (t ∷ rest) w).tasks
 
 -- A turn makes the pending weight less.
 abbrev pub TurnsLighten : Type 0

@@ -15,7 +15,7 @@ use Rattle.stack_mean.specs.SampleLayers.{late}
 use Rattle.stack_mean.specs.Samples.{ordering_stack}
 use Rattle.weight_laws.specs.Nodes.{task_node}
 use Rattle.weight_laws.specs.Orderly.{IsOrderly}
-use Rattle.weight_laws.specs.Costs.{behind_arrows}
+use Rattle.weight_laws.specs.Costs.{after_arrows}
 use Rattle.weight_laws.specs.Visits.{sent_tasks, task_weight, task_joins, IsVisit}
 use Rattle.weight_laws.specs.Made.{visit_joins}
 use Rattle.weight_laws.specs.Runs.{turns_of, IsRun}
@@ -53,7 +53,7 @@ abbrev pub OrderedRun : Type 0
 OrderedRun =
     IsRun ordering_stack (fresh_states ordering_stack) (cast_at 3) ×
     (task_weight ordering_stack (cast_at 3) ≡ 9) ×
-    (behind_arrows (weight ordering_stack) (arrows ordering_stack (task_node (cast_at 3))) ≡ 8) ×
+    (after_arrows (weight ordering_stack) (arrows ordering_stack (task_node (cast_at 3))) ≡ 8) ×
     (turns_of (run weight_limit ordering_stack (fresh_states ordering_stack) (cast_at 3)).world ≡ 6)
 
 -- A visit that joins a byte with itself: three times the bound of a loop of two turns, each with two joins. Its loop

@@ -27,12 +27,12 @@ see_targets s edge = fold see s edge.targets
 abbrev pub see_vertex : List Vertex → Search → ℕ → Search
 see_vertex vertices s x = fold see_targets s (vertex_at vertices x).edges
 
-abbrev pub see_behind : List Vertex → Search → List ℕ → Search
-see_behind vertices s xs = fold (see_vertex vertices) s xs
+abbrev pub see_after : List Vertex → Search → List ℕ → Search
+see_after vertices s xs = fold (see_vertex vertices) s xs
 
 -- A round: what follows from the numbers that were seen last.
 abbrev pub search_round : List Vertex → Search → Search
-search_round vertices s = see_behind vertices (record { seen = s.seen; last = [] }) s.last
+search_round vertices s = see_after vertices (record { seen = s.seen; last = [] }) s.last
 
 -- A search after that many rounds.
 abbrev pub search_after : List Vertex → ℕ → Search → Search

@@ -10,7 +10,7 @@ use Rattle.stack_mean.specs.Graph.{Node, arrows, first_on_cycle}
 use Rattle.stack_mean.specs.Acceptance.{weight, most_joins}
 use Rattle.weight_laws.specs.Nodes.{task_node, IsKnown}
 use Rattle.weight_laws.specs.Orderly.{IsOrderly}
-use Rattle.weight_laws.specs.Costs.{behind_arrows}
+use Rattle.weight_laws.specs.Costs.{after_arrows}
 use Rattle.weight_laws.specs.Made.{visit_joins}
 
 -- The tasks that the visit of a task at a place leaves, in this state of its layer.
@@ -35,7 +35,7 @@ pub record IsVisit (stack : List LayerTree) (s : State) (t : Task Event) : Type 
 -- goes.
 abbrev pub SendsFollowArrows : Type 0
 SendsFollowArrows = (stack : List LayerTree) (s : State) (t : Task Event) (f : Node → ℕ) → IsVisit stack s t →
-    sum_by (λ x. f (task_node x)) (sent_tasks stack s t) ≤ behind_arrows f (arrows stack (task_node t))
+    sum_by (λ x. f (task_node x)) (sent_tasks stack s t) ≤ after_arrows f (arrows stack (task_node t))
 
 -- So the weight of a node is at least 1 and the weights of what its visit sends.
 abbrev pub WeighsWhatItSends : Type 0

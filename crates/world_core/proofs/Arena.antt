@@ -47,26 +47,26 @@ range_stays bytes more from end le within =
     take-append-le (end - from) (drop from bytes) more (omega (arith, length-drop from bytes))
 
 -- all bytes after a place
-range_behind : (bytes more : List ℕ) → slice_range (bytes ++ more) (length bytes) (length (bytes ++ more)) ≡ more
-range_behind bytes more =
+range_after : (bytes more : List ℕ) → slice_range (bytes ++ more) (length bytes) (length (bytes ++ more)) ≡ more
+range_after bytes more =
     ap (λ xs. take (length (bytes ++ more) - length bytes) xs) (drop-append_seam bytes more) ∙
     take_all (length (bytes ++ more) - length bytes) more (omega (arith, length-append bytes more))
 
 -- one part more
-pub put_behind : (bytes more : List ℕ) (from : ℕ) (ends : List ℕ) → EndAt (length bytes) from ends →
+pub put_after : (bytes more : List ℕ) (from : ℕ) (ends : List ℕ) → EndAt (length bytes) from ends →
     parts_from (bytes ++ more) from (ends ++ length (bytes ++ more) ∷ []) ≡ parts_from bytes from ends ++ more ∷ []
-put_behind bytes more from [] is =
+put_after bytes more from [] is =
     ap (λ n. slice_range (bytes ++ more) n (length (bytes ++ more)) ∷ []) is ∙
-    ap (λ xs. xs ∷ []) (range_behind bytes more)
-put_behind bytes more from (end ∷ ends) is =
+    ap (λ xs. xs ∷ []) (range_after bytes more)
+put_after bytes more from (end ∷ ends) is =
     ap (λ xs. xs ∷ parts_from (bytes ++ more) end (ends ++ length (bytes ++ more) ∷ []))
     (range_stays bytes more from end is.0 (within (length bytes) end ends is.1)) ∙
-    ap (λ xs. slice_range bytes from end ∷ xs) (put_behind bytes more end ends is.1)
+    ap (λ xs. slice_range bytes from end ∷ xs) (put_after bytes more end ends is.1)
 
-pub ends_behind : (bytes more : List ℕ) (from : ℕ) (ends : List ℕ) → EndAt (length bytes) from ends →
+pub ends_after : (bytes more : List ℕ) (from : ℕ) (ends : List ℕ) → EndAt (length bytes) from ends →
     EndAt (length (bytes ++ more)) from (ends ++ length (bytes ++ more) ∷ [])
-ends_behind bytes more from [] is = (omega (arith, length-append bytes more), refl)
-ends_behind bytes more from (end ∷ ends) is = (is.0, ends_behind bytes more end ends is.1)
+ends_after bytes more from [] is = (omega (arith, length-append bytes more), refl)
+ends_after bytes more from (end ∷ ends) is = (is.0, ends_after bytes more end ends is.1)
 
 -- what is written after all bytes, with its end after all ends
 pub put_is : (bytes more new : List ℕ) (ends kept : List ℕ) (end : ℕ) (parts : List (List ℕ)) →
@@ -75,7 +75,7 @@ pub put_is : (bytes more new : List ℕ) (ends kept : List ℕ) (end : ℕ) (par
     parts_from new 0 kept ≡ parts ++ more ∷ []
 put_is bytes more new ends kept end parts shown written put last is =
     ap (λ xs. parts_from new 0 xs) (put ∙ ap (λ n. ends ++ n ∷ []) last) ∙
-    ap (λ xs. parts_from xs 0 (ends ++ length xs ∷ [])) written ∙ put_behind bytes more 0 ends is ∙
+    ap (λ xs. parts_from xs 0 (ends ++ length xs ∷ [])) written ∙ put_after bytes more 0 ends is ∙
     ap (λ xs. xs ++ more ∷ []) shown
 
 pub ends_are : (bytes more new : List ℕ) (ends kept : List ℕ) (end : ℕ) →
@@ -83,7 +83,7 @@ pub ends_are : (bytes more new : List ℕ) (ends kept : List ℕ) (end : ℕ) �
     EndAt (length new) 0 kept
 ends_are bytes more new ends kept end written put last is =
     subst (EndAt (length new) 0) (sym (put ∙ ap (λ n. ends ++ n ∷ []) last))
-    (subst (λ xs. EndAt (length xs) 0 (ends ++ length xs ∷ [])) (sym written) (ends_behind bytes more 0 ends is))
+    (subst (λ xs. EndAt (length xs) 0 (ends ++ length xs ∷ [])) (sym written) (ends_after bytes more 0 ends is))
 
 -- the part of a number
 pub numbered_is : (bytes ends : List ℕ) (parts : List (List ℕ)) (number : ℕ) (found : List ℕ) →

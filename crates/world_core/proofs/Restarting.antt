@@ -22,12 +22,12 @@ use Rattle.world_core.proofs.Stepped.{are_seated, kept}
 -- The first k members have begun again; the others are as they were.
 pub record AreAgainTo (view : View) (k : ℕ) (olds news : List Placed) : Type 0 where
   pub front : map member_of (take k news) ≡ map (opened_in view) (take k olds)
-  pub behind : drop k news ≡ drop k olds
+  pub following : drop k news ≡ drop k olds
   pub seats : map seat_of news ≡ map seat_of olds
   pub size : length news ≡ length olds
 
 pub none_again : (view : View) (members : List Placed) → AreAgainTo view 0 members members
-none_again view members = record { front = refl; behind = refl; seats = refl; size = refl }
+none_again view members = record { front = refl; following = refl; seats = refl; size = refl }
 
 -- what a member keeps as it begins again is its seat
 same_seat : (old new : Placed) → SamePlace old new → seat_of new ≡ seat_of old
@@ -46,7 +46,7 @@ module _ (view : View) (k : ℕ) (olds news : List Placed) (p : Placed) (is : Ar
   where
     record Next : Type 0 where
       pub old : get_or olds k p ≡ p
-      pub behind : drop (suc k) news ≡ drop (suc k) olds
+      pub following : drop (suc k) news ≡ drop (suc k) olds
 
     next_is : Next
     next_is =
@@ -54,9 +54,9 @@ module _ (view : View) (k : ℕ) (olds news : List Placed) (p : Placed) (is : Ar
         let new_front : drop k news ≡ get_or news k p ∷ drop (suc k) news = drop-cons news k p (omega arith) in
         let old_front : drop k olds ≡ get_or olds k p ∷ drop (suc k) olds = drop-cons olds k p within in
         let both : ◌≡◌ {A = List Placed} (get_or olds k p ∷ drop (suc k) olds) (p ∷ drop (suc k) news) =
-        sym old_front ∙ sym is.behind ∙ new_front ∙ ap (λ (y : Placed). y ∷ drop (suc k) news) (sym read) in record {
+        sym old_front ∙ sym is.following ∙ new_front ∙ ap (λ (y : Placed). y ∷ drop (suc k) news) (sym read) in record {
           old = cc;
-          behind = cc;
+          following = cc;
         }
 
     -- the next one begins again
@@ -71,7 +71,7 @@ module _ (view : View) (k : ℕ) (olds news : List Placed) (p : Placed) (is : Ar
               ∙ (λ i. is.front i ++ again.member i ∷ [])
               ∙ sym (map-append (opened_in view) (take k olds) (p ∷ []))
               ∙ ap (map (opened_in view)) (sym olds_are);
-          behind = drop-set-lt (suc k) news k p' (omega arith) ∙ next.behind;
+          following = drop-set-lt (suc k) news k p' (omega arith) ∙ next.following;
           seats = map-set_same seat_of news k p' p (same_seat p p' again.place ∙ ap seat_of read) ∙ is.seats;
           size = length-set news k p' ∙ is.size;
         }

@@ -34,11 +34,11 @@ pub spelled_next : (plans : List Plan) (old now new : List (List ℕ)) (outs : L
     slice_get outs k ≡ Some o →
     now ≡ old ++ spelled_of plans (take k outs) → new ≡ now ++ spelled_of plans (o ∷ []) →
     new ≡ old ++ spelled_of plans (take (k + 1) outs)
-spelled_next plans old now new outs k o is before behind =
+spelled_next plans old now new outs k o is before following =
     let next : take (k + 1) outs ≡ take k outs ++ o ∷ [] =
     ap (λ n. take n outs) (add-one k) ∙ take-suc outs k o (slice_get_within outs k o is)
     ∙ ap (λ x. take k outs ++ x ∷ []) (get_or_from_slice_get outs k o o is) in
-    behind ∙ ap (λ xs. xs ++ spelled_of plans (o ∷ [])) before ∙
+    following ∙ ap (λ xs. xs ++ spelled_of plans (o ∷ [])) before ∙
     append_assoc old (spelled_of plans (take k outs)) (spelled_of plans (o ∷ [])) ∙
     ap (λ xs. old ++ xs)
     (sym (ap (spelled_of plans) next ∙ filter_map-append (datagram_in plans) (take k outs) (o ∷ [])))

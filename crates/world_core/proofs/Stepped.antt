@@ -21,12 +21,12 @@ use Rattle.packet_mean.specs.declared.here.Here.{Here}
 use Rattle.packet_laws.proofs.Once.{one_full_spelling}
 use Rattle.packet_laws.proofs.Strays.{received_as_meant}
 use Rattle.member_laws.specs.Steps.{WireIsSpelled}
-use Rattle.run_mean.specs.Common.{with_plans, plan_behind, short_from}
+use Rattle.run_mean.specs.Common.{with_plans, plan_after, short_from}
 use Rattle.run_mean.specs.Member.{Member, inside, out, Input, datagram, is_out, Entered, entered_input}
 use Rattle.run_mean.specs.Member.{from_datagram, packet_in, Output}
 use Rattle.run_mean.specs.Member.{Refusal, Step, step_from}
 use Rattle.run_mean.specs.World.{World, Happening, only, refused, taken, absent, shown, here_of, member_at}
-use Rattle.run_mean.specs.World.{packet_number, world_behind}
+use Rattle.run_mean.specs.World.{packet_number, world_after}
 use Rattle.run_mean.specs.World.{step_happening, stepped_of, stepped_inside, given_packet}
 use Rattle.view_core.specs.Happenings.{DidIs, IsTaken}
 use Rattle.view_core.specs.declared.step.Change.{Change}
@@ -44,7 +44,7 @@ use Rattle.group_feed.specs.Standing.{Peopled, SpellPackets, Stands, Stays, spel
 without_plans : (plans : List Plan) (next : Option ℕ) (outputs : List Output) →
     map (λ o. o.0) (with_plans plans next outputs) ≡ outputs
 without_plans plans next [] = refl
-without_plans plans next (o ∷ outputs) = ap (λ os. o ∷ os) (without_plans plans (plan_behind next o) outputs)
+without_plans plans next (o ∷ outputs) = ap (λ os. o ∷ os) (without_plans plans (plan_after next o) outputs)
 
 -- members in their seats
 pub count_seats : (mode : Mode) (stack : List LayerTree) (plans : List Plan) (group stamp n : ℕ)
@@ -93,13 +93,14 @@ seated_after mode stack plans group stamp members place p p' seated at same =
     are_seated mode stack plans group stamp (length members) (set members place p')
     (map-set_same seat_of members place p' p (same ∙ ap seat_of at) ∙ seated)
 
-pub seated_behind : (mode : Mode) (stack : List LayerTree) (plans : List Plan) (group stamp : ℕ) (members : List Placed)
+pub seated_following : (mode : Mode) (stack : List LayerTree) (plans : List Plan) (group stamp : ℕ)
+    (members : List Placed)
     (place : ℕ) (p : Placed)
     (input : Input) (p' : Placed) (outs : List (Output × Option ℕ)) (before after : ℕ) (st : Stepped) →
     AreSeated mode stack plans group stamp members → p ≡ get_or members place p →
     Steps p input p' outs before after st →
     AreSeated mode stack plans group stamp (set members place p')
-seated_behind mode stack plans group stamp members place p input p' outs before after st seated at is =
+seated_following mode stack plans group stamp members place p input p' outs before after st seated at is =
     seated_after mode stack plans group stamp members place p p' seated at
     (same_seat p input p' outs before after st is)
 
@@ -128,7 +129,7 @@ same_step p (inside view states) input = go (entered_input p.stack p.plans (here
 abbrev pub happened : World → ℕ → Member → Result Step Refusal → Happening
 happened w id m (Err reason) = only w (refused reason)
 happened w id out (Ok s) = only w absent
-happened w id (inside view states) (Ok s) = record { world = world_behind w view id s; did = taken s }
+happened w id (inside view states) (Ok s) = record { world = world_after w view id s; did = taken s }
 
 world_step : (mode : Mode) (stack : List LayerTree) (plans : List Plan) (w : World) (id : ℕ) (input : Input)
     (m : Member) →
@@ -154,7 +155,7 @@ placed_step mode stack plans w id input p sits at =
     ap (happened w id p.member) (sym (same_step p p.member input))
 
 -- what is told of it, and the world after it
-record IsBehind (mode : Mode) (stack : List LayerTree) (plans : List Plan) (w : World) (id : ℕ) (h : Happening)
+record IsAfter (mode : Mode) (stack : List LayerTree) (plans : List Plan) (w : World) (id : ℕ) (h : Happening)
     (m : Member) (outs : List (Output × Option ℕ))
     (before after : ℕ) (st : Stepped) : Type 0 where
   is_told : DidIs mode stack plans h.did outs before after (told.Stepped st)
@@ -165,30 +166,30 @@ record IsBehind (mode : Mode) (stack : List LayerTree) (plans : List Plan) (w : 
 
 module _ (w : World) (id : ℕ) (p : Placed) (input : Input) (p' : Placed) (outs : List (Output × Option ℕ))
     (before after : ℕ) where
-  taken_behind : (common : Bool) (change : Option Change) (m : Member) (s : Step) → step_at p m input ≡ Ok s →
+  taken_after : (common : Bool) (change : Option Change) (m : Member) (s : Step) → step_at p m input ≡ Ok s →
       p'.member ≡ member_after m s →
       IsTaken p.mode p.stack p.plans s outs before after common change →
-      IsBehind p.mode p.stack p.plans w id (happened w id m (Ok s)) p'.member outs before after (Taken common change)
-  taken_behind common change out s is behind told = absurd (cc is)
-  taken_behind common change (inside view states) s is behind told = record {
+      IsAfter p.mode p.stack p.plans w id (happened w id m (Ok s)) p'.member outs before after (Taken common change)
+  taken_after common change out s is following told = absurd (cc is)
+  taken_after common change (inside view states) s is following told = record {
     is_told = told;
     group = refl;
     stamp = refl;
-    members = ap (slice_set w.members id) (sym behind);
+    members = ap (slice_set w.members id) (sym following);
     packets = ap (λ os. w.packets ++ filter_map packet_in os)
         (sym (ap (map (λ o. o.0)) told.outs_are ∙ without_plans p.plans (short_from p.mode p.stack p.plans s)
         s.outputs));
   }
 
-  step_behind : (st : Stepped) → Steps p input p' outs before after st → member_at w id ≡ p.member →
-      IsBehind p.mode p.stack p.plans w id (happened w id p.member (step_of p input)) p'.member outs before after st
-  step_behind (Taken common change) is at =
-      subst (λ r. IsBehind p.mode p.stack p.plans w id (happened w id p.member r) p'.member outs before after
+  step_after : (st : Stepped) → Steps p input p' outs before after st → member_at w id ≡ p.member →
+      IsAfter p.mode p.stack p.plans w id (happened w id p.member (step_of p input)) p'.member outs before after st
+  step_after (Taken common change) is at =
+      subst (λ r. IsAfter p.mode p.stack p.plans w id (happened w id p.member r) p'.member outs before after
       (Taken common change)) (sym is.is)
-      (taken_behind common change p.member is.step is.is is.member
+      (taken_after common change p.member is.step is.is is.member
       (record { outs_are = is.outputs; common_is = is.common_is; change_is = is.change_is; visits_are = is.visits }))
-  step_behind (Refused reason) is at =
-      subst (λ r. IsBehind p.mode p.stack p.plans w id (happened w id p.member r) p'.member outs before after
+  step_after (Refused reason) is at =
+      subst (λ r. IsAfter p.mode p.stack p.plans w id (happened w id p.member r) p'.member outs before after
       (Refused reason)) (sym is.why)
       (record {
         is_told = record { cause_is = refl; quiet = record { outs_are = is.none; visits_are = is.visits } };
@@ -234,9 +235,9 @@ kept_fed mode stack plans group stamp members spelled more id place p input p' o
     ap (λ ms. slice_index_or ms id out) stands.members ∙ get_or-map member_of members id p out lt ∙
     sym (ap member_of at_id) in
     let h = happened w id p.member (step_of p input) in
-    let behind : IsBehind mode stack plans w id h p'.member outs before after st =
-    subst (λ (s : Seat). IsBehind s.mode s.stack s.plans w id h p'.member outs before after st) sits
-    (step_behind w id p input p' outs before after st is at) in
+    let following : IsAfter mode stack plans w id h p'.member outs before after st =
+    subst (λ (s : Seat). IsAfter s.mode s.stack s.plans w id h p'.member outs before after st) sits
+    (step_after w id p input p' outs before after st is at) in
     let spelled_are : AllByRecursion (WireIsSpelled stack plans) outs =
     subst (λ (s : Seat). AllByRecursion (WireIsSpelled s.stack s.plans) outs) sits
     (steps_spell p input given (subst (λ (s : Seat). s.group < 2 ^ 32) (sym sits) small)
@@ -246,17 +247,17 @@ kept_fed mode stack plans group stamp members spelled more id place p input p' o
     let fed : IsFed old h new outs before after (told.Stepped st) =
     record {
       world = record {
-        group = behind.group ∙ stands.group;
-        stamp = behind.stamp ∙ stands.stamp;
-        members = behind.members ∙ ap (λ ms. slice_set ms id p'.member) stands.members ∙
+        group = following.group ∙ stands.group;
+        stamp = following.stamp ∙ stands.stamp;
+        members = following.members ∙ ap (λ ms. slice_set ms id p'.member) stands.members ∙
             sym (map-set member_of members id p') ∙
             ap (λ k. map member_of (set members k p')) (sym is_place);
         spelled = subst (λ xs. SpellPackets stack plans xs h.world.packets) (sym sent)
-            (subst (SpellPackets stack plans (spelled ++ spelled_of plans outs)) (sym behind.packets)
+            (subst (SpellPackets stack plans (spelled ++ spelled_of plans outs)) (sym following.packets)
             (spell_both stack plans spelled (spelled_of plans outs) w.packets
             (filter_map packet_in (map (λ o. o.0) outs)) stands.spelled (sent_spell stack plans outs spelled_are)));
       };
-      told = behind.is_told;
+      told = following.is_told;
     } in
     subst (λ x. IsFed old x new outs before after (told.Stepped st))
     (sym (placed_step mode stack plans w id input p sits_there at)) fed
@@ -324,9 +325,9 @@ shown_fed c w h outs visits none stands is = subst (λ x. IsFed c x c outs visit
 module _ (c : Peopled) (mode : Mode) (stack : List LayerTree) (plans : List Plan) (group stamp : ℕ)
     (members : List Placed) (spelled : List (List ℕ))
     (is_shown : kept mode stack plans group stamp members spelled ≡ c) where
-  pub stays_behind : (more : List (List ℕ)) (place : ℕ) (p' : Placed) →
+  pub stays_after : (more : List (List ℕ)) (place : ℕ) (p' : Placed) →
       Stays c (kept mode stack plans group stamp (set members place p') more)
-  stays_behind more place p' = record {
+  stays_after more place p' = record {
     mode = ap (λ x. x.mode) is_shown;
     stack = ap (λ x. x.stack) is_shown;
     plans = ap (λ x. x.plans) is_shown;

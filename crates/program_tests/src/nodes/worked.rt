@@ -62,21 +62,21 @@ fn left_in_memory(alloc: Global, texts: &[&str], other: &[u8]) -> Result<Left, A
 
 /// What stands after the mark in each line that begins with it, line feeds included; and the other lines.
 fn parted(alloc: Global, text: &[u8], mark: &[u8]) -> Result<(Vec<u8>, Vec<u8>), AllocError> {
-    let mut behind = Vec::new(alloc);
+    let mut following = Vec::new(alloc);
     let mut others = Vec::new(alloc);
     for line in text.split_inclusive(|byte| *byte == b'\n') {
         match line.strip_prefix(mark) {
-            Some(rest) => behind.extend_from_slice(rest)?,
+            Some(rest) => following.extend_from_slice(rest)?,
             None => others.extend_from_slice(line)?,
         }
     }
-    Ok((behind, others))
+    Ok((following, others))
 }
 
 /// What stands after the mark alone.
-fn behind(alloc: Global, text: &[u8], mark: &[u8]) -> Result<Vec<u8>, AllocError> {
-    let (behind, _) = parted(alloc, text, mark)?;
-    Ok(behind)
+fn following(alloc: Global, text: &[u8], mark: &[u8]) -> Result<Vec<u8>, AllocError> {
+    let (following, _) = parted(alloc, text, mark)?;
+    Ok(following)
 }
 
 /// Whether the events that a node wrote replay to the rest of what it wrote, in both modes.
@@ -93,7 +93,7 @@ fn replays(alloc: Global, written: &[u8]) -> Result<bool, AllocError> {
 fn journals(alloc: Global, texts: &[&str]) -> Result<bool, AllocError> {
     let plan = plan(alloc, "127.0.0.1")?;
     let node = left_in_memory(alloc, texts, plan.as_bytes())?;
-    let delivered = behind(alloc, &node.out, b"deliver ")?;
+    let delivered = following(alloc, &node.out, b"deliver ")?;
     let all = b"1 cast 0 6869\n2 cast 0 6869\n0 cast 2 -\n1 cast 2 -\n".as_slice();
     Ok(
         node.status == 0
@@ -123,14 +123,14 @@ fn a_node_over_the_loopback_replays(rt: HostRuntime) -> Result<(), Fail> {
     assert_eq!(rt; node.status, 0);
     assert_eq!(rt; node.err.as_slice(), b"".as_slice());
     assert_eq!(rt;
-        behind(alloc, &node.out, b"deliver 0 ")?.as_slice(),
+        following(alloc, &node.out, b"deliver 0 ")?.as_slice(),
         b"cast 2 -\n".as_slice()
     );
     assert_eq!(rt;
-        behind(alloc, &node.out, b"deliver 2 ")?.as_slice(),
+        following(alloc, &node.out, b"deliver 2 ")?.as_slice(),
         b"cast 0 6869\n".as_slice()
     );
-    let both = behind(alloc, &node.out, b"deliver 1 ")?;
+    let both = following(alloc, &node.out, b"deliver 1 ")?;
     let orders: [&[u8]; 2] = [b"cast 0 6869\ncast 2 -\n", b"cast 2 -\ncast 0 6869\n"];
     assert!(rt; orders.contains(&both.as_slice()));
     assert!(rt; replays(alloc, &node.out)?);

@@ -1,4 +1,4 @@
-use Rattle.bypass_member.proofs.Making.{last_is, left_behind}
+use Rattle.bypass_member.proofs.Making.{last_is, left_after}
 use Rattle.bypass_member.proofs.opens.close_layers.Goals as goal
 
 pub close-requires-clause-covers : goal.close-requires-clause-covers
@@ -9,7 +9,7 @@ close-requires-clause-covers c =
     last.covers
 
 pub loop-layer-preserved : goal.loop-layer-preserved
-loop-layer-preserved c = left_behind c.loop-layer.pool c.close.new.pool c.loop-layer.layers.items c.pop.new.self.items
+loop-layer-preserved c = left_after c.loop-layer.pool c.close.new.pool c.loop-layer.layers.items c.pop.new.self.items
     c.in-Some.layer
     c.in-Some.ensures.items
     c.loop-layer.invariant c.close.ensures

@@ -19,16 +19,16 @@ reset_all-requires-clause-member c =
 
 pub reset_all-requires-clause-room : goal.reset_all-requires-clause-room
 reset_all-requires-clause-room c =
-    let behind : next_view c.args.view c.args.ranks ≡ Some c.in-Some.next = sym c.next_view.ensures ∙ c.in-Some.is in
-    fewer_now c.args.view c.in-Some.next c.args.ranks _ _ behind c.member_count-count.ensures.count
+    let following : next_view c.args.view c.args.ranks ≡ Some c.in-Some.next = sym c.next_view.ensures ∙ c.in-Some.is in
+    fewer_now c.args.view c.in-Some.next c.args.ranks _ _ following c.member_count-count.ensures.count
     (counts_are (input_at c.args.view c.args.id) (stack_tree c.args._stack.now) _ c.requires.members.own)
 
 pub returns : goal.returns
 returns c =
-    let behind : next_view c.args.view c.args.ranks ≡ Some c.in-Some.next = sym c.next_view.ensures ∙ c.in-Some.is in
+    let following : next_view c.args.view c.args.ranks ≡ Some c.in-Some.next = sym c.next_view.ensures ∙ c.in-Some.is in
     let at : rank c.in-Some.next c.args.id ≡ Some c.from.result = sym c.rank.ensures ∙ c.in-Some-rank.is ∙
     ap Some (sym c.from.ensures) in
     comes_into (stack_tree c.args._stack.now) c.args._most c.args.view c.in-Some.next c.args.id c.args.ranks
     c.from.result c.member_count-count.result
-    c.args.works.now _ behind at c.member_count-count.ensures.count c.requires.ready c.requires.members
+    c.args.works.now _ following at c.member_count-count.ensures.count c.requires.ready c.requires.members
     c.reset_all.ensures refl refl

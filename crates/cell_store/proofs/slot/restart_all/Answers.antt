@@ -3,7 +3,7 @@ use Rattle.std.proofs.lemmas.List.{length-set, get_or_default}
 use Rattle.std.specs.List.{sum_by}
 use Rattle.cell_store.specs.Frames.{numbers_for}
 use Rattle.cell_store.specs.Slots.{slot_again}
-use Rattle.cell_store.proofs.Begun.{before, same_count, room_here, room_in_forms, restarted_one, left_behind, all_first}
+use Rattle.cell_store.proofs.Begun.{before, same_count, room_here, room_in_forms, restarted_one, left_after, all_first}
 use Rattle.cell_store.proofs.Begun.{queues_fit}
 use Rattle.cell_store.proofs.slot.restart_all.Goals as goal
 
@@ -71,7 +71,7 @@ loop-index-preserved g c =
           c.in-Ok.ensures.numbers within known.form known.fits
           (c.restart.ensures ∙ ap (λ at. slot_again c.args.count at c.index_mut-slot.result.now)
           (c.len-at.ensures ∙ c.loop-index.block.ok.0));
-      left = left_behind c.loop-index.index c.loop-index.slots.items c.args.slots.now.items c.restart.new.self
+      left = left_after c.loop-index.index c.loop-index.slots.items c.args.slots.now.items c.restart.new.self
           c.loop-index.invariant.left;
       size = length-set _ _ _ ∙ c.loop-index.invariant.size;
       capacity = omega (arith, c.loop-index.invariant.capacity, c.in-Ok.ensures.capacity);

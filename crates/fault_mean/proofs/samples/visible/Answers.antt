@@ -39,9 +39,9 @@ returns-clause-in_its_bound c =
           refl;
     }
 
-pub returns-clause-behind_its_block : goal.returns-clause-behind_its_block
+pub returns-clause-after_its_block : goal.returns-clause-after_its_block
 unfolding file_of
-returns-clause-behind_its_block c =
+returns-clause-after_its_block c =
     record {
       spelled = record { good = refl; fits = fits_laid _ _ refl; within = tt; placed = λ none. cc };
       judged =
@@ -66,9 +66,9 @@ returns-clause-local_as_header c =
           refl;
     }
 
-pub returns-clause-declared_behind : goal.returns-clause-declared_behind
+pub returns-clause-declared_after : goal.returns-clause-declared_after
 unfolding file_of
-returns-clause-declared_behind c =
+returns-clause-declared_after c =
     record {
       spelled = record { good = refl; fits = fits_laid _ _ refl; within = tt; placed = λ none. cc };
       judged =

@@ -20,7 +20,7 @@ pub loop-first-preserved : goal.loop-first-preserved
 loop-first-preserved g c =
     past_piece _ _ _ _ _ _ _ _ c.in-Some.ensures.cases.0 c.loop-first.invariant _ _
     (sym c.is_feed.ensures ∙ c.if-is_feed.false)
-    (sym c.is_blank.ensures ∙ c.if-is_blank.false) c.length_behind-more.ensures.count c.front-spelling.ensures _ _ _
+    (sym c.is_blank.ensures ∙ c.if-is_blank.false) c.length_after-more.ensures.count c.front-spelling.ensures _ _ _
     c.in-Ok.ensures.wrote
     c.in-Ok.ensures.begun c.split_at.ensures.back
 
@@ -28,7 +28,7 @@ pub returns-in-Err : goal.returns-in-Err
 returns-in-Err g c =
     breaks_off _ _ _ _ _ _ _ _ c.in-Some.ensures.cases.0 c.loop-first.invariant _ _
     (sym c.is_feed.ensures ∙ c.if-is_feed.false)
-    (sym c.is_blank.ensures ∙ c.if-is_blank.false) c.length_behind-more.ensures.count c.front-spelling.ensures _ _
+    (sym c.is_blank.ensures ∙ c.if-is_blank.false) c.length_after-more.ensures.count c.front-spelling.ensures _ _
     c.in-Err.ensures.wrote
 
 pub returns : goal.returns

@@ -18,7 +18,7 @@ returns-in-Ok g c =
       third = [];
       found = report.found;
       beside = refl;
-      behind = refl;
+      following = refl;
       lines = string_bytes c.in-Ok.output.line ∷ [];
       output = report.finds.output;
     })

@@ -1,6 +1,6 @@
 use Rattle.std.proofs.Common.{None, option_map, refl, arith, ap, ◌∙◌}
 use Rattle.layer_desk.specs.Need.{Layout}
-use Rattle.pool_message.specs.Sent.{sent_behind, pool_event}
+use Rattle.pool_message.specs.Sent.{sent_after, pool_event}
 use Rattle.pool_message.specs.Tray.{OnTray, also_sent}
 use Rattle.file_layer.specs.Ready.{stock_of}
 use Rattle.file_layer.specs.Stock.{laid}
@@ -13,20 +13,20 @@ returns-clause-ready g c =
     let places = ap (λ (l : Layout). l.places) c.requires.layout in
     let step = on_fits g.K.Start.begun c.args.pool.now (stock_of c.args.desk.now) c.requires.pool c.requires.fits
     c.args.direction c.args.envelope c.args.header
-    (omega arith) (option_map (sent_behind c.args.direction c.args.header) c.args.desk.now.tray.arrived) refl in
+    (omega arith) (option_map (sent_after c.args.direction c.args.header) c.args.desk.now.tray.arrived) refl in
     tray_ready g.K.Start.begun c.args.pool.now c.args.pool.now c.args.desk.now
     (record (also_sent c.args.direction c.args.envelope
-    (option_map (sent_behind c.args.direction c.args.header) c.args.desk.now.tray.arrived) c.args.desk.now.tray)
+    (option_map (sent_after c.args.direction c.args.header) c.args.desk.now.tray.arrived) c.args.desk.now.tray)
     { arrived = None }) c.send_arrived.new.self c.requires
     (c.send_arrived.ensures ∙
     ap (λ (t : OnTray). record (also_sent c.args.direction c.args.envelope t.arrived t) { arrived = None })
-    c.put_behind.ensures)
+    c.put_after.ensures)
     step.0 step.1 refl
     (sent_grows g.K.Start.begun.refs g.K.Start.begun.list c.args.desk.now.first c.args.desk.now.places
     c.args.desk.now.tray.sent (
       c.args.direction,
       pool_event c.args.envelope
-          (option_map (sent_behind c.args.direction c.args.header) c.args.desk.now.tray.arrived),
+          (option_map (sent_after c.args.direction c.args.header) c.args.desk.now.tray.arrived),
     ) c.requires.sent)
 
 pub returns-clause-shown : goal.returns-clause-shown
@@ -35,7 +35,7 @@ returns-clause-shown g c =
     ap (λ t. laid c.args.pool.now (stock_of (record c.args.desk.now { tray = t })))
     (c.send_arrived.ensures ∙
     ap (λ (t : OnTray). record (also_sent c.args.direction c.args.envelope t.arrived t) { arrived = None })
-    c.put_behind.ensures) ∙
+    c.put_after.ensures) ∙
     (on_fits g.K.Start.begun c.args.pool.now (stock_of c.args.desk.now) c.requires.pool c.requires.fits c.args.direction
     c.args.envelope c.args.header
-    (omega arith) (option_map (sent_behind c.args.direction c.args.header) c.args.desk.now.tray.arrived) refl).2
+    (omega arith) (option_map (sent_after c.args.direction c.args.header) c.args.desk.now.tray.arrived) refl).2

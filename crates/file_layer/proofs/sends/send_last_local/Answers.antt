@@ -6,7 +6,7 @@ use Rattle.layer_desk.specs.Laid.{sends}
 use Rattle.layer_mean.specs.Envelope.{event_in}
 use Rattle.layer_desk.specs.Need.{Layout}
 use Rattle.pool_message.specs.Seen.{bodiless, refs, content_seen}
-use Rattle.pool_message.specs.Sent.{sent_behind, pool_event}
+use Rattle.pool_message.specs.Sent.{sent_after, pool_event}
 use Rattle.pool_message.specs.Tray.{message_at, also_sent}
 use Rattle.file_layer.specs.Ready.{stock_of}
 use Rattle.file_layer.specs.Scope.{without_messages}
@@ -49,14 +49,14 @@ returns-clause-ready g c =
     (omega (arith, c.from.ensures, c.requires.some))) c.send_and_clear.ensures.returned in
     tray_ready g.K.Start.begun c.args.pool.now c.send_and_clear.new.pool c.args.desk.now
     (record (also_sent c.args.direction c.args.envelope
-    (Some (sent_behind c.args.direction c.args.header (message_at c.from.result c.args.desk.now.tray)))
+    (Some (sent_after c.args.direction c.args.header (message_at c.from.result c.args.desk.now.tray)))
     c.args.desk.now.tray) { messages = buffer [] c.args.desk.now.tray.messages.capacity }) c.send_and_clear.new.self
     c.requires.ready c.send_and_clear.ensures.sent step.0 step.1 refl
     (sent_grows g.K.Start.begun.refs g.K.Start.begun.list c.args.desk.now.first c.args.desk.now.places
     c.args.desk.now.tray.sent (
       c.args.direction,
       pool_event c.args.envelope
-          (Some (sent_behind c.args.direction c.args.header (message_at c.from.result c.args.desk.now.tray))),
+          (Some (sent_after c.args.direction c.args.header (message_at c.from.result c.args.desk.now.tray))),
     )
     c.requires.ready.sent)
 
@@ -70,7 +70,7 @@ returns-clause-shown g c =
       sent = c.args.desk.now.tray.sent.items ++ (
         c.args.direction,
         pool_event c.args.envelope
-            (Some (sent_behind c.args.direction c.args.header (message_at c.from.result c.args.desk.now.tray))),
+            (Some (sent_after c.args.direction c.args.header (message_at c.from.result c.args.desk.now.tray))),
       ) ∷ [];
     }) ≡ without_messages (sends c.args.direction
     (event_in c.args.envelope

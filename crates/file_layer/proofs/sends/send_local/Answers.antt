@@ -1,7 +1,7 @@
 use Rattle.std.proofs.Common.{[], Some, slice_get, refl, arith, sym, ap, ◌∙◌}
 use Rattle.layer_desk.specs.Need.{Layout}
 use Rattle.pool_message.specs.Seen.{bodiless, refs}
-use Rattle.pool_message.specs.Sent.{sent_behind, pool_event}
+use Rattle.pool_message.specs.Sent.{sent_after, pool_event}
 use Rattle.pool_message.specs.Tray.{message_at, also_sent}
 use Rattle.file_layer.specs.Ready.{stock_of}
 use Rattle.file_layer.specs.Stock.{laid}
@@ -46,14 +46,14 @@ returns-in-Some-clause-ready g c =
     c.send_message.ensures.kept in
     tray_ready g.K.Start.begun c.args.pool.now c.send_message.new.pool c.args.desk.now
     (also_sent c.args.direction c.args.envelope
-    (Some (sent_behind c.args.direction c.args.header (message_at c.from-place.result c.args.desk.now.tray)))
+    (Some (sent_after c.args.direction c.args.header (message_at c.from-place.result c.args.desk.now.tray)))
     c.args.desk.now.tray) c.send_message.new.self
     c.requires c.send_message.ensures.sent step.0 step.1 refl
     (sent_grows g.K.Start.begun.refs g.K.Start.begun.list c.args.desk.now.first c.args.desk.now.places
     c.args.desk.now.tray.sent (
       c.args.direction,
       pool_event c.args.envelope
-          (Some (sent_behind c.args.direction c.args.header (message_at c.from-place.result c.args.desk.now.tray))),
+          (Some (sent_after c.args.direction c.args.header (message_at c.from-place.result c.args.desk.now.tray))),
     )
     c.requires.sent)
 

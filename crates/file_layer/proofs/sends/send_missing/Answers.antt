@@ -1,7 +1,7 @@
 use Rattle.std.proofs.Common.{[], Some, refl, arith, ap, ◌∙◌}
 use Rattle.layer_desk.specs.Need.{Layout}
 use Rattle.pool_message.specs.Seen.{bodiless}
-use Rattle.pool_message.specs.Sent.{sent_behind, pool_event}
+use Rattle.pool_message.specs.Sent.{sent_after, pool_event}
 use Rattle.pool_message.specs.Tray.{also_sent}
 use Rattle.file_layer.specs.Ready.{stock_of}
 use Rattle.file_layer.specs.Stock.{laid}
@@ -16,12 +16,12 @@ returns-clause-ready g c =
     c.requires.ready.fits c.args.direction c.args.envelope
     c.args.header (omega arith) c.args.slot c.requires.none in
     tray_ready g.K.Start.begun c.args.pool.now c.args.pool.now c.args.desk.now
-    (also_sent c.args.direction c.args.envelope (Some (sent_behind c.args.direction c.args.header (bodiless [])))
+    (also_sent c.args.direction c.args.envelope (Some (sent_after c.args.direction c.args.header (bodiless [])))
     c.args.desk.now.tray) c.send_nothing.new.tray
     c.requires.ready c.send_nothing.ensures step.0 step.1 refl
     (sent_grows g.K.Start.begun.refs g.K.Start.begun.list c.args.desk.now.first c.args.desk.now.places
     c.args.desk.now.tray.sent
-    (c.args.direction, pool_event c.args.envelope (Some (sent_behind c.args.direction c.args.header (bodiless []))))
+    (c.args.direction, pool_event c.args.envelope (Some (sent_after c.args.direction c.args.header (bodiless []))))
     c.requires.ready.sent)
 
 pub returns-clause-shown : goal.returns-clause-shown

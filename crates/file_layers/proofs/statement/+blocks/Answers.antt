@@ -4,7 +4,7 @@ use Rattle.layer_ast.specs.declared.syntax.Statement as rust
 use Rattle.file_mean.specs.Names.{Names}
 use Rattle.file_mean.specs.Statements as spec
 use Rattle.file_numbers.specs.Scope.{names_of}
-use Rattle.file_layers.proofs.Behind.{Extends, extends_all, left}
+use Rattle.file_layers.proofs.After.{Extends, extends_all, left}
 use Rattle.file_layers.proofs.Blocks.{statements_next}
 use Rattle.file_layers.proofs.statement.+blocks.Goals as goal
 
@@ -13,7 +13,7 @@ block-returns-clause-names t c =
     let names = names_of c.args.names.now in
     let inner = names_of c.statements.new.names in
     let is = c.in_ok-statements.ensures.names
-    ∙ ap (λ (l : List rust.Statement). spec.behind_all (written.statement_trees l) names) c.deref.ensures.value in
+    ∙ ap (λ (l : List rust.Statement). spec.after_all (written.statement_trees l) names) c.deref.ensures.value in
     left names inner (names_of c.leave.new.self) _ _
     (subst (λ (n : Names). Extends names n) (sym is) (extends_all (written.block_tree c.args.b.now) names))
     c.outer-outer.ensures.numbers c.outer-outer.ensures.messages c.leave.ensures

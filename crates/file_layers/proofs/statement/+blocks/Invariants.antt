@@ -11,4 +11,4 @@ invariant-statements-loop-s l =
     HoldsBlock (spec.statements_of (names_of l.names) (written.statement_trees (drop l.s-index l.all)))
     × (trees (map statement_tree l.made.items) ≡
     spec.statements_of (names_of l.initial.names) (written.statement_trees (take l.s-index l.all)))
-    × (names_of l.names ≡ spec.behind_all (written.statement_trees (take l.s-index l.all)) (names_of l.initial.names))
+    × (names_of l.names ≡ spec.after_all (written.statement_trees (take l.s-index l.all)) (names_of l.initial.names))

@@ -32,7 +32,7 @@ inside-returns-in_ok-block-in-Choose-2 t c =
     let one = c.in_ok-block-in-Choose.ensures in
     let two = c.in_ok-block-in-Choose-2.ensures in
     subst (λ (x : StatementTree). Finds c.args.found.now (inner_faults s x) c.block-in-Choose-2.new.found
-    × (scope_of c.block-in-Choose-2.new.scope ≡ spec.scope_behind s x))
+    × (scope_of c.block-in-Choose-2.new.scope ≡ spec.scope_after s x))
     (sym (ap statement_tree i.is ∙ choose_tree i.at i.likely i.condition i.first i.otherwise))
     (choose_inner s (scope_of c.block-in-Choose.new.scope) (scope_of c.block-in-Choose-2.new.scope) i.at i.likely
     (expression_tree i.condition) (block_tree i.first) (block_tree i.otherwise)
@@ -45,7 +45,7 @@ inside-returns-in_ok-block-in-Take t c =
     let one = c.in_ok-with_locals-in-Take.ensures in
     let two = c.in_ok-block-in-Take.ensures in
     subst (λ (x : StatementTree). Finds c.args.found.now (inner_faults s x) c.block-in-Take.new.found
-    × (scope_of c.block-in-Take.new.scope ≡ spec.scope_behind s x))
+    × (scope_of c.block-in-Take.new.scope ≡ spec.scope_after s x))
     (sym (ap statement_tree i.is ∙ take_tree i.at i.queue i.names i.first i.otherwise))
     (take_inner s (scope_of c.with_locals.new.scope) (scope_of c.block-in-Take.new.scope) i.at (queue_tree i.queue)
     (names_tree i.names) (block_tree i.first) (block_tree i.otherwise) (locals_of c.in_ok-locals-in-Take.locals.items)
@@ -59,7 +59,7 @@ inside-returns-in_ok-block-in-Each t c =
     let brought = c.in_ok-bring-in-Each.ensures in
     let inner = c.in_ok-block-in-Each.ensures in
     subst (λ (x : StatementTree). Finds c.args.found.now (inner_faults s x) c.block-in-Each.new.found
-    × (scope_of c.leave.new.self ≡ spec.scope_behind s x))
+    × (scope_of c.leave.new.self ≡ spec.scope_after s x))
     (sym (ap statement_tree i.is ∙ each_tree i.at i.name i.below i.most i.first))
     (each_inner s (scope_of c.bring-in-Each.new.scope) (scope_of c.block-in-Each.new.scope) (scope_of c.leave.new.self)
     i.at i.name
@@ -71,14 +71,14 @@ pub inside-returns-in-Set : goal.inside-returns-in-Set
 inside-returns-in-Set t c =
     let s = scope_of c.args.scope.now in
     subst (λ (x : StatementTree). Finds c.args.found.now (inner_faults s x) c.args.found.now ×
-    (s ≡ spec.scope_behind s x))
+    (s ≡ spec.scope_after s x))
     (sym (ap statement_tree c.in-Set.is ∙ set_tree _ _ _ _)) (finds_none name_shown c.args.found.now, refl)
 
 pub inside-returns-in-SetSquare : goal.inside-returns-in-SetSquare
 inside-returns-in-SetSquare t c =
     let s = scope_of c.args.scope.now in
     subst (λ (x : StatementTree). Finds c.args.found.now (inner_faults s x) c.args.found.now ×
-    (s ≡ spec.scope_behind s x))
+    (s ≡ spec.scope_after s x))
     (sym (ap statement_tree c.in-SetSquare.is ∙ set_square_tree _ _ _ _ _))
     (finds_none name_shown c.args.found.now, refl)
 
@@ -86,7 +86,7 @@ pub inside-returns-in-Emit : goal.inside-returns-in-Emit
 inside-returns-in-Emit t c =
     let s = scope_of c.args.scope.now in
     subst (λ (x : StatementTree). Finds c.args.found.now (inner_faults s x) c.args.found.now ×
-    (s ≡ spec.scope_behind s x))
+    (s ≡ spec.scope_after s x))
     (sym (ap statement_tree c.in-Emit.is ∙ emit_tree _ _ _ _ _)) (finds_none name_shown c.args.found.now, refl)
 
 pub statement-returns : goal.statement-returns

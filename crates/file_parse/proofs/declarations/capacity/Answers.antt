@@ -13,7 +13,7 @@ returns-then-begins_array c =
     (λ stack.
     rw c.in-Some.ensures.cases.0 (
     under LeftBracket a_capacity (one N ∷ one RightBracket ∷ one LeftBracket ∷ a_size ∷ []) c.in-Some.field-0-0.now
-    c.in-Some.behind.now c.if-begins_array.ensures c.args.room (one RightBracket ∷ stack)
+    c.in-Some.following.now c.if-begins_array.ensures c.args.room (one RightBracket ∷ stack)
     ))
     c.capacity_of_array.ensures
 
@@ -23,7 +23,7 @@ returns-else-begins_array c =
     (one LeftBracket ∷ a_capacity ∷ one RightBracket ∷ []) c.args.room c.args.tokens.now c.capacity_of_one.result
     (λ stack.
     rw c.in-Some.ensures.cases.0 (
-    under LeftBracket a_capacity (a_size ∷ []) c.in-Some.field-0-0.now c.in-Some.behind.now c.if-begins_array.ensures
+    under LeftBracket a_capacity (a_size ∷ []) c.in-Some.field-0-0.now c.in-Some.following.now c.if-begins_array.ensures
     c.args.room (one RightBracket ∷ stack)
     ))
     c.capacity_of_one.ensures

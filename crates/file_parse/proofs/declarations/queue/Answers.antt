@@ -18,13 +18,13 @@ returns-in-Err-items-clause-read c =
     (λ n refused.
     record {
       stops = λ stack.
-          let behind =
+          let following =
           one sign.Of ∷ one sign.LeftParen ∷ a_name ∷ one sign.Colon ∷ a_sort ∷ more_items ∷ one sign.RightParen
           ∷ one sign.Semicolon ∷ stack in
           starts a_declaration c.args.first (token.Sign sign.State) (c.args.second ∷ c.args.tokens.now) c.args.room
           stack
           c.requires.state
           ∙ (starts a_cell c.args.second (token.Sign sign.Queue) c.args.tokens.now c.args.room stack c.requires.word
-          ∙ (c.in-Ok.ensures.goes_on c.args.room (one sign.LeftBracket ∷ a_capacity ∷ one sign.RightBracket ∷ behind)
-          ∙ (c.in-Ok-capacity.ensures.goes_on behind ∙ refused.stops stack)));
+          ∙ (c.in-Ok.ensures.goes_on c.args.room (one sign.LeftBracket ∷ a_capacity ∷ one sign.RightBracket ∷ following)
+          ∙ (c.in-Ok-capacity.ensures.goes_on following ∙ refused.stops stack)));
     })

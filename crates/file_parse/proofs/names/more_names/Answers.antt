@@ -1,8 +1,8 @@
 use Rattle.file_parse.proofs.Gathered.{name_gathered}
 use Rattle.file_parse.proofs.names.more_names.Goals as goal
 
-pub loop-behind-preserved : goal.loop-behind-preserved
-loop-behind-preserved c =
+pub loop-following-preserved : goal.loop-following-preserved
+loop-following-preserved c =
     rw c.in_ok-push_item.ensures (
-    name_gathered _ _ _ _ _ _ c.loop-behind.invariant c.in-Some.ensures c.in-Ok.ensures
+    name_gathered _ _ _ _ _ _ c.loop-following.invariant c.in-Some.ensures c.in-Ok.ensures
     )

@@ -30,7 +30,7 @@ inside-returns-in_ok-block-in-Choose-2 t c =
     let one = c.in_ok-block-in-Choose.ensures in
     let two = c.in_ok-block-in-Choose-2.ensures in
     subst (λ (x : StatementTree). Finds c.args.found.now (inner_faults s x) c.block-in-Choose-2.new.found
-    × (scope_of c.block-in-Choose-2.new.scope ≡ spec.scope_behind s x))
+    × (scope_of c.block-in-Choose-2.new.scope ≡ spec.scope_after s x))
     (sym (ap statement_tree i.is ∙ choose_tree i.at i.likely i.condition i.first i.otherwise))
     (choose_inner s (scope_of c.block-in-Choose.new.scope) (scope_of c.block-in-Choose-2.new.scope) i.at i.likely
     (expression_tree i.condition) (block_tree i.first) (block_tree i.otherwise)
@@ -43,7 +43,7 @@ inside-returns-in_ok-block-in-Take t c =
     let one = c.in_ok-with_locals-in-Take.ensures in
     let two = c.in_ok-block-in-Take.ensures in
     subst (λ (x : StatementTree). Finds c.args.found.now (inner_faults s x) c.block-in-Take.new.found
-    × (scope_of c.block-in-Take.new.scope ≡ spec.scope_behind s x))
+    × (scope_of c.block-in-Take.new.scope ≡ spec.scope_after s x))
     (sym (ap statement_tree i.is ∙ take_tree i.at i.queue i.names i.first i.otherwise))
     (take_inner s (scope_of c.with_locals.new.scope) (scope_of c.block-in-Take.new.scope) i.at (queue_tree i.queue)
     (names_tree i.names) (block_tree i.first) (block_tree i.otherwise) (locals_of c.deref.result.now)
@@ -54,21 +54,21 @@ pub inside-returns-in_ok-push-in-Let : goal.inside-returns-in_ok-push-in-Let
 inside-returns-in_ok-push-in-Let t c =
     let s = scope_of c.args.scope.now in
     subst (λ (x : StatementTree). Finds c.args.found.now (inner_faults s x) c.args.found.now ×
-    (scope_of c.push.new.self ≡ spec.scope_behind s x))
+    (scope_of c.push.new.self ≡ spec.scope_after s x))
     (sym (ap statement_tree c.in-Let.is ∙ bind_tree _ _ _)) (finds_none type_shown c.args.found.now, search rules)
 
 pub inside-returns-in-Set : goal.inside-returns-in-Set
 inside-returns-in-Set t c =
     let s = scope_of c.args.scope.now in
     subst (λ (x : StatementTree). Finds c.args.found.now (inner_faults s x) c.args.found.now ×
-    (s ≡ spec.scope_behind s x))
+    (s ≡ spec.scope_after s x))
     (sym (ap statement_tree c.in-Set.is ∙ set_tree _ _ _ _)) (finds_none type_shown c.args.found.now, refl)
 
 pub inside-returns-in-SetSquare : goal.inside-returns-in-SetSquare
 inside-returns-in-SetSquare t c =
     let s = scope_of c.args.scope.now in
     subst (λ (x : StatementTree). Finds c.args.found.now (inner_faults s x) c.args.found.now ×
-    (s ≡ spec.scope_behind s x))
+    (s ≡ spec.scope_after s x))
     (sym (ap statement_tree c.in-SetSquare.is ∙ set_square_tree _ _ _ _ _))
     (finds_none type_shown c.args.found.now, refl)
 
@@ -76,7 +76,7 @@ pub inside-returns-in-Emit : goal.inside-returns-in-Emit
 inside-returns-in-Emit t c =
     let s = scope_of c.args.scope.now in
     subst (λ (x : StatementTree). Finds c.args.found.now (inner_faults s x) c.args.found.now ×
-    (s ≡ spec.scope_behind s x))
+    (s ≡ spec.scope_after s x))
     (sym (ap statement_tree c.in-Emit.is ∙ emit_tree _ _ _ _ _)) (finds_none type_shown c.args.found.now, refl)
 
 pub one-returns : goal.one-returns

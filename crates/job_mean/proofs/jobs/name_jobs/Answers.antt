@@ -39,9 +39,9 @@ pub returns-clause-runs_a_node : goal.returns-clause-runs_a_node
 unfolding clap_on_literals
 returns-clause-runs_a_node c = refl
 
-pub returns-clause-behind_the_end_of_options : goal.returns-clause-behind_the_end_of_options
+pub returns-clause-after_the_end_of_options : goal.returns-clause-after_the_end_of_options
 unfolding clap_on_literals
-returns-clause-behind_the_end_of_options c = refl
+returns-clause-after_the_end_of_options c = refl
 
 pub returns-clause-hyphen_and_nothing : goal.returns-clause-hyphen_and_nothing
 unfolding clap_on_literals

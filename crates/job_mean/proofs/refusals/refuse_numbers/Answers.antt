@@ -11,9 +11,9 @@ pub returns-clause-nothing : goal.returns-clause-nothing
 unfolding clap_on_literals
 returns-clause-nothing c = refl
 
-pub returns-clause-zero_in_front : goal.returns-clause-zero_in_front
+pub returns-clause-leading_zero : goal.returns-clause-leading_zero
 unfolding clap_on_literals
-returns-clause-zero_in_front c = refl
+returns-clause-leading_zero c = refl
 
 pub returns-clause-large_seed : goal.returns-clause-large_seed
 unfolding clap_on_literals

@@ -7,7 +7,7 @@ use Rattle.outside.proofs.Turns.{wrote_as}
 use Rattle.outside.specs.Lines.{Gains}
 use Rattle.outside.specs.Tells.{tells_of}
 use Rattle.stack_shapes.specs.Trees.{plans_tree}
-use Rattle.miss_explain.proofs.Events.{begins_all, lines_are, may_be_told, stands_behind}
+use Rattle.miss_explain.proofs.Events.{begins_all, lines_are, may_be_told, stands_after}
 use Rattle.miss_explain.proofs.script.explain_event.Goals as goal
 
 pub write_probed-requires-clause-told : goal.write_probed-requires-clause-told
@@ -37,7 +37,7 @@ returns-in-Ok-feed_uncommon-clause-told g c = λ w stands.
     let texts = c.args.texts in
     let old = g.P.Feed.group c.args.probe.now in
     let probed = c.in-Ok.ensures.probed w stands in record {
-      world = stands_behind (file_tree texts.file.now) (stack_tree texts.stack.now) (plans_tree texts.plans.now) old
+      world = stands_after (file_tree texts.file.now) (stack_tree texts.stack.now) (plans_tree texts.plans.now) old
           (g.P.Feed.group c.probe.new.self) c.requires.ready.stack_is c.requires.ready.plans_are w c.args.event.now
           c.in-Ok.probed probed
           (g.P.Feed.group c.feed_uncommon.new.probe) stands c.in-Ok-feed_uncommon.ensures.follows;

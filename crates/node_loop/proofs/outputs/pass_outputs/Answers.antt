@@ -46,8 +46,8 @@ loop-k-preserved g c =
           c.in_ok-pass_output.ensures.handed c.loop-k.invariant.numbered
           (omega (arith, c.loop-k-test.true, c.len-k-end.ensures)) at;
       numbered = number_more c.args.outputs.now.outputs c.args.source.number c.loop-k.k c.loop-k.number _ _
-          c.loop-k.invariant.numbered c.number_behind-number.ensures.is
+          c.loop-k.invariant.numbered c.number_following-number.ensures.is
           (omega (arith, c.loop-k-test.true, c.len-k-end.ensures)) at;
-      few = omega (arith, c.number_behind-number.ensures.few, c.loop-k.invariant.few);
+      few = omega (arith, c.number_following-number.ensures.few, c.loop-k.invariant.few);
       listening = λ m. c.in_ok-pass_output.ensures.listening m ∙ c.loop-k.invariant.listening m;
     }

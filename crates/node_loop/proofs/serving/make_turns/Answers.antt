@@ -15,11 +15,11 @@ returns-in_err-turn-clause-told g c =
     let at = now (g.F.Feed.group c.loop-t.feed) c.loop-t.desk
     (around g.O.Sink g.N.Links c.loop-t.out c.loop-t.links) (g.C.Clock.told c.loop-t.clock) in
     let on = c.turn.new in
-    let behind = now (g.F.Feed.group on.feed) on.desk
+    let following = now (g.F.Feed.group on.feed) on.desk
     (around g.O.Sink g.N.Links on.out on.links) (g.C.Clock.told on.clock) in
     let p = err_from_is_err_and c.from_residual.result c.from_residual.ensures.1 in
     rw (p.1, p.2) (turn_not stack plans course c.args.patience start (g.N.Links.listening c.args.links.now) c.loop-t.t
-    c.loop-t.progress on.progress at behind
+    c.loop-t.progress on.progress at following
     (g.N.Links.listening c.loop-t.links) (g.N.Links.listening on.links) c.loop-t.invariant c.in_err-turn.field-0.0
     c.loop-t-test.true
     c.in_err-turn.ensures.told)
@@ -34,10 +34,10 @@ loop-t-preserved g c =
     let at = now (g.F.Feed.group c.loop-t.feed) c.loop-t.desk
     (around g.O.Sink g.N.Links c.loop-t.out c.loop-t.links) (g.C.Clock.told c.loop-t.clock) in
     let on = c.turn.new in
-    let behind = now (g.F.Feed.group on.feed) on.desk
+    let following = now (g.F.Feed.group on.feed) on.desk
     (around g.O.Sink g.N.Links on.out on.links) (g.C.Clock.told on.clock) in
     turn_so stack plans course c.args.patience start (g.N.Links.listening c.args.links.now) c.loop-t.t c.loop-t.progress
-    on.progress at behind
+    on.progress at following
     (g.N.Links.listening c.loop-t.links) (g.N.Links.listening on.links) c.loop-t.invariant c.in_ok-turn.ensures.told
     c.in_ok-turn.ensures.rests
     c.in_ok-turn.ensures.passed c.in_ok-turn.ensures.due c.in_ok-turn.ensures.within

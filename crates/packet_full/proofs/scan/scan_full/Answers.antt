@@ -24,7 +24,7 @@ close-requires c = λ short.
     (full_ends (stack_tree c.args.stack.now) c.args.here.now c.args.bytes.now _ _ _ _
     (record { places = c.is_within_limits.ensures.places; fields = c.is_within_limits.ensures.fields })
     (are_bytes c.args.bytes.now c.type_inv.bytes) c.in-Ok.ensures.front
-    (full_contents _ [] _ _ _ _ full c.in-Some.ensures.read) short).behind
+    (full_contents _ [] _ _ _ _ full c.in-Some.ensures.read) short).following
 
 pub returns-clause-read : goal.returns-clause-read
 returns-clause-read c =

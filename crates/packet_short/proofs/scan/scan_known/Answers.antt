@@ -27,7 +27,7 @@ close-requires c = λ short.
     (record { places = c.is_within_limits.ensures.places; fields = c.is_within_limits.ensures.fields })
     (are_bytes c.args.bytes.now c.type_inv.bytes) c.in-Ok.ensures.front c.in-Ok.ensures.read
     c.in-Ok-known_contents.ensures.read
-    short).behind
+    short).following
 
 pub returns-in-Ok-close-clause-read : goal.returns-in-Ok-close-clause-read
 returns-in-Ok-close-clause-read c =

@@ -21,7 +21,7 @@ close-requires c = λ short.
     (any_ends (stack_tree c.args.stack.now) (plans_tree c.args.plans.now) c.args.here.now c.args.bytes.now _ _ _ _
     (record { places = c.is_within_limits.ensures.places; fields = c.is_within_limits.ensures.fields })
     (are_bytes c.args.bytes.now c.type_inv.bytes) c.in-Ok.ensures.front c.in-Ok.ensures.read c.in-Ok-contents.ensures
-    short).behind
+    short).following
 
 pub returns-clause-read : goal.returns-clause-read
 returns-clause-read c =

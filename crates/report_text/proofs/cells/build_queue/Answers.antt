@@ -11,7 +11,8 @@ pub returns : goal.returns
 returns g c =
     let s = state_at (g.S.Feed.group c.args.group.now) c.args.queues.spot.id c.args.queues.spot.place in
     in_other_words _ _ _ _ _
-    (queue_parts c.args.queues.is_array c.args.queues.spot.id c.args.queues.spot.place (layer_tree c.args.queues.layer.now)
+    (queue_parts c.args.queues.is_array c.args.queues.spot.id c.args.queues.spot.place
+    (layer_tree c.args.queues.layer.now)
     c.args.queues.name.now
     (rows_text (stack_tree c.args.queues.stack.now) (rows_at s c.args.queues.spot.cell c.args.queue)) c.args.queue)
     c.push_queue.ensures

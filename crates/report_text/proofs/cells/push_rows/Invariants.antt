@@ -10,4 +10,5 @@ abbrev pub invariant-loop-k : goal.invariant-loop-k
 invariant-loop-k g l =
     l.line ≡ l.initial.line
     ++ join_by (row_text (stack_tree l.queues.stack.now)) (codes " ")
-    (take l.k (rows_at (state_at (g.S.Feed.group l.group) l.queues.spot.id l.queues.spot.place) l.queues.spot.cell l.queue))
+    (take l.k (rows_at (state_at (g.S.Feed.group l.group) l.queues.spot.id l.queues.spot.place) l.queues.spot.cell
+    l.queue))

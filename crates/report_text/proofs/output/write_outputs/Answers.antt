@@ -19,9 +19,9 @@ loop-k-preserved g c =
           c.loop-k.invariant.gained c.in_ok-write_output.ensures c.loop-k.invariant.numbered
           (omega (arith, c.loop-k-test.true, c.len-k-end.ensures)) at;
       numbered = number_more issue.outputs.now.outputs issue.first c.loop-k.k c.loop-k.number _ _
-          c.loop-k.invariant.numbered c.number_behind-number.ensures.is
+          c.loop-k.invariant.numbered c.number_following-number.ensures.is
           (omega (arith, c.loop-k-test.true, c.len-k-end.ensures)) at;
-      few = omega (arith, c.number_behind-number.ensures.few, c.loop-k.invariant.few);
+      few = omega (arith, c.number_following-number.ensures.few, c.loop-k.invariant.few);
     }
 
 pub returns-in_err-write_output : goal.returns-in_err-write_output

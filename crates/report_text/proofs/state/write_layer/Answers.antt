@@ -14,10 +14,16 @@ loop-number-preserved g c =
     let s = state_at (g.S.Feed.group c.args.group.now) c.args.shown.id c.args.shown.place in
     let item = c.index-item.result.now in
     turns_more
-    (cell_lines (stack_tree c.args.shown.stack.now) c.args.shown.id c.args.shown.place (layer_tree c.args.shown.layer.now) s)
+    (cell_lines (stack_tree c.args.shown.stack.now) c.args.shown.id c.args.shown.place
+    (layer_tree c.args.shown.layer.now) s)
     (layer_tree c.args.shown.layer.now).cells c.loop-number.number (cell_tree item) (cell_tree item) _ _ _
     c.loop-number.invariant c.in_ok-write_cell.ensures
-    (omega (arith, c.loop-number-test.true, c.len-count.ensures, length-map c.args.shown.layer.now.cells.items cell_tree))
+    (omega (
+      arith,
+      c.loop-number-test.true,
+      c.len-count.ensures,
+      length-map c.args.shown.layer.now.cells.items cell_tree,
+    ))
     (mapped_at cell_tree c.args.shown.layer.now.cells.items c.loop-number.number item
     (omega (arith, c.loop-number-test.true, c.len-count.ensures)) c.index-item.ensures)
 
@@ -27,10 +33,16 @@ returns-in_err-write_cell g c =
     let item = c.index-item.result.now in
     let p = err_from_is_err_and c.from_residual.result c.from_residual.ensures.1 in
     rw (p.1, p.2) (turns_cut
-    (cell_lines (stack_tree c.args.shown.stack.now) c.args.shown.id c.args.shown.place (layer_tree c.args.shown.layer.now) s)
+    (cell_lines (stack_tree c.args.shown.stack.now) c.args.shown.id c.args.shown.place
+    (layer_tree c.args.shown.layer.now) s)
     (layer_tree c.args.shown.layer.now).cells c.loop-number.number (cell_tree item) (cell_tree item) _ _ _ _
     c.loop-number.invariant c.in_err-write_cell.ensures
-    (omega (arith, c.loop-number-test.true, c.len-count.ensures, length-map c.args.shown.layer.now.cells.items cell_tree))
+    (omega (
+      arith,
+      c.loop-number-test.true,
+      c.len-count.ensures,
+      length-map c.args.shown.layer.now.cells.items cell_tree,
+    ))
     (mapped_at cell_tree c.args.shown.layer.now.cells.items c.loop-number.number item
     (omega (arith, c.loop-number-test.true, c.len-count.ensures)) c.index-item.ensures))
 
@@ -38,6 +50,12 @@ pub returns : goal.returns
 returns g c =
     let s = state_at (g.S.Feed.group c.args.group.now) c.args.shown.id c.args.shown.place in
     turns_done
-    (cell_lines (stack_tree c.args.shown.stack.now) c.args.shown.id c.args.shown.place (layer_tree c.args.shown.layer.now) s)
+    (cell_lines (stack_tree c.args.shown.stack.now) c.args.shown.id c.args.shown.place
+    (layer_tree c.args.shown.layer.now) s)
     (layer_tree c.args.shown.layer.now).cells c.loop-number.number _ _ c.loop-number.invariant
-    (omega (arith, c.loop-number-test.false, c.len-count.ensures, length-map c.args.shown.layer.now.cells.items cell_tree))
+    (omega (
+      arith,
+      c.loop-number-test.false,
+      c.len-count.ensures,
+      length-map c.args.shown.layer.now.cells.items cell_tree,
+    ))

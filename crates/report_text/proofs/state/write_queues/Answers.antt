@@ -13,9 +13,11 @@ loop-queue-preserved g c =
     let queues = c.args.queues in
     let s = state_at (g.S.Feed.group c.args.group.now) c.args.queues.spot.id c.args.queues.spot.place in
     turns_more
-    (one_queue (stack_tree c.args.queues.stack.now) c.args.queues.spot.id c.args.queues.spot.place (layer_tree queues.layer.now)
+    (one_queue (stack_tree c.args.queues.stack.now) c.args.queues.spot.id c.args.queues.spot.place
+    (layer_tree queues.layer.now)
     queues.is_array queues.name.now)
-    (queues_in (cell_at s c.args.queues.spot.cell)) c.loop-queue.queue (rows_at s c.args.queues.spot.cell c.loop-queue.queue) [] _ _ _
+    (queues_in (cell_at s c.args.queues.spot.cell)) c.loop-queue.queue
+    (rows_at s c.args.queues.spot.cell c.loop-queue.queue) [] _ _ _
     c.loop-queue.invariant c.in_ok-write_queue.ensures
     (omega (arith, c.loop-queue-test.true, c.queues_count-queue-end.ensures)) refl
 
@@ -25,9 +27,11 @@ returns-in_err-write_queue g c =
     let s = state_at (g.S.Feed.group c.args.group.now) c.args.queues.spot.id c.args.queues.spot.place in
     let p = err_from_is_err_and c.from_residual.result c.from_residual.ensures.1 in
     rw (p.1, p.2) (turns_cut
-    (one_queue (stack_tree c.args.queues.stack.now) c.args.queues.spot.id c.args.queues.spot.place (layer_tree queues.layer.now)
+    (one_queue (stack_tree c.args.queues.stack.now) c.args.queues.spot.id c.args.queues.spot.place
+    (layer_tree queues.layer.now)
     queues.is_array queues.name.now)
-    (queues_in (cell_at s c.args.queues.spot.cell)) c.loop-queue.queue (rows_at s c.args.queues.spot.cell c.loop-queue.queue) [] _ _ _
+    (queues_in (cell_at s c.args.queues.spot.cell)) c.loop-queue.queue
+    (rows_at s c.args.queues.spot.cell c.loop-queue.queue) [] _ _ _
     _
     c.loop-queue.invariant c.in_err-write_queue.ensures
     (omega (arith, c.loop-queue-test.true, c.queues_count-queue-end.ensures)) refl)
@@ -37,7 +41,8 @@ returns g c =
     let queues = c.args.queues in
     let s = state_at (g.S.Feed.group c.args.group.now) c.args.queues.spot.id c.args.queues.spot.place in
     turns_done
-    (one_queue (stack_tree c.args.queues.stack.now) c.args.queues.spot.id c.args.queues.spot.place (layer_tree queues.layer.now)
+    (one_queue (stack_tree c.args.queues.stack.now) c.args.queues.spot.id c.args.queues.spot.place
+    (layer_tree queues.layer.now)
     queues.is_array queues.name.now)
     (queues_in (cell_at s c.args.queues.spot.cell)) c.loop-queue.queue _ _ c.loop-queue.invariant
     (omega (arith, c.loop-queue-test.false, c.queues_count-queue-end.ensures))

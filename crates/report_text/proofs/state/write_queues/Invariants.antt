@@ -13,7 +13,8 @@ abbrev pub invariant-loop-queue : goal.invariant-loop-queue
 invariant-loop-queue g l = Gains
     (tells_of g.O.Sink l.initial.out)
     (tells_of g.O.Sink l.out)
-    (flat_map (one_queue (stack_tree l.queues.stack.now) l.queues.spot.id l.queues.spot.place (layer_tree l.queues.layer.now) l.queues.is_array
+    (flat_map (one_queue (stack_tree l.queues.stack.now) l.queues.spot.id l.queues.spot.place
+    (layer_tree l.queues.layer.now) l.queues.is_array
     l.queues.name.now)
     (take l.queue (enumerate_from 0
     (queues_in (cell_at (state_at (g.S.Feed.group l.group) l.queues.spot.id l.queues.spot.place) l.queues.spot.cell)))))

@@ -3,17 +3,17 @@ use Rattle.std.specs.Prelude.{map}
 use Rattle.run_audit.specs.Lacks.{ended_shown}
 use Rattle.run_audit.proofs.First.{clear_further, lack_found, no_lack, none_further}
 use Rattle.run_audit.proofs.lacks.least_lack.Goals as goal
-use Rattle.run_audit.proofs.lacks.least_lack.Goals.{then-not-is_in_front+in_ok-lack+else-is_some, else-not-is_in_front}
+use Rattle.run_audit.proofs.lacks.least_lack.Goals.{then-not-is_before+in_ok-lack+else-is_some, else-not-is_before}
 
 pub loop-one-preserved : goal.loop-one-preserved
-loop-one-preserved c = elim c.if-not-is_in_front.branch [
-  | then-not-is_in_front+in_ok-lack+else-is_some w ↦
+loop-one-preserved c = elim c.if-not-is_before.branch [
+  | then-not-is_before+in_ok-lack+else-is_some w ↦
       none_further (map ended_shown c.args.ended.now) c.args.ended.now c.loop-one.one-index _ c.one-item.result
       w.in_ok-lack.lack c.loop-one-test.true c.one-item.is c.loop-one.invariant w.in_ok-lack.ensures
       (sym w.if-is_some.ensures)
-  | else-not-is_in_front w ↦
+  | else-not-is_before w ↦
       clear_further c.in_ok-line.line c.args.ended.now c.loop-one.one-index _ c.one-item.result c.loop-one-test.true
-      c.one-item.is c.loop-one.invariant c.in_ok-line.ensures (sym w.if-not-is_in_front.ensures)
+      c.one-item.is c.loop-one.invariant c.in_ok-line.ensures (sym w.if-not-is_before.ensures)
 ]
 
 pub returns-then-is_some : goal.returns-then-is_some

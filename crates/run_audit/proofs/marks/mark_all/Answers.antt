@@ -14,6 +14,6 @@ pub loop-index-preserved : goal.loop-index-preserved
 loop-index-preserved c =
     marks_on (hash.get same_item_key c.loop-index.items) (hash.get same_item_key c.mark_segment.new.items)
     (hash.get same_way c.loop-index.groups) (hash.get same_way c.insert.new.self) c.args.ended.now c.loop-index.index
-    (c.loop-index.index - 1) _ c.index-ended-index.result c.group_at-behind.result c.group_with.result (omega arith)
-    (omega arith) c.index-ended-index.is c.loop-index.invariant c.group_at-behind.ensures c.group_with.ensures
+    (c.loop-index.index - 1) _ c.index-ended-index.result c.group_at-following.result c.group_with.result (omega arith)
+    (omega arith) c.index-ended-index.is c.loop-index.invariant c.group_at-following.ensures c.group_with.ensures
     c.in_ok-mark_segment.ensures c.in_ok-insert.ensures.updates.0

@@ -6,5 +6,5 @@ use Rattle.run_audit.proofs.marks.mark_segment.Given as goal
 
 abbrev pub invariant-loop-delivery : goal.invariant-loop-delivery
 invariant-loop-delivery l =
-    IsMarkedBy (hash.get same_item_key l.fn.items) (hash.get same_item_key l.items) l.behind l.one
+    IsMarkedBy (hash.get same_item_key l.fn.items) (hash.get same_item_key l.items) l.following l.one
     (take l.delivery-index l.delivery-items)

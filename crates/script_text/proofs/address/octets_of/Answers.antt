@@ -6,11 +6,11 @@ pub returns-then-is_some : goal.returns-then-is_some
 returns-then-is_some c =
     rw (
       c.cut.ensures,
-      c.in_ok-behind.was,
+      c.in_ok-following.was,
       c.cut-2.ensures,
-      c.in_ok-behind-2.was,
+      c.in_ok-following-2.was,
       c.cut-3.ensures,
-      c.in_ok-behind-3.was,
+      c.in_ok-following-3.was,
       c.cut-4.ensures,
     )
     (five c.cut.result.0.now c.cut-2.result.0.now c.cut-3.result.0.now c.cut-4.result.0.now 46 c.cut-4.result.1

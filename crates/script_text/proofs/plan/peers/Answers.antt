@@ -24,7 +24,7 @@ returns-in_err-peer_on-clause-spelled c =
     let lines = lines_left c.args.lines.now in
     rw (p.1, p.2)
     (passed_on (in_form line.0 (said_by (peer_line c.loop-member.member) line.1))
-    (first_peers c.args.members c.args.behind lines) c.in_err-peer_on.field-0.0 c.in_err-peer_on.ensures
-    (λ fault reads. bad_peer c.args.members c.args.behind c.loop-member.member lines (lines_left c.loop-member.lines)
+    (first_peers c.args.members c.args.following lines) c.in_err-peer_on.field-0.0 c.in_err-peer_on.ensures
+    (λ fault reads. bad_peer c.args.members c.args.following c.loop-member.member lines (lines_left c.loop-member.lines)
     (lines_left c.next.new.self) line c.loop-member.peers.items fault c.loop-member-test.true
     c.loop-member.invariant c.in-Some.ensures.steps reads))

@@ -1,5 +1,5 @@
 use Rattle.std.proofs.Common.{sym, ◌∙◌}
-use Rattle.stack_queue.proofs.Lists.{alone_goes_on, goes_behind}
+use Rattle.stack_queue.proofs.Lists.{alone_goes_on, goes_after}
 use Rattle.stack_queue.proofs.places.go_on.Goals as goal
 
 pub returns-then-len-eq1-2 : goal.returns-then-len-eq1-2
@@ -9,5 +9,5 @@ returns-then-len-eq1-2 c = alone_goes_on c.args.at c.args.places.now.items c.arg
     c.beyond.ensures c.first_way.ensures c.stand_alone.ensures
 
 pub returns : goal.returns
-returns c = goes_behind c.args.at c.args.places.now.items c.args.events.now.items c.args.places.now.capacity _ _
+returns c = goes_after c.args.at c.args.places.now.items c.args.events.now.items c.args.places.now.capacity _ _
     c.end_first.ensures c.put_places.ensures

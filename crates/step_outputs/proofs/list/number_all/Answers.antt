@@ -7,7 +7,7 @@ loop-kept-preserved c =
     number_more c.args.count c.loop-kept.kept-index c.loop-kept.next _ c.loop-kept.list c.kept-item.result
     c.take_number-next.new.kept _
     (omega (arith, c.loop-kept.auto.list, c.loop-kept-test.true)) c.loop-kept.invariant c.take_number-next.ensures.kept
-    c.take_number-next.ensures.behind
+    c.take_number-next.ensures.following
 
 pub returns : goal.returns
 returns c = all_numbered c.args.count c.loop-kept.next c.loop-kept.kept-index _ c.loop-kept.list

@@ -11,5 +11,6 @@ sending-requires-clause-knows c =
     c.requires.knows
 
 pub returns : goal.returns
-returns c = push_made c.args.queue.place c.args.queue.cell c.in_ok-values.values c.in_ok-index.ensures c.in_ok-values.ensures
+returns c = push_made c.args.queue.place c.args.queue.cell c.in_ok-values.values c.in_ok-index.ensures
+    c.in_ok-values.ensures
     c.in_ok-numbers.ensures c.in_ok-message.ensures

@@ -10,4 +10,5 @@ number-requires-3-clause-knows c = knows_grown (grown_on c.in_ok-row.ensures.gro
     c.requires.knows
 
 pub returns : goal.returns
-returns c = square_made c.args.square.place c.args.square.cell c.in_ok-row.ensures c.in_ok-column.ensures c.in_ok-value.ensures
+returns c = square_made c.args.square.place c.args.square.cell c.in_ok-row.ensures c.in_ok-column.ensures
+    c.in_ok-value.ensures

@@ -51,7 +51,8 @@ returns-in_err-write_operation g c =
 pub returns : goal.returns
 returns g c =
     let s = c.args.stacked.source.now in
-    operations_done s.noting (stack_tree c.args.stacked.stack.now) (operations_in s) c.loop-k.k _ _ c.loop-k.invariant.gained
+    operations_done s.noting (stack_tree c.args.stacked.stack.now) (operations_in s) c.loop-k.k _ _
+    c.loop-k.invariant.gained
     (omega (
       arith,
       c.loop-k-test.false,

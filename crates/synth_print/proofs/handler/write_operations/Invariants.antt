@@ -13,8 +13,10 @@ invariant-loop-k g l = record {
   gained : Gains
       (tells_of g.O.Sink l.initial.out)
       (tells_of g.O.Sink l.out)
-      (all_done l.stacked.source.now.noting (stack_tree l.stacked.stack.now) (take l.k (operations_in l.stacked.source.now)));
+      (all_done l.stacked.source.now.noting (stack_tree l.stacked.stack.now)
+      (take l.k (operations_in l.stacked.source.now)));
   written : written_of l.stacked.stack.now l.stacked.source.now l.written ≡
-      bare (so_far l.stacked.source.now.noting (stack_tree l.stacked.stack.now) (take l.k (operations_in l.stacked.source.now)));
+      bare (so_far l.stacked.source.now.noting (stack_tree l.stacked.stack.now)
+      (take l.k (operations_in l.stacked.source.now)));
   few : l.written.binds ≤ l.k;
 }

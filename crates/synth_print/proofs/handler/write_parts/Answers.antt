@@ -22,6 +22,7 @@ pub returns : goal.returns
 returns g c =
     let s = c.args.stacked.source.now in
     wrote_as _ _ _ _ _
-    (handler_lines (stack_tree c.args.stacked.stack.now) s.noting (handler_in s c.args.guard.values.now c.args.guard.conjuncts.now)
+    (handler_lines (stack_tree c.args.stacked.stack.now) s.noting
+    (handler_in s c.args.guard.values.now c.args.guard.conjuncts.now)
     c.requires.spelled)
     (wrote_both _ _ _ _ _ _ c.in_ok-write_guard.ensures c.write_operations.ensures)

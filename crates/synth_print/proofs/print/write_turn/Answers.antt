@@ -17,13 +17,15 @@ returns-in_err-write_plan g c =
     rw (p.1, p.2) (part_of _ _ _ (found_lines (stack_tree c.args.stack.now) (names.Plan c.args.numbered.number) found)
     (plan_turn (stack_tree c.args.stack.now) (bypasses_tree c.args.bypasses.now)
     (c.args.numbered.number, plan_tree c.args.numbered.plan.now)) _
-    (sym (turn_is (stack_tree c.args.stack.now) c.args.bypasses.now c.args.numbered.number (plan_tree c.args.numbered.plan.now) found
+    (sym (turn_is (stack_tree c.args.stack.now) c.args.bypasses.now c.args.numbered.number
+    (plan_tree c.args.numbered.plan.now) found
     refl))
     c.in_err-write_plan.ensures)
 
 pub returns : goal.returns
 returns g c =
     wrote_as _ _ _ _ _
-    (turn_is (stack_tree c.args.stack.now) c.args.bypasses.now c.args.numbered.number (plan_tree c.args.numbered.plan.now) _
+    (turn_is (stack_tree c.args.stack.now) c.args.bypasses.now c.args.numbered.number
+    (plan_tree c.args.numbered.plan.now) _
     c.cases_at.ensures)
     (wrote_both _ _ _ _ _ _ c.in_ok-write_plan.ensures c.write_found.ensures)

@@ -5,7 +5,7 @@ use Rattle.cell_store.specs.Kept.{kept_rows}
 use Rattle.pool_message.specs.Seen.{row_seen}
 use Rattle.file_layer.specs.Layer.{refs_of, state_in, IsInOrder}
 use Rattle.file_layer.specs.OwnCells.{capacity_at}
-use Rattle.file_layer.proofs.OwnCells.{row_own, room_behind, without_last_rest, back_together, rows_before}
+use Rattle.file_layer.proofs.OwnCells.{row_own, room_after, without_last_rest, back_together, rows_before}
 use Rattle.file_layer.proofs.OwnUndone.{last_read, back_left}
 use Rattle.file_layer.proofs.layer.FileLayer.take_back.Goals as goal
 
@@ -31,7 +31,7 @@ returns-clause-refs c = back_together c.args.self.now.desk.cells c.take_back.new
 
 pub returns-clause-room : goal.returns-clause-room
 unfolding state_in capacity_at
-returns-clause-room c = room_behind c.take_back.new.self c.args.cell c.args.index _ (search rules)
+returns-clause-room c = room_after c.take_back.new.self c.args.cell c.args.index _ (search rules)
 
 pub returns-clause-order : goal.returns-clause-order
 unfolding IsInOrder

@@ -4,7 +4,7 @@ use Rattle.typed_layer.specs.View.{layer_tree}
 use Rattle.pool_message.specs.Seen.{row_seen}
 use Rattle.file_layer.specs.Layer.{refs_of, state_in, IsInOrder}
 use Rattle.file_layer.specs.OwnCells.{capacity_at}
-use Rattle.file_layer.proofs.OwnCells.{row_own, room_behind, without_first_rest, front_together, rows_before}
+use Rattle.file_layer.proofs.OwnCells.{row_own, room_after, without_first_rest, front_together, rows_before}
 use Rattle.file_layer.proofs.OwnUndone.{front_read, front_left}
 use Rattle.file_layer.proofs.layer.FileLayer.take_row.Goals as goal
 
@@ -30,7 +30,7 @@ returns-clause-refs c = front_together c.args.self.now.desk.cells c.take.new.sel
 
 pub returns-clause-room : goal.returns-clause-room
 unfolding state_in capacity_at
-returns-clause-room c = room_behind c.take.new.self c.args.cell c.args.index _ (search rules)
+returns-clause-room c = room_after c.take.new.self c.args.cell c.args.index _ (search rules)
 
 pub returns-clause-order : goal.returns-clause-order
 unfolding IsInOrder

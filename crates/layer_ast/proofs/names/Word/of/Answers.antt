@@ -1,6 +1,6 @@
 use Rattle.std.proofs.Common.{◌≡◌, ℕ, ◌≤◌, List, ◌++◌, length, drop, replicate, arith, ap, length-append, length-drop}
 use Rattle.std.proofs.lemmas.List.{length-replicate}
-use Rattle.layer_ast.specs.WordBytes.{longest_word, zeros_behind}
+use Rattle.layer_ast.specs.WordBytes.{longest_word, zeros_after}
 use Rattle.layer_ast.proofs.names.Word.of.Goals as goal
 
 length_kept : (word front : List ℕ) → front ≡ word → length word ≤ longest_word →
@@ -19,5 +19,5 @@ invariant_of-result c = (
   c.requires.0,
   c.requires.1,
   length_kept _ _ c.copy_from_slice.ensures.after c.requires.1,
-  zeros_behind _ _ c.copy_from_slice.ensures.after,
+  zeros_after _ _ c.copy_from_slice.ensures.after,
 )

@@ -7,7 +7,7 @@ use Rattle.packet_short.proofs.layout.Layout.read.Given as goal
 
 abbrev pub invariant-loop-loose : goal.invariant-loop-loose
 invariant-loop-loose l = record {
-  read : filled (map loose_tree (drop l.loose-index l.loose-items)) l.headers l.fields.items (left l.behind) ≡
+  read : filled (map loose_tree (drop l.loose-index l.loose-items)) l.headers l.fields.items (left l.following) ≡
       filled (map loose_tree l.loose-items) l.self.headers [] (left l.fn.cursor);
   all : AllByRecursion (IsWithin (length l.self.headers)) (map loose_tree (drop l.loose-index l.loose-items));
   count : length l.headers ≡ length l.self.headers;

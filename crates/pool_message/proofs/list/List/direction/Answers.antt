@@ -1,5 +1,5 @@
 use Rattle.std.proofs.Common.{length, slice_get, Some, option_map, sym, ap, ◌∙◌, arith}
-use Rattle.pool_message.proofs.Slots.{got_within, got_at, none_behind, value_at}
+use Rattle.pool_message.proofs.Slots.{got_within, got_at, none_after, value_at}
 use Rattle.pool_message.proofs.list.List.direction.Goals as goal
 
 pub index-requires : goal.index-requires
@@ -14,7 +14,7 @@ pub unreachable-requires : goal.unreachable-requires
 unreachable-requires c =
     omega (
       arith,
-      none_behind c.self.inside.slots.items c.self.inside.order.items c.args.k (sym c.in-None.ensures),
+      none_after c.self.inside.slots.items c.self.inside.order.items c.args.k (sym c.in-None.ensures),
       ap (λ b. length b.items) c.self.view_is,
       c.requires,
     )

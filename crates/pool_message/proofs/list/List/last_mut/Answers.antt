@@ -1,7 +1,7 @@
 use Rattle.std.proofs.Common.{refl, [], ◌∷◌, ◌++◌, ap, ◌∙◌, arith}
 use Rattle.std.proofs.lemmas.List.{length-set}
 use Rattle.circular_buffer.specs.Buffer.{buffer}
-use Rattle.pool_message.specs.Lends.{last_sent, in_front_of_last}
+use Rattle.pool_message.specs.Lends.{last_sent, before_last}
 use Rattle.pool_message.proofs.Slots.{value_at, back_within, back_is, back_changed, back_stands, last_whole, some_stand}
 use Rattle.pool_message.proofs.list.List.last_mut.Goals as goal
 
@@ -14,7 +14,7 @@ pub index_mut-requires : goal.index_mut-requires
 index_mut-requires c =
     omega (
       arith,
-      back_within c.self.inside.slots.items (in_front_of_last c.args.self.now.items)
+      back_within c.self.inside.slots.items (before_last c.args.self.now.items)
           (last_sent c.args.self.now.items) c.self.inside.order.items
           c.self.inside.free.items c.last_of-k.result c.self.invariant.0 c.last_of-k.ensures
           (ap (λ b. b.items) c.self.view_is ∙ last_whole c.args.self.now.items c.requires),
@@ -23,7 +23,7 @@ index_mut-requires c =
 
 pub invariant_of-self-lent : goal.invariant_of-self-lent
 invariant_of-self-lent c = λ w. (
-  back_changed c.self.inside.slots.items (in_front_of_last c.args.self.now.items)
+  back_changed c.self.inside.slots.items (before_last c.args.self.now.items)
       (last_sent c.args.self.now.items) c.self.inside.order.items c.self.inside.free.items
       c.last_of-k.result c.self.invariant.0 c.last_of-k.ensures
       (ap (λ b. b.items) c.self.view_is ∙ last_whole c.args.self.now.items c.requires) w,
@@ -39,21 +39,21 @@ returns c = (
   (
     refl,
     λ w. ap (λ es. buffer es c.self.inside.order.capacity)
-        (back_stands c.self.inside.slots.items (in_front_of_last c.args.self.now.items)
+        (back_stands c.self.inside.slots.items (before_last c.args.self.now.items)
         (last_sent c.args.self.now.items) c.self.inside.order.items
         c.self.inside.free.items c.last_of-k.result c.self.invariant.0 c.last_of-k.ensures
         (ap (λ b. b.items) c.self.view_is ∙ last_whole c.args.self.now.items c.requires) w)
-        ∙ ap (λ n. buffer (in_front_of_last c.args.self.now.items ++ w ∷ []) n)
+        ∙ ap (λ n. buffer (before_last c.args.self.now.items ++ w ∷ []) n)
         (ap (λ b. b.capacity) c.self.view_is),
   ),
   record {
     writes_back = tt;
     value = value_at c.self.inside.slots.items c.last_of-k.result c.index_mut.result.now
-        (back_within c.self.inside.slots.items (in_front_of_last c.args.self.now.items)
+        (back_within c.self.inside.slots.items (before_last c.args.self.now.items)
         (last_sent c.args.self.now.items) c.self.inside.order.items
         c.self.inside.free.items c.last_of-k.result c.self.invariant.0 c.last_of-k.ensures
         (ap (λ b. b.items) c.self.view_is ∙ last_whole c.args.self.now.items c.requires)) c.index_mut.ensures.value ∙
-        back_is c.self.inside.slots.items (in_front_of_last c.args.self.now.items)
+        back_is c.self.inside.slots.items (before_last c.args.self.now.items)
         (last_sent c.args.self.now.items) c.self.inside.order.items c.self.inside.free.items
         c.last_of-k.result c.self.invariant.0 c.last_of-k.ensures
         (ap (λ b. b.items) c.self.view_is ∙ last_whole c.args.self.now.items c.requires);

@@ -34,12 +34,12 @@ overflow_sub-next c =
     (omega (arith, c.from-2.ensures, c.if-place-places.false, c.places.ensures)) ∙
     ap (λ k. length (declared_headers stack (k + 1))) c.from-2.ensures)
 
-pub returns-then-behind-next : goal.returns-then-behind-next
-returns-then-behind-next c =
+pub returns-then-following-next : goal.returns-then-following-next
+returns-then-following-next c =
     let stack = stack_tree c.args.self.now in
     let are = seen _ stack _ _ _ (ap stack_tree c.self.view_is) c.self.invariant.1 in
     number_is stack (length stack) c.args.place c.args.tag c.index-first.result.now c.index-next.result.now
-    (c.from-behind.result - 1)
+    (c.from-following.result - 1)
     (omega (arith, c.if-place-places.false, c.places.ensures)) c.if-tag-eq0.false
     (c.index-first.ensures ∙ first_at stack (length stack) _ _ _ are c.from.result _
     (omega (arith, c.from.ensures, c.if-place-places.false, c.places.ensures)) ∙
@@ -47,4 +47,4 @@ returns-then-behind-next c =
     (c.index-next.ensures ∙ first_at stack (length stack) _ _ _ are (c.from-2.result + 1) _
     (omega (arith, c.from-2.ensures, c.if-place-places.false, c.places.ensures)) ∙
     ap (λ k. length (declared_headers stack (k + 1))) c.from-2.ensures)
-    (ap (λ tag. tag - 1) c.from-behind.ensures) c.if-behind-next.true
+    (ap (λ tag. tag - 1) c.from-following.ensures) c.if-following-next.true

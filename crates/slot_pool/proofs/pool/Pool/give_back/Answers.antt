@@ -1,7 +1,7 @@
 use Rattle.std.proofs.Common.{◌-◌, refl, rules}
 use Rattle.slot_pool.specs.Spots.{Spot, spot_at}
 use Rattle.slot_pool.proofs.Calls.{within, end_pool, end_shown, free_pool, free_shown}
-use Rattle.slot_pool.proofs.Spots.{linked_behind}
+use Rattle.slot_pool.proofs.Spots.{linked_after}
 use Rattle.slot_pool.proofs.pool.Pool.give_back.Goals as goal
 
 pub invariant_of-self : goal.invariant_of-self
@@ -10,7 +10,7 @@ invariant_of-self c =
     let i = c.s.inside.index in
     let w : Spot = spot_at ps i in let v : Spot = record w { count = w.count - 1 } in
     let there = within ps n first i w v c.args.self.now c.args.s (search rules) (search rules) (search rules) refl in
-    rw (linked_behind c.self.inside.places c.end_reference.new.self c.link.new.self i first v there
+    rw (linked_after c.self.inside.places c.end_reference.new.self c.link.new.self i first v there
     c.end_reference.ensures.places c.link.ensures)
     (free_pool ps n first i w v c.args.self.now c.args.s (search rules) (search rules) (search rules) refl refl
     (search rules) (search rules))
@@ -29,7 +29,7 @@ returns-then-end_reference c =
     let i = c.s.inside.index in
     let w : Spot = spot_at ps i in let v : Spot = record w { count = w.count - 1 } in
     let there = within ps n first i w v c.args.self.now c.args.s (search rules) (search rules) (search rules) refl in
-    rw (linked_behind c.self.inside.places c.end_reference.new.self c.link.new.self i first v there
+    rw (linked_after c.self.inside.places c.end_reference.new.self c.link.new.self i first v there
     c.end_reference.ensures.places c.link.ensures)
     (free_shown ps n first i w v c.args.self.now c.args.s (search rules) (search rules) (search rules) refl refl)
 

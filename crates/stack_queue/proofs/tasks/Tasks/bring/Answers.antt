@@ -13,8 +13,8 @@ use Rattle.pool_message.specs.Sent.{first_sent, sent_refs}
 use Rattle.pool_message.specs.declared.event.PoolEvent.{PoolEvent}
 use Rattle.stack_queue.specs.Pending.{tasks_seen, tasks_refs, TasksLie, tasks_at}
 use Rattle.stack_queue.specs.declared.tasks.PoolTask.{PoolTask}
-use Rattle.stack_queue.proofs.Lists.{as_many, first_event, rest_at, same_behind, refs_at, lie_at, events_lie}
-use Rattle.stack_queue.proofs.Lists.{sent_behind, more_now, placed_all}
+use Rattle.stack_queue.proofs.Lists.{as_many, first_event, rest_at, same_after, refs_at, lie_at, events_lie}
+use Rattle.stack_queue.proofs.Lists.{sent_after, more_now, placed_all}
 use Rattle.stack_queue.proofs.tasks.Tasks.bring.Goals as goal
 
 pub take-decided-requires-clause-lie : goal.take-decided-requires-clause-lie
@@ -56,7 +56,7 @@ take-decided-requires-clause-places g c =
       ap length (rest_at c.self.inside.places.items c.self.inside.events.items c.args.self.now.items c.self.invariant.0
           view),
       as_many (drop 1 c.self.inside.places.items) (drop 1 c.self.inside.events.items)
-          (same_behind c.self.inside.places.items c.self.inside.events.items c.self.invariant.0),
+          (same_after c.self.inside.places.items c.self.inside.events.items c.self.invariant.0),
       ap (λ (b : Buffer PoolTask). b.capacity) c.self.view_is,
       c.self.invariant.1,
       c.self.invariant.2,
@@ -65,7 +65,7 @@ take-decided-requires-clause-places g c =
 
 pub invariant_of-self : goal.invariant_of-self
 invariant_of-self g c =
-    let same = same_behind c.self.inside.places.items c.self.inside.events.items c.self.invariant.0 in
+    let same = same_after c.self.inside.places.items c.self.inside.events.items c.self.invariant.0 in
     let on = c.go_on.ensures in (
       ap (λ b. length b.items) on
           ∙ placed_all c.args.at (drop 1 c.self.inside.places.items) c.take-decided.new.events.items (omega (
@@ -90,14 +90,14 @@ returns-clause-tasks g c =
     c.self.invariant.0 view in
     ap (λ b. tasks_seen c.take-decided.new.pool (tasks_at b.items c.take-decided.new.events.items))
     c.go_on.ensures
-    ∙ sent_behind c.args.pool.now c.take-decided.new.pool c.args.at (drop 1 c.self.inside.places.items)
+    ∙ sent_after c.args.pool.now c.take-decided.new.pool c.args.at (drop 1 c.self.inside.places.items)
     (drop 1 c.self.inside.events.items)
     c.take-decided.new.events.items
     (step (g.S.Stage.place c.args.stage.now) (g.S.Stage.layer c.args.stage.now)
     (g.S.Stage.state c.args.pool.now c.args.stage.now)
     (first_sent c.self.inside.events.items).0
     (event_seen c.args.pool.now (first_sent c.self.inside.events.items).1)).sent
-    (same_behind c.self.inside.places.items c.self.inside.events.items c.self.invariant.0) c.take-decided.ensures.sent
+    (same_after c.self.inside.places.items c.self.inside.events.items c.self.invariant.0) c.take-decided.ensures.sent
     ∙ ap (λ ts. tasks_seen c.args.pool.now ts ++ tasks_of c.args.at (step (g.S.Stage.place c.args.stage.now)
     (g.S.Stage.layer c.args.stage.now) (g.S.Stage.state c.args.pool.now c.args.stage.now)
     (first_sent c.self.inside.events.items).0
@@ -112,13 +112,13 @@ pub returns-clause-moved : goal.returns-clause-moved
 returns-clause-moved g c =
     let before = sym (refs_at c.self.inside.places.items c.self.inside.events.items c.self.invariant.0)
     ∙ ap (λ (b : Buffer PoolTask). tasks_refs b.items) c.self.view_is in
-    let behind = sym (refs_at c.go_on.new.places.items c.take-decided.new.events.items (invariant_of-self g c).0) in
+    let following = sym (refs_at c.go_on.new.places.items c.take-decided.new.events.items (invariant_of-self g c).0) in
     subst (λ rs. Moved c.args.pool.now c.take-decided.new.pool (g.S.Stage.refs c.args.stage.now ++ rs)
     (g.S.Stage.refs c.take-decided.new.self ++
     tasks_refs (tasks_at c.go_on.new.places.items c.take-decided.new.events.items))) before
     (subst (λ rs. Moved c.args.pool.now c.take-decided.new.pool
     (g.S.Stage.refs c.args.stage.now ++ sent_refs c.self.inside.events.items)
-    (g.S.Stage.refs c.take-decided.new.self ++ rs)) behind c.take-decided.ensures.moved)
+    (g.S.Stage.refs c.take-decided.new.self ++ rs)) following c.take-decided.ensures.moved)
 
 pub returns-clause-lie : goal.returns-clause-lie
 returns-clause-lie g c = lie_at c.take-decided.new.pool c.go_on.new.places.items c.take-decided.new.events.items

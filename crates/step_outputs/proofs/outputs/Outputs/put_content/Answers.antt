@@ -25,7 +25,7 @@ invariant_of-self c =
     put_keeps _ _ _ _ _ _ _ _ _ _ _ _ c.self.invariant free c.keep_bytes.ensures.items
     (ap (λ (b : Buffer Kept). b.items) c.push.ensures)
     (ap (λ (b : Buffer Kept). b.capacity) c.push.ensures) c.keep_bytes.ensures.capacity c.requires.few
-    (c.span_behind-span.ensures ∙ sym c.keep_bytes.ensures.place)
+    (c.span_after-span.ensures ∙ sym c.keep_bytes.ensures.place)
     c.keep_bytes.ensures.within
 
 -- one more output of those that are gathered
@@ -41,12 +41,12 @@ returns c =
       what = c.what_carried-what.result;
       headers = c.args.headers.now;
       body =
-          c.span_behind-span.result;
+          c.span_after-span.result;
     } in
     let told = put_tells c.self.inside.here _ _ _ _ _ one _ c.self.invariant.lie c.keep_bytes.ensures.items
     (ap (λ (b : Buffer Kept). b.items) c.push.ensures)
     (kept_tells c.self.inside.here c.args.direction event _ _ one _ (c.what_carried-what.ensures m) refl
-    (c.span_behind-span.ensures ∙ sym c.keep_bytes.ensures.place)
+    (c.span_after-span.ensures ∙ sym c.keep_bytes.ensures.place)
     c.keep_bytes.ensures.kept refl) in
     (λ i. record { here = c.self.inside.here; outputs = told i; places = c.self.inside.places }) ∙
     ap (λ g. with_output g sent) c.self.view_is

@@ -13,7 +13,8 @@ put_wire-requires c =
 pub invariant_of-self-2 : goal.invariant_of-self-2
 invariant_of-self-2 c =
     let p = c.args.packet.now in
-    let more = wire (plans_tree c.args.plans.now) (sent_packet c.args.here.now p.dest p.headers.now p.body.now) p.plan in
+    let more = wire (plans_tree c.args.plans.now) (sent_packet c.args.here.now p.dest p.headers.now p.body.now) p.plan
+    in
     ends_are c.self.inside.bytes.items more c.put_wire.new.into.items c.self.inside.ends.items
     c.push_reserved.new.self.items c.len-end.result
     (c.put_wire.ensures ∙ ap (λ xs. xs ++ more) c.make_room.ensures.items)
@@ -23,7 +24,8 @@ invariant_of-self-2 c =
 pub returns : goal.returns
 returns c =
     let p = c.args.packet.now in
-    let more = wire (plans_tree c.args.plans.now) (sent_packet c.args.here.now p.dest p.headers.now p.body.now) p.plan in
+    let more = wire (plans_tree c.args.plans.now) (sent_packet c.args.here.now p.dest p.headers.now p.body.now) p.plan
+    in
     put_is c.self.inside.bytes.items more c.put_wire.new.into.items c.self.inside.ends.items
     c.push_reserved.new.self.items c.len-end.result
     c.args.self.now c.self.view_is

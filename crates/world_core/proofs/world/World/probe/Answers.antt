@@ -5,7 +5,7 @@ use Rattle.stack_mean.specs.Acceptance.{largest_weight}
 use Rattle.stack_shapes.specs.Trees.{plans_tree}
 use Rattle.group_feed.specs.Standing.{spelled_of}
 use Rattle.world_core.proofs.Probed.{probed_so, seated_probed}
-use Rattle.world_core.proofs.Stepped.{mode_at, stack_at, stays_behind}
+use Rattle.world_core.proofs.Stepped.{mode_at, stack_at, stays_after}
 use Rattle.world_core.proofs.world.World.probe.Goals.{in-Ok, in-Err}
 use Rattle.world_core.proofs.world.World.probe.Goals as goal
 
@@ -53,5 +53,5 @@ returns-clause-probed c =
           c.probe_member-probed.ensures.probed world stands _
           (c.in-Step.ensures.asks c.args.self.now.stack c.args.self.now.plans world))
       | in-Err w ↦ rw w.result-is
-          (λ world stands. stays_behind _ _ _ _ _ _ c.self.inside.members.items _ c.self.view_is _ c.from.result _)
+          (λ world stands. stays_after _ _ _ _ _ _ c.self.inside.members.items _ c.self.view_is _ c.from.result _)
     ]

@@ -17,7 +17,8 @@ returns-then-restart_all-clause-stays c = stays_again _ _ _ _ _ c.self.inside.me
     c.if-restart_all.ensures.seats
 
 pub invariant_of-self-else-restart_all : goal.invariant_of-self-else-restart_all
-invariant_of-self-else-restart_all c = seated_again _ _ _ _ _ c.self.inside.members.items c.restart_all.new.members.items c.self.invariant
+invariant_of-self-else-restart_all c = seated_again
+    _ _ _ _ _ c.self.inside.members.items c.restart_all.new.members.items c.self.invariant
     c.if-restart_all.ensures
 
 pub returns-clause-stays : goal.returns-clause-stays

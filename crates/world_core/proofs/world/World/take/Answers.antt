@@ -2,7 +2,7 @@ use Rattle.std.proofs.Common.{◌<◌, ◌∙◌, ◌++◌, length, ap, sym, sub
 use Rattle.stack_mean.specs.Acceptance.{largest_weight}
 use Rattle.stack_shapes.specs.Trees.{plans_tree}
 use Rattle.group_feed.specs.Standing.{spelled_of}
-use Rattle.world_core.proofs.Stepped.{seated_behind, stack_at, stays_behind, step_fed}
+use Rattle.world_core.proofs.Stepped.{seated_following, stack_at, stays_after, step_fed}
 use Rattle.world_core.proofs.Visits.{step_visits}
 use Rattle.world_core.proofs.world.World.take.Goals.{in-Ok, in-Err}
 use Rattle.world_core.proofs.world.World.take.Goals as goal
@@ -14,7 +14,8 @@ step_member-stepped-requires-clause-out c =
     _ c.from.result _ c.self.invariant c.from.ensures its c.index_mut.ensures.value))
 
 pub invariant_of-self : goal.invariant_of-self
-invariant_of-self c = seated_behind _ _ _ _ _ c.self.inside.members.items c.from.result _ _ _ _ _ _ _ c.self.invariant
+invariant_of-self c = seated_following _ _ _ _ _ c.self.inside.members.items c.from.result _ _ _ _ _ _ _
+    c.self.invariant
     c.index_mut.ensures.value c.step_member-stepped.ensures.step
 
 pub returns-clause-fed : goal.returns-clause-fed
@@ -29,7 +30,7 @@ returns-clause-fed c =
           spelled_of (plans_tree plans) c.step_member-stepped.new.out.outputs) c.deref.ensures) world stands _
           (c.in-Step.ensures.asks c.args.self.now.stack c.args.self.now.plans world))
       | in-Err w ↦ rw w.result-is
-          (λ world stands. stays_behind _ _ _ _ _ _ c.self.inside.members.items _ c.self.view_is _ c.from.result _)
+          (λ world stands. stays_after _ _ _ _ _ _ c.self.inside.members.items _ c.self.view_is _ c.from.result _)
     ]
 
 pub returns-clause-few : goal.returns-clause-few

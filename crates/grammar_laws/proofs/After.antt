@@ -20,7 +20,7 @@ use Rattle.layer_ast.specs.declared.syntax.Shape.{Shape}
 use Rattle.layer_ast.specs.declared.syntax.Shape.TheVariants.{One, Array, Square}
 use Rattle.layer_ast.specs.declared.syntax.Sort.{Sort}
 use Rattle.layer_ast.specs.declared.syntax.Sort.TheVariants.{Int, Msg, Part}
-use Rattle.layer_ast.specs.Depth.{room_inside, room_behind, WithRoom, IsWithin}
+use Rattle.layer_ast.specs.Depth.{room_inside, room_after, WithRoom, IsWithin}
 use Rattle.layer_ast.specs.Print as print
 use Rattle.layer_ast.specs.Printed.{Printed, plain, name, kind, direction_sign, ending_sign, sort_sign, function_sign}
 use Rattle.layer_ast.specs.Printed.{operator_sign}
@@ -32,14 +32,14 @@ use Rattle.layer_ast.specs.Tree.{PoppedTree, PushedTree, SizeTree, fixed, sized,
 use Rattle.layer_ast.specs.Tree.{push, take, when, choose, each, emit, StatementTrees, none, more, Expected, always}
 use Rattle.layer_ast.specs.Tree.{common, rare, HandlerTree, ItemTree, ItemsTree, DeclarationTree, param, int, rows_cell}
 use Rattle.layer_ast.specs.Tree.{rows_array, header, LayerTree}
-use Rattle.grammar_laws.specs.Behind.{tokens_in, Stands, GoesOn}
+use Rattle.grammar_laws.specs.After.{tokens_in, Stands, GoesOn}
 
 -- a fact of the room that is left, if there is some
 abbrev IfRoom : Option ℕ → (ℕ → Type 0) → Type 0
 IfRoom None P = Unit {0}
 IfRoom (Some room) P = P room
 
-operator_flat : (o : Operator) (room : ℕ) → room_behind (token.Sign (operator_sign o)) room ≡ Some room
+operator_flat : (o : Operator) (room : ℕ) → room_after (token.Sign (operator_sign o)) room ≡ Some room
 operator_flat Add room = refl
 operator_flat Subtract room = refl
 operator_flat Multiply room = refl
@@ -55,96 +55,99 @@ operator_flat BitAnd room = refl
 operator_flat BitOr room = refl
 operator_flat BitXor room = refl
 
-function_flat : (f : Function) (room : ℕ) → room_behind (token.Sign (function_sign f)) room ≡ Some room
+function_flat : (f : Function) (room : ℕ) → room_after (token.Sign (function_sign f)) room ≡ Some room
 function_flat Not room = refl
 function_flat Bit room = refl
 function_flat Count room = refl
 function_flat Lowest room = refl
 
-direction_flat : (d : Dir) (room : ℕ) → room_behind (token.Sign (direction_sign d)) room ≡ Some room
+direction_flat : (d : Dir) (room : ℕ) → room_after (token.Sign (direction_sign d)) room ≡ Some room
 direction_flat Up room = refl
 direction_flat Down room = refl
 
-ending_flat : (e : Ending) (room : ℕ) → room_behind (token.Sign (ending_sign e)) room ≡ Some room
+ending_flat : (e : Ending) (room : ℕ) → room_after (token.Sign (ending_sign e)) room ≡ Some room
 ending_flat Passes room = refl
 ending_flat Ends room = refl
 
-sort_flat : (s : Sort) (room : ℕ) → room_behind (token.Sign (sort_sign s)) room ≡ Some room
+sort_flat : (s : Sort) (room : ℕ) → room_after (token.Sign (sort_sign s)) room ≡ Some room
 sort_flat Int room = refl
 sort_flat Msg room = refl
 sort_flat Part room = refl
 
-size_flat : (s : SizeTree) (room : ℕ) → room_behind (print.size s).token room ≡ Some room
+size_flat : (s : SizeTree) (room : ℕ) → room_after (print.size s).token room ≡ Some room
 size_flat (fixed at n) room = refl
 size_flat (sized n) room = refl
 
-module _ (behind : List Lexed) where
+module _ (following : List Lexed) where
   -- after one token there is what there is after it without one in front
-  past : (k l : List Printed) (tokens : List Lexed) (left : Option ℕ) → IfRoom left (λ room. GoesOn behind room k l) →
+  past : (k l : List Printed) (tokens : List Lexed) (left : Option ℕ) →
+      IfRoom left (λ room. GoesOn following room k l) →
       Fits k tokens → WithRoom left (λ room. IsWithin room (tokens_in tokens)) →
-      Fits l (tokens ++ behind) × WithRoom left (λ room. IsWithin room (tokens_in (tokens ++ behind)))
+      Fits l (tokens ++ following) × WithRoom left (λ room. IsWithin room (tokens_in (tokens ++ following)))
   past k l tokens None go fits within = absurd within
   past k l tokens (Some room) go fits within =
       let s = go.goes tokens record { fits = fits; within = within } in (s.fits, s.within)
 
   one_on : (p : Printed) (room : ℕ) (k l : List Printed) (tokens : List Lexed) →
-      IfRoom (room_behind p.token room) (λ left. GoesOn behind left k l) → Fits (p ∷ k) tokens →
-      IsWithin room (tokens_in tokens) → Fits (p ∷ l) (tokens ++ behind) × IsWithin room (tokens_in (tokens ++ behind))
+      IfRoom (room_after p.token room) (λ left. GoesOn following left k l) → Fits (p ∷ k) tokens →
+      IsWithin room (tokens_in tokens) → Fits (p ∷ l) (tokens ++ following) × IsWithin
+      room (tokens_in (tokens ++ following))
   unfolding Fits
   one_on p room k l [] go fits within = absurd fits
   one_on p room k l (t ∷ tokens) go fits within =
-      let here : IfRoom (room_behind t.token room) (λ left. GoesOn behind left k l) =
-      subst (λ u. IfRoom (room_behind u room) (λ left. GoesOn behind left k l)) (sym fits.0) go in
-      let rest = past k l tokens (room_behind t.token room) here fits.2 within in ((fits.0, fits.1, rest.0), rest.1)
+      let here : IfRoom (room_after t.token room) (λ left. GoesOn following left k l) =
+      subst (λ u. IfRoom (room_after u room) (λ left. GoesOn following left k l)) (sym fits.0) go in
+      let rest = past k l tokens (room_after t.token room) here fits.2 within in ((fits.0, fits.1, rest.0), rest.1)
 
   one : (p : Printed) (room : ℕ) (k l : List Printed) →
-      IfRoom (room_behind p.token room) (λ left. GoesOn behind left k l) →
-      GoesOn behind room (p ∷ k) (p ∷ l)
+      IfRoom (room_after p.token room) (λ left. GoesOn following left k l) →
+      GoesOn following room (p ∷ k) (p ∷ l)
   one p room k l go = record {
     goes = λ tokens s. let r = one_on p room k l tokens go s.fits s.within in record { fits = r.0; within = r.1 };
   }
 
   -- a token that is no bracket
-  flat : (p : Printed) (room : ℕ) (k l : List Printed) → room_behind p.token room ≡ Some room → GoesOn behind room k l →
-      GoesOn behind room (p ∷ k) (p ∷ l)
-  flat p room k l is h = one p room k l (subst (λ o. IfRoom o (λ left. GoesOn behind left k l)) (sym is) h)
+  flat : (p : Printed) (room : ℕ) (k l : List Printed) → room_after p.token room ≡ Some room →
+      GoesOn following room k l →
+      GoesOn following room (p ∷ k) (p ∷ l)
+  flat p room k l is h = one p room k l (subst (λ o. IfRoom o (λ left. GoesOn following left k l)) (sym is) h)
 
   -- a bracket that closes
-  shut : (p : Printed) (room : ℕ) (k l : List Printed) → room_behind p.token room ≡ Some (suc room) →
-      GoesOn behind (suc room) k l → GoesOn behind room (p ∷ k) (p ∷ l)
-  shut p room k l is h = one p room k l (subst (λ o. IfRoom o (λ left. GoesOn behind left k l)) (sym is) h)
+  shut : (p : Printed) (room : ℕ) (k l : List Printed) → room_after p.token room ≡ Some (suc room) →
+      GoesOn following (suc room) k l → GoesOn following room (p ∷ k) (p ∷ l)
+  shut p room k l is h = one p room k l (subst (λ o. IfRoom o (λ left. GoesOn following left k l)) (sym is) h)
 
   -- a bracket that opens, where what is inside it goes on before what goes on after it
-  inside : (room : ℕ) (k l x y : List Printed) → GoesOn behind room k l →
-      ((left : ℕ) → GoesOn behind (suc left) k l → GoesOn behind left x y) →
-      IfRoom (room_inside room) (λ left. GoesOn behind left x y)
+  inside : (room : ℕ) (k l x y : List Printed) → GoesOn following room k l →
+      ((left : ℕ) → GoesOn following (suc left) k l → GoesOn following left x y) →
+      IfRoom (room_inside room) (λ left. GoesOn following left x y)
   inside zero k l x y h go = tt
   inside (suc left) k l x y h go = go left h
 
-  opens : (p : Printed) (room : ℕ) (k l x y : List Printed) → room_behind p.token room ≡ room_inside room →
-      GoesOn behind room k l → ((left : ℕ) → GoesOn behind (suc left) k l → GoesOn behind left x y) →
-      GoesOn behind room (p ∷ x) (p ∷ y)
+  opens : (p : Printed) (room : ℕ) (k l x y : List Printed) → room_after p.token room ≡ room_inside room →
+      GoesOn following room k l → ((left : ℕ) → GoesOn following (suc left) k l → GoesOn following left x y) →
+      GoesOn following room (p ∷ x) (p ∷ y)
   opens p room k l x y is h go =
-      one p room x y (subst (λ o. IfRoom o (λ left. GoesOn behind left x y)) (sym is) (inside room k l x y h go))
+      one p room x y (subst (λ o. IfRoom o (λ left. GoesOn following left x y)) (sym is) (inside room k l x y h go))
 
   -- what goes on itself does so in brackets
   bracketed : (f : List Printed → List Printed) (room : ℕ) (k l : List Printed) →
-      ((left : ℕ) (x y : List Printed) → GoesOn behind left x y → GoesOn behind left (f x) (f y)) →
-      GoesOn behind room k l →
-      GoesOn behind room (plain sign.LeftBracket ∷ f (plain sign.RightBracket ∷ k))
+      ((left : ℕ) (x y : List Printed) → GoesOn following left x y → GoesOn following left (f x) (f y)) →
+      GoesOn following room k l →
+      GoesOn following room (plain sign.LeftBracket ∷ f (plain sign.RightBracket ∷ k))
       (plain sign.LeftBracket ∷ f (plain sign.RightBracket ∷ l))
   bracketed f room k l go h = opens _ room k l _ _ refl h (λ left g. go left _ _ (shut _ left k l refl g))
 
   braced : (f : List Printed → List Printed) (room : ℕ) (k l : List Printed) →
-      ((left : ℕ) (x y : List Printed) → GoesOn behind left x y → GoesOn behind left (f x) (f y)) →
-      GoesOn behind room k l →
-      GoesOn behind room (plain sign.LeftBrace ∷ f (plain sign.RightBrace ∷ k))
+      ((left : ℕ) (x y : List Printed) → GoesOn following left x y → GoesOn following left (f x) (f y)) →
+      GoesOn following room k l →
+      GoesOn following room (plain sign.LeftBrace ∷ f (plain sign.RightBrace ∷ k))
       (plain sign.LeftBrace ∷ f (plain sign.RightBrace ∷ l))
   braced f room k l go h = opens _ room k l _ _ refl h (λ left g. go left _ _ (shut _ left k l refl g))
 
   mutual
-    expression_on : (e : ExpressionTree) (room : ℕ) (k l : List Printed) → GoesOn behind room k l →
-        GoesOn behind room (print.expression e k) (print.expression e l)
+    expression_on : (e : ExpressionTree) (room : ℕ) (k l : List Printed) → GoesOn following room k l →
+        GoesOn following room (print.expression e k) (print.expression e l)
     expression_on (number at n) room k l h = flat _ room k l refl h
     expression_on (me at) room k l h = flat _ room k l refl h
     expression_on (members at) room k l h = flat _ room k l refl h
@@ -181,19 +184,19 @@ module _ (behind : List Lexed) where
         )
         )))
 
-    queue_on : (q : QueueTree) (room : ℕ) (k l : List Printed) → GoesOn behind room k l →
-        GoesOn behind room (print.queue q k) (print.queue q l)
+    queue_on : (q : QueueTree) (room : ℕ) (k l : List Printed) → GoesOn following room k l →
+        GoesOn following room (print.queue q k) (print.queue q l)
     queue_on (queue n) room k l h = flat _ room k l refl h
     queue_on (queue_at n i) room k l h =
         flat _ room _ _ refl (bracketed (print.expression i) room k l (expression_on i) h)
 
-    message_on : (m : MessageTree) (room : ℕ) (k l : List Printed) → GoesOn behind room k l →
-        GoesOn behind room (print.message m k) (print.message m l)
+    message_on : (m : MessageTree) (room : ℕ) (k l : List Printed) → GoesOn following room k l →
+        GoesOn following room (print.message m k) (print.message m l)
     message_on (bare n) room k l h = flat _ room k l refl h
     message_on (built b) room k l h = built_on b room k l h
 
-    built_on : (b : BuiltTree) (room : ℕ) (k l : List Printed) → GoesOn behind room k l →
-        GoesOn behind room (print.built b k) (print.built b l)
+    built_on : (b : BuiltTree) (room : ℕ) (k l : List Printed) → GoesOn following room k l →
+        GoesOn following room (print.built b k) (print.built b l)
     built_on (nothing at) room k l h = flat _ room k l refl h
     built_on (held at q row) room k l h =
         flat _ room _ _ refl (opens _ room k l _ _ refl h (λ left g.
@@ -212,47 +215,47 @@ module _ (behind : List Lexed) where
         flat _ room _ _ refl (opens _ room k l _ _ refl h (λ left g.
         message_on x left _ _ (flat _ left _ _ refl (message_on y left _ _ (shut _ left k l refl g)))))
 
-  index_on : (i : ExpressionTree) (room : ℕ) (k l : List Printed) → GoesOn behind room k l →
-      GoesOn behind room (plain sign.LeftBracket ∷ print.expression i (plain sign.RightBracket ∷ k))
+  index_on : (i : ExpressionTree) (room : ℕ) (k l : List Printed) → GoesOn following room k l →
+      GoesOn following room (plain sign.LeftBracket ∷ print.expression i (plain sign.RightBracket ∷ k))
       (plain sign.LeftBracket ∷ print.expression i (plain sign.RightBracket ∷ l))
   index_on i room k l h = bracketed (print.expression i) room k l (expression_on i) h
 
-  more_names_on : (ns : List Name) (room : ℕ) (k l : List Printed) → GoesOn behind room k l →
-      GoesOn behind room (print.more_names ns k) (print.more_names ns l)
+  more_names_on : (ns : List Name) (room : ℕ) (k l : List Printed) → GoesOn following room k l →
+      GoesOn following room (print.more_names ns k) (print.more_names ns l)
   more_names_on [] room k l h = h
   more_names_on (n ∷ ns) room k l h = flat _ room _ _ refl (flat (name n) room _ _ refl (more_names_on ns room k l h))
 
-  names_on : (ns : NamesTree) (room : ℕ) (k l : List Printed) → GoesOn behind room k l →
-      GoesOn behind room (print.names ns k) (print.names ns l)
+  names_on : (ns : NamesTree) (room : ℕ) (k l : List Printed) → GoesOn following room k l →
+      GoesOn following room (print.names ns k) (print.names ns l)
   names_on ns room k l h = flat _ room _ _ refl (more_names_on ns.rest room k l h)
 
-  some_names_on : (ns : Option NamesTree) (room : ℕ) (k l : List Printed) → GoesOn behind room k l →
-      GoesOn behind room (print.some_names ns k) (print.some_names ns l)
+  some_names_on : (ns : Option NamesTree) (room : ℕ) (k l : List Printed) → GoesOn following room k l →
+      GoesOn following room (print.some_names ns k) (print.some_names ns l)
   some_names_on None room k l h = h
   some_names_on (Some ns) room k l h = names_on ns room k l h
 
-  argument_on : (a : ArgumentTree) (room : ℕ) (k l : List Printed) → GoesOn behind room k l →
-      GoesOn behind room (print.argument a k) (print.argument a l)
+  argument_on : (a : ArgumentTree) (room : ℕ) (k l : List Printed) → GoesOn following room k l →
+      GoesOn following room (print.argument a k) (print.argument a l)
   argument_on (value e) room k l h = expression_on e room k l h
   argument_on (content b) room k l h = built_on b room k l h
 
-  more_arguments_on : (es : List ArgumentTree) (room : ℕ) (k l : List Printed) → GoesOn behind room k l →
-      GoesOn behind room (print.more_arguments es k) (print.more_arguments es l)
+  more_arguments_on : (es : List ArgumentTree) (room : ℕ) (k l : List Printed) → GoesOn following room k l →
+      GoesOn following room (print.more_arguments es k) (print.more_arguments es l)
   more_arguments_on [] room k l h = h
   more_arguments_on (a ∷ es) room k l h =
       flat _ room _ _ refl (argument_on a room _ _ (more_arguments_on es room k l h))
 
-  arguments_on : (es : ArgumentsTree) (room : ℕ) (k l : List Printed) → GoesOn behind room k l →
-      GoesOn behind room (print.arguments es k) (print.arguments es l)
+  arguments_on : (es : ArgumentsTree) (room : ℕ) (k l : List Printed) → GoesOn following room k l →
+      GoesOn following room (print.arguments es k) (print.arguments es l)
   arguments_on es room k l h = argument_on es.first room _ _ (more_arguments_on es.rest room k l h)
 
-  some_arguments_on : (es : Option ArgumentsTree) (room : ℕ) (k l : List Printed) → GoesOn behind room k l →
-      GoesOn behind room (print.some_arguments es k) (print.some_arguments es l)
+  some_arguments_on : (es : Option ArgumentsTree) (room : ℕ) (k l : List Printed) → GoesOn following room k l →
+      GoesOn following room (print.some_arguments es k) (print.some_arguments es l)
   some_arguments_on None room k l h = h
   some_arguments_on (Some es) room k l h = arguments_on es room k l h
 
-  pushed_on : (p : Option PushedTree) (room : ℕ) (k l : List Printed) → GoesOn behind room k l →
-      GoesOn behind room (print.pushed p k) (print.pushed p l)
+  pushed_on : (p : Option PushedTree) (room : ℕ) (k l : List Printed) → GoesOn following room k l →
+      GoesOn following room (print.pushed p k) (print.pushed p l)
   pushed_on None room k l h = h
   pushed_on (Some p) room k l h =
       flat _ room _ _ refl (
@@ -261,20 +264,20 @@ module _ (behind : List Lexed) where
       )
       )
 
-  set_index_on : (i : Option ExpressionTree) (room : ℕ) (k l : List Printed) → GoesOn behind room k l →
-      GoesOn behind room (print.index i k) (print.index i l)
+  set_index_on : (i : Option ExpressionTree) (room : ℕ) (k l : List Printed) → GoesOn following room k l →
+      GoesOn following room (print.index i k) (print.index i l)
   set_index_on None room k l h = h
   set_index_on (Some i) room k l h = index_on i room k l h
 
-  likely_on : (w : Likely) (room : ℕ) (k l : List Printed) → GoesOn behind room k l →
-      GoesOn behind room (print.likely w k) (print.likely w l)
+  likely_on : (w : Likely) (room : ℕ) (k l : List Printed) → GoesOn following room k l →
+      GoesOn following room (print.likely w k) (print.likely w l)
   likely_on likely_word.First room k l h = h
   likely_on likely_word.Else room k l h = flat _ room k l refl h
   likely_on likely_word.Two room k l h = flat _ room k l refl h
 
   mutual
-    statement_on : (s : StatementTree) (room : ℕ) (k l : List Printed) → GoesOn behind room k l →
-        GoesOn behind room (print.statement s k) (print.statement s l)
+    statement_on : (s : StatementTree) (room : ℕ) (k l : List Printed) → GoesOn following room k l →
+        GoesOn following room (print.statement s k) (print.statement s l)
     statement_on (bind at n e) room k l h =
         flat _ room _ _ refl (
         flat (name n) room _ _ refl (
@@ -346,17 +349,17 @@ module _ (behind : List Lexed) where
         )
         )
 
-    statements_on : (b : StatementTrees) (room : ℕ) (k l : List Printed) → GoesOn behind room k l →
-        GoesOn behind room (print.statements b k) (print.statements b l)
+    statements_on : (b : StatementTrees) (room : ℕ) (k l : List Printed) → GoesOn following room k l →
+        GoesOn following room (print.statements b k) (print.statements b l)
     statements_on none room k l h = h
     statements_on (more s b) room k l h = statement_on s room _ _ (statements_on b room k l h)
 
-  block_on : (b : StatementTrees) (room : ℕ) (k l : List Printed) → GoesOn behind room k l →
-      GoesOn behind room (print.block b k) (print.block b l)
+  block_on : (b : StatementTrees) (room : ℕ) (k l : List Printed) → GoesOn following room k l →
+      GoesOn following room (print.block b k) (print.block b l)
   block_on b room k l h = braced (print.statements b) room k l (statements_on b) h
 
-  popped_on : (p : Option PoppedTree) (room : ℕ) (k l : List Printed) → GoesOn behind room k l →
-      GoesOn behind room (print.popped p k) (print.popped p l)
+  popped_on : (p : Option PoppedTree) (room : ℕ) (k l : List Printed) → GoesOn following room k l →
+      GoesOn following room (print.popped p k) (print.popped p l)
   popped_on None room k l h = h
   popped_on (Some p) room k l h =
       flat _ room _ _ refl (
@@ -365,14 +368,14 @@ module _ (behind : List Lexed) where
       )
       )
 
-  expected_on : (e : Expected) (room : ℕ) (k l : List Printed) → GoesOn behind room k l →
-      GoesOn behind room (print.expected e k) (print.expected e l)
+  expected_on : (e : Expected) (room : ℕ) (k l : List Printed) → GoesOn following room k l →
+      GoesOn following room (print.expected e k) (print.expected e l)
   expected_on always room k l h = h
   expected_on (common condition) room k l h = flat _ room _ _ refl (expression_on condition room k l h)
   expected_on rare room k l h = flat _ room k l refl h
 
-  handler_on : (t : HandlerTree) (room : ℕ) (k l : List Printed) → GoesOn behind room k l →
-      GoesOn behind room (print.handler t k) (print.handler t l)
+  handler_on : (t : HandlerTree) (room : ℕ) (k l : List Printed) → GoesOn following room k l →
+      GoesOn following room (print.handler t k) (print.handler t l)
   handler_on t room k l h =
       flat _ room _ _ (direction_flat t.direction room) (
       flat (kind t.kind) room _ _ refl (
@@ -382,13 +385,13 @@ module _ (behind : List Lexed) where
       )
       )
 
-  handlers_on : (ts : List HandlerTree) (room : ℕ) (k l : List Printed) → GoesOn behind room k l →
-      GoesOn behind room (print.handlers ts k) (print.handlers ts l)
+  handlers_on : (ts : List HandlerTree) (room : ℕ) (k l : List Printed) → GoesOn following room k l →
+      GoesOn following room (print.handlers ts k) (print.handlers ts l)
   handlers_on [] room k l h = h
   handlers_on (t ∷ ts) room k l h = handler_on t room _ _ (handlers_on ts room k l h)
 
-  shape_on : (s : Shape) (room : ℕ) (k l : List Printed) → GoesOn behind room k l →
-      GoesOn behind room (print.shape s k) (print.shape s l)
+  shape_on : (s : Shape) (room : ℕ) (k l : List Printed) → GoesOn following room k l →
+      GoesOn following room (print.shape s k) (print.shape s l)
   shape_on One room k l h = h
   shape_on Array room k l h =
       opens _ room k l _ _ refl h (λ left g. flat (plain sign.N) left _ _ refl (shut _ left k l refl g))
@@ -398,24 +401,24 @@ module _ (behind : List Lexed) where
       flat (plain sign.Star) left _ _ refl (flat (plain sign.N) left _ _ refl (shut _ left k l refl g))
       ))
 
-  initial_on : (e : Option ExpressionTree) (room : ℕ) (k l : List Printed) → GoesOn behind room k l →
-      GoesOn behind room (print.initial e k) (print.initial e l)
+  initial_on : (e : Option ExpressionTree) (room : ℕ) (k l : List Printed) → GoesOn following room k l →
+      GoesOn following room (print.initial e k) (print.initial e l)
   initial_on None room k l h = h
   initial_on (Some e) room k l h = flat _ room _ _ refl (expression_on e room k l h)
 
-  item_on : (i : ItemTree) (room : ℕ) (k l : List Printed) → GoesOn behind room k l →
-      GoesOn behind room (print.item i k) (print.item i l)
+  item_on : (i : ItemTree) (room : ℕ) (k l : List Printed) → GoesOn following room k l →
+      GoesOn following room (print.item i k) (print.item i l)
   item_on i room k l h =
       flat (name i.name) room _ _ refl
       (flat (plain sign.Colon) room _ _ refl (flat _ room k l (sort_flat i.sort room) h))
 
-  more_items_on : (is : List ItemTree) (room : ℕ) (k l : List Printed) → GoesOn behind room k l →
-      GoesOn behind room (print.more_items is k) (print.more_items is l)
+  more_items_on : (is : List ItemTree) (room : ℕ) (k l : List Printed) → GoesOn following room k l →
+      GoesOn following room (print.more_items is k) (print.more_items is l)
   more_items_on [] room k l h = h
   more_items_on (i ∷ is) room k l h = flat _ room _ _ refl (item_on i room _ _ (more_items_on is room k l h))
 
-  rows_on : (c : SizeTree) (is : ItemsTree) (room : ℕ) (k l : List Printed) → GoesOn behind room k l →
-      GoesOn behind room (print.rows c is k) (print.rows c is l)
+  rows_on : (c : SizeTree) (is : ItemsTree) (room : ℕ) (k l : List Printed) → GoesOn following room k l →
+      GoesOn following room (print.rows c is k) (print.rows c is l)
   rows_on c is room k l h =
       opens _ room _ _ _ _ refl (
       flat (plain sign.Of) room _ _ refl (
@@ -424,8 +427,8 @@ module _ (behind : List Lexed) where
       )
       ) (λ left g. flat (print.size c) left _ _ (size_flat c left) (shut _ left _ _ refl g))
 
-  declaration_on : (d : DeclarationTree) (room : ℕ) (k l : List Printed) → GoesOn behind room k l →
-      GoesOn behind room (print.declaration d k) (print.declaration d l)
+  declaration_on : (d : DeclarationTree) (room : ℕ) (k l : List Printed) → GoesOn following room k l →
+      GoesOn following room (print.declaration d k) (print.declaration d l)
   declaration_on (param at n v) room k l h =
       flat _ room _ _ refl (
       flat (name n) room _ _ refl (
@@ -457,13 +460,13 @@ module _ (behind : List Lexed) where
       )
       )
 
-  declarations_on : (ds : List DeclarationTree) (room : ℕ) (k l : List Printed) → GoesOn behind room k l →
-      GoesOn behind room (print.declarations ds k) (print.declarations ds l)
+  declarations_on : (ds : List DeclarationTree) (room : ℕ) (k l : List Printed) → GoesOn following room k l →
+      GoesOn following room (print.declarations ds k) (print.declarations ds l)
   declarations_on [] room k l h = h
   declarations_on (d ∷ ds) room k l h = declaration_on d room _ _ (declarations_on ds room k l h)
 
-  layer_on : (t : LayerTree) (room : ℕ) (k l : List Printed) → GoesOn behind room k l →
-      GoesOn behind room (print.layer t k) (print.layer t l)
+  layer_on : (t : LayerTree) (room : ℕ) (k l : List Printed) → GoesOn following room k l →
+      GoesOn following room (print.layer t k) (print.layer t l)
   layer_on t room k l h =
       flat _ room _ _ refl (
       flat (name t.name) room _ _ refl (
@@ -472,21 +475,21 @@ module _ (behind : List Lexed) where
       )
       )
 
-  pub layers_on : (ts : List LayerTree) (room : ℕ) (k l : List Printed) → GoesOn behind room k l →
-      GoesOn behind room (print.layers ts k) (print.layers ts l)
+  pub layers_on : (ts : List LayerTree) (room : ℕ) (k l : List Printed) → GoesOn following room k l →
+      GoesOn following room (print.layers ts k) (print.layers ts l)
   layers_on [] room k l h = h
   layers_on (t ∷ ts) room k l h = layer_on t room _ _ (layers_on ts room k l h)
 
   -- after nothing stand these tokens alone
-  none_on : (room : ℕ) (l : List Printed) (tokens : List Lexed) → Stands room l behind → Fits [] tokens →
-      Stands room l (tokens ++ behind)
+  none_on : (room : ℕ) (l : List Printed) (tokens : List Lexed) → Stands room l following → Fits [] tokens →
+      Stands room l (tokens ++ following)
   unfolding Fits
   none_on room l [] h fits = h
   none_on room l (t ∷ tokens) h fits = absurd fits
 
   -- where tokens are these layers and those after them are what else is printed, together they are both
   pub layers_then : (ts : List LayerTree) (room : ℕ) (l : List Printed) (tokens : List Lexed) →
-      Stands room (print.layers ts []) tokens → Stands room l behind →
-      Stands room (print.layers ts l) (tokens ++ behind)
+      Stands room (print.layers ts []) tokens → Stands room l following →
+      Stands room (print.layers ts l) (tokens ++ following)
   layers_then ts room l tokens s h =
       (layers_on ts room [] l record { goes = λ none_left t. none_on room l none_left h t.fits }).goes tokens s

@@ -4,7 +4,7 @@ use Rattle.std.proofs.Math.Nat.{pow-le-pow_right, pow-suc}
 use Rattle.std.proofs.lemmas.Int.Digits.{digits_value_more}
 use Rattle.std.proofs.lemmas.List.Folds.{list_all_more}
 use Rattle.script_text.proofs.Digits.{digit_is}
-use Rattle.script_text.proofs.values.digits_in_front.Goals as goal
+use Rattle.script_text.proofs.values.leading_digits.Goals as goal
 
 -- one place more
 next_power : (place : ℕ) → 10 ^ (place + 1) ≡ 10 ^ place * 10

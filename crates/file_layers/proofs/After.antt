@@ -6,7 +6,7 @@ use Rattle.layer_ast.specs.Tree as ast
 use Rattle.layer_ast.specs.declared.names.Name.{Name}
 use Rattle.layer_ast.specs.declared.names.Word.{Word}
 use Rattle.file_mean.specs.Names.{Names, Slots, in_slots, with_messages, with_numbers}
-use Rattle.file_mean.specs.Statements.{after_block, behind, behind_all, with_taken}
+use Rattle.file_mean.specs.Statements.{after_block, following, after_all, with_taken}
 
 pub record Extends (names inner : Names) : Type 0 where
   pub place : inner.place ≡ names.place
@@ -39,22 +39,22 @@ pub extends_taken : (q : ast.QueueTree) (new : List Name) (names : Names) → Ex
 extends_taken q new names =
     extends_further names _ (with_taken q new names) (extends_numbers _ names) (extends_messages _ _)
 
-behind_one : (s : ast.StatementTree) (names : Names) → Extends names (behind s names)
-behind_one (ast.bind at name value) names = extends_numbers (name ∷ []) names
-behind_one (ast.set at name index value) names = same names names.taken
-behind_one (ast.set_square at name row column value) names = same names names.taken
-behind_one (ast.push at q items otherwise) names = same names _
-behind_one (ast.take at q new block otherwise) names = same names _
-behind_one (ast.when at likely condition block) names = same names _
-behind_one (ast.choose at likely condition block otherwise) names = same names _
-behind_one (ast.each at name below most block) names = same names _
-behind_one (ast.emit at direction kind arguments pushed) names = same names names.taken
+after_one : (s : ast.StatementTree) (names : Names) → Extends names (following s names)
+after_one (ast.bind at name value) names = extends_numbers (name ∷ []) names
+after_one (ast.set at name index value) names = same names names.taken
+after_one (ast.set_square at name row column value) names = same names names.taken
+after_one (ast.push at q items otherwise) names = same names _
+after_one (ast.take at q new block otherwise) names = same names _
+after_one (ast.when at likely condition block) names = same names _
+after_one (ast.choose at likely condition block otherwise) names = same names _
+after_one (ast.each at name below most block) names = same names _
+after_one (ast.emit at direction kind arguments pushed) names = same names names.taken
 
-pub extends_all : (all : ast.StatementTrees) (names : Names) → Extends names (behind_all all names)
+pub extends_all : (all : ast.StatementTrees) (names : Names) → Extends names (after_all all names)
 extends_all ast.none names = same names names.taken
 extends_all (ast.more s rest) names =
-    extends_further names (behind s names) (behind_all rest (behind s names)) (behind_one s names)
-    (extends_all rest (behind s names))
+    extends_further names (following s names) (after_all rest (following s names)) (after_one s names)
+    (extends_all rest (following s names))
 
 back_to : (all front back : List (Word × ℕ)) (n : ℕ) → all ≡ front ++ back → n ≡ length back →
     drop (length all - n) all ≡ back

@@ -11,7 +11,7 @@ abbrev pub rank_of : View → ℕ → ℕ
 rank_of view id = option_map_or (λ r. r) (rank view id) 0
 
 -- The view of a member after a change.
-abbrev pub view_behind : View → Option Change → Option View
-view_behind view (Some (Into next)) = Some next
-view_behind view (Some Out) = None
-view_behind view None = Some view
+abbrev pub view_after : View → Option Change → Option View
+view_after view (Some (Into next)) = Some next
+view_after view (Some Out) = None
+view_after view None = Some view

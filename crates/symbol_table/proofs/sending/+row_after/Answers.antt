@@ -1,6 +1,6 @@
 use Rattle.std.proofs.Common.{arith}
 use Rattle.symbol_table.proofs.Sent.{number_kept, row_next, row_there}
-use Rattle.symbol_table.proofs.sending.+row_behind.Goals as goal
+use Rattle.symbol_table.proofs.sending.+row_after.Goals as goal
 
 pub put-requires-2 : goal.put-requires-2
 put-requires-2 t c = (

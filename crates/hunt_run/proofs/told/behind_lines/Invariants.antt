@@ -1,8 +1,0 @@
-use Rattle.std.proofs.Common.{◌≡◌, drop}
-use Rattle.std.specs.Prelude.{◌==◌}
-use Rattle.std.specs.List.{slice_split}
-use Rattle.script_text.specs.Parts.{parts_behind}
-use Rattle.hunt_run.proofs.told.behind_lines.Given as goal
-
-abbrev pub invariant-loop : goal.invariant-loop
-invariant-loop l = parts_behind 10 l.rest ≡ drop l.counter (slice_split (λ byte. byte == 10) l.fn.text)
