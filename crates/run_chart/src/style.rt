@@ -18,7 +18,8 @@ text { font: 10px 'DejaVu Sans', Verdana, Arial, sans-serif; fill: #241f31 }
 g .arrow { stroke: #3d3846; stroke-width: 1.2; marker-end: url(#tip) }
 </style>
 <defs>
-<marker id='tip' viewBox='0 0 8 8' refX='13' refY='4' markerWidth='8' markerHeight='8' orient='auto' markerUnits='userSpaceOnUse'>
+<marker id='tip' viewBox='0 0 8 8' refX='13' refY='4' markerWidth='8' markerHeight='8' \
+ orient='auto' markerUnits='userSpaceOnUse'>
 <path d='M0 0 8 4 0 8z' fill='#3d3846'/></marker>
 <circle id='cast' r='5' fill='#1a5fb4'/>
 <path id='send' d='M0-6 6 0 0 6-6 0z' fill='#1b7a4b'/>

@@ -47,3 +47,6 @@ pub record Indexes (plans : List Plan) (first next : List (Option ℕ)) : Type 0
   pub all : length next ≡ length plans
   pub first_is : (print : ℕ) → print < 256 → IsNext plans print 0 (get_or first print None)
   pub next_is : (k : ℕ) → k < length plans → IsNext plans (print_at plans k) (k + 1) (get_or next k None)
+
+pub Indexes-prop : (plans : List Plan) (first next : List (Option ℕ)) → IsProp (Indexes plans first next)
+Indexes-prop plans first next = Prim.hlevel (props, IsNext-prop)

@@ -1,8 +1,7 @@
 //! Plans as they are kept.
 
-ghost use Rattle.std.proofs.Props.{props};
 ghost use Rattle.stack_shapes.specs.Lists.{list_tree};
-ghost use Rattle.stack_shapes.specs.Prints.{Indexes, IsNext-prop};
+ghost use Rattle.stack_shapes.specs.Prints.{Indexes, Indexes-prop};
 
 use crate::index::Index;
 use crate::types::PlanList;
@@ -13,5 +12,5 @@ use crate::types::PlanList;
 pub struct Plans {
     pub(crate) list: PlanList,
     pub(crate) index: Index,
-    ghost indexed: { Indexes (list_tree list) index.first.items index.next.items } by { Prim.hlevel (props, IsNext-prop) },
+    ghost indexed: { Indexes (list_tree list) index.first.items index.next.items } by { Indexes-prop _ _ _ },
 }
