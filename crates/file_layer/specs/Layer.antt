@@ -1,5 +1,5 @@
 -- A layer at its place, as the crates above see it.
-use Rattle.std.specs.Prelude.{◌≡◌, ℕ, List, [], slice_index_or}
+use Rattle.std.specs.Prelude.{◌≡◌, ℕ, ⊤, List, [], slice_index_or}
 use Rattle.std.specs.Rc.{rc_value}
 use Rattle.slot_pool.specs.Held.{Held}
 use Rattle.layer_mean.specs.State.{State}
@@ -37,6 +37,11 @@ most_of s = s.desk.cells.most
 
 unfoldable pub taken_by : FileLayer → ℕ
 taken_by s = s.taken
+
+-- All that is read of a layer, which proofs of its methods unfold at once.
+unfoldable pub layer_parts : ⊤
+unfolding place_of tree_of refs_of IsInOrder state_in most_of taken_by
+layer_parts = tt
 
 -- The layer at a place of a stack has seen no event, at the member of rank `me` of `count`: it is in order in any pool,
 -- refers to nothing, and its state is that of the layer at first.

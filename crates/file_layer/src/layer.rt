@@ -69,7 +69,7 @@ impl FileLayer {
 
     /// Begins again, at the member of rank `me` of `count`, of whom there are no more than there is room for. Its rows
     /// go back.
-    #[tactic(auto, unfolding(crate::specs::Layer::refs_of, crate::specs::Layer::most_of, crate::specs::Layer::IsInOrder))]
+    #[tactic(auto, unfolding(crate::specs::Layer::layer_parts))]
     pub fn reset(&mut self, pool: &mut Pool, me: u32, count: u32, ltime: u32)
         requires order { IsInOrder pool.old self.old }
         requires covers { Covers pool.old (refs_of self.old) }
@@ -171,13 +171,13 @@ impl Stage for FileLayer {
 
     ghost taken = { taken_by };
 
-    #[tactic(auto, unfolding(crate::specs::Layer::place_of, crate::specs::Layer::tree_of, crate::specs::Layer::refs_of, crate::specs::Layer::state_in, crate::specs::Layer::taken_by, crate::specs::Layer::IsInOrder))]
+    #[tactic(auto, unfolding(crate::specs::Layer::layer_parts))]
     fn take(&mut self, pool: &mut Pool, events: &mut Events) -> Predicted {
         count_one(&mut self.taken);
         visit(self.place, &self.layer, &mut self.desk, pool, events)
     }
 
-    #[tactic(auto, unfolding(crate::specs::Layer::place_of, crate::specs::Layer::tree_of, crate::specs::Layer::refs_of, crate::specs::Layer::state_in, crate::specs::Layer::taken_by, crate::specs::Layer::IsInOrder))]
+    #[tactic(auto, unfolding(crate::specs::Layer::layer_parts))]
     fn pass(&mut self, direction: Dir, event: &mut PoolEvent) -> bool {
         if !lets_pass(&self.layer, direction, event) {
             return false;

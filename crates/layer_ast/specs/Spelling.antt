@@ -1,5 +1,5 @@
 -- How words, symbols and numbers are spelled in bytes.
-use Rattle.std.specs.Prelude.{ℕ, ◌+◌, ◌-◌, ◌*◌, Bool, ◌||◌, nat_eq, List, [], ◌∷◌, find, fold, codes, Option}
+use Rattle.std.specs.Prelude.{ℕ, ⊤, ◌+◌, ◌-◌, ◌*◌, Bool, ◌||◌, nat_eq, List, [], ◌∷◌, find, fold, codes, Option}
 use Rattle.std.specs.Char.{is_ascii_alphanumeric}
 use Rattle.std.specs.List.{starts_with}
 use Rattle.std.specs.Option.{option_map, option_map_or}
@@ -133,6 +133,11 @@ symbols =
 -- the longest symbol that a text begins with, and its bytes
 unfoldable pub symbol_at : List ℕ → Option (List ℕ × Sign)
 symbol_at text = find (λ entry. starts_with nat_eq text entry.0) symbols
+
+-- these tables, which a proof that looks words up unfolds at once
+unfoldable pub tables : ⊤
+unfolding reserved kinds symbols
+tables = tt
 
 -- the number that decimal digits spell
 abbrev pub number_of : List ℕ → ℕ

@@ -110,7 +110,7 @@ pub fn short_wires_spell()
 {}
 
 /// A cast over four layers whose packet is sent short, by evaluation.
-#[tactic(auto, unfolding(layer_mean::specs::Visit::step, layer_mean::specs::Queue::run, stack_mean::specs::Shape::drawn_shape, stack_mean::specs::Shape::has_second_case))]
+#[tactic(auto, unfolding(stack_mean::specs::Samples::evaluated))]
 pub fn kept_step_is_short()
     ensures { KeptStepIsShort }
 {}

@@ -1,5 +1,6 @@
 -- Stacks that are judged, drawn and planned by computing.
-use Rattle.std.specs.Prelude.{◌≡◌, ℕ, List, [], ◌∷◌, ◌++◌, map, replicate, Option, Some, None, Result, Ok, Err, codes}
+use Rattle.std.specs.Prelude.{◌≡◌, ℕ, ⊤, List, [], ◌∷◌, ◌++◌, map, replicate, Option, Some, None, Result, Ok, Err}
+use Rattle.std.specs.Prelude.{codes}
 use Rattle.msg_core.specs.Chain.{Content}
 use Rattle.layer_ast.specs.declared.tokens.Dir.{Dir}
 use Rattle.layer_ast.specs.declared.tokens.Dir.TheVariants.{Up, Down}
@@ -7,7 +8,9 @@ use Rattle.layer_ast.specs.declared.tokens.Kind.TheVariants.{Cast, Send, Timer}
 use Rattle.layer_mean.specs.declared.run.Event.{Event}
 use Rattle.layer_mean.specs.declared.run.Case.TheVariants.{First}
 use Rattle.layer_mean.specs.Tree.{LayerTree}
+use Rattle.layer_ast.specs.Spelling.{kinds}
 use Rattle.layer_mean.specs.Effect.{unusual}
+use Rattle.layer_mean.specs.Queue.{run}
 use Rattle.layer_mean.specs.Visit.{Visited, fresh, step}
 use Rattle.layer_mean.specs.Marked.{Source}
 use Rattle.stack_mean.specs.Acceptance.{cycle, too_many, too_many_joins, acceptance, largest_weight, largest_joins}
@@ -15,10 +18,16 @@ use Rattle.stack_mean.specs.Acceptance.{rows_of}
 use Rattle.stack_mean.specs.NoShape as no_shape
 use Rattle.stack_mean.specs.NoShape.{NoShape, drawn_from}
 use Rattle.stack_mean.specs.Drawn.{DrawnHeader}
-use Rattle.stack_mean.specs.Shape.{app_cast, app_send, packet_entry, ShapeVisit, ShapeOut, Shape, shape}
+use Rattle.stack_mean.specs.Shape.{app_cast, app_send, packet_entry, ShapeVisit, ShapeOut, Shape, drawn_shape, shape}
+use Rattle.stack_mean.specs.Shape.{has_second_case}
 use Rattle.stack_mean.specs.Plans.{plans_of}
 use Rattle.stack_mean.specs.SampleLayers.{counter, bottom, mnak, local_copy, total, echo, fan, repeater, joiner}
 use Rattle.stack_mean.specs.SampleLayers.{surprised_layer, late, mirror, memory, answering, doubler, silent_layer}
+
+-- What small stacks compute with, which a proof by evaluation unfolds at once.
+unfoldable pub evaluated : ⊤
+unfolding kinds step run drawn_shape has_second_case
+evaluated = tt
 
 -- Two layers that send each cast back to each other go on forever; one alone doesn't.
 abbrev pub TwoEchoes : Type 0

@@ -1,5 +1,5 @@
 //! Small stacks, worked out by evaluation: the functions here are empty.
-#![tactic(auto, unfolding(crate::specs::Shape::drawn_shape, crate::specs::Shape::has_second_case, layer_ast::specs::Spelling::kinds, layer_mean::specs::Visit::step))]
+#![tactic(auto, unfolding(crate::specs::Samples::evaluated))]
 
 ghost use Rattle.stack_mean.specs.Cases.{AllCounts, ConstantFields, HugeWeight, PartsAndStored, UnreachedCycles};
 ghost use Rattle.stack_mean.specs.Cases.{Unhandled};

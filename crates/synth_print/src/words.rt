@@ -1,5 +1,5 @@
 //! Symbols and words of operators, functions, directions and kinds.
-#![tactic(auto, unfolding(layer_ast::specs::Spelling::kinds, layer_ast::specs::Spelling::reserved, layer_ast::specs::Spelling::symbols))]
+#![tactic(auto, unfolding(layer_ast::specs::Spelling::tables))]
 
 ghost use Rattle.std.specs.Prelude.{◌≡◌, ◌++◌, codes};
 ghost use Rattle.bypass_mean.specs.Lines.{packet_word};

@@ -1,5 +1,5 @@
 -- Traces of small stacks, made and followed by evaluation.
-use Rattle.std.specs.Prelude.{◌≡◌, ℕ, List, [], ◌∷◌, length, Option, Some, None, Result, Ok, Err, codes}
+use Rattle.std.specs.Prelude.{◌≡◌, ℕ, ⊤, List, [], ◌∷◌, length, Option, Some, None, Result, Ok, Err, codes}
 use Rattle.layer_ast.specs.declared.tokens.Dir.TheVariants.{Up, Down}
 use Rattle.layer_ast.specs.declared.tokens.Kind.TheVariants.{Cast, Send}
 use Rattle.layer_ast.specs.declared.syntax.Operator.TheVariants.{Add, Equal, Less, Greater, And, BitAnd}
@@ -11,21 +11,26 @@ use Rattle.msg_core.specs.Chain.{plain}
 use Rattle.layer_mean.specs.declared.run.Row.{Row}
 use Rattle.layer_mean.specs.State as state
 use Rattle.layer_mean.specs.State.{State}
-use Rattle.layer_mean.specs.Visit.{fresh}
+use Rattle.layer_mean.specs.Visit.{fresh, step}
 use Rattle.stack_mean.specs.NoShape as no_shape
 use Rattle.stack_mean.specs.NoShape.{NoShape, drawn_from}
 use Rattle.stack_mean.specs.SampleLayers.{block, sends, on, named_cell, counter, surprised_layer, bottom, late}
 use Rattle.stack_mean.specs.Cases.{parting}
 use Rattle.stack_mean.specs.Samples.{keeping_stack}
-use Rattle.stack_mean.specs.Shape.{app_cast, app_send, packet_entry}
+use Rattle.stack_mean.specs.Shape.{app_cast, app_send, packet_entry, has_second_case}
 use Rattle.stack_mean.specs.TwoCases.{flip}
 use Rattle.trace_mean.specs.Trace.{Atom, number, peer, field, bound, taken_number, Core, body, noted, taken_message}
 use Rattle.trace_mean.specs.Trace.{TraceNumber, atom, me, count, element, rows, binary, core, held, cut, join, Link}
 use Rattle.trace_mean.specs.Trace.{Chained, Operation, bind, note, check, set, push, take, output}
 use Rattle.trace_mean.specs.Follow.{Answer, follow, reached, stopped}
-use Rattle.trace_mean.specs.Fuse.{trace_of}
+use Rattle.trace_mean.specs.Fuse.{made_trace, trace_of}
 use Rattle.trace_mean.specs.Worth.{Input}
 use Rattle.trace_mean.specs.Counts.{trace_length, trace_notes, trace_outputs, trace_joins}
+
+-- What traces of small stacks compute with, which a proof by evaluation unfolds at once.
+unfoldable pub evaluated : ⊤
+unfolding step has_second_case made_trace follow
+evaluated = tt
 
 abbrev pub lit : ℕ → TraceNumber
 lit n = atom (number n)

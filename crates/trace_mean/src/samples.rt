@@ -1,5 +1,5 @@
 //! Traces of small stacks, made and followed by evaluation: the functions here are empty.
-#![tactic(auto, unfolding(crate::specs::Fuse::made_trace, crate::specs::Follow::follow, stack_mean::specs::Shape::has_second_case, layer_mean::specs::Visit::step))]
+#![tactic(auto, unfolding(crate::specs::Samples::evaluated))]
 
 ghost use Rattle.trace_mean.specs.Samples.{
   CounterFollowed,

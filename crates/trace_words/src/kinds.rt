@@ -1,5 +1,5 @@
 //! Words of directions, kinds and functions.
-#![tactic(auto, unfolding(layer_ast::specs::Spelling::kinds, layer_ast::specs::Spelling::reserved, layer_ast::specs::Spelling::symbols))]
+#![tactic(auto, unfolding(layer_ast::specs::Spelling::tables))]
 
 ghost use Rattle.std.specs.Prelude.{◌≡◌, ◌∷◌, []};
 ghost use Rattle.layer_ast.specs.Spelling.{beside, kinds};

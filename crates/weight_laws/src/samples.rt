@@ -1,5 +1,5 @@
 //! The laws at small stacks, by evaluation: the functions here are empty.
-#![tactic(auto, unfolding(layer_ast::specs::Spelling::kinds, layer_mean::specs::Queue::run, layer_mean::specs::Visit::step))]
+#![tactic(auto, unfolding(stack_mean::specs::Samples::evaluated))]
 
 ghost use Rattle.weight_laws.specs.Samples.{ChainedPacket, CounterRounds, CounterRun, EchoesAreSeen, JoinerVisit};
 ghost use Rattle.weight_laws.specs.Samples.{OrderedRun, SamplesAreOrderly, SamplesHaveFewHeaders};
