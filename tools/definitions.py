@@ -4,7 +4,7 @@
     tools/definitions.py           writes the page
     tools/definitions.py --check   prints what differs where the page is stale, and ends with 1
 
-Of each file at most MOST definitions are listed: of those that other crates name the ones that most do, where one that no other of the file is made of counts for
+Of each file at most MOST definitions are listed: of those that other crates name the one that most do, where one that no other of the file is made of counts for
 TOPS crates more. Each has the first sentence of its comment; one without a comment shares that of the definition before it. Files of which fewer than LEAST other
 crates name a definition have their names alone, but where that would be all of a crate. Worked samples are left out.
 """
@@ -16,8 +16,8 @@ import sys
 
 TOP = os.path.join(os.path.dirname(os.path.abspath(__file__)), "..")
 PAGE = "docs/DEFINITIONS.md"
-MOST = 2
-LEAST = 2
+MOST = 1
+LEAST = 3
 TOPS = 5
 LONG = 120
 MAP = re.compile(r"^    (\S.*?\S)  +([a-z]+_[a-z]+|outside)(?:  +\S.*)?$", re.M)
@@ -28,8 +28,8 @@ SAMPLES = re.compile(r"^(Sample|\w*Cases\b)|^\w+: (A|The) file (of|whose|with)|w
 HEAD = """# Definitions
 
 The law of the product: what contracts cite. Each definition stands once, in `specs/` of the crate that is named, under a comment that says what it means. This page
-gathers first sentences of these comments, in the order of the map in [ARCHITECTURE.md](ARCHITECTURE.md): of each file that several crates cite what it is about, and the two
-definitions on which other crates build the most; other files have their names alone. A long sentence is cut at its first colon. What follows from definitions is said by the
+gathers first sentences of these comments, in the order of the map in [ARCHITECTURE.md](ARCHITECTURE.md): of each file that several crates cite what it is about, and the
+definition on which other crates build the most; other files have their names alone. A long sentence is cut at its first colon. What follows from definitions is said by the
 crates of laws (`_laws`), and what they compute on small cases by the crates of rows (`_rows`).
 
 The page is made by `tools/definitions.py`, and `tools/test.sh` says when it is stale. A sentence is changed in the file where it stands.
