@@ -41,7 +41,7 @@ a_write _ = 0
 abbrev pub trace_writes : List Operation → ℕ
 trace_writes operations = sum_by a_write operations
 
--- A shape has that many outputs; where there is none nothing is said.
+-- A shape has n outputs; where there is no shape, nothing is said.
 abbrev pub HasOutputs : ℕ → Result Shape NoShape → Type 0
 HasOutputs n (Ok s) = n ≡ length s.outs
 HasOutputs n (Err reason) = Unit {0}

@@ -1,4 +1,4 @@
--- What a cell of a form has, for that many members.
+-- What a cell of a form has for n members.
 use Rattle.std.specs.Prelude.{ℕ, List, [], replicate}
 use Rattle.layer_ast.specs.declared.syntax.Shape.TheVariants.{One, Array}
 use Rattle.layer_mean.specs.Tree as tree

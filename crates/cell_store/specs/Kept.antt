@@ -9,7 +9,7 @@ use Rattle.layer_mean.specs.State.{State, Contents}
 use Rattle.layer_mean.specs.declared.run.Row.{Row}
 
 -- What a cell keeps: the numbers of its shape by their flat index, or the rows of its queue or of each queue of its
--- array, the front first; each of these keeps that many rows.
+-- array, the front first; each of these queues has room for `capacity` rows.
 pub data KeptCell (R : Type 0) : Type 0 where
   numbers : Shape → List ℕ → KeptCell R
   queues : Shape → (capacity : ℕ) → List (List R) → KeptCell R
@@ -85,7 +85,7 @@ module _ {R : Type 0} where
   abbrev pub with_kept_rows : Kept R → ℕ → ℕ → List R → Kept R
   with_kept_rows k c i rows = with_kept k c (rows_set i rows (kept_at k c))
 
-  -- A row more at the back or before a queue, and one less in front or at the back.
+  -- A queue with one more row at the back or at the front, and with one less at the front or at the back.
   abbrev pub with_last : Kept R → ℕ → ℕ → R → Kept R
   with_last k c i row = with_kept_rows k c i (kept_rows k c i ++ row ∷ [])
 

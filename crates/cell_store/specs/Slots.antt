@@ -39,8 +39,8 @@ module _ {R : Type 0} where
   abbrev pub slot_capacity : StoredCell R → ℕ
   slot_capacity s = capacity_framed s.frame s.rings.capacity
 
-  -- A cell of numbers has no queue, and no more numbers than there are for that many members; one of queues has no
-  -- numbers, and room for the queues of n members.
+  -- A cell of numbers has no queue, and no more numbers than there are for `most` members; one of queues has no
+  -- numbers, and room for the queues of `most` members.
   abbrev pub FitsFrame : ℕ → Frame → ℕ → CellQueues R → Type 0
   FitsFrame most (Numbers shape) count qs = (count ≤ size_of most shape) × (qs.rows ≡ [])
   FitsFrame most (Queues shape) count qs = (count ≡ 0) × (qs.most ≡ size_of most shape)

@@ -35,7 +35,7 @@ impl<R> Model for Rings<R> {
 }
 
 impl<R> Rings<R> {
-    /// That many empty queues of a capacity.
+    /// `count` empty queues of a capacity.
     pub fn of(alloc: Global, count: usize, capacity: u8) -> Result<Rings<R>, AllocError>
         ensures { IfOk result (λ r. r ≡ record { capacity = capacity; most = count; rows = replicate count [] }) }
     {
@@ -104,7 +104,7 @@ impl<R> Rings<R> {
         ring.push_back_reserved(row);
     }
 
-    /// Puts a row before a queue that has room.
+    /// Puts a row at the front of a queue that has room.
     pub fn put_front(&mut self, index: usize, row: R)
         requires there { index < length self.old.rows }
         requires room { length (slice_index_or self.old.rows index []) < self.old.capacity }
@@ -157,7 +157,7 @@ impl<R> Rings<R> {
         first_filled(&self.rings, self.shown)
     }
 
-    /// Shows that many of the queues, all of which are empty.
+    /// Shows `count` of the queues, all of which are empty.
     pub fn show(&mut self, count: usize)
         requires room { count ≤ self.old.most }
         requires empty { rows_of self.old.rows ≡ [] }
@@ -179,7 +179,7 @@ impl<R> Rings<R> {
     }
 }
 
-/// The first of that many rings that isn't empty.
+/// Which of the first `shown` rings is the first that isn't empty.
 fn first_filled<R>(rings: &[VecDeque<R>], shown: usize) -> Option<usize>
     requires { shown ≤ length rings.now }
     ensures some { IfSome result (λ i.

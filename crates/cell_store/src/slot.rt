@@ -102,7 +102,7 @@ fn capacity_of(form: &Form) -> u8
     }
 }
 
-/// How many numbers or queues a shape has for that many members.
+/// How many numbers or queues a shape has for `count` members.
 fn size_of(count: u32, shape: Shape) -> usize
     requires { count ≤ most_members }
     ensures { result ≡ size_of count shape }
@@ -134,7 +134,7 @@ fn queues_in(frame: Frame, count: u32) -> usize
     }
 }
 
-/// A cell, if there is such a one.
+/// A cell, if it is there.
 pub fn slot_at<R>(slots: &[StoredCell<R>], cell: u8) -> Option<&StoredCell<R>>
     ensures { option_copied result ≡ slice_get slots.now cell }
 {

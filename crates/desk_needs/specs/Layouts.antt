@@ -15,7 +15,7 @@ rows_kept (queue capacity items) = capacity
 rows_kept (queues capacity items) = capacity
 
 -- The rows of each cell's queues, the most numbers and messages that a handler's block declares, and the most messages
--- that one has in hand; with that many places for events.
+-- that one has in hand; with `places` places for events.
 abbrev pub layout_of : LayerTree → ℕ → Layout
 layout_of layer places = record {
   rows = map (λ c. rows_kept c.form) layer.cells;

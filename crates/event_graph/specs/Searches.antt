@@ -9,7 +9,7 @@ use Rattle.event_graph.specs.declared.search.Search.{Search}
 abbrev pub search_tree : Search → search.Search
 search_tree s = record { seen = s.seen.items; last = s.last.items }
 
--- Whether a search from a node sees the node itself in that many rounds.
+-- Whether a search from a node sees the node itself in `most` rounds.
 abbrev pub meets_itself : List Vertex → ℕ → Node → Bool
 meets_itself vertices most n = is_seen (search_after vertices most (search_from vertices (node_number n)))
     (node_number n)

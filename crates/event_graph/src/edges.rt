@@ -30,7 +30,7 @@ pub struct Node {
     pub tag: u8,
 }
 
-/// That one of that many nodes, of neighbouring numbers, follows that many times.
+/// That one of `count` nodes, of neighbouring numbers from `first` on, follows `times` times.
 #[derive(Clone, Copy)]
 pub struct Edge {
     pub times: u32,
@@ -134,7 +134,7 @@ pub fn edge_to(times: u32, node: Node, dir: Dir, kind: Kind, tags: Tags) -> Edge
     }
 }
 
-/// The edge of an emission that is done that many times.
+/// The edge of an emission that is done `times` times.
 fn emitted(stack: &Typed, node: Node, times: u32, emission: &Emission) -> Edge
     ensures { edge_tree result ≡ emission_edge (typed_tree stack.now) (node_tree node)
         (record { times = times; emission = emission_tree emission.now }) }
@@ -143,7 +143,7 @@ fn emitted(stack: &Typed, node: Node, times: u32, emission: &Emission) -> Edge
     edge_to(times, node, emission.direction, emission.kind, tags)
 }
 
-/// Adds the edge of an emission that is done that many times.
+/// Adds the edge of an emission that is done `times` times.
 fn add_emission(
     stack: &Typed,
     node: Node,
@@ -159,7 +159,7 @@ fn add_emission(
     Ok(())
 }
 
-/// Adds the edges of a loop's block, where the loop is done that many times.
+/// Adds the edges of the block of a loop that is done `times` times, in at most `most` turns each time.
 #[cycle(add)]
 fn add_repeated(
     stack: &Typed,
@@ -182,7 +182,7 @@ fn add_repeated(
     )
 }
 
-/// Adds the edges of a statement that is done that many times.
+/// Adds the edges of a statement that is done `times` times.
 #[cycle(add)]
 fn add_statement(
     stack: &Typed,
@@ -232,7 +232,7 @@ fn add_statement(
     }
 }
 
-/// Adds the edges of a block that is done that many times.
+/// Adds the edges of a block that is done `times` times.
 #[cycle(add)]
 pub fn add_block(
     stack: &Typed,

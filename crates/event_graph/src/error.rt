@@ -13,7 +13,7 @@ pub enum StackError {
     /// An event that arrives at a place, counted from 0, and is of a kind can follow from itself.
     #[error("an event at place {0} can follow from itself")]
     Cycle(u8, Kind),
-    /// That many tasks can follow from an entry, as far as 32 bits hold the number.
+    /// Too many tasks can follow from an entry: this many, as far as 32 bits hold the number.
     #[error("{0} tasks can follow from one event")]
     TooMany(u32),
     /// Too many joins can follow from an entry.

@@ -130,7 +130,7 @@ impl Search {
         self.see_after(vertices, &last)
     }
 
-    /// That many rounds; once one sees nothing, none is made.
+    /// Makes `most` rounds; once a round sees nothing, no more are made.
     fn rounds(&mut self, alloc: Global, vertices: &[Vertex], most: usize) -> Result<(), AllocError>
         ensures { OnOk result
             (search_tree self.new ≡ search.search_after (map vertex_tree vertices.now) most (search_tree self.old)) }
@@ -145,7 +145,7 @@ impl Search {
     }
 }
 
-/// Whether a search from a node meets the node itself in that many rounds.
+/// Whether a search from a node meets the node itself in `most` rounds.
 fn is_met(alloc: Global, vertices: &[Vertex], most: usize, node: Node) -> Result<bool, AllocError>
     ensures { IfOk result (λ met. met ≡ meets_itself (map vertex_tree vertices.now) most (node_tree node)) }
 {
@@ -156,7 +156,7 @@ fn is_met(alloc: Global, vertices: &[Vertex], most: usize, node: Node) -> Result
     Ok(search.has_seen(number))
 }
 
-/// The first of some nodes that a search from it meets, in that many rounds.
+/// The first of `nodes` that a search from it meets in `most` rounds.
 pub fn first_met(
     alloc: Global,
     vertices: &[Vertex],

@@ -205,7 +205,7 @@ pub fn nodes(alloc: Global, stack: &Typed) -> Result<Vec<Node>, AllocError>
     Ok(nodes)
 }
 
-/// A table for a stack of that many places, without nodes.
+/// A table for a stack of `places` places, without nodes.
 fn empty(alloc: Global, places: u8) -> Result<Vec<Vertex>, AllocError>
     ensures { IfOk result (λ vertices. map vertex_tree vertices.items ≡ empty_table places) }
 {

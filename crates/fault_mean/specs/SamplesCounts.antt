@@ -13,11 +13,11 @@ use Rattle.fault_mean.specs.Faults.{too_many}
 use Rattle.fault_mean.specs.NameFaults.{name_fault}
 use Rattle.fault_mean.specs.Samples.{handler, small_file, timer_down}
 
--- That many different names; the first stands at column 1, the second at column 2, and so on.
+-- `count` different names; the first stands at column 1, the second at column 2, and so on.
 abbrev pub numbered_names : ℕ → List Name
 numbered_names count = map (λ k. name_at (k ∷ []) 2 k) (range_with_len 1 count)
 
--- That many things are no fault, and one more is one at its place.
+-- `most` things are no fault, and one more is a fault at its place.
 abbrev pub HasLimit : (ℕ → FileTree) → ℕ → Type 0
 HasLimit file most = (name_fault (file most) ≡ None) ×
     (name_fault (file (most + 1)) ≡ Some (too_many (at 2 (most + 1))))

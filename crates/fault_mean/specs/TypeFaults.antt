@@ -53,7 +53,7 @@ suits Down true Msg = false
 suits _ ends sort = true
 
 -- The faults of a header that is named after `with`, at the first token of its handler or emission: it is a header,
--- has that many fields, and stands where one may.
+-- has `fields` fields, and stands where one may.
 abbrev pub with_faults : LayerTree → At → Name → ℕ → Bool → List TypeFault
 with_faults layer at name fields allowed =
     unless (declared_as is_header layer name.word) (kind at)
@@ -89,7 +89,7 @@ abbrev pub set_faults : Scope → At → Shape → Name → List ExpressionTree 
 set_faults scope at shape name parts =
     unless (declared_as (is_numbers shape) scope.layer name.word) (kind at) ++ flat_map (number_faults scope) parts
 
--- The faults of a push or a take of that many items, at its word.
+-- The faults of a push or a take of `items` items, at its word.
 abbrev pub row_type_faults : Scope → At → QueueTree → ℕ → List TypeFault
 row_type_faults scope at q items =
     queue_faults scope at q ++ unless (length (row_of scope.layer (queue_name q).word) == items) (arity at)

@@ -20,7 +20,7 @@ use Rattle.file_laws.proofs.Fronts.{front, front_is}
 use Rattle.file_laws.proofs.Messages.{inner_number}
 use Rattle.chain_laws.proofs.Lists.{Where}
 
--- what nothing is left of after that many isn't longer
+-- a list of which nothing is left after n items isn't longer than n
 
 pub drop_few : {A : Type 0} (n : ℕ) (xs : List A) → drop n xs ≡ [] → length xs ≤ n
 drop_few zero [] h = omega arith

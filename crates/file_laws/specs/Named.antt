@@ -51,14 +51,14 @@ pub record NamesQueue (layer : LayerTree) (c : ℕ) (i : ExpressionTree) : Type 
   pub items : ItemsTree
   pub listed : NamesRows layer c i items
 
--- A number of its rows is named that they have.
+-- A number of its rows is named, and they have it.
 pub record NamesItem (layer : LayerTree) (c : ℕ) (i : ExpressionTree) (k : ℕ) : Type 0 where
   pub items : ItemsTree
   pub listed : NamesRows layer c i items
   pub below : k < length items.numbers
 
 abbrev mutual
-  -- All that an expression and a message name is there, in a scope with that many numbers.
+  -- All that an expression and a message name is there, in a scope with `slots` numbers.
   pub Named : LayerTree → ℕ → ExpressionTree → Type 0
   Named layer slots (local k) = k < slots
   Named layer slots (element c i) = NamesNumber layer c i × Named layer slots i
@@ -78,7 +78,7 @@ abbrev mutual
   NamedMessage layer slots (join p m) = NamedMessage layer slots p × NamedMessage layer slots m
   NamedMessage layer slots _ = Unit {0}
 
--- A size is from 1 on, and at most so much.
+-- A size is from 1 on, and at most `most`.
 abbrev pub IsSize : ℕ → ℕ → Type 0
 IsSize most n = (1 ≤ n) × (n ≤ most)
 

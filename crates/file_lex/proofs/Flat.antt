@@ -26,7 +26,7 @@ module _ (p : ℕ → Bool) (none : p 10 ≡ false) where
           ∙ (ap (λ t. t && is_flat (take (prefix_len p bs) bs)) (no_feed b (nat_eq b 10) refl is) ∙ rest)
       passes false is rest = refl
 
-  -- that many bytes at the front of a text pass, so they are in one line
+  -- the first n bytes of a text pass, so they are in one line
   flat : (n : ℕ) (bytes : List ℕ) → n ≡ prefix_len p bytes → is_flat (take n bytes) ≡ true
   flat n bytes is = ap (λ m. is_flat (take m bytes)) is ∙ front_flat bytes
 

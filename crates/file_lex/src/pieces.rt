@@ -93,7 +93,7 @@ fn digits_length(bytes: &[u8]) -> usize
         .count()
 }
 
-/// The first byte of a text and that many after it.
+/// The first byte of a text and `more` after it.
 pub fn front(text: &[u8], more: usize) -> &[u8]
     requires { more < length text.now }
     ensures { result.now ≡ take (suc more) text.now }

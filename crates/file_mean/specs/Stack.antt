@@ -9,7 +9,7 @@ use Rattle.layer_mean.specs.Visit.{none_header}
 use Rattle.fault_mean.specs.Places.{layer_at}
 use Rattle.file_mean.specs.Layers.{layer_of}
 
--- The header `none` of each place above the one of this number, of that many places, the lowest first.
+-- The header `none` of each place above the one of this number, in a stack of `places` places, the lowest first.
 abbrev pub blank_above : ℕ → ℕ → List Header
 blank_above place places = map none_header (range_with_len (place + 1) (places - (place + 1)))
 

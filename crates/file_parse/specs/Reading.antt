@@ -31,7 +31,7 @@ pub record Reads {T : Type 0} (print : T → List Printed → List Printed) (exp
   pub goes_on : (stack : List Symbol) → run room (expected ++ stack) tokens ≡ run room stack rest
   pub no_longer : length rest ≤ length tokens
 
--- the machine expects these symbols and refuses with that many tokens left
+-- the machine expects these symbols and refuses with n tokens left
 pub record Stops (expected : List Symbol) (room : ℕ) (tokens : List Lexed) (n : ℕ) : Type 0 where
   pub stops : (stack : List Symbol) → run room (expected ++ stack) tokens ≡ refused n
 
@@ -124,7 +124,7 @@ IsOptional Star a_square = Unit {0}
 IsOptional Assign an_initial = Unit {0}
 IsOptional _ _ = ⊥
 
--- a sign is not the next token, and the machine leaves each optional part out that begins with it
+-- a sign is not the next token, and the machine leaves out each optional part that begins with it
 pub record Unseen (s : Sign) (tokens : List Lexed) : Type 0 where
   pub goes_on : (optional : Symbol) → IsOptional s optional → (room : ℕ) (stack : List Symbol) →
       run room (optional ∷ stack) tokens ≡ run room stack tokens

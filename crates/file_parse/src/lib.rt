@@ -82,7 +82,7 @@ fn complete(alloc: Global, text: &[u8], tokens: &Tokens, file: File) -> Result<F
     brought(alloc, text, file)
 }
 
-/// Why a text is refused whose tokens no file goes on with, where that many of them are left.
+/// Why a text is refused with `left` of its tokens left, where no file goes on as it does.
 fn refusal(text: &[u8], tokens: &Tokens, left: usize) -> ParseError
     requires small { length text.now ≤ longest_file }
     requires cut { tokens_of tokens.now ≡ cut_of text.now }

@@ -13,7 +13,7 @@ ghost use Rattle.file_parse.specs.declared.readers.Fault.TheVariants.{Memory};
 use layer_ast::{Ending, Kind, Lexed, Name, Operator, Sign, Size, Sort, Token};
 use std::alloc::{AllocError, AllocFailed};
 
-/// Why a reader gave up: a file goes on otherwise, with that many tokens left, or there was no memory.
+/// Why a reader gave up: with n tokens left a file goes on otherwise, or there was no memory.
 #[derive(Clone, Copy, PartialEq, Eq, Debug)]
 pub enum Fault {
     Refused(usize),

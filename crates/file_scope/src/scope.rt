@@ -112,7 +112,7 @@ impl<'a> Scope<'a> {
         self.locals.len()
     }
 
-    /// Leaves a block: that many locals stay visible.
+    /// Leaves a block: the first `outer` locals stay visible.
     pub fn leave(&mut self, outer: usize)
         ensures { scope_of self.new ≡ record (scope_of self.old) { locals = take outer (scope_of self.old).locals } }
     {

@@ -89,7 +89,7 @@ goes_within [] room stack goes = tt
 goes_within (t ∷ tokens) room stack goes =
     within_step (room_after t room) (feed stack t) tokens (goes_within tokens) goes
 
--- the machine goes on after tokens that are nowhere too deep and with which tokens begin that it takes
+-- the machine goes on after tokens that are nowhere too deep and are the beginning of tokens that it takes
 goes_step : (following : Option ℕ) (fed : Option (List Symbol)) (tokens rest : List Token) →
     ((room : ℕ) (stack : List Symbol) → accepts stack (tokens ++ rest) ≡ true → IsWithin room tokens →
     Goes room stack tokens) →
@@ -171,7 +171,7 @@ begun_by (t ∷ tokens) room stack goes =
     begun_step stack t tokens at (room_after t room) (feed stack t) (back_fed stack (record { token = t; at = at }))
     (begun_by tokens) goes
 
--- the machine goes on after that many tokens, and not after one more
+-- the machine goes on after `number` tokens, and not after one more
 pub record StopsAfter (room : ℕ) (stack : List Symbol) (lexed : List Lexed) (left : ℕ) : Type 0 where
   pub number : ℕ
   pub token : Lexed
@@ -185,7 +185,7 @@ pub record StopsPast (room : ℕ) (stack : List Symbol) (lexed : List Lexed) : T
   pub goes : Goes room stack (tokens_in lexed)
   pub short : accepts stack (tokens_in lexed) ≡ false
 
--- what a run says that is refused with that many tokens left
+-- what is so of a run that is refused with n tokens left
 abbrev pub StopsWith : ℕ → List Symbol → List Lexed → ℕ → Type 0
 StopsWith room stack lexed zero = StopsPast room stack lexed
 StopsWith room stack lexed (suc left) = StopsAfter room stack lexed (suc left)

@@ -426,18 +426,18 @@ abbrev pub feed : List Symbol → Token → Option (List Symbol)
 feed [] t = None
 feed (s ∷ stack) t = stack_after (move s t) stack (feed stack t)
 
--- how a run ends: at the end of a file, or refused with that many tokens left
+-- how a run ends: at the end of a file, or refused with `left` tokens left
 pub data Outcome : Type 0 where
   accepted : Outcome
   refused : (left : ℕ) → Outcome
 
--- one token of a run, where that many tokens are left
+-- one token of a run, where `left` tokens are left
 abbrev pub step : Option ℕ → Option (List Symbol) → ℕ → (ℕ → List Symbol → Outcome) → Outcome
 step None _ left go = refused left
 step (Some room) None left go = refused left
 step (Some room) (Some stack) left go = go room stack
 
--- the run over tokens, with room for that many brackets
+-- the run over tokens, with room for n brackets
 abbrev pub run : ℕ → List Symbol → List Lexed → Outcome
 run room stack [] = if all_optional stack then accepted else refused 0
 run room stack (t ∷ tokens) =

@@ -187,7 +187,7 @@ pub trait Desk {
         ensures spent { Lifted (free pool.old self.old) (free pool.new self.new) (held_need (carried_tree carried))
             result };
 
-    /// Leaves that many bytes from a place on of the message before the hand, and none of its headers.
+    /// Leaves, of the first message in hand, `count` bytes from a place on and no headers.
     fn cut<K: Start>(&mut self, pool: &Pool, from: u32, count: u32)
         requires { ready K.begun pool.now self.old }
         ensures ready { ready K.begun pool.now self.new }
@@ -195,14 +195,14 @@ pub trait Desk {
             front_changed (λ m. parts.cut m from count) (shown pool.now self.old) }
         ensures free { free pool.now self.new ≡ free pool.now self.old };
 
-    /// Leaves the bytes from a place on of the message before the hand, and its headers.
+    /// Leaves, of the first message in hand, the bytes from a place on and the headers.
     fn tail<K: Start>(&mut self, pool: &Pool, from: u32)
         requires { ready K.begun pool.now self.old }
         ensures ready { ready K.begun pool.now self.new }
         ensures shown { shown pool.now self.new ≡ front_changed (λ m. parts.tail m from) (shown pool.now self.old) }
         ensures free { free pool.now self.new ≡ free pool.now self.old };
 
-    /// Joins the two messages before the hand: the second of them, which was taken first, is the part in front.
+    /// Joins the first two messages in hand: the second of them, which was taken earlier, is the part that comes first.
     fn join<K: Start>(&mut self, pool: &mut Pool) -> Result<(), NoRoom>
         requires { ready K.begun pool.old self.old }
         ensures ready { ready K.begun pool.new self.new }
@@ -226,7 +226,7 @@ pub trait Desk {
         ensures spent { Spent (free pool.now self.old) (free pool.now self.new) (room_need K.begun.layout cell capacity)
             result };
 
-    /// Puts a row with the message before the hand at the back of a queue whose capacity is this.
+    /// Puts a row with the first message in hand at the back of a queue whose capacity is this.
     fn push_first<K: Start>(
         &mut self,
         pool: &Pool,
@@ -273,7 +273,7 @@ pub trait Desk {
             (shown pool.now self.new ≡ sends direction (event_in envelope None) (shown pool.now self.old)) }
         ensures spent { Spent (free pool.now self.old) (free pool.now self.new) one_place result };
 
-    /// Sends an event with the message before the hand, going down after a header.
+    /// Sends an event with the first message in hand, going down after a header.
     fn send_first<K: Start>(
         &mut self,
         pool: &Pool,
@@ -334,8 +334,8 @@ pub trait Desk {
         ensures free { free pool.now self.new ≡ free pool.now self.old };
 
     /// Makes the scope in which a block is entered: the event's numbers, the fields of the popped header and the
-    /// message that arrived, and after these that many numbers and messages more, for which there is room. A scope that
-    /// was there is let go.
+    /// message that arrived, and after these `numbers` numbers and `messages` messages more, for which there is room. A
+    /// scope that was there is let go.
     fn enter<K: Start>(
         &mut self,
         pool: &mut Pool,

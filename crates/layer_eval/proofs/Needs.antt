@@ -73,7 +73,7 @@ item_within layout (y ∷ xs) (suc i) x within is =
           omega arith;
     }
 
--- the needs of that many turns
+-- the needs of `k` turns
 abbrev pub repeated : ℕ → Need → Need
 repeated k n = record n { slots = k * n.slots; places = k * n.places }
 

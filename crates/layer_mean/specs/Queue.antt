@@ -71,7 +71,7 @@ abbrev pub is_done : {E : Type 0} → List (Task E) → Bool
 is_done [] = true
 is_done (t ∷ rest) = false
 
--- At most that many turns of the queue.
+-- At most n turns of the queue.
 abbrev pub run_for : {W E : Type 0} → ℕ → Player W E → ℕ → Line W E → Line W E
 run_for places play zero r = r
 run_for places play (suc n) r = if is_done r.tasks then r else run_for places play n (next places play r)

@@ -95,7 +95,8 @@ pub data Expected : Type 0 where
   rare : Expected
 
 -- What a layer does on one direction, kind and popped tag. Beside the event's numbers, the fields of the popped header
--- and the event's message its scope has that many more numbers and messages, for names that the block declares.
+-- and the event's message its scope has `numbers` numbers and `messages` messages more, for names that the block
+-- declares.
 pub record HandlerTree : Type 0 where
   pub direction : Dir
   pub kind : Kind

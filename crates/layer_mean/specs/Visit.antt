@@ -66,7 +66,7 @@ is_for dir kind tag h = sameb dir_row.the_type h.direction dir && sameb kind_row
 abbrev pub handler_for : LayerTree → Dir → Kind → ℕ → Option HandlerTree
 handler_for layer dir kind tag = find (is_for dir kind tag) layer.handlers
 
--- A list with that many more items after its own.
+-- A list with n more items after its own.
 abbrev pub with_room : {A : Type 0} → ℕ → A → List A → List A
 with_room zero filler xs = xs
 with_room (suc k) filler xs = with_room k filler (xs ++ filler ∷ [])
@@ -94,8 +94,8 @@ abbrev pub sent_on : State → Dir → Event → Option Content → Visited
 sent_on s dir event m = record { state = s; sent = (dir, record event { message = m }) ∷ []; decided = [] }
 
 -- A visit of a layer that has no handler for an event: without a message the event passes on; going down a message
--- passes after
--- `none`; going up it passes where `none` was popped, and is dropped after another header, which is never predicted.
+-- passes after `none`; going up it passes where `none` was popped, and is dropped after another header, which is never
+-- predicted.
 abbrev pub unhandled_visit : ℕ → State → Dir → Event → Met → Option Content → Visited
 unhandled_visit place s dir event m None = sent_on s dir event None
 unhandled_visit place s Down event m (Some content) = sent_on s Down event (Some (pushed (none_header place) content))

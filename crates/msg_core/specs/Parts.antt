@@ -6,7 +6,7 @@ use Rattle.msg_core.specs.Chain.{Content, plain}
 abbrev pub longest_body : ℕ
 longest_body = 8192
 
--- A part: that many bytes of a message from a place on, as far as there are any, and no headers.
+-- A part: `count` bytes of a message from a place on, as far as there are any, and no headers.
 abbrev pub cut : Content → ℕ → ℕ → Content
 cut m from count = plain (take count (drop from m.body))
 

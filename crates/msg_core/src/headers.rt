@@ -101,7 +101,7 @@ impl Headers {
         self.first = MOST_HEADERS as u8;
     }
 
-    /// Becomes that many headers, whatever they are: each is to be set.
+    /// Becomes `count` headers, whatever they are: each is to be set.
     pub fn stretch(&mut self, count: u8)
         requires { count ≤ most_headers }
         ensures { length self.new ≡ count }
@@ -117,7 +117,7 @@ impl Headers {
         self.places[usize::from(self.first) + usize::from(k)] = header;
     }
 
-    /// Keeps the first n.
+    /// Keeps the first `count`.
     pub fn cut(&mut self, count: u8)
         requires { count ≤ length self.old }
         ensures { self.new ≡ take count self.old }

@@ -6,6 +6,6 @@ abbrev pub next_moment : List ℕ → ℕ
 next_moment [] = 0
 next_moment (moment ∷ later) = moment
 
--- the moment after that many nanoseconds: whole milliseconds, which begin again at 0 after 2^32 - 1
+-- the moment after `nanos` nanoseconds: whole milliseconds, which begin again at 0 after 2^32 - 1
 abbrev pub moment_after : ℕ → ℕ
 moment_after nanos = nanos / 1000000 % 2 ^ 32

@@ -20,7 +20,7 @@ pub record Gains (old new : Tells) (lines : List (List ℕ)) : Type 0 where
   pub puts : new.failures ≡ option_map (drop (length lines)) old.failures
   pub sound : new.faults ≡ old.faults
 
--- The lines in front were put, in as many puts, and then the put of one line failed, after that many of its bytes.
+-- The lines `front` were put, in as many puts, and then the put of `line` failed, after `part` of its bytes.
 pub record Fails (old new : Tells) (lines : List (List ℕ)) : Type 0 where
   pub front : List (List ℕ)
   pub line : List ℕ

@@ -5,7 +5,7 @@ use Rattle.outside.specs.declared.shelf.Got.TheVariants.{Whole, TooLong}
 use Rattle.std.specs.declared.io.traits.Write.{Ghosts}
 use Rattle.outside.specs.declared.std_sink.StdSink.{StdSink}
 
--- which answer a read gives of a stream with these bytes: all of them, or that there are more than that many
+-- what a read of a stream with these bytes answers: all of them, or that there are more than `most`
 abbrev pub ReadsStream : {E : Type 0} → ℕ → List ℕ → List ℕ → Result Got E → Type 0
 ReadsStream most bytes into (Ok Whole) = into ≡ bytes
 ReadsStream most bytes into (Ok TooLong) = most < length bytes

@@ -6,7 +6,7 @@ ghost use Rattle.outside.specs.Links.{Network, Listens, listen_of, Sends, Receiv
 
 use std::alloc::{AllocError, AllocFailed};
 
-/// The most bytes that a datagram carries: a UDP datagram over IPv4 has at most that many of data.
+/// The most bytes that a datagram carries: a UDP datagram over IPv4 has at most this many bytes of data.
 pub const LONGEST_DATAGRAM: usize = 65507;
 
 /// The most peers that links reach.

@@ -7,7 +7,7 @@ use Rattle.trace_form_laws.specs.Closed.{Reach, Closed}
 use Rattle.trace_form_laws.specs.There.{AreThere}
 use Rattle.pack_mean.specs.File.{Due, due_of, traces_in}
 
--- What may be named before the first operation, where that many fields vary.
+-- What may be named before the first operation, where `fields` fields vary.
 abbrev pub at_first : ℕ → Reach
 at_first fields = record { fields = fields; binds = 0; notes = 0; rows = [] }
 

@@ -210,11 +210,11 @@ message_with stack s inner = do
   name ← a_name
   message_named stack inner name (core_named s name)
 
--- So deep may brackets go.
+-- How deep brackets may go.
 abbrev pub most_brackets : ℕ
 most_brackets = 200
 
--- How what stands in a bracket is read, after which that many may be opened.
+-- How what stands in a bracket is read, where brackets may go n deep, this one counted.
 abbrev pub inside : List LayerTree → Named → ℕ → Inner
 inside stack s zero = nothing_inside
 inside stack s (suc n) = record {

@@ -67,8 +67,8 @@ heading entry case = codes "entry " ++ entry_name entry ++ codes " case " ++ dec
 abbrev pub most_operations : ℕ
 most_operations = 4096
 
--- Where in a file a line stands: before the first, after it, in a case that may have that many operations more, or
--- after `end`; and the cases that are still due.
+-- Where in a file a line stands: before the first, after it, in a case that may have `left` more operations, or after
+-- `end`; and the cases that are still due.
 pub data Stage : Type 0 where
   opening : (due : List Due) → Stage
   idle : (due : List Due) → Stage
@@ -84,7 +84,7 @@ pub record Reading : Type 0 where
 abbrev pub begun : List Due → Reading
 begun due = record { stage = opening due; held = []; traces = [] }
 
--- The line with which the next case begins, or after the last the file ends.
+-- The line with which the next case begins, or with which the file ends after the last.
 abbrev pub next_case : List Due → List (List Operation) → List ℕ → Option Reading
 next_case [] traces line =
     if bytes_eq line (codes "end") then Some (record { stage = ended; held = []; traces = traces }) else None

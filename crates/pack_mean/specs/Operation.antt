@@ -119,7 +119,7 @@ sent_by s more name (Some a) = do
   yields (with_number a sent)
 sent_by s more name None = a_last s name
 
--- That many numbers at most, and a message.
+-- At most n numbers, and a message.
 abbrev pub sent_within : Named → ℕ → Reader Sent
 sent_within s zero = do
   name ← a_name

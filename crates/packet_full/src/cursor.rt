@@ -53,7 +53,7 @@ impl<'a> Cursor<'a> {
         Some(u32::from_be_bytes(*first))
     }
 
-    /// That many numbers.
+    /// Takes `count` numbers.
     pub fn numbers(&mut self, count: u8) -> Option<Fields>
         requires { count ≤ most_fields }
         ensures { Takes (reading.numbers count (left self.old)) result (left self.new) }

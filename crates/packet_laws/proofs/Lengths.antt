@@ -19,7 +19,7 @@ use Rattle.packet_laws.proofs.Each.{Each, each_of_all, each_so}
 use Rattle.packet_laws.proofs.Planned.{fields}
 use Rattle.packet_laws.proofs.Whole.{each_at}
 
--- a reader takes just that many bytes, whatever they are
+-- a reader takes exactly `k` bytes, whatever they are
 record Takes {A : Type 0} (k : ℕ) (r : Reader A) : Type 0 where
   short : (bytes : List ℕ) → length bytes < k → r bytes ≡ None
   long : (bytes : List ℕ) → k ≤ length bytes → (x : A) × (rest : List ℕ) × (r bytes ≡ Some (x, rest)) ×
@@ -109,7 +109,7 @@ numbers_length : (ns : List ℕ) → length (flat_map number_bytes ns) ≡ 4 * l
 numbers_length [] = refl
 numbers_length (n ∷ ns) = let more = numbers_length ns in omega arith
 
--- as many bytes and fields as that many layers can have
+-- no more bytes and fields than n layers can have
 abbrev Fit : List Header → ℕ → Type 0
 Fit hs n = (length (written hs) ≤ 17 * n) × (length (fields hs) ≤ 4 * n)
 

@@ -43,7 +43,7 @@ abbrev pub number : Reader ℕ
 number (a ∷ b ∷ c ∷ d ∷ following) = Some (from_be_bytes w32 (a ∷ b ∷ c ∷ d ∷ []), following)
 number _ = None
 
--- That many numbers.
+-- n numbers.
 abbrev pub numbers : ℕ → Reader (List ℕ)
 numbers zero = value_reader []
 numbers (suc k) = do

@@ -54,7 +54,7 @@ Fails count = Rose count.before count.after
 abbrev pub IsSound : Counted → Type 0
 IsSound count = count.after ≡ count.before
 
--- A count rose by that many failures, unless it stands at its last value.
+-- A count rose by `failures`, unless it stands at its last value.
 abbrev pub RoseBy : Counted → ℕ → Type 0
 RoseBy count failures = (count.after ≡ count.before + failures) ⊎ (count.after ≡ last_count)
 

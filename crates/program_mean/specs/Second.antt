@@ -10,7 +10,7 @@ use Rattle.stack_mean.specs.Acceptance.{rows_of, most_rows}
 use Rattle.job_mean.specs.Job.{Job, check, synth, pack, replay, replay_with, explain, load, node, audit}
 use Rattle.end_mean.specs.Status.{SecondFault, misspelled, too_many_rows}
 
--- The members of a stack have too many rows, in a group of that many.
+-- The members of a stack have too many rows in a group of `members` members.
 abbrev pub crowd_fault : List LayerTree → ℕ → Option SecondFault
 crowd_fault stack members = if nat_le (rows_of stack members) most_rows then None else Some too_many_rows
 

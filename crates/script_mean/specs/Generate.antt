@@ -71,7 +71,7 @@ a_give member cursors = do
     slice_set cursors member (next_cursors way (slice_index cursors member)).1,
   )
 
--- that many numbers below a bound
+-- n numbers below a bound
 abbrev pub draws : ℕ → ℕ → Drawn (List ℕ)
 draws zero bound = made []
 draws (suc k) bound = do
@@ -136,13 +136,12 @@ with_event events drawn = record { seed = drawn.1; cursors = drawn.0.1; events =
 abbrev pub after_event : Bool → ℕ → ℕ → Generator → Generator
 after_event raw members number g = with_event g.events (an_event raw members number g.cursors g.seed)
 
--- that many events of n members
+-- `number` events of n members
 abbrev pub generator_after : ℕ → ℕ → Bool → ℕ → Generator
 generator_after seed members raw zero = record { seed = seed; cursors = replicate members 0; events = [] }
 generator_after seed members raw (suc number) = after_event raw members number (generator_after seed members raw number)
 
--- the script of that many events of n members that is made from a seed, with datagrams or without; group and stamp
--- are 1
+-- the script of `events` events of n members that is made from a seed, with datagrams or without; group and stamp are 1
 abbrev pub generate : ℕ → ℕ → ℕ → Bool → Script
 generate seed events members raw =
     record { group = 1; stamp = 1; members = members; events = (generator_after seed members raw events).events }

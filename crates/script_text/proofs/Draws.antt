@@ -6,7 +6,7 @@ use Rattle.script_mean.specs.Generate.{Drawn, ◌>>=◌, made, a_draw, draws, a_
 use Rattle.script_mean.specs.declared.event.ScriptEvent.{ScriptEvent}
 use Rattle.script_mean.specs.declared.event.ScriptEvent.TheVariants.{Raw}
 
--- with that many of the numbers drawn, these and the others are all
+-- with `done` of `count` numbers drawn, these and the others are all
 pub record DrawnSoFar (count done : ℕ) (front bytes : List ℕ) (start seed : ℕ) : Type 0 where
   pub values : bytes ++ (draws (count - done) 4 seed).0 ≡ front ++ (draws count 4 start).0
   pub following : (draws (count - done) 4 seed).1 ≡ (draws count 4 start).1

@@ -13,7 +13,7 @@ use Rattle.script_text.specs.declared.maker.Maker.{Maker}
 abbrev pub script_for : Workload → Script
 script_for w = generate w.seed w.events w.members w.raw
 
--- How far the script of a workload is made: that many of its events.
+-- How far the script of a workload is made: its first `made` events.
 pub record Course : Type 0 where
   pub workload : Workload
   pub made : ℕ

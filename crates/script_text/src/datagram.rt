@@ -76,7 +76,7 @@ fn all_of(members: u8) -> u32
     (2_u64.pow(u32::from(members)) - 1) as u32
 }
 
-/// That many bytes below 4.
+/// Adds `count` bytes below 4.
 fn add_small(bytes: &mut Vec<u8>, seed: &mut Seed, count: u32) -> Result<(), AllocError>
     ensures { IfOk result (λ done. (bytes.new.items ≡ bytes.old.items ++ (spec.draws count 4 seed.old.value).0) ×
         (seed.new.value ≡ (spec.draws count 4 seed.old.value).1)) }

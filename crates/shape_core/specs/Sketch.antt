@@ -107,7 +107,7 @@ next_of case stack (t ∷ rest) s = sketched_task case stack t (record s { tasks
 abbrev pub next : Case → List LayerTree → Sketching → Result Sketching Stop
 next case stack s = next_of case stack s.tasks s
 
--- That many turns; without a task they change nothing.
+-- n turns; without a task they change nothing.
 unfoldable pub sketched : Case → List LayerTree → ℕ → Sketching → Result Sketching Stop
 sketched case stack zero s = Ok s
 sketched case stack (suc n) s = onward (sketched case stack n) (next case stack s)

@@ -10,8 +10,8 @@ use raw_block::Block;
 use std::alloc::{AllocError, Global};
 use std::marker::Model;
 
-/// At most that many places. Memory is taken for all at once, and that of a place is first touched when the place is
-/// first used, or, where it is for a long body, when that place or one after it has one.
+/// Places, at most as many as the row was made for. Memory is taken for all at once, and that of a place is first
+/// touched when the place is first used, or, where it is for a long body, when that place or one after it has one.
 #[derive(Drop)]
 pub struct Row {
     block: Block<SlotRecord, Global>,
@@ -32,7 +32,7 @@ impl Model for Row {
 }
 
 impl Row {
-    /// No place yet, of that many.
+    /// A row without places yet, which has room for `places`.
     pub(crate) fn of_places(alloc: Global, places: u32) -> Result<Row, AllocError>
         ensures { IfOk result (λ r. r ≡ run [] places) }
     {
@@ -106,7 +106,7 @@ impl Row {
         self.block.at_mut(index).end_reference()
     }
 
-    /// After a free place is this one.
+    /// Makes `next` the free place after this one.
     pub(crate) fn link(&mut self, index: usize, next: u32)
         requires { index < length self.old.values }
         ensures { self.new ≡ run

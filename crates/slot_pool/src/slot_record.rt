@@ -8,7 +8,7 @@ pub(crate) const SHORT: usize = 512;
 pub const LONGEST: usize = 8192;
 
 /// With a count of 0 it is free, and `next` is the free place after it; else its body has `len` bytes, which are the
-/// first here where they are at most `SHORT`, and lie in a place of their own else.
+/// first here where they are at most `SHORT`, and else lie in a place of their own.
 #[derive(Clone, Copy)]
 pub struct SlotRecord {
     pub(crate) count: u32,
@@ -42,7 +42,7 @@ impl SlotRecord {
         self.bytes[..body.len()].copy_from_slice(body);
     }
 
-    /// From now on the place's one reference is to a body of that many bytes that lies elsewhere.
+    /// From now on the place's one reference is to a body of `len` bytes that lies elsewhere.
     pub(crate) fn hold_elsewhere(&mut self, len: u32)
         ensures { self.new ≡ record self.old { count = 1; len = len } }
     {

@@ -16,8 +16,8 @@ use Rattle.stack_mean.specs.Graph.{Node, nodes, nodes_of, arrows, entered_handle
 abbrev pub largest : List ℕ → ℕ
 largest = fold max 0
 
--- What a node and all that follows from it may cost at most, in n steps: its own cost, and for each arrow that many
--- times as it stands for the largest cost of the nodes that may follow.
+-- What a node and all that follows from it may cost at most, in n steps: its own cost, and for each arrow `times` times
+-- the largest cost of the nodes that may follow.
 abbrev pub cost_in : ℕ → List LayerTree → (Node → ℕ) → Node → ℕ
 cost_in zero stack own node = own node
 cost_in (suc steps) stack own node =

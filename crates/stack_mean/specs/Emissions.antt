@@ -7,13 +7,13 @@ use Rattle.layer_mean.specs.Tree.{held, cut, tail, join, ContentTree, EmissionTr
 use Rattle.layer_mean.specs.Tree.{assign, assign_square, push, take, branch, each, emit, StatementTrees, none, more}
 use Rattle.layer_mean.specs.Tree.{Expected, common, HandlerTree}
 
--- An emission that is done that many times at most.
+-- An emission that is done at most `times` times.
 pub record Repeated : Type 0 where
   pub times : ℕ
   pub emission : EmissionTree
 
 abbrev mutual
-  -- The emissions of a statement that is itself done that many times, in all its blocks; a loop's maximum multiplies
+  -- The emissions of a statement that is itself done `times` times, in all its blocks; a loop's maximum multiplies
   -- those inside.
   pub emissions : ℕ → StatementTree → List Repeated
   emissions times (push c i capacity row otherwise) = emissions_in times otherwise

@@ -76,7 +76,7 @@ abbrev pub emission_tags : List LayerTree → Node → EmissionTree → Option C
 emission_tags stack node e None = 0 ∷ []
 emission_tags stack node e (Some c) = content_tags stack node e.direction c
 
--- An arrow of the graph: one of these nodes follows, that many times at most.
+-- An arrow of the graph: one of the nodes `targets` follows, at most `times` times.
 pub record Arrow : Type 0 where
   pub times : ℕ
   pub targets : List Node
@@ -94,8 +94,8 @@ abbrev pub emission_arrow : List LayerTree → Node → Repeated → Arrow
 emission_arrow stack node x =
     arrow_to x.times node x.emission.direction x.emission.kind (emission_tags stack node x.emission x.emission.content)
 
--- A missing handler passes an event on once: down after `none`, and up after whatever header of the layer above; a
--- message after another header than `none` it drops.
+-- A missing handler passes an event on once: down after `none`, and up after whatever header of the layer above; it
+-- drops a message after another header than `none`.
 abbrev pub passing : List LayerTree → Node → Dir → List Arrow
 passing stack node Down = arrow_to 1 node Down node.kind (0 ∷ []) ∷ []
 passing stack node Up = if node.tag == 0

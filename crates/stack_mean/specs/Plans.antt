@@ -49,7 +49,7 @@ groups =
 abbrev pub packets_of : List LayerTree → Group → List ShapeOut
 packets_of stack g = filter (λ out. is_packet out out.dir) (outs_of (shape stack g.entry g.case))
 
--- The number of the first plan of the group after that many others.
+-- The number of the first plan of the group that comes after `number` others.
 abbrev pub plans_before : List LayerTree → ℕ → ℕ
 plans_before stack number = sum_by (λ g. length (packets_of stack g)) (take number groups)
 

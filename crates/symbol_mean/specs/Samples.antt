@@ -10,7 +10,7 @@ use Rattle.symbol_mean.specs.Value.{NumberValue, number, peer, taken_number, ele
 use Rattle.symbol_mean.specs.Value.{set_square, push, take, output}
 use Rattle.symbol_mean.specs.Symbolic.{symbolic}
 
--- Cell 0 of place 0, after that many writes.
+-- Cell 0 of place 0, after n writes.
 abbrev pub cell_after : ℕ → NumberValue
 cell_after n = element (record { place = 0; cell = 0; writes = n }) (number 0)
 

@@ -1,5 +1,5 @@
 -- The values of a trace's expressions. A bound number and a noted message stand in them as their own values; a cell
--- stands in them as it was after that many writes; a taken row is told by its number.
+-- stands in them as it was after a number of writes; a taken row is told by its number.
 use Rattle.std.specs.Prelude.{ℕ, List, Option}
 use Rattle.layer_ast.specs.declared.tokens.Dir.{Dir}
 use Rattle.layer_ast.specs.declared.tokens.Kind.{Kind}

@@ -50,7 +50,7 @@ use Rattle.trace_form_laws.proofs.Turns.{IfMade, from_made, both_made, steps_kee
 use Rattle.trace_form_laws.proofs.Joins.{task_node, TaskFits, task_is_node, pending_worth, first_worth, Sends}
 use Rattle.trace_form_laws.proofs.Joins.{visit_sends, begins, entry_is, traces_join_less}
 
--- operations that note no more than so often beside the others, and put out nothing
+-- operations that have at most `sent` more notes than others, and put out nothing
 record Adds (os : List Operation) (sent : ℕ) : Type 0 where
   notes : trace_notes os ≤ trace_length os + sent
   outlets : trace_outlets os ≡ []
@@ -84,7 +84,7 @@ binds_add p l (e ∷ es) =
     (an_other (bind (traced_number p l e)) refl refl refl)
     (binds_add p l es)
 
--- what was made since, with that many events sent
+-- what was made since `before`, with `sent` events sent
 pub record Few (before z : Made) (sent : ℕ) : Type 0 where
   pub notes : trace_notes z.operations + trace_length before.operations ≤ trace_notes before.operations + trace_length
       z.operations + sent
@@ -223,7 +223,7 @@ sent_length at (x ∷ xs) = ap suc (sent_length at xs)
 
 module _ (case : Case) (stack : List LayerTree) (orderly : IsOrderly stack) (off : first_on_cycle stack ≡ None)
     (most : ℕ) where
-  -- how far a trace has come in that many turns
+  -- how far a trace has come in `turns` turns
   record Good (turns : ℕ) (f : Fused) (pending : List (Task TracedEvent)) : Type 0 where
     notes : trace_notes f.made.operations + 1 ≤ trace_length f.made.operations + f.visits + length pending
     visits : f.visits ≤ visits_limit

@@ -76,7 +76,7 @@ module _ (case : Case) (stack : List LayerTree) (So : ℕ → Fused → List (Ta
       f.visits + 1 ≤ visits_limit → So n f (t ∷ rest) →
       IfMade (AfterVisit n f t rest) (traced_visit case (layer_at stack t.at) (t.at - 1) f.made t.dir t.event)
 
-  -- what that many turns give: what was made, with what is so of it; as many were taken, unless no task is left
+  -- what `limit` turns yield: what was made, with what is so of it; all of them were taken, unless no task is left
   pub record Comes (limit : ℕ) (operations : List Operation) : Type 0 where
     pub turns : ℕ
     pub world : Fused

@@ -77,7 +77,7 @@ later_rows k rs = record {
       begins_append k.rows rs;
 }
 
--- what stands after that many
+-- what stands after n items
 pub nth : {A : Type 0} (xs : List A) (x d : A) (ys : List A) (n : ℕ) → length xs ≡ n → Begins (xs ++ x ∷ []) ys →
     slice_index_or ys n d ≡ x
 nth xs x d ys n long b =

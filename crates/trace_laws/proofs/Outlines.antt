@@ -38,7 +38,7 @@ use Rattle.trace_laws.specs.Shapes.{Told, told_by_trace, outlets_of, trace_outle
 use Rattle.trace_laws.proofs.Visits.{map_room}
 use Rattle.trace_mean.specs.Counts.{operation_length, trace_length}
 
--- what operations tell, and that many more of them that put nothing out
+-- what operations tell, and n more of them that put nothing out
 abbrev pub more : Told → ℕ → Told
 more t n = record t { length = t.length + n }
 

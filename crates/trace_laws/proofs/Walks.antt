@@ -22,7 +22,7 @@ use Rattle.layer_mean.specs.Way.{Step, test, fork, put, get, way, ways, expected
 use Rattle.shape_laws.specs.Walk.{Here, walk_step, took}
 use Rattle.shape_laws.proofs.Predicted.{here, start}
 
--- how many decisions were as predicted: all of them, or that many before the first that wasn't
+-- how many decisions were as predicted: all of them, or those before the first that wasn't
 pub data Tally : Type 0 where
   all_of : ℕ → Tally
   missed_at : ℕ → Tally
@@ -35,7 +35,7 @@ abbrev pub tally : Case → List Decision → ℕ → Tally
 tally case [] n = all_of n
 tally case (d ∷ ds) n = counted (tally case ds) (went_as case d) n
 
--- a walk goes somewhere, with that many decisions, or stops
+-- a walk goes somewhere with n decisions, or stops after n
 pub data Walked : Type 0 where
   went : ℕ → Here → Walked
   missed : ℕ → Walked

@@ -30,7 +30,7 @@ pub struct Cell {
 pub enum Form {
     /// Numbers of a shape, which are all this at first.
     Numbers { shape: Shape, initial: Expression },
-    /// A queue of that many rows.
+    /// A queue of at most `capacity` rows.
     Queue { capacity: u8, items: Items },
     /// Such a queue for each member of the view.
     Queues { capacity: u8, items: Items },
@@ -77,8 +77,8 @@ pub struct HeaderForm {
 }
 
 /// What a layer does on an event of one direction, kind and popped header. Its scope has the event's numbers, the
-/// header's fields and the event's message, and after these that many more numbers and messages, which its block
-/// declares.
+/// header's fields and the event's message, and after these `numbers` numbers and `messages` messages more, which its
+/// block declares.
 #[derive(Drop)]
 pub struct Handler {
     pub direction: Dir,
@@ -158,7 +158,7 @@ pub enum Statement {
         block: Block,
         otherwise: Block,
     },
-    /// Runs a block for 0, 1 and so on, which a slot tells it, below a number and a maximum.
+    /// Runs a block for 0, 1 and so on below a number and a maximum; a slot tells it which.
     Each {
         slot: u8,
         below: Expression,
@@ -318,7 +318,7 @@ pub enum MessageExpression {
         row: Box<Expression>,
         carried: Carried,
     },
-    /// That many bytes of a message from a place on.
+    /// `length` bytes of a message from a place on.
     Cut {
         message: Box<MessageExpression>,
         from: Box<Expression>,

@@ -11,8 +11,8 @@ use Rattle.layer_mean.specs.Effect.{Act, turns, with_slot, with_taken, in_order,
 use Rattle.layer_mean.specs.Visit.{Met, met, handler_for, entered_scope}
 use Rattle.stack_mean.specs.Emissions.{joins_in, joins_in_emission, joins_in_row, joins_expected}
 
--- How many joins are made in 0, 1 and so on below a number of turns of an act, each of which makes that many at its own
--- state and scope.
+-- How many joins are made in the first n turns of an act, which are numbered from 0: each turn makes as many as `made`
+-- yields at its own state and scope.
 abbrev pub made_in_turns : ℕ → ℕ → Act → (State → Scope → ℕ) → State → Scope → ℕ
 made_in_turns zero slot act made s l = 0
 made_in_turns (suc k) slot act made s l = let o = turns k slot act s l in

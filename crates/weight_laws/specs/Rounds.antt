@@ -7,7 +7,7 @@ use Rattle.weight_laws.specs.Nodes.{IsNode}
 use Rattle.weight_laws.specs.Orderly.{IsOrderly}
 use Rattle.weight_laws.specs.Tables.{node_number, Edge, Vertex, vertex_of, IsTable}
 
--- A sum with the cost of an edge: that many times as it stands for the largest cost of its targets.
+-- A sum with the cost of an edge, which is `times` times the largest cost of its targets.
 abbrev pub with_edge : List ℕ → ℕ → Edge → ℕ
 with_edge costs sum edge = held_at_most (sum + edge.times * largest (map (slice_index costs) edge.targets))
 
@@ -18,7 +18,7 @@ vertex_cost own costs vertex = fold (with_edge costs) (own vertex) vertex.edges
 abbrev pub round : (Vertex → ℕ) → List Vertex → List ℕ → List ℕ
 round own vertices costs = map (vertex_cost own costs) vertices
 
--- The costs after that many rounds; at first each vertex costs its own.
+-- The costs after n rounds; at first each vertex costs its own.
 abbrev pub rounds : (Vertex → ℕ) → List Vertex → ℕ → List ℕ
 rounds own vertices zero = map own vertices
 rounds own vertices (suc k) = round own vertices (rounds own vertices k)
@@ -30,7 +30,7 @@ one_task vertex = 1
 abbrev pub joins_of_vertex : Vertex → ℕ
 joins_of_vertex vertex = vertex.joins
 
--- The costs after that many rounds are those that the definition has in as many steps, held within 32 bits.
+-- The costs after `k` rounds are those that the definition has in `k` steps, held within 32 bits.
 abbrev pub RoundsAreCosts : Type 0
 RoundsAreCosts = (stack : List LayerTree) (vertices : List Vertex) (own : Vertex → ℕ) (own_cost : Node → ℕ) (k : ℕ)
     (n : Node) →

@@ -30,14 +30,14 @@ turn_joins stack w t = if is_place (length stack) t.at
     then visit_joins (t.at - 1) (layer_at stack t.at) (state_at w t.at) t.dir t.event
     else 0
 
--- What the tasks that are taken in that many turns cost together, each at its price in the world in which it is taken.
+-- What the tasks that are taken in n turns cost together, each at its price in the world in which it is taken.
 abbrev pub total_price : {W E : Type 0} → ℕ → Player W E → (W → Task E → ℕ) → ℕ → W → List (Task E) → ℕ
 total_price places play price zero w tasks = 0
 total_price places play price (suc n) w [] = 0
 total_price places play price (suc n) w (t ∷ rest) =
     let r = next_of places play (t ∷ rest) w in price w t + total_price places play price n r.world r.tasks
 
--- The joins that are made in that many turns of a stack.
+-- How many joins are made in n turns of a stack.
 abbrev pub run_joins : List LayerTree → ℕ → Line Work Event → ℕ
 run_joins stack n r = total_price (length stack) (layers stack) (turn_joins stack) n r.world r.tasks
 

@@ -34,7 +34,7 @@ see_after vertices s xs = fold (see_vertex vertices) s xs
 abbrev pub search_round : List Vertex → Search → Search
 search_round vertices s = see_after vertices (record { seen = s.seen; last = [] }) s.last
 
--- A search after that many rounds.
+-- A search after n rounds.
 abbrev pub search_after : List Vertex → ℕ → Search → Search
 search_after vertices zero s = s
 search_after vertices (suc k) s = search_round vertices (search_after vertices k s)

@@ -19,7 +19,7 @@ node_number n = ((n.at * 2 + tag_of dir_row.the_type n.dir) * 12 + tag_of kind_r
 abbrev pub HasFewHeaders : List LayerTree → Type 0
 HasFewHeaders stack = AllByRecursion (λ layer. length layer.headers ≤ most_declared) stack
 
--- How many numbers the nodes of a stack with that many places can have.
+-- How many numbers the nodes of a stack with `places` places can have.
 abbrev pub numbers_for : ℕ → ℕ
 numbers_for places = (places + 2) * 192
 

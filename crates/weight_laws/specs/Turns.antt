@@ -7,7 +7,7 @@ use Rattle.layer_mean.specs.Queue.{Task, Line, Work, next_of, layers}
 use Rattle.weight_laws.specs.Nodes.{IsKnown}
 use Rattle.weight_laws.specs.Runs.{StaysKnown}
 
--- The tasks of a line are known for that many turns, after which none is left.
+-- The tasks of a line are known for n turns, after which none is left.
 abbrev pub KnownFor : List LayerTree → ℕ → Work → List (Task Event) → Type 0
 KnownFor stack zero w [] = Unit {0}
 KnownFor stack zero w (t ∷ rest) = ⊥

@@ -21,7 +21,7 @@ const BACK: &[u8] =
 /// How many lines SERVED has.
 const LINES: usize = 15;
 
-/// The first lines of a text, and that many bytes of the next.
+/// The first `lines` lines of a text, and `more` bytes of the next.
 fn front(text: &[u8], lines: usize, more: usize) -> &[u8] {
     let mut left = lines;
     let mut end = 0;
