@@ -146,7 +146,7 @@ room_for_row see k c i capacity is enough =
     lt-ltb (length (kept_rows k c i)) (kept_capacity k c) (omega arith) in
     λ j. below j && fits j
 
--- A row of numbers alone, or one with the message before the hand, is put at the back of a queue.
+-- A row of numbers alone, or one with the first message in hand, is put at the back of a queue.
 module _ (b : Begun) (p : List Held) (s : Stock) (is : InPool b p s) (fits : StockFits b.layout s) (c i : ℕ)
     (room : keeps_room s.kept c i (kept_capacity s.kept c) ≡ true) (ns : List ℕ) (k : Kept PoolRow) where
   pub alone_fits : k ≡ with_last s.kept c i (record { numbers = ns; message = None }) →

@@ -137,7 +137,7 @@ module _ (b : Begun) (p : List Held) (s : Stock) (is : InPool b p s) where
       (made.lies p (all-at (Lies p) s.messages k m there is.lies.messages)) in
       (step.0, step.1 ∙ ap (λ c. sends dir (event_in e (Some c)) (laid p t)) (made.shows p))
 
-  -- An event is sent with the message before the hand.
+  -- An event is sent with the first message in hand.
   pub sent_first : (dir : Dir) (e : Envelope) (header : Header) (rest : List PoolMessage) (x y : PoolMessage) →
       s.hand ≡ rest ++ x ∷ [] →
       Derived (sent_as dir header) x y →

@@ -12,7 +12,7 @@ use layer_desk::{Desk, NoRoom, Start};
 use slot_pool::Pool;
 use typed_layer::{Carried, MessageExpression};
 
-/// Makes a message, and leaves it before the hand.
+/// Makes a message, and leaves it first in hand.
 #[tactic(auto, using(crate::proofs::Sizes::cut_bare, crate::proofs::Sizes::join_bare))]
 pub fn make<K: Start, D: Desk>(
     message: &MessageExpression,
