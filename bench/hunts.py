@@ -130,7 +130,7 @@ def breaks(folder, path, law, script):
 
 
 def sent_by(folder, path, head, events):
-    """How many packets there are behind each event."""
+    """How many packets there are after each event."""
     counts = []
     for k in range(len(events) + 1):
         report = report_of(folder, path, "\n".join([head, *events[:k]]) + "\n")
@@ -139,8 +139,8 @@ def sent_by(folder, path, head, events):
 
 
 def numbered_anew(events, counts, out):
-    """The events without one, with the packets behind it numbered anew; those that it sent aren't given."""
-    first, behind = counts[out] + 1, counts[out + 1] + 1
+    """The events without one, with the packets after it numbered anew; those that it sent aren't given."""
+    first, after = counts[out] + 1, counts[out + 1] + 1
     left = []
     for k, event in enumerate(events):
         words = event.split()
@@ -148,10 +148,10 @@ def numbered_anew(events, counts, out):
             continue
         if words[0] == "give":
             number = int(words[1])
-            if first <= number < behind:
+            if first <= number < after:
                 continue
-            if number >= behind:
-                number -= behind - first
+            if number >= after:
+                number -= after - first
             event = f"give {number} {words[2]}"
         left.append(event)
     return left

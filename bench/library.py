@@ -42,7 +42,7 @@ class Bench:
         return [(int(k), [i for i in range(MEMBERS) if i != int(m) and d in ("all", str(i))]) for k, m, d in sent]
 
     def script(self, casts):
-        """Rounds of casts and ticks, behind each of which all packets are given, and those that are sent for them, until none is left."""
+        """Rounds of casts and ticks, after each of which all packets are given, and those that are sent for them, until none is left."""
         lines, given = [f"group 1 stamp 1 members {MEMBERS}"], 0
         for first in range(0, casts, ROUND):
             for i in range(first, min(casts, first + ROUND)):

@@ -167,7 +167,7 @@ class Layer:
         return f"each {self.local()} below {self.number(1)} max 2 {{ }}" if self.chance(0.3) else ""
 
     def naming(self):
-        """What is named isn't compared with anything, and a run goes on behind it."""
+        """What is named isn't compared with anything, and a run goes on after it."""
         value, name = self.seen() if self.busy else self.number(2), self.local()
         self.numbers.append(name)
         return f"let {name} = {value};"

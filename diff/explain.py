@@ -230,14 +230,14 @@ TOKEN = re.compile(r"#[^\n]*|\w+|[^\w\s]|\n")
 
 def deciding_lines(text):
     """The lines of a text at which something is decided: a statement that decides begins there, or what is expected of a handler."""
-    lines, line, behind = set(), 1, None
+    lines, line, before = set(), 1, None
     for token in TOKEN.findall(text):
         if token == "\n":
             line += 1
         elif token[0] != "#":
-            if token in ("if", "push", "take") or behind == "common":
+            if token in ("if", "push", "take") or before == "common":
                 lines.add(line)
-            behind = token
+            before = token
     return lines
 
 

@@ -2,7 +2,7 @@
 """Refuses each call for memory of a run in turn, and compares what comes of it with the run that has all memory.
 
 Run it from any folder: diff/memory.py [PROGRAM]. It takes `cc`. The calls of malloc, calloc, realloc and posix_memalign are counted by a small library that
-stands in front of the system's; call number N fails, or N and all behind it, for each N. Where that is told, the status is 7, what was
+stands in front of the system's; call number N fails, or N and all after it, for each N. Where that is told, the status is 7, what was
 written is the beginning of the whole report, in whole lines, and what is said is `no memory` or its beginning; else all is as it was. Its runs are a
 check, an audit, an explanation, and in both modes a replay whose views change and loads of one and of four members. It prints how many calls each run has, how many of them were refused
 in vain, and each difference; and ends with 1 where there is one.
@@ -76,10 +76,10 @@ class Runs:
             file.write(SHIM)
         subprocess.run(["cc", "-shared", "-fPIC", "-O1", "-o", self.library, source], check=True)
 
-    def run(self, words, refused, all_behind):
+    def run(self, words, refused, all_after):
         counted = f"{self.folder}/counted"
         told = {"LD_PRELOAD": self.library, "REFUSED": str(refused), "COUNTED": counted}
-        if all_behind:
+        if all_after:
             told["REFUSED_ALL"] = "1"
         ended = subprocess.run([self.program, *words], stdout=subprocess.PIPE, stderr=subprocess.PIPE, env=told, check=False)
         with open(counted, encoding="ascii") as file:
@@ -89,15 +89,15 @@ class Runs:
         out, err, status, calls = self.run(words, 0, False)
         vain = 0
         for refused in range(1, calls + 1):
-            for all_behind in (False, True):
-                got_out, got_err, got_status, _ = self.run(words, refused, all_behind)
+            for all_after in (False, True):
+                got_out, got_err, got_status, _ = self.run(words, refused, all_after)
                 if (got_out, got_err, got_status) == (out, err, status):
-                    vain += not all_behind
+                    vain += not all_after
                     continue
                 whole_lines = got_out == b"" or got_out.endswith(b"\n")
                 if got_status != 7 or not out.startswith(got_out) or not whole_lines or not b"no memory\n".startswith(got_err):
                     self.differences += 1
-                    print(f"{name}: call {refused}{' and all behind it' if all_behind else ''}: status {got_status}, said {got_err!r}, wrote {got_out[-60:]!r}")
+                    print(f"{name}: call {refused}{' and all after it' if all_after else ''}: status {got_status}, said {got_err!r}, wrote {got_out[-60:]!r}")
         print(f"{name}: status {status}, {calls} calls, {vain} of them refused in vain", flush=True)
 
 

@@ -2,7 +2,7 @@
 """Runs nodes over UDP on this machine, and replays their journals.
 
 Run it from any folder: diff/node.py [FILES] [COUNT] [SEED]. FILES is as in diff/replay.py. Of each file a random plan of one to six members is run,
-all of them in one process or parted between two, each in either mode. Of what each process wrote, the lines behind `> ` are its journal; with the plan's first
+all of them in one process or parted between two, each in either mode. Of what each process wrote, the lines after `> ` are its journal; with the plan's first
 line in front they are replayed, by the program in both modes and by the independent reading. All must write what the node wrote besides, but for its lines
 `lost` and `deaf`. With two processes each delivers what the other cast, now and then: how many deliveries there were is printed.
 """

@@ -268,7 +268,7 @@ class Line:
         return atom
 
     def chain(self, place):
-        """The known headers behind a message, which may be missing."""
+        """The known headers after a message, which may be missing."""
         if self.next() != " ":
             return ()
         self.the(" ")
@@ -285,7 +285,7 @@ class Line:
         return core
 
     def sent(self):
-        """Numbers, and a message at the end, which has to be there behind as many numbers as there may be."""
+        """Numbers, and a message at the end, which has to be there after as many numbers as there may be."""
         numbers = []
         if self.next() == ")":
             return numbers, None

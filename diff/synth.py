@@ -217,7 +217,7 @@ stack { heavy; }
 
 
 def heavy(writes=500, reads=500):
-    """A cell that is written so often, and read so often behind that, by other indexes each time."""
+    """A cell that is written so often, and read so often after that, by other indexes each time."""
     sets = "".join(f"    set e[(k + {i})] = {i};\n" for i in range(writes))
     sums = [f"e[{i}]" for i in range(reads)]
     while len(sums) > 1:

@@ -53,7 +53,7 @@ def counted_tasks(weight):
 
 
 def offset(text, at):
-    """The number of bytes in front of a place."""
+    """The number of bytes before a place."""
     line, col = at
     start = 0
     for _ in range(line - 1):
@@ -62,7 +62,7 @@ def offset(text, at):
 
 
 def listed(words, last="or"):
-    """Words with commas between, and one word in front of the last."""
+    """Words with commas between, and one word before the last."""
     words = [f"`{word}`" for word in words]
     return words[0] if len(words) == 1 else ", ".join(words[:-1]) + f" {last} {words[-1]}"
 
@@ -79,9 +79,9 @@ def token(text, at):
     """Why no token is here."""
     rest = text[offset(text, at):]
     here = rest[:1]
-    behind_digit = text[:offset(text, at)][-1:].isdigit()
+    after_digit = text[:offset(text, at)][-1:].isdigit()
     word = WORD.match(rest)
-    if behind_digit and word:
+    if after_digit and word:
         return "a letter stands directly after a number: a name begins with a letter, and numbers are decimal"
     if here.isdigit():
         digits = re.match(rb"[0-9]+", rest).group().decode()

@@ -58,7 +58,7 @@ def spaces(line):
 
 
 def worth(line, at, depth):
-    """How good a place a space is to break a line at: outside of brackets, late, and behind a sign that asks for more."""
+    """How good a place a space is to break a line at: outside of brackets, late, and after a sign that asks for more."""
     before, after = line[:at].rstrip(), line[at + 1:]
     points = at * 0.35 - depth * 40
     points += 18 if before.endswith(ENDS_WELL) else 0

@@ -23,7 +23,7 @@ REPORTED = "deliver view out end visits block announce timer packet refused abse
 
 
 class Fault(Exception):
-    """A sentence and the number of bytes in front of what it is of."""
+    """A sentence and the number of bytes before what it is of."""
 
     def __init__(self, front, sentence):
         super().__init__(sentence)
@@ -85,7 +85,7 @@ def too_long(text):
 
 
 def words_of(line):
-    """The words of a line, each with the number of bytes in front of it."""
+    """The words of a line, each with the number of bytes before it."""
     words, front = [], 0
     for word in line.split(b" "):
         words.append((front, word.decode("latin-1")))

@@ -178,7 +178,7 @@ _stackc "$@"
 
 
 def quoted(text):
-    """A text within single quotes, and within brackets or behind a colon of zsh."""
+    """A text within single quotes, and within brackets or after a colon of zsh."""
     return text.replace("'", "'\\''").replace("[", "\\[").replace("]", "\\]").replace(":", "\\:")
 
 

@@ -25,7 +25,7 @@ def bytes_of(path):
 
 
 def pointed(path, text, line, col, sentence):
-    """The sentence behind its place in a file, and the line of that place with a caret below it."""
+    """The sentence after its place in a file, and the line of that place with a caret below it."""
     head = f"{clean(path)}:{line}:{col}: {sentence}\n"
     every = text.split(b"\n")
     row = every[line - 1].rstrip(b"\r") if line <= len(every) else b""
@@ -91,7 +91,7 @@ def line_told(line, count):
 
 
 def act_told(rows, heading, act):
-    """Where the act of this number stands behind the heading of its case, and what is wrong there."""
+    """Where the act of this number stands after the heading of its case, and what is wrong there."""
     for line in range(rows.index(heading) + 1, len(rows)):
         word = rows[line].split(" ")[0]
         if word in ("entry", "end"):
@@ -140,7 +140,7 @@ def refused(table, said, words):
 
 
 def meaning(status, said, words):
-    """What is added behind the line that a program said when it ended with a status."""
+    """What is added after the line that a program said when it ended with a status."""
     table = Table()
     if status == 2 and said == "words: refused":
         return words_told(table, words)

@@ -4,7 +4,7 @@
     tools/refusal.py run PROGRAM WORDS..           runs the program, hands on at once what it says, and adds what a refusal means
     tools/refusal.py tell STATUS SAID WORDS..      adds what a refusal means that is in the file SAID, of a program that ended with this status
 
-What is added stands behind the program's own line on the standard error. The status is the program's, and a signal that ends this ends the program.
+What is added stands after the program's own line on the standard error. The status is the program's, and a signal that ends this ends the program.
 """
 import os
 import signal

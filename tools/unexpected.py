@@ -15,10 +15,10 @@ NAME, NUMBER = "a name", "a number"
 
 
 class Tokens(reading.Tokens):
-    """The tokens of a text, with those behind, the brackets that are open, and what is asked for next."""
+    """The tokens of a text, with those that were passed, the brackets that are open, and what is asked for next."""
 
     def __init__(self, text):
-        self.behind, self.brackets, self.wanted = [], [], []
+        self.passed, self.brackets, self.wanted = [], [], []
         super().__init__(text)
 
     def ask(self, what):
@@ -42,7 +42,7 @@ class Tokens(reading.Tokens):
         return super().number()
 
     def next(self):
-        self.behind.append((self.token, self.at, self.i))
+        self.passed.append((self.token, self.at, self.i))
         if self.token[0] == "sign" and self.token[1] in BRACKETS:
             self.brackets.append((self.token[1], self.at))
         elif self.token[0] == "sign" and self.token[1] in BRACKETS.values() and self.brackets:
@@ -76,7 +76,7 @@ for part in "place layer declaration handler block statement expression message 
 
 
 class Stop:
-    """Where a file stops being one: the token there and the one behind it, what is wanted, and within what."""
+    """Where a file stops being one: the token there and the one before it, what is wanted, and within what."""
 
     def __init__(self, text, at):
         self.text, parser = text, Parser(text)
@@ -88,8 +88,8 @@ class Stop:
         self.kind, self.word = t.token
         self.agrees = t.at == at
         self.wanted, self.brackets, self.inside, self.open = t.wanted, t.brackets, parser.inside, t.open
-        self.behind = t.behind
-        self.before = t.behind[-1][0][1] if t.behind else None
+        self.passed = t.passed
+        self.before = t.passed[-1][0][1] if t.passed else None
         self.starts = bool(self.inside) and self.inside[-1][2] == t.at
         self.part = self.inside[-1][0] if self.inside else "file"
         self.rest = text[t.i:].lstrip()
@@ -99,7 +99,7 @@ class Stop:
         return self.kind == "sign" and self.word in signs
 
     def wants_operator(self):
-        """Whether a value stands behind a parenthesis, and an operator is wanted."""
+        """Whether a value stands after a parenthesis, and an operator is wanted."""
         return self.part == "expression" and not self.starts and self.within("expression")[0] == "(" and self.wanted in ([], ["["])
 
     def within(self, name):
@@ -124,7 +124,7 @@ def too_deep(s):
     return None
 
 
-def behind_else(s):
+def after_else(s):
     if s.before != "else":
         return None
     if s.sees("if"):
@@ -162,7 +162,7 @@ def reserved(s):
 def no_name(s):
     if s.kind == "number" and s.wanted[-1:] == [NAME]:
         return "a name is wanted here, and begins with a letter"
-    if s.sees(".") and s.behind and s.behind[-1][0][0] == "number":
+    if s.sees(".") and s.passed and s.passed[-1][0][0] == "number":
         return "numbers are whole"
     return None
 
@@ -186,7 +186,7 @@ def compares(s):
     return None
 
 
-def sign_in_front(s):
+def leading_sign(s):
     if s.part == "expression" and s.starts and s.sees("-", "+"):
         return "a number has no sign, and none is below 0: `(0 - 1)` is 4294967295"
     if s.part == "statement" and s.wanted[-1:] == ["="] and s.word in reading.OPERATORS:
@@ -283,7 +283,7 @@ def in_statement(s):
         return "an event has arguments, and so has each of its headers' fields a value"
     if s.part == "expression" and s.starts and s.sees(*reading.Parser.BUILDS):
         return f"`{s.word}` is a message, and a number is wanted here"
-    if last == ["("] and len(s.behind) > 1 and s.behind[-2][0][1] == "with":
+    if last == ["("] and len(s.passed) > 1 and s.passed[-2][0][1] == "with":
         return f"a header has its fields in parentheses, also where it has none: `with {s.before}()`"
     return None
 
@@ -291,7 +291,7 @@ def in_statement(s):
 def semicolon(s):
     if ";" not in s.wanted:
         return None
-    (_, word), at, _ = s.behind[-1]
+    (_, word), at, _ = s.passed[-1]
     if s.part == "place" and s.sees(","):
         return "each place of a stack ends with `;`"
     return f"is a `;` missing after `{word}` at {at[0]}:{at[1]}?"
@@ -310,7 +310,7 @@ def plainly(s):
 
 
 RULES = (
-    at_end, too_deep, behind_else, no_else, at_file, reserved, no_name, event_kind, doubled, compares, sign_in_front, operation, lone_value, function, statement,
+    at_end, too_deep, after_else, no_else, at_file, reserved, no_name, event_kind, doubled, compares, leading_sign, operation, lone_value, function, statement,
     in_layer, in_declaration, in_statement, semicolon,
 )
 

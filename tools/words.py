@@ -121,7 +121,7 @@ def cut(words, options):
 
 
 def value_of(option, value, wanted, left):
-    """The value of an option: behind `=`, or the next word."""
+    """The value of an option: after `=`, or the next word."""
     if wanted is None:
         if value is not None:
             raise NoJob(f"`{option}` has no value")

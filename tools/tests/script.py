@@ -143,7 +143,7 @@ def passes_on(top):
 
 
 def completes(line, *wanted):
-    """What bash offers behind words, of which the last is to be completed."""
+    """What bash offers after words, of which the last is to be completed."""
     words = " ".join(f"'{word}'" for word in line)
     told = f"source {TOP}/tools/completions/stackc.bash; COMP_WORDS=({words}); COMP_CWORD={len(line) - 1}; _stackc; printf '%s\\n' \"${{COMPREPLY[@]}}\""
     got = apart(["bash", "-c", told], os.path.join(TOP, "examples"))[1].decode().split()

@@ -33,7 +33,7 @@ def random_lines(r, first):
 
 
 def refusals(r):
-    """A random text for each job that reads one, with the words of the job behind the names of files."""
+    """A random text for each job that reads one, with the words of the job after the names of files."""
     plan = "group 1 stamp 1 members 2\n" + "peer 0 127.0.0.1:47110\n" * (r.random() < 0.8) + "peer 1 127.0.0.1:47111" * (r.random() < 0.8)
     yield random_file(r), ["check", "text"]
     yield random_lines(r, "group 1 stamp 1 members 3"), ["replay", "good.layers", "text"]
