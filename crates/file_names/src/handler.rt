@@ -8,7 +8,6 @@ ghost use Rattle.file_names.specs.Found.{Finds};
 ghost use Rattle.file_names.specs.Gathered.{maxima_of, noted_words};
 ghost use Rattle.file_names.specs.Handlers.{block_part, head_part};
 ghost use Rattle.file_scope.specs.Scope.{scope_of};
-ghost use Rattle.file_scope.specs.Words.{own_words};
 
 use crate::block::block;
 use crate::found::Found;
@@ -16,8 +15,9 @@ use crate::gather;
 use crate::head::{expected, popped};
 use crate::names::too_many;
 use crate::scope::declare;
+use crate::worded::WordedLayer;
 use file_scope::{Scope, Words, head_locals, head_names};
-use layer_ast::{Handler, Layer};
+use layer_ast::Handler;
 use std::alloc::{AllocError, Global};
 
 /// The most names that a handler declares.
@@ -44,14 +44,13 @@ fn head(
 fn inside(
     alloc: Global,
     found: &mut Found,
-    layer: &Layer,
-    own: &Words,
+    worded: &WordedLayer<'_>,
     handler: &Handler,
 ) -> Result<(), AllocError>
-    requires { own.now ≡ own_words (layer_tree layer.now) }
-    ensures { OnOk result (Finds found.old (block_part (layer_tree layer.now) (handler_tree handler.now)) found.new) }
+    ensures { OnOk result
+        (Finds found.old (block_part (layer_tree worded.now.layer.now) (handler_tree handler.now)) found.new) }
 {
-    let mut scope = Scope::of(alloc, layer, own);
+    let mut scope = Scope::of(alloc, worded.layer, worded.own);
     head(alloc, found, &mut scope, handler)?;
     expected(found, &scope, &handler.expected);
     block(alloc, found, &mut scope, &handler.block)?;
@@ -63,16 +62,14 @@ fn handler(
     alloc: Global,
     found: &mut Found,
     maxima: &mut Words,
-    layer: &Layer,
-    own: &Words,
+    worded: &WordedLayer<'_>,
     handler: &Handler,
 ) -> Result<(), AllocError>
-    requires { own.now ≡ own_words (layer_tree layer.now) }
     ensures { OnOk result
-        (Finds found.old (handler_name_faults (layer_tree layer.now) (handler_tree handler.now)) found.new ×
+        (Finds found.old (handler_name_faults (layer_tree worded.now.layer.now) (handler_tree handler.now)) found.new ×
         (maxima.new ≡ fold noted_words maxima.old (maxima_of (handler_tree handler.now)))) }
 {
-    inside(alloc, found, layer, own, handler)?;
+    inside(alloc, found, worded, handler)?;
     let mut names = head_names(alloc, handler)?;
     gather::block(&mut names, maxima, &handler.block)?;
     too_many(found, MOST_NAMES, &names);
@@ -84,18 +81,16 @@ fn handler(
 pub fn handlers(
     alloc: Global,
     found: &mut Found,
-    layer: &Layer,
-    own: &Words,
+    worded: &WordedLayer<'_>,
 ) -> Result<Words, AllocError>
-    requires { own.now ≡ own_words (layer_tree layer.now) }
     ensures { OnOk result
-        (Finds found.old (flat_map (handler_name_faults (layer_tree layer.now)) (layer_tree layer.now).handlers)
-        found.new) × IfOk result
-        (λ maxima. maxima ≡ fold noted_words [] (flat_map maxima_of (layer_tree layer.now).handlers)) }
+        (Finds found.old (flat_map (handler_name_faults (layer_tree worded.now.layer.now))
+        (layer_tree worded.now.layer.now).handlers) found.new) × IfOk result
+        (λ maxima. maxima ≡ fold noted_words [] (flat_map maxima_of (layer_tree worded.now.layer.now).handlers)) }
 {
     let mut maxima = Words::new(alloc);
-    for h in &layer.handlers {
-        handler(alloc, found, &mut maxima, layer, own, h)?;
+    for h in &worded.layer.handlers {
+        handler(alloc, found, &mut maxima, worded, h)?;
     }
     Ok(maxima)
 }

@@ -14,6 +14,7 @@ use crate::layer::layer;
 use crate::library::{Called, library};
 use crate::sizes::Sizes;
 use crate::tables::Tables;
+use crate::worded::WordedLayer;
 use file_scope::{Words, layer_words};
 use layer_ast::{File, Layer};
 use std::alloc::{AllocError, Global};
@@ -37,7 +38,7 @@ pub struct Judged<'a> {
 }
 
 /// The layers that a file writes, each with the table of its own words.
-#[tactic(auto, using(file_scope::proofs::Finds::finds_none, file_scope::proofs::Layers::made_within))]
+#[tactic(auto, using(file_scope::proofs::Finds::finds_none, crate::proofs::Rules::made_row))]
 fn written(
     alloc: Global,
     found: &mut Found,
@@ -50,7 +51,11 @@ fn written(
 {
     let mut all = Vec::new(alloc);
     for k in 0..layers.len() {
-        let sizes = layer(alloc, found, &layers[k], &tables[k])?;
+        let worded = WordedLayer {
+            layer: &layers[k],
+            own: &tables[k],
+        };
+        let sizes = layer(alloc, found, &worded)?;
         all.push(sizes)?;
     }
     Ok(all)

@@ -6,7 +6,6 @@ ghost use Rattle.fault_mean.specs.Declared as spec;
 ghost use Rattle.fault_mean.specs.Faults as fault;
 ghost use Rattle.fault_mean.specs.NameFaults.{declared_faults, layer_name_faults, names_where, too_many_of};
 ghost use Rattle.fault_mean.specs.NameFaults.{twice_among};
-ghost use Rattle.file_scope.specs.Words.{own_words};
 ghost use Rattle.file_names.specs.Found.{Finds};
 ghost use Rattle.file_names.specs.Gathered.{sizes_of};
 ghost use Rattle.file_names.specs.Layers.{test_of};
@@ -18,7 +17,8 @@ use crate::found::{Cause, Found, note};
 use crate::handler::handlers;
 use crate::names::{too_many, twice};
 use crate::sizes::{Sizes, capacities};
-use file_scope::{Scope, Words, declared_name};
+use crate::worded::WordedLayer;
+use file_scope::{Scope, declared_name};
 use layer_ast::{Declaration, Handler, Layer, Name};
 use std::alloc::{AllocError, Global};
 
@@ -112,15 +112,15 @@ fn each_once(alloc: Global, found: &mut Found, layer: &Layer) -> Result<(), Allo
 }
 
 /// The declarations of a layer.
-fn declared(alloc: Global, found: &mut Found, layer: &Layer, own: &Words) -> Result<(), AllocError>
-    requires { own.now ≡ own_words (layer_tree layer.now) }
-    ensures { OnOk result (Finds found.old (declared_faults (layer_tree layer.now)) found.new) }
+fn declared(alloc: Global, found: &mut Found, worded: &WordedLayer<'_>) -> Result<(), AllocError>
+    ensures { OnOk result (Finds found.old (declared_faults (layer_tree worded.now.layer.now)) found.new) }
 {
+    let layer = worded.layer;
     each_once(alloc, found, layer)?;
     few(alloc, found, Form::Param, MOST_PARAMS, layer)?;
     few(alloc, found, Form::Cell, MOST_CELLS, layer)?;
     few(alloc, found, Form::Header, MOST_DECLARED, layer)?;
-    let scope = Scope::of(alloc, layer, own);
+    let scope = Scope::of(alloc, layer, worded.own);
     declarations(alloc, found, &scope, &layer.declarations)?;
     Ok(())
 }
@@ -146,21 +146,19 @@ fn few_handlers(found: &mut Found, handlers: &[Handler])
     }
 }
 
-/// A layer, with the table of its own words, and the names that are sizes in it.
+/// A layer, and the names that are sizes in it.
 pub fn layer(
     alloc: Global,
     found: &mut Found,
-    layer: &Layer,
-    own: &Words,
+    worded: &WordedLayer<'_>,
 ) -> Result<Sizes, AllocError>
-    requires { own.now ≡ own_words (layer_tree layer.now) }
-    ensures finds { OnOk result (Finds found.old (layer_name_faults (layer_tree layer.now)) found.new) }
-    ensures sizes { IfOk result (λ sizes. sizes ≡ sizes_of (layer_tree layer.now)) }
+    ensures finds { OnOk result (Finds found.old (layer_name_faults (layer_tree worded.now.layer.now)) found.new) }
+    ensures sizes { IfOk result (λ sizes. sizes ≡ sizes_of (layer_tree worded.now.layer.now)) }
 {
-    declared(alloc, found, layer, own)?;
-    handlers_twice(alloc, found, &layer.handlers)?;
-    few_handlers(found, &layer.handlers);
-    let maxima = handlers(alloc, found, layer, own)?;
-    let capacities = capacities(alloc, &layer.declarations)?;
+    declared(alloc, found, worded)?;
+    handlers_twice(alloc, found, &worded.layer.handlers)?;
+    few_handlers(found, &worded.layer.handlers);
+    let maxima = handlers(alloc, found, worded)?;
+    let capacities = capacities(alloc, &worded.layer.declarations)?;
     Ok(Sizes { capacities, maxima })
 }

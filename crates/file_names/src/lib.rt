@@ -24,6 +24,7 @@ mod sizes;
 mod tables;
 mod uses;
 mod value;
+mod worded;
 
 pub use answer::resolve;
 pub use error::NameError;

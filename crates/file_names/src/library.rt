@@ -8,6 +8,7 @@ ghost use Rattle.file_names.specs.Called.{called_of};
 use crate::found::Found;
 use crate::layer::layer;
 use crate::sizes::Sizes;
+use crate::worded::WordedLayer;
 use file_scope::Words;
 use layer_ast::Layer;
 use std::alloc::{AllocError, Global};
@@ -20,13 +21,12 @@ pub struct Called {
     pub rank: Option<u8>,
 }
 
-/// A layer of the library, with the table of its own words.
-fn judge(alloc: Global, of_library: &Layer, own: &Words) -> Result<Called, AllocError>
-    requires { own.now ≡ own_words (layer_tree of_library.now) }
-    ensures { IfOk result (λ called. called ≡ called_of (layer_tree of_library.now)) }
+/// A layer of the library.
+fn judge(alloc: Global, of_library: &WordedLayer<'_>) -> Result<Called, AllocError>
+    ensures { IfOk result (λ called. called ≡ called_of (layer_tree of_library.now.layer.now)) }
 {
     let mut found = Found::moved();
-    let sizes = layer(alloc, &mut found, of_library, own)?;
+    let sizes = layer(alloc, &mut found, of_library)?;
     Ok(Called {
         sizes,
         rank: found.rank(),
@@ -34,14 +34,18 @@ fn judge(alloc: Global, of_library: &Layer, own: &Words) -> Result<Called, Alloc
 }
 
 /// The layers of the library, each with the table of its own words.
-#[tactic(auto, using(file_scope::proofs::Layers::made_within))]
+#[tactic(auto, using(crate::proofs::Rules::made_row))]
 pub fn library(alloc: Global, layers: &[Layer], tables: &[Words]) -> Result<Vec<Called>, AllocError>
     requires { tables.now ≡ map own_words (map layer_tree layers.now) }
     ensures { IfOk result (λ all. all.items ≡ map called_of (map layer_tree layers.now)) }
 {
     let mut all = Vec::new(alloc);
     for k in 0..layers.len() {
-        let one = judge(alloc, &layers[k], &tables[k])?;
+        let worded = WordedLayer {
+            layer: &layers[k],
+            own: &tables[k],
+        };
+        let one = judge(alloc, &worded)?;
         all.push(one)?;
     }
     Ok(all)

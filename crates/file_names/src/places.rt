@@ -6,7 +6,6 @@ ghost use Rattle.layer_ast.specs.View.{file_tree, layer_tree, place_tree};
 ghost use Rattle.fault_mean.specs.Faults.{name_fault_at};
 ghost use Rattle.fault_mean.specs.NameFaults.{layer_name_faults, place_faults, place_faults_in};
 ghost use Rattle.fault_mean.specs.Places.{called_at, faults_of_judged};
-ghost use Rattle.file_scope.specs.Words.{own_words};
 ghost use Rattle.file_names.specs.Found.{Finds};
 ghost use Rattle.file_names.specs.Gathered.{sizes_of};
 ghost use Rattle.file_names.specs.Places.{called_faults};
@@ -15,8 +14,9 @@ use crate::found::{Cause, Found, note};
 use crate::judged::Judged;
 use crate::place::place_in;
 use crate::sizes::Sizes;
-use file_scope::{Scope, Words};
-use layer_ast::{Layer, Place};
+use crate::worded::WordedLayer;
+use file_scope::Scope;
+use layer_ast::Place;
 use std::alloc::{AllocError, Global};
 
 /// The layer of the library that a place names, if it does: its faults stand at this place.
@@ -45,20 +45,19 @@ pub fn calls(found: &mut Found, judged: &Judged, places: &[Place])
     }
 }
 
-/// A place of this layer, with the table of the layer's own words.
+/// A place of this layer.
 fn place_at(
     alloc: Global,
     found: &mut Found,
-    layer: &Layer,
-    own: &Words,
+    worded: &WordedLayer<'_>,
     place: &Place,
     sizes: &Sizes,
 ) -> Result<(), AllocError>
-    requires own { own.now ≡ own_words (layer_tree layer.now) }
-    requires sizes { sizes.now ≡ sizes_of (layer_tree layer.now) }
-    ensures { OnOk result (Finds found.old (place_faults_in (place_tree place.now) (layer_tree layer.now)) found.new) }
+    requires { sizes.now ≡ sizes_of (layer_tree worded.now.layer.now) }
+    ensures { OnOk result
+        (Finds found.old (place_faults_in (place_tree place.now) (layer_tree worded.now.layer.now)) found.new) }
 {
-    let scope = Scope::of(alloc, layer, own);
+    let scope = Scope::of(alloc, worded.layer, worded.own);
     place_in(alloc, found, &scope, place, sizes)?;
     Ok(())
 }
@@ -73,14 +72,16 @@ fn place(alloc: Global, found: &mut Found, judged: &Judged, place: &Place) -> Re
         Some(k) => {
             let layer = &judged.file.layers[k];
             let own = &judged.tables.layers[k];
-            place_at(alloc, found, layer, own, place, &judged.written[k])?;
+            let worded = WordedLayer { layer, own };
+            place_at(alloc, found, &worded, place, &judged.written[k])?;
         }
         None => match judged.library_names.position(&place.name.word) {
             Some(k) => {
                 let layer = &judged.file.library[k];
                 let own = &judged.tables.library[k];
                 let called = &judged.library[k];
-                place_at(alloc, found, layer, own, place, &called.sizes)?;
+                let worded = WordedLayer { layer, own };
+                place_at(alloc, found, &worded, place, &called.sizes)?;
             }
             None => note(found, Cause::Unknown, place.name.at),
         },

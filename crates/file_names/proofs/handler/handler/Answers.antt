@@ -9,7 +9,8 @@ use Rattle.file_names.proofs.handler.handler.Goals as goal
 
 pub returns : goal.returns
 returns c =
-    gathered (layer_tree c.args.layer.now) (handler_tree c.args.handler.now) c.block.new.names.items c.args.maxima.now
+    gathered (layer_tree c.args.worded.now.layer.now) (handler_tree c.args.handler.now) c.block.new.names.items
+    c.args.maxima.now
     c.block.new.maxima
     c.args.found.now c.inside.new.found c.too_many.new.found c.in_ok-inside.ensures
     (subst (λ (l : List Name). Gathers l c.args.maxima.now (statements_in (block_tree c.args.handler.now.block))

@@ -11,12 +11,13 @@ use Rattle.file_names.proofs.handler.handlers.Goals as goal
 pub loop-h-preserved : goal.loop-h-preserved
 loop-h-preserved c =
     let one = c.in_ok-handler.ensures in (
-      part_more name_shown handler_tree (handler_name_faults (layer_tree c.args.layer.now)) c.args.found.now
+      part_more name_shown handler_tree (handler_name_faults (layer_tree c.args.worded.now.layer.now)) c.args.found.now
           c.loop-h.found
-          c.handler.new.found c.args.layer.now.handlers.items c.loop-h.h-index c.h-item.result (search rules)
+          c.handler.new.found c.args.worded.now.layer.now.handlers.items c.loop-h.h-index c.h-item.result (search rules)
           (search rules)
           c.loop-h.invariant.0 one.0,
-      words_more handler_tree maxima_of [] c.loop-h.maxima c.handler.new.maxima c.args.layer.now.handlers.items
+      words_more handler_tree maxima_of [] c.loop-h.maxima c.handler.new.maxima
+          c.args.worded.now.layer.now.handlers.items
           c.loop-h.h-index
           c.h-item.result (search rules) (search rules) c.loop-h.invariant.1 one.1,
     )

@@ -8,6 +8,8 @@ use Rattle.file_names.proofs.handler.handlers.Given as goal
 abbrev pub invariant-loop-h : goal.invariant-loop-h
 invariant-loop-h l =
     Finds l.initial.found
-    (flat_map (handler_name_faults (layer_tree l.layer)) (map handler_tree (take l.h-index l.layer.handlers.items)))
+    (flat_map (handler_name_faults (layer_tree l.worded.layer.now))
+    (map handler_tree (take l.h-index l.worded.layer.now.handlers.items)))
     l.found
-    × (l.maxima ≡ fold noted_words [] (flat_map maxima_of (map handler_tree (take l.h-index l.layer.handlers.items))))
+    × (l.maxima ≡ fold noted_words []
+    (flat_map maxima_of (map handler_tree (take l.h-index l.worded.layer.now.handlers.items))))

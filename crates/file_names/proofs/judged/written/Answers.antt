@@ -4,15 +4,8 @@ use Rattle.fault_mean.specs.NameFaults.{layer_name_faults}
 use Rattle.file_scope.proofs.Finds.{part_more}
 use Rattle.file_names.specs.Found.{name_shown}
 use Rattle.file_names.specs.Gathered.{sizes_of}
-use Rattle.file_scope.proofs.Layers.{made_at, thing_more}
-use Rattle.file_scope.specs.Words.{own_words}
+use Rattle.file_scope.proofs.Layers.{thing_more}
 use Rattle.file_names.proofs.judged.written.Goals as goal
-
-pub layer-requires : goal.layer-requires
-layer-requires c =
-    made_at own_words c.args.layers.now c.args.tables.now c.loop-k.k c.index-layers-k.result c.index-tables-k.result
-    c.requires
-    (search rules) (search rules) (search rules)
 
 pub loop-k-preserved : goal.loop-k-preserved
 loop-k-preserved c =

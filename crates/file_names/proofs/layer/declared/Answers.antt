@@ -10,7 +10,7 @@ use Rattle.file_names.proofs.layer.declared.Goals as goal
 pub returns : goal.returns
 returns c =
     let s = scope_of c.of-scope.result in
-    declared_parts (layer_tree c.args.layer.now) s c.args.found.now c.each_once.new.found c.few.new.found
+    declared_parts (layer_tree c.args.worded.now.layer.now) s c.args.found.now c.each_once.new.found c.few.new.found
     c.few-2.new.found c.few-3.new.found
     c.declarations.new.found c.of-scope.ensures c.in_ok-each_once.ensures c.in_ok-few.ensures c.in_ok-few-2.ensures
     c.in_ok-few-3.ensures

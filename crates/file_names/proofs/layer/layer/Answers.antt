@@ -10,7 +10,8 @@ use Rattle.file_names.proofs.layer.layer.Goals as goal
 
 pub returns-clause-finds : goal.returns-clause-finds
 returns-clause-finds c =
-    layer_parts (layer_tree c.args.layer.now) c.args.found.now c.declared.new.found c.handlers_twice.new.found
+    layer_parts (layer_tree c.args.worded.now.layer.now) c.args.found.now c.declared.new.found
+    c.handlers_twice.new.found
     c.few_handlers.new.found
     c.handlers.new.found c.in_ok-declared.ensures
     (subst (λ (l : List Handler). Finds c.declared.new.found

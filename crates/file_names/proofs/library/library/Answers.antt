@@ -1,14 +1,7 @@
 use Rattle.std.proofs.Common.{rules}
-use Rattle.file_scope.proofs.Layers.{made_at, thing_more}
-use Rattle.file_scope.specs.Words.{own_words}
+use Rattle.file_scope.proofs.Layers.{thing_more}
 use Rattle.file_names.specs.Called.{called_of}
 use Rattle.file_names.proofs.library.library.Goals as goal
-
-pub judge-requires : goal.judge-requires
-judge-requires c =
-    made_at own_words c.args.layers.now c.args.tables.now c.loop-k.k c.index-layers-k.result c.index-tables-k.result
-    c.requires
-    (search rules) (search rules) (search rules)
 
 pub loop-k-preserved : goal.loop-k-preserved
 loop-k-preserved c =
