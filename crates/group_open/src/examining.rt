@@ -11,7 +11,6 @@ use crate::preparing::prepare_examined;
 use crate::run::{Examination, Opened};
 use bypass_member::OpenError;
 use event_graph::Stack;
-use msg_core::Memory;
 use std::alloc::Global;
 use world_core::Examined;
 
@@ -27,10 +26,7 @@ pub fn open_examined(
     requires members { (1 ≤ members) × (members ≤ most_members) }
     ensures { OpensExamined (stack_tree stack) group stamp members result }
 {
-    let (parts, checks) = match prepare_examined(alloc, stack) {
-        Ok(made) => made,
-        Err(Memory) => return Err(OpenError::Memory),
-    };
+    let (parts, checks) = prepare_examined(alloc, stack)?;
     match begin(alloc, parts, group, stamp, members) {
         Ok(opened) => {
             let Opened {

@@ -18,7 +18,6 @@ use crate::run::{Opened, Parts};
 use bypass_member::{OpenError, Opening};
 use event_graph::Stack;
 use group_mean::Mode;
-use msg_core::Memory;
 use std::alloc::Global;
 use trace_core::Bypasses;
 use world_core::World;
@@ -79,10 +78,8 @@ pub fn open(
     requires members { (1 ≤ members) × (members ≤ most_members) }
     ensures { Opens (shown_mode mode) (stack_tree stack) group stamp members result }
 {
-    match prepare(alloc, mode, stack) {
-        Ok(parts) => begin(alloc, parts, group, stamp, members),
-        Err(Memory) => Err(OpenError::Memory),
-    }
+    let parts = prepare(alloc, mode, stack)?;
+    begin(alloc, parts, group, stamp, members)
 }
 
 /// Opens a group of n members over a stack, which run it by bypasses that are given, and are the stack's.
@@ -99,8 +96,6 @@ pub fn open_with(
     requires members { (1 ≤ members) × (members ≤ most_members) }
     ensures { Opens bypass (stack_tree stack) group stamp members result }
 {
-    match prepare_with(alloc, bypasses, stack) {
-        Ok(parts) => begin(alloc, parts, group, stamp, members),
-        Err(Memory) => Err(OpenError::Memory),
-    }
+    let parts = prepare_with(alloc, bypasses, stack)?;
+    begin(alloc, parts, group, stamp, members)
 }

@@ -36,10 +36,7 @@ pub fn open_all(
     ensures { OpensAll opening.entry n (making maker.old) (making maker.new) result }
 {
     let view = first_view(n);
-    let mut members = match Vec::with_capacity(alloc, usize::from(n)) {
-        Ok(members) => members,
-        Err(_) => return Err(OpenError::Memory),
-    };
+    let mut members = Vec::with_capacity(alloc, usize::from(n))?;
     opening.stack.is_within_limits();
     for id in 0..n {
         match Member::begin(alloc, maker, opening, view, id) {

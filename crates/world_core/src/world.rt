@@ -100,10 +100,7 @@ impl World {
         requires members { (1 ≤ n) × (n ≤ most_members) }
         ensures { Begins opening.entry n (making maker.old) (making maker.new) result }
     {
-        let (stack, plans) = match share(opening.stack, opening.plans) {
-            Ok(shared) => shared,
-            Err(_) => return Err(OpenError::Memory),
-        };
+        let (stack, plans) = share(opening.stack, opening.plans)?;
         match open_all(alloc, maker, opening, n) {
             Ok(members) => Ok(World {
                 bypasses: opening.codes.is_some(),

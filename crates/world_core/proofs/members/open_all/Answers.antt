@@ -40,15 +40,15 @@ begin-requires-clause-member c =
 
 pub loop-id-preserved : goal.loop-id-preserved
 loop-id-preserved c = record {
-  below = open_next _ _ c.loop-id.id c.first_view-view.result _ _ _ _ c.in-Ok-begin.member _ c.loop-id.invariant.below
-      c.first_view-view.ensures c.requires.members.1 c.in-Ok-begin.ensures c.push_reserved.ensures.items;
+  below = open_next _ _ c.loop-id.id c.first_view-view.result _ _ _ _ c.in-Ok.member _ c.loop-id.invariant.below
+      c.first_view-view.ensures c.requires.members.1 c.in-Ok.ensures c.push_reserved.ensures.items;
   room = search rules;
 }
 
-pub returns-in-Err-begin : goal.returns-in-Err-begin
-returns-in-Err-begin c = open_fails _ _ c.loop-id.id c.first_view-view.result _ _ _ _ c.in-Err-begin.error
+pub returns-in-Err : goal.returns-in-Err
+returns-in-Err c = open_fails _ _ c.loop-id.id c.first_view-view.result _ _ _ _ c.in-Err.error
     c.loop-id.invariant.below
-    c.loop-id-test.true c.first_view-view.ensures c.requires.members.1 c.in-Err-begin.ensures
+    c.loop-id-test.true c.first_view-view.ensures c.requires.members.1 c.in-Err.ensures
 
 pub returns : goal.returns
 returns c = all_open _ _ c.loop-id.id _ _ _ c.loop-id.invariant.below (omega arith) c.requires.members.0

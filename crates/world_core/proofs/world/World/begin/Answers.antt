@@ -7,12 +7,12 @@ use Rattle.world_core.proofs.world.World.begin.Goals as goal
 
 pub invariant_of-result : goal.invariant_of-result
 invariant_of-result c = begun_seated c.args.opening c.args.n (making c.args.maker.now) (making c.open_all.new.maker)
-    c.in-Ok-open_all.members.items
-    _ _ _ c.in-Ok-open_all.ensures (mode_begun c.args.opening _ c.is_some.ensures) (ap stack_tree c.in-Ok.ensures.stack)
-    (ap plans_tree c.in-Ok.ensures.plans)
+    c.in-Ok.members.items
+    _ _ _ c.in-Ok.ensures (mode_begun c.args.opening _ c.is_some.ensures) (ap stack_tree c.in_ok-stack.ensures.stack)
+    (ap plans_tree c.in_ok-stack.ensures.plans)
 
-pub returns-in-Ok-open_all : goal.returns-in-Ok-open_all
-returns-in-Ok-open_all c = begun c.args.opening c.args.n (making c.args.maker.now) (making c.open_all.new.maker)
-    c.in-Ok-open_all.members.items
-    _ _ _ _ c.in-Ok-open_all.ensures (mode_begun c.args.opening _ c.is_some.ensures)
-    (ap stack_tree c.in-Ok.ensures.stack) (ap plans_tree c.in-Ok.ensures.plans) c.none.ensures
+pub returns-in-Ok : goal.returns-in-Ok
+returns-in-Ok c = begun c.args.opening c.args.n (making c.args.maker.now) (making c.open_all.new.maker)
+    c.in-Ok.members.items
+    _ _ _ _ c.in-Ok.ensures (mode_begun c.args.opening _ c.is_some.ensures)
+    (ap stack_tree c.in_ok-stack.ensures.stack) (ap plans_tree c.in_ok-stack.ensures.plans) c.none.ensures
