@@ -6,7 +6,7 @@ use Rattle.std.proofs.lemmas.List.{map-set, set-get_or, map_push, drop-map, leng
 use Rattle.layer_mean.specs.Tree as tree
 use Rattle.layer_mean.specs.Tree.{LayerTree, CellTree}
 use Rattle.layer_mean.specs.State as state
-use Rattle.layer_mean.specs.State.{State, Contents, no_cell, numbers_in, queues_in, cell_at, number_at, rows_at, row_at}
+use Rattle.layer_mean.specs.State.{State, numbers_in, queues_in, cell_at, number_at, rows_at, row_at}
 use Rattle.layer_mean.specs.State.{has_room, with_number, with_rows, with_row, without_front, with_element, with_queue}
 use Rattle.layer_mean.specs.Visit.{bare_state, fresh, fresh_cell}
 use Rattle.layer_mean.specs.declared.run.Row.{Row}

@@ -5,8 +5,8 @@ use Rattle.std.proofs.lemmas.Iterator.Adapters.{option_map_id}
 use Rattle.std.proofs.lemmas.List.{length-map, map-id, set-get_or, set-set}
 use Rattle.layer_ast.specs.declared.syntax.Shape.TheVariants.{One}
 use Rattle.layer_mean.specs.State as state
-use Rattle.layer_mean.specs.State.{State, Contents, no_cell, numbers_in, cell_at, number_at, rows_at, row_at, has_room}
-use Rattle.layer_mean.specs.State.{with_element, with_number, with_rows, with_row, without_front}
+use Rattle.layer_mean.specs.State.{State, Contents, no_cell, numbers_in, rows_at, row_at, has_room}
+use Rattle.layer_mean.specs.State.{with_element, with_rows, with_row, without_front}
 use Rattle.layer_mean.specs.declared.run.Row.{Row}
 use Rattle.cell_store.specs.Kept.{KeptCell, numbers, queues, Kept, kept_rows, kept_row, with_last, with_first}
 use Rattle.cell_store.specs.Kept.{without_first, without_last, first_row, last_row, contents_seen, state_of}

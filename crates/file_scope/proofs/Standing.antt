@@ -3,7 +3,7 @@ use Rattle.std.proofs.Common.{◌≡◌, ℕ, ◌+◌, ◌<◌, List, [], ◌∷
 use Rattle.std.proofs.Common.{◌∙◌, append_assoc, append-nil}
 use Rattle.std.proofs.lemmas.Grind.{flat_map-append}
 use Rattle.layer_ast.specs.Tree as ast
-use Rattle.layer_ast.specs.Tree.{StatementTree, StatementTrees}
+use Rattle.layer_ast.specs.Tree.{StatementTree}
 use Rattle.layer_ast.specs.View.{trees}
 use Rattle.layer_ast.specs.declared.names.Name.{Name}
 use Rattle.layer_ast.specs.declared.syntax.Sort.{Sort}

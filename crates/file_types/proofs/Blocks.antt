@@ -2,7 +2,7 @@
 use Rattle.std.proofs.Common.{◌≡◌, ℕ, ◌+◌, ◌<◌, List, [], ◌∷◌, map, take, length, get_or, Some, sym, ap, ◌∙◌, subst}
 use Rattle.std.proofs.lemmas.List.Sums.{fold-append}
 use Rattle.layer_ast.specs.Tree as ast
-use Rattle.layer_ast.specs.Tree.{StatementTree, StatementTrees}
+use Rattle.layer_ast.specs.Tree.{StatementTrees}
 use Rattle.layer_ast.specs.View.{statement_tree, trees}
 use Rattle.layer_ast.specs.declared.names.At.{At}
 use Rattle.layer_ast.specs.declared.syntax.Likely.{Likely}

@@ -11,7 +11,7 @@ use Rattle.layer_ast.specs.declared.tokens.Token.TheVariants as token
 use Rattle.layer_ast.specs.Print as print
 use Rattle.layer_ast.specs.Printed.{Printed, direction_sign, function_sign}
 use Rattle.layer_ast.specs.Tree as tree
-use Rattle.layer_ast.specs.Tree.{ExpressionTree, BuiltTree, ArgumentTree, StatementTree, DeclarationTree}
+use Rattle.layer_ast.specs.Tree.{ExpressionTree, BuiltTree, StatementTree, DeclarationTree}
 use Rattle.grammar_laws.proofs.Together.{Together}
 
 -- what begins: a number or a message that is no bare name, a statement, a declaration, an index, an other way, or none

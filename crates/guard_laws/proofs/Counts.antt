@@ -12,7 +12,7 @@ use Rattle.trace_mean.specs.Follow.{unchecked}
 use Rattle.trace_mean.specs.Counts.{message_joins, note_joins, an_output}
 use Rattle.guard_mean.specs.Simplify.{reduced_message, reduced_operation, keeps, guarded_by}
 use Rattle.guard_mean.specs.Code as code
-use Rattle.guard_mean.specs.Code.{Reading, Making, Step, make, keep, Code}
+use Rattle.guard_mean.specs.Code.{Reading, Step, make, keep, Code}
 use Rattle.guard_mean.specs.Straight.{straight, all_straight, Sheet, sheet_line, makes, placed_core, placed_message}
 use Rattle.guard_mean.specs.Straight.{sending}
 use Rattle.guard_mean.specs.Straight.{writes, guarding, first_sheet, code_of}

@@ -17,7 +17,7 @@ use Rattle.layer_mean.specs.declared.run.Event.{Event}
 use Rattle.layer_mean.specs.declared.run.Row.{Row}
 use Rattle.layer_mean.specs.Event.{carries, event_of}
 use Rattle.layer_mean.specs.State as state
-use Rattle.layer_mean.specs.State.{State, Contents, no_cell, numbers_in, queues_in, cell_at, rows_at, row_at, has_room}
+use Rattle.layer_mean.specs.State.{State, Contents, no_cell, numbers_in, queues_in, cell_at, rows_at, row_at}
 use Rattle.layer_mean.specs.State.{flat_index, size_of}
 use Rattle.layer_mean.specs.Tree.{part, ItemsTree, Form, numbers, queue, queues, CellTree, LayerTree, no_layer}
 use Rattle.layer_mean.specs.Value.{is_true}

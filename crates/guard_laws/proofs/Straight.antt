@@ -9,7 +9,6 @@ use Rattle.std.proofs.lemmas.List.Sums.{fold-append}
 use Rattle.std.specs.List.{list_all}
 use Rattle.msg_core.specs.Chain.{Content, plain}
 use Rattle.msg_core.specs.Parts as message_parts
-use Rattle.msg_core.specs.Parts.{longest_body}
 use Rattle.layer_ast.specs.declared.syntax.Operator.TheVariants.{And}
 use Rattle.layer_mean.specs.declared.run.Row.{Row}
 use Rattle.layer_mean.specs.Tree.{Carried, part, whole}
@@ -27,7 +26,7 @@ use Rattle.trace_mean.specs.Worth.{header_at, content_at}
 use Rattle.trace_mean.specs.Follow.{Trail, with_bound, with_noted, does, before, perform}
 use Rattle.guard_mean.specs.Perform.{with_value, values_of, holds_at, holds}
 use Rattle.guard_mean.specs.Code as code
-use Rattle.guard_mean.specs.Code.{Operand, Source, Reading, Making, Heading, Sent, Test, prepare, require}
+use Rattle.guard_mean.specs.Code.{Operand, Reading, Making, Test, prepare, require}
 use Rattle.guard_mean.specs.Code.{require_operand, Step, make, keep, Code}
 use Rattle.guard_mean.specs.Same.{same_reading}
 use Rattle.guard_mean.specs.Machine.{operand_at, source_at, cut_bytes, tail_bytes, join_bytes, reading_of, making_of}

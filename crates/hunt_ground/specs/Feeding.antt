@@ -1,5 +1,5 @@
 -- What an event gives that happens in a group.
-use Rattle.std.specs.Prelude.{◌≡◌, ℕ, ◌≤◌, length, Option, Some, None, Result, Ok, Err}
+use Rattle.std.specs.Prelude.{◌≡◌, ◌≤◌, length, Option, Some, None, Result, Ok, Err}
 use Rattle.msg_core.specs.declared.message.Memory.{Memory}
 use Rattle.run_mean.specs.World.{World, happens}
 use Rattle.script_mean.specs.Event.{member_of}

@@ -7,7 +7,7 @@ use Rattle.layer_mean.specs.Tree.{LayerTree}
 use Rattle.layer_mean.specs.declared.run.Case.{Case}
 use Rattle.layer_mean.specs.declared.run.Case.TheVariants.{First, Second}
 use Rattle.miss_mean.specs.Lacks as lacks
-use Rattle.miss_mean.specs.Lacks.{Lack, absent, missed, Entry, Miss, entry_named, lack_of, first_lack, second_lack}
+use Rattle.miss_mean.specs.Lacks.{absent, missed, Entry, Miss, entry_named, lack_of, first_lack, second_lack}
 use Rattle.miss_mean.specs.Lacks.{miss_by, miss_of}
 use Rattle.miss_mean.specs.Text.{known_at}
 use Rattle.packet_mean.specs.Plan.{least_fit}

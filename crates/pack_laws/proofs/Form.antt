@@ -16,10 +16,10 @@ use Rattle.pack_mean.specs.Reader.{◌>>=◌, yields, the_text, a_name}
 use Rattle.pack_mean.specs.Named.{Named, items_at, place_of, atom_named, core_named, cell_named, function_named}
 use Rattle.pack_mean.specs.Named.{operator_named}
 use Rattle.pack_mean.specs.Expression as expression
-use Rattle.pack_mean.specs.Expression.{QueueNamed, Inner, nothing_inside, an_index, number_of_cell, index_of_queue}
+use Rattle.pack_mean.specs.Expression.{QueueNamed, Inner, an_index, number_of_cell, index_of_queue}
 use Rattle.pack_mean.specs.Expression.{queue_with, a_length, item_named, a_size, a_choice, an_application, an_operation}
 use Rattle.pack_mean.specs.Expression.{begun_by, number_named, number_with, held_in, a_held, a_cut, a_tail, a_join}
-use Rattle.pack_mean.specs.Expression.{built_by, message_named, message_with, inside, most_brackets}
+use Rattle.pack_mean.specs.Expression.{built_by, message_named, message_with, inside}
 use Rattle.pack_laws.proofs.Readers.{some_same, Gives, gives_value, gives_given, gives_nowhere, gives_then, gives_past}
 use Rattle.pack_laws.proofs.Readers.{gives_name, gives_word, gives_known, gives_text, gives_case, gives_either}
 

@@ -10,8 +10,8 @@ use Rattle.layer_ast.specs.Spelling.{beside, kind_word}
 use Rattle.layer_mean.specs.Tree.{Carried, ItemsTree, LayerTree}
 use Rattle.msg_core.specs.Headers.{most_fields}
 use Rattle.trace_mean.specs.Trace as trace
-use Rattle.trace_mean.specs.Trace.{Atom, Core, TraceNumber, element, square, TraceMessage, Link, Chained, Operation}
-use Rattle.trace_mean.specs.Trace.{bind, note, check, set, set_square, push, output}
+use Rattle.trace_mean.specs.Trace.{Atom, Core, TraceNumber, element, square, Link, Chained, Operation}
+use Rattle.trace_mean.specs.Trace.{bind, note, check, set, push, output}
 use Rattle.trace_mean.specs.Fuse.{fields_of}
 use Rattle.bypass_mean.specs.Text.{layer_of, sign_text, bracketed_list, atom_text, core_text, number_text, message_text}
 use Rattle.bypass_mean.specs.Text.{link_text, following, pushed_text}

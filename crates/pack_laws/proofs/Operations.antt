@@ -7,8 +7,8 @@ use Rattle.layer_ast.specs.Spelling.{beside}
 use Rattle.layer_mean.specs.Tree.{Carried, LayerTree}
 use Rattle.msg_core.specs.Headers.{most_fields}
 use Rattle.trace_mean.specs.Trace as trace
-use Rattle.trace_mean.specs.Trace.{Atom, Core, TraceNumber, atom, me, count, ltime, element, square, rows, item, size}
-use Rattle.trace_mean.specs.Trace.{binary, apply, pick, Link, Chained, Operation, bind, note, check, set, set_square}
+use Rattle.trace_mean.specs.Trace.{Atom, Core, TraceNumber, element, square, rows}
+use Rattle.trace_mean.specs.Trace.{Link, Operation, bind, note, check, set}
 use Rattle.trace_mean.specs.Trace.{push, output}
 use Rattle.trace_mean.specs.Fuse.{fields_of}
 use Rattle.trace_form_laws.specs.Names as names

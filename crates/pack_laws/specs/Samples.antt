@@ -12,8 +12,8 @@ use Rattle.layer_mean.specs.Tree as tree
 use Rattle.layer_mean.specs.Tree.{ItemsTree, numbers, queue, queues, LayerTree, part}
 use Rattle.stack_mean.specs.SampleLayers.{counter, silent_layer, named_cell, with_fields, kept_rows}
 use Rattle.trace_mean.specs.Trace as trace
-use Rattle.trace_mean.specs.Trace.{number, peer, field, bound, taken_number, Core, body, noted, taken_message, nothing}
-use Rattle.trace_mean.specs.Trace.{TraceNumber, atom, me, count, ltime, element, square, rows, item, size, binary}
+use Rattle.trace_mean.specs.Trace.{number, peer, field, bound, taken_number, body, noted, taken_message, nothing}
+use Rattle.trace_mean.specs.Trace.{atom, me, count, ltime, element, square, rows, item, size, binary}
 use Rattle.trace_mean.specs.Trace.{apply, pick, TraceMessage, core, held, cut, tail, join, Operation, bind, note, check}
 use Rattle.trace_mean.specs.Trace.{set, set_square, push, output}
 use Rattle.trace_mean.specs.Samples.{lit, cell, link, with_chain}

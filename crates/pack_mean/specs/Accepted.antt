@@ -1,11 +1,10 @@
 -- When the traces of a file may be run for a stack, and why they are refused.
-use Rattle.std.specs.Prelude.{◌≡◌, ℕ, ◌<◌, ◌≤◌, List, ◌∷◌, ◌++◌, length, take, slice_get, Option, Some, None, Result}
+use Rattle.std.specs.Prelude.{◌≡◌, ℕ, ◌<◌, ◌≤◌, List, ◌∷◌, ◌++◌, length, take, slice_get}
 use Rattle.std.specs.Prelude.{Ok, Err}
 use Rattle.std.specs.List.{AllZip}
 use Rattle.layer_mean.specs.declared.run.Case.{Case}
 use Rattle.layer_mean.specs.Tree.{LayerTree}
 use Rattle.trace_mean.specs.Trace.{Operation}
-use Rattle.symbol_mean.specs.Value.{Act}
 use Rattle.symbol_mean.specs.Symbolic.{symbolic}
 use Rattle.pack_mean.specs.File.{Due, due_of, traces_in}
 

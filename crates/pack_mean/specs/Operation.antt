@@ -4,7 +4,6 @@ use Rattle.std.specs.Prelude.{codes, Option, Some, None, if◌then◌else◌}
 use Rattle.std.specs.Fmt.{decimal}
 use Rattle.layer_ast.specs.declared.tokens.Dir.{Dir}
 use Rattle.layer_ast.specs.declared.tokens.Dir.TheVariants.{Up, Down}
-use Rattle.layer_ast.specs.declared.tokens.Kind.{Kind}
 use Rattle.layer_ast.specs.Printed.{direction_sign}
 use Rattle.layer_ast.specs.Spelling.{beside}
 use Rattle.layer_mean.specs.Headers.{header_none}
@@ -17,9 +16,8 @@ use Rattle.trace_mean.specs.Fuse.{fields_of}
 use Rattle.bypass_mean.specs.Text.{layer_of, sign_text}
 use Rattle.pack_mean.specs.Reader.{Reader, ◌>>=◌, yields, option_reader, nowhere, the_text, a_name, a_word, whole}
 use Rattle.pack_mean.specs.Reader.{each_of}
-use Rattle.pack_mean.specs.Reader.{more_of}
 use Rattle.pack_mean.specs.Named.{Named, items_at, place_of, atom_named, core_named, kind_named}
-use Rattle.pack_mean.specs.Expression.{QueueNamed, inside, most_brackets, a_cell, a_number, a_message, a_queue}
+use Rattle.pack_mean.specs.Expression.{inside, most_brackets, a_cell, a_number, a_message, a_queue}
 
 -- A number, and a message, for which no cell is read.
 abbrev pub an_atom : Named → Reader Atom

@@ -12,7 +12,6 @@ use Rattle.file_mean.specs.Layers.{header_in, layer_of}
 use Rattle.file_mean.specs.Names.{Placed}
 use Rattle.file_mean.specs.Stack.{placed_layer, stack_of}
 use Rattle.msg_core.specs.Headers.{most_fields}
-use Rattle.stack_mean.specs.Acceptance.{acceptance}
 use Rattle.chain_laws.specs.Runs.{TypedStack}
 use Rattle.chain_laws.proofs.Lists.{Where}
 use Rattle.file_laws.specs.Bounds.{HoldsDeclaration, HoldsLayer, HoldsPlaced, placed_at}

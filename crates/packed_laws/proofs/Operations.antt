@@ -16,7 +16,7 @@ use Rattle.layer_ast.specs.Spelling.{beside, kinds, kind_word, reserved, symbols
 use Rattle.layer_mean.specs.Tree.{Carried, ItemsTree, LayerTree}
 use Rattle.msg_core.specs.Headers.{most_fields}
 use Rattle.trace_mean.specs.Trace as trace
-use Rattle.trace_mean.specs.Trace.{Atom, number, peer, field, bound, taken_number, value, Core, body, noted}
+use Rattle.trace_mean.specs.Trace.{Atom, number, Core, body, noted}
 use Rattle.trace_mean.specs.Trace.{taken_message, nothing, TraceNumber, element, square, TraceMessage, Link, Chained}
 use Rattle.trace_mean.specs.Trace.{Operation, bind, note, check, set, set_square, push, output}
 use Rattle.trace_mean.specs.Fuse.{form_at}

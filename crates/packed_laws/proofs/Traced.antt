@@ -17,7 +17,7 @@ use Rattle.layer_ast.specs.declared.syntax.Operator.TheVariants.{Less}
 use Rattle.layer_mean.specs.declared.run.Case.{Case}
 use Rattle.layer_mean.specs.declared.run.Case.TheVariants.{First, Second}
 use Rattle.layer_mean.specs.Tree as tree
-use Rattle.layer_mean.specs.Tree.{Carried, ExpressionTree, MessageTree, ContentTree, EmissionTree, ItemsTree, TakenTree}
+use Rattle.layer_mean.specs.Tree.{Carried, ExpressionTree, MessageTree, ContentTree, EmissionTree, ItemsTree}
 use Rattle.layer_mean.specs.Tree.{HandlerTree, LayerTree, no_layer}
 use Rattle.layer_mean.specs.Way.{Step, test, fork, set_slot, set_number, set_square, put, get, send, loop, handler_way}
 use Rattle.layer_mean.specs.Visit.{is_for, handler_for}
@@ -30,7 +30,7 @@ use Rattle.chain_laws.specs.Runs.{IsOnItsWay, task_place}
 use Rattle.chain_laws.proofs.Lists.{each_or, each_set, each_so, each_append, each_room}
 use Rattle.msg_core.specs.Headers.{most_fields}
 use Rattle.trace_mean.specs.Trace as trace
-use Rattle.trace_mean.specs.Trace.{Atom, number, peer, field, bound, taken_number, value, Core, body, noted}
+use Rattle.trace_mean.specs.Trace.{Atom, number, bound, taken_number, Core, body, noted}
 use Rattle.trace_mean.specs.Trace.{taken_message, nothing, TraceNumber, TraceMessage, core, held, cut, tail, join, Link}
 use Rattle.trace_mean.specs.Trace.{Chained, Operation, bind, note, check}
 use Rattle.trace_mean.specs.Scope.{Named, Names, no_number, no_message, Worded, traced_number, traced_message, bounds}
@@ -53,7 +53,7 @@ use Rattle.packed_laws.proofs.Fits.{ChainedFits, SentFits, RowFits, index_bracke
 use Rattle.packed_laws.proofs.Packable.{taken_after, TraceFits}
 use Rattle.packed_laws.proofs.Layers as layers
 use Rattle.packed_laws.proofs.Layers.{ExpressionFits, most_nested, Fits, RowMessageFits, TakenFits, ContentFits}
-use Rattle.packed_laws.proofs.Layers.{SentContentFits, EmissionFits, StepFits, WayFits, HandlerFits, LayerFits}
+use Rattle.packed_laws.proofs.Layers.{SentContentFits, StepFits, WayFits, HandlerFits, LayerFits}
 use Rattle.packed_laws.proofs.Layers.{LayersFit}
 
 module _ (stack : List LayerTree) (taken : List ItemsTree) where

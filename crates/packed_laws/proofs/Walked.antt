@@ -43,7 +43,7 @@ use Rattle.layer_ast.specs.Spells.{Fits}
 use Rattle.layer_ast.specs.Tree as tree
 use Rattle.layer_ast.specs.Tree.{ExpressionTree, QueueTree, MessageTree, BuiltTree, ArgumentTree, NamesTree}
 use Rattle.layer_ast.specs.Tree.{ArgumentsTree, PoppedTree, PushedTree, SizeTree, StatementTree, StatementTrees}
-use Rattle.layer_ast.specs.Tree.{Expected, HandlerTree, ItemTree, ItemsTree, DeclarationTree, LayerTree, FileTree}
+use Rattle.layer_ast.specs.Tree.{Expected, HandlerTree, ItemTree, ItemsTree, DeclarationTree, LayerTree}
 use Rattle.fault_mean.specs.Declared.{declared_name, items_in}
 use Rattle.fault_mean.specs.Scope.{Scope, Standing, head_scope, scope_after, taken_scope, with_locals, locals_as}
 use Rattle.fault_mean.specs.Scope.{standing_inside, standing_in, handler_statements}

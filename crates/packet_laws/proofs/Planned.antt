@@ -13,7 +13,7 @@ use Rattle.layer_mean.specs.Headers.{header_of_tag}
 use Rattle.packet_mean.specs.Chained.{IsChain}
 use Rattle.packet_mean.specs.Plan.{agree, variable}
 use Rattle.packet_mean.specs.Spelling.{number_bytes}
-use Rattle.packet_mean.specs.Reading.{option_reader, number, planned_fields, first, dealt}
+use Rattle.packet_mean.specs.Reading.{number, planned_fields, first, dealt}
 use Rattle.packet_laws.proofs.Chains.{there, some_and}
 use Rattle.packet_laws.proofs.Each.{Each, Numbers, Bytes}
 use Rattle.packet_laws.proofs.Numbers.{through, through_known, same_read, number_read}

@@ -37,7 +37,7 @@ use Rattle.stack_mean.specs.Drawn.{DrawnEvent, DrawnVisit, drawn_visit}
 use Rattle.stack_mean.specs.Plan.{Plan}
 use Rattle.stack_mean.specs.Plans.{plans_of}
 use Rattle.stack_mean.specs.Shape.{Progress, visits_limit, drawn_turn, shaper, undrawn, Known, entry_headers}
-use Rattle.stack_mean.specs.Shape.{entry_task, has_second_case, Shape, ShapeVisit, shape_visit, shape_with, shape_of}
+use Rattle.stack_mean.specs.Shape.{entry_task, has_second_case, Shape, shape_visit, shape_with, shape_of}
 use Rattle.stack_mean.specs.Shape.{drawn_shape, shape}
 use Rattle.stack_mean.specs.Shape as entry
 use Rattle.run_mean.specs.Common.{entry_of, plan_entry}

@@ -10,7 +10,7 @@ use Rattle.shape_core.specs.declared.header.DrawnHeader.{DrawnHeader}
 use Rattle.shape_core.specs.declared.walk.Walk.{Walk}
 use Rattle.shape_core.specs.Trees.{headers_tree}
 use Rattle.shape_core.specs.Walk.{Walking, Stop, walking}
-use Rattle.shape_core.specs.Sketch.{Sketching, shape_tree, sketching}
+use Rattle.shape_core.specs.Sketch.{Sketching, sketching}
 use Rattle.stack_mean.specs.Acceptance.{held_at_most}
 use Rattle.stack_mean.specs.NoShape.{drawn_from}
 use Rattle.stack_mean.specs.Shape as mean

@@ -10,7 +10,7 @@ use Rattle.stack_mean.specs.Acceptance.{held_at_most}
 use Rattle.stack_mean.specs.NoShape as no_shape
 use Rattle.stack_mean.specs.Drawn.{DrawnEvent}
 use Rattle.stack_mean.specs.Shape as mean
-use Rattle.stack_mean.specs.Shape.{Known, visits_limit, shape_visit, shape_out, entry_task}
+use Rattle.stack_mean.specs.Shape.{Known, visits_limit, shape_visit, shape_out}
 use Rattle.shape_core.specs.declared.types.Known as code_known
 use Rattle.shape_core.specs.declared.types.Shape as code_shape
 use Rattle.shape_core.specs.declared.types.ShapeVisit.{ShapeVisit}

@@ -4,7 +4,6 @@ use Rattle.std.specs.Prelude.{slice_index}
 use Rattle.std.specs.List.{AllZip}
 use Rattle.std.specs.Option.{unwrap_or}
 use Rattle.trace_mean.specs.Trace as trace
-use Rattle.trace_mean.specs.Trace.{TraceNumber, TraceMessage}
 use Rattle.trace_core.specs.declared.node.Node.{Node}
 use Rattle.trace_core.specs.declared.node.Node.TheVariants as nodes
 use Rattle.trace_core.specs.declared.node.Atom as atom

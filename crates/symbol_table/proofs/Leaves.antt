@@ -7,7 +7,6 @@ use Rattle.std.specs.Option.{unwrap_or}
 use Rattle.std.proofs.lemmas.List.{get_or_past}
 use Rattle.std.proofs.lemmas.Option.{slice_get_within}
 use Rattle.symbol_mean.specs.Value as value
-use Rattle.symbol_mean.specs.Value.{NumberValue, MessageValue}
 use Rattle.symbol_mean.specs.Symbolic.{Values, taken_row}
 use Rattle.trace_core.specs.declared.load.Load.{Load}
 use Rattle.trace_core.specs.View.{load_tree}

@@ -15,12 +15,12 @@ use Rattle.layer_ast.specs.declared.syntax.Operator.TheVariants.{Less}
 use Rattle.layer_mean.specs.declared.run.Case.{Case}
 use Rattle.layer_mean.specs.declared.run.Case.TheVariants.{First, Second}
 use Rattle.layer_mean.specs.Tree as tree
-use Rattle.layer_mean.specs.Tree.{Carried, ExpressionTree, MessageTree, ContentTree, EmissionTree, TakenTree}
+use Rattle.layer_mean.specs.Tree.{Carried, ExpressionTree, MessageTree, ContentTree, EmissionTree}
 use Rattle.layer_mean.specs.Tree.{HandlerTree, LayerTree}
 use Rattle.layer_mean.specs.Way.{Step, test, fork, set_slot, set_number, set_square, put, get, send, loop, handler_way}
 use Rattle.layer_mean.specs.Visit.{handler_for}
 use Rattle.layer_mean.specs.Queue.{Task, tasks_of, is_place, layer_at}
-use Rattle.stack_mean.specs.NoShape.{NoShape, drawn_from}
+use Rattle.stack_mean.specs.NoShape.{NoShape}
 use Rattle.stack_mean.specs.NoShape as no_shape
 use Rattle.chain_laws.proofs.Lists.{each_or, each_set, each_so, each_append, each_take, each_drop, each_room}
 use Rattle.trace_mean.specs.Trace as trace

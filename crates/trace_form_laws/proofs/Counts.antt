@@ -22,7 +22,7 @@ use Rattle.layer_mean.specs.Queue.{Task, is_done, tasks_of, is_place, layer_at}
 use Rattle.stack_mean.specs.Graph.{Node, first_on_cycle, entered_handler, handler_arrows}
 use Rattle.stack_mean.specs.Acceptance.{largest, weight, weight_limit, largest_weight, most_joins, largest_joins}
 use Rattle.stack_mean.specs.Acceptance.{joins_limit, entries, Refusal, without_cycle, acceptance}
-use Rattle.stack_mean.specs.NoShape.{NoShape, drawn_from}
+use Rattle.stack_mean.specs.NoShape.{NoShape}
 use Rattle.stack_mean.specs.NoShape as no_shape
 use Rattle.stack_mean.specs.Shape.{Known, visits_limit, entry_place}
 use Rattle.weight_laws.specs.Orderly.{IsOrderly}

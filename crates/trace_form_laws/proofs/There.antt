@@ -16,7 +16,7 @@ use Rattle.layer_mean.specs.Tree.{ItemsTree, Expected, always, common, rare, Han
 use Rattle.layer_mean.specs.Way.{Step, test, fork, set_slot, set_number, set_square, put, get, send, loop, way, ways}
 use Rattle.layer_mean.specs.Way.{expected_way}
 use Rattle.layer_mean.specs.Visit.{is_for, handler_for}
-use Rattle.stack_mean.specs.NoShape.{NoShape, drawn_from}
+use Rattle.stack_mean.specs.NoShape.{NoShape}
 use Rattle.stack_mean.specs.NoShape as no_shape
 use Rattle.weight_laws.proofs.Nodes.{found}
 use Rattle.chain_laws.proofs.Lists.{each_append}
@@ -24,7 +24,7 @@ use Rattle.file_laws.specs.Named as named
 use Rattle.file_laws.specs.Named.{NamedMessage, NamesRows, NamesQueue, NamedOption, NamedContent, NamedStatement}
 use Rattle.file_laws.specs.Named.{NamedAll, NamedExpected, slots_of, NamedHandler, NamedStack}
 use Rattle.trace_mean.specs.Trace as trace
-use Rattle.trace_mean.specs.Trace.{Atom, Core, TraceNumber, TraceMessage, Link, Chained, Operation, bind, note, check}
+use Rattle.trace_mean.specs.Trace.{Atom, Core, TraceNumber, TraceMessage, Link, Chained, Operation, bind, note}
 use Rattle.trace_mean.specs.Scope.{Names, Worded, traced_number, traced_message}
 use Rattle.trace_mean.specs.Fuse.{TracedEvent, Made, Tracing, core_if_settled, notes_of, chained_of, is_alone, form_at}
 use Rattle.trace_mean.specs.Fuse.{queues_of, room_check, room_in, pushing, binding, sending_known, traced_send}

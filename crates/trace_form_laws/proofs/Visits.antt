@@ -19,7 +19,7 @@ use Rattle.stack_mean.specs.Emissions.{Repeated, emissions_in, handler_joins, jo
 use Rattle.stack_mean.specs.Graph.{Node, tags_for, goes_down, arrow_to, emission_arrow, passing, popped_tag}
 use Rattle.stack_mean.specs.Graph.{entered_handler, handler_arrows}
 use Rattle.stack_mean.specs.Acceptance.{largest}
-use Rattle.stack_mean.specs.NoShape.{NoShape, drawn_from}
+use Rattle.stack_mean.specs.NoShape.{NoShape}
 use Rattle.stack_mean.specs.NoShape as no_shape
 use Rattle.weight_laws.specs.Orderly.{IsOrderly, IsOrderlyHandler, IsOrderlyBlock}
 use Rattle.weight_laws.specs.Costs.{after_arrows}

@@ -17,21 +17,21 @@ use Rattle.layer_mean.specs.declared.run.Event.{Event}
 use Rattle.layer_mean.specs.declared.run.Row.{Row}
 use Rattle.layer_mean.specs.Event.{carries, event_of}
 use Rattle.layer_mean.specs.Tree.{Carried, part, whole, ExpressionTree, MessageTree, ContentTree, EmissionTree, RowTree}
-use Rattle.layer_mean.specs.Tree.{TakenTree, Form, queue, queues, LayerTree, no_layer}
+use Rattle.layer_mean.specs.Tree.{TakenTree, Form, queue, queues, LayerTree}
 use Rattle.layer_mean.specs.Tree as tree
 use Rattle.layer_mean.specs.State.{State, queues_in, cell_at, flat_index, rows_at, row_at, has_room, with_number}
 use Rattle.layer_mean.specs.State.{with_row, without_front}
 use Rattle.layer_mean.specs.Value.{Scope, is_true, of_bool, val, mval, message_in, number_in}
 use Rattle.layer_mean.specs.Effect as effect
-use Rattle.layer_mean.specs.Effect.{with_slot, with_slots, row_of, header_of, sent_as, emitted_event}
+use Rattle.layer_mean.specs.Effect.{with_slot, with_slots, row_of, header_of, sent_as}
 use Rattle.layer_mean.specs.Visit.{no_state}
 use Rattle.layer_mean.specs.Way.{Step, test, fork, set_slot, set_number, set_square, put, get, send, loop}
 use Rattle.stack_mean.specs.NoShape.{NoShape}
 use Rattle.shape_laws.specs.Walk.{Here, walk_step, took}
 use Rattle.shape_laws.specs.Bare.{BareRow, BareMessage, BareTaken, BareContent}
 use Rattle.trace_mean.specs.Trace as trace
-use Rattle.trace_mean.specs.Trace.{Atom, taken_number, taken_message, TraceNumber, TraceMessage, Link, Chained}
-use Rattle.trace_mean.specs.Trace.{Operation, bind, note, check, output}
+use Rattle.trace_mean.specs.Trace.{Atom, taken_number, TraceNumber, Chained}
+use Rattle.trace_mean.specs.Trace.{Operation, bind, check}
 use Rattle.trace_mean.specs.Follow.{Trail, Followed, on, stopped_at, with_state, follows}
 use Rattle.trace_mean.specs.Scope.{Named, Names, Worded, is_part, traced_number, traced_message, bounds, fill_numbers}
 use Rattle.trace_mean.specs.Scope.{taken_name, fill_message, taken_names}

@@ -9,7 +9,7 @@ use Rattle.msg_core.specs.Chain.{Content, plain}
 use Rattle.msg_core.specs.Parts as parts
 use Rattle.msg_core.specs.declared.message.Header.{Header}
 use Rattle.layer_mean.specs.Tree as tree
-use Rattle.layer_mean.specs.Tree.{Carried, part, whole, ExpressionTree, MessageTree}
+use Rattle.layer_mean.specs.Tree.{part, whole, ExpressionTree, MessageTree}
 use Rattle.layer_mean.specs.State.{State, number_at, flat_index, rows_at, row_at}
 use Rattle.layer_mean.specs.Value.{Scope, is_true, applied, function_of, number_in, message_in, val, mval}
 use Rattle.shape_laws.specs.Bare.{BareMessage}

@@ -25,7 +25,6 @@ use Rattle.packet_mean.specs.Plan.{kind_of, tags_of, fields_of, agree, variable,
 use Rattle.packet_mean.specs.Spelling.{IsSpellable}
 use Rattle.packet_mean.specs.declared.here.Here.{Here}
 use Rattle.stack_mean.specs.Plan.{Plan}
-use Rattle.stack_mean.specs.Shape.{Known}
 use Rattle.stack_mean.specs.Shape as entry
 use Rattle.run_mean.specs.Common.{plan_entry}
 use Rattle.run_mean.specs.Member.{app_cast, app_send, app_leave, clock_tick, from_peer, first_task}

@@ -1,5 +1,5 @@
 -- A member is probed, and what happens by that in a world where the group stands.
-use Rattle.std.proofs.Common.{◌≡◌, ℕ, ◌<◌, true, List, ◌++◌, map, length, get_or, set, Option, Some, None, option_map}
+use Rattle.std.proofs.Common.{◌≡◌, ℕ, ◌<◌, true, List, ◌++◌, length, get_or, set, Option, Some, None, option_map}
 use Rattle.std.proofs.Common.{Result, Ok, Err, slice_index_or, refl, ap, sym, subst, ◌∙◌}
 use Rattle.std.proofs.lemmas.List.{append-nil, get_or-map, set-get_or}
 use Rattle.std.specs.Prelude.{◌^◌}
