@@ -14,8 +14,8 @@ use Rattle.bypass_member.specs.Working.{outputs_in}
 abbrev pub BringsAsKind : Dir × PoolEvent → Type 0
 BringsAsKind x = is_some x.1.message ≡ carries x.1.kind
 
--- Of all that came out in a first pool, this is left in the pool that there is now: the outputs so far and those of
--- what is left are all outputs.
+-- Of all events that came out, as the first pool holds them, these are left, as the present pool holds them: the
+-- outputs so far, with those of the events that are left, are all outputs.
 pub record IsGathering (start : List Held) (all : List (Dir × PoolEvent)) (first : Gathered) (p : List Held)
     (left : List (Dir × PoolEvent))
     (now : Gathered) : Type 0 where

@@ -19,7 +19,7 @@ entry_meant here Leave = app_leave
 entry_meant here (Tick moment) = clock_tick moment
 entry_meant here (Packet scan bytes known) = from_peer (packet_scanned here bytes.now scan.now)
 
--- What is judged is what enters, or the reason for which nothing does.
+-- The judgement is what enters, or the reason why nothing does.
 abbrev pub Judges : Here → Result Entered member.Refusal → Result Entry Refusal → Type 0
 Judges here entered (Ok entry) = entered ≡ Ok (entry_meant here entry)
 Judges here entered (Err reason) = entered ≡ Err (refusal_meant reason)
@@ -41,7 +41,7 @@ abbrev pub IsKnown : List Plan → (kept : List ℕ) → Entry → Type 0
 IsKnown plans kept (Packet scan bytes known) = IsReadAs plans known (kind_of scan.now.dest) scan.now.headers kept
 IsKnown plans kept _ = Unit {0}
 
--- What it told of the plan alone.
+-- The same of the plan alone.
 abbrev pub IsPlanned : List Plan → Entry → Type 0
 IsPlanned plans (Packet scan bytes known) = IsLeastFor plans known (kind_of scan.now.dest) scan.now.headers
 IsPlanned plans _ = Unit {0}

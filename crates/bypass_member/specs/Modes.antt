@@ -4,13 +4,13 @@ use Rattle.std.specs.Coded.{Coded, code_by, coded_bool}
 use Rattle.run_mean.specs.Mode.{Mode, layered, bypass}
 use Rattle.bypass_codes.specs.Codes.{CodesTree}
 
--- With code of its bypasses it runs by these; without it runs layer by layer.
+-- A member with code of its bypasses runs by it; a member without runs layer by layer.
 abbrev pub mode_with : Option CodesTree → Mode
 mode_with (Some codes) = bypass
 mode_with None = layered
 
--- In bypass mode a common step is no event to any layer: each has taken as many as before. After any other step, and
--- after each one that is made layer by layer, they have taken what its run gives.
+-- In bypass mode a common step is no event to any layer, so each has taken as many as before. After any other step, and
+-- after every step in layered mode, they have taken what its run gives.
 abbrev pub IsTakenSo : Mode → (common : Bool) → (old ran new : List ℕ) → Type 0
 IsTakenSo bypass true old ran new = new ≡ old
 IsTakenSo bypass false old ran new = new ≡ ran

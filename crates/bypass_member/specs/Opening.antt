@@ -31,15 +31,15 @@ stack_in o = stack_tree (rc_value o.stack.now)
 abbrev pub plans_in : Opening → List Plan
 plans_in o = plans_tree (rc_value o.plans.now)
 
--- The code of its bypasses, if there is some, and the mode in which its members then run.
+-- The code of the stack's bypasses, if there is any, and the mode in which the group's members then run.
 abbrev pub codes_in : Opening → Option CodesTree
 codes_in o = option_map (λ codes. rc_value codes.now) o.codes
 
 abbrev pub mode_in : Opening → Mode
 mode_in o = mode_with (codes_in o)
 
--- It can be opened by a maker that has made at most n layers: its stack is the maker's, and typed, and the plans,
--- the entries, the numbers of their first plans and the code are the stack's.
+-- A maker that has made at most `most` layers can open members of the group: its stack is the maker's, and typed, and
+-- the plans, the entries, the numbers of their first plans and the code are the stack's.
 pub record CanOpen (most : ℕ) (maker : Making) (o : Opening) : Type 0 where
   pub same : maker.stack ≡ stack_in o
   pub typed : TypedStack (stack_in o)
@@ -67,8 +67,8 @@ pub record IsOpen (o : Opening) (view : View) (id : ℕ) (before after : Making)
   pub same : after.stack ≡ before.stack
   pub made : after.made ≡ before.made + length (stack_in o)
 
--- It is opened, or its layers may keep too many rows, or there is no memory, and as many layers were made as there are,
--- or fewer.
+-- The member is opened; or its layers may keep too many rows; or memory ran out, with at most as many layers made as
+-- the stack has.
 abbrev pub Opens : Opening → View → (id : ℕ) → (before after : Making) → Result Placed OpenError → Type 0
 Opens o view id before after (Ok m) = IsOpen o view id before after m
 Opens o view id before after (Err TooLarge) = (most_rows < rows_in o view) × (after ≡ before)

@@ -47,7 +47,7 @@ abbrev pub step_in : Placed → View → List State → Result Entered Refusal �
 step_in p view states (Ok what) = Ok (step_from p.stack (here_in p view) p.id states what)
 step_in p view states (Err reason) = Err reason
 
--- The step of a member that is here, on an input, or why there is none.
+-- The step of a placed member on an input, or why there is none.
 abbrev pub step_at : Placed → Member → Input → Result Step Refusal
 step_at p out input = Err is_out
 step_at p (inside view states) input = step_in p view states (entered_input p.stack p.plans (here_in p view) input)
@@ -60,7 +60,7 @@ abbrev pub member_after : Member → Step → Member
 member_after out s = out
 member_after (inside view states) s = member_following view s
 
--- How many events each layer has taken after the run of what entered, of a member that is here.
+-- How many events each layer of a placed member has taken after the run of what entered.
 abbrev pub taken_at : Placed → Member → Entered → List ℕ
 taken_at p out what = p.taken
 taken_at p (inside view states) what = taken_after p.stack states (first_task p.stack (here_in p view).rank what)
@@ -84,10 +84,10 @@ pub record Refuses (old : Placed) (input : Input) (new : Placed) (outs : List (O
   pub none : outs ≡ []
   pub visits : after ≡ before
 
--- An input was taken: the member is after the step, the outputs are those that the step sends in the member's mode,
--- and n visits more were made as it counts for in it. It is told whether the step was a common one, and where the
--- member is now, if it installed something. In bypass mode a common step was no event to any layer; in any other each
--- has taken what the run of the step gives.
+-- An input was taken: the member is where the step leaves it, the outputs are those that the step sends in the member's
+-- mode, and the visits grew by what the step counts for in that mode. The answer tells whether the step was a common
+-- one, and where the member is now, if it installed something. In bypass mode a common step was no event to any layer;
+-- after any other step each layer has taken what the run of the step gives.
 pub record Takes (old : Placed) (input : Input) (new : Placed) (outs : List (Output × Option ℕ)) (before after : ℕ)
     (common : Bool)
     (change : Option Change) : Type 0 where
@@ -102,8 +102,8 @@ pub record Takes (old : Placed) (input : Input) (new : Placed) (outs : List (Out
       (taken_at old old.member step.entered) new.taken
   pub place : SamePlace old new
 
--- What a step of a member gives: its outputs, each with the plan under which it is sent short, if it is, and how
--- many visits there were before it and after it.
+-- What a step of a member gives: its outputs, each with the plan under which it is sent short, if any, and the number
+-- of visits before and after the step.
 abbrev pub Steps : Placed → Input → Placed → List (Output × Option ℕ) → (before after : ℕ) → Stepped → Type 0
 Steps old input new outs before after (Taken common change) = Takes old input new outs before after common change
 Steps old input new outs before after (Refused reason) = Refuses old input new outs before after reason

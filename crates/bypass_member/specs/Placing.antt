@@ -20,7 +20,7 @@ use Rattle.bypass_member.specs.Viewing.{IsAt}
 use Rattle.bypass_member.specs.Working.{states_in, refs_in, taken_in, IsReady}
 use Rattle.bypass_member.specs.declared.member.Member.TheInside.{Inside}
 
--- The code by which it runs, if it does.
+-- The code by which it runs, if any.
 abbrev pub codes_kept : Inside → Option CodesTree
 codes_kept m = option_map rc_value m.codes
 
@@ -39,7 +39,7 @@ placed_member m = record {
   taken = taken_in m.works;
 }
 
--- A member's rank in the view that it is in; in none it has none.
+-- A member's rank in the view that it is in; a member in no view has none.
 abbrev pub IsRankIn : Option View → ℕ → ℕ → Type 0
 IsRankIn None id r = Unit {0}
 IsRankIn (Some view) id r = (r ≡ rank_of view id) × (r < most_members)

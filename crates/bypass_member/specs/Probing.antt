@@ -13,23 +13,24 @@ use Rattle.step_misses.specs.declared.miss.Probed.TheVariants.{Common, Other, Mi
 use Rattle.view_core.specs.declared.step.Change.{Change}
 use Rattle.bypass_member.specs.Placed.{Placed, step_of, StandsIn, Takes}
 
--- It is a common step, and was made: the member is after it, and what came out is told. No visit is counted.
+-- The input is a common step, and the step was made: the member is where it leaves it, and what came out is told. No
+-- visit is counted.
 pub record IsTakenAsCommon (old : Placed) (input : Input) (new : Placed) (outs : List (Output × Option ℕ)) : Type 0
   where
     pub change : Option Change
     pub takes : Takes old input new outs 0 0 true change
 
--- A step isn't common, and lacks this, or nothing that is told.
+-- A step isn't common, and lacks this, if what it lacks is told.
 pub record Lacks (stack : List LayerTree) (plans : List Plan) (s : Step) (miss : Option Miss) : Type 0 where
   pub uncommon : is_common stack plans s ≡ false
   pub lacked : miss_of stack plans s ≡ option_map miss_meant miss
 
--- What an input lacks to be a common step. One that is refused has no step, and nothing is told of it.
+-- What an input lacks to be a common step. A refused input has no step, and nothing is told of it.
 abbrev pub InputLacks : List LayerTree → List Plan → Result Step Refusal → Option Miss → Type 0
 InputLacks stack plans (Ok s) miss = Lacks stack plans s miss
 InputLacks stack plans (Err reason) miss = miss ≡ None
 
--- It isn't one: nothing changed, and nothing came out.
+-- The input isn't a common step: nothing changed, and nothing came out.
 pub record IsNotTaken (old : Placed) (input : Input) (new : Placed) (outs : List (Output × Option ℕ))
     (miss : Option Miss) : Type 0 where
   pub same : new ≡ old

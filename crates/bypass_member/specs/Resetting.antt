@@ -13,8 +13,8 @@ AreAgain me count ltime (old ∷ olds) (new ∷ news) = BeginsAgain me count lti
     me count ltime olds news
 AreAgain me count ltime _ _ = ⊥
 
--- The first `k` layers have begun again; the others are as they were in the first pool, and what they refer to is all
--- that is left of what was referred to.
+-- The first `k` layers have begun again; the others are as they were in the first pool, and of all references only
+-- theirs are left.
 pub record IsResetting (me count ltime k : ℕ) (start : List Held) (olds : List FileLayer) (p : List Held)
     (news : List FileLayer) : Type 0 where
   pub again : AreAgain me count ltime (take k olds) (take k news)

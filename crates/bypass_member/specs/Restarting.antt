@@ -22,17 +22,17 @@ pub record IsAnew (stack : List LayerTree) (most : ℕ) (view : View) (id : ℕ)
   pub member : opened_member stack view id ≡ inside view (states_in w)
   pub members : HasMembers stack most view id (states_in w)
 
--- It does, or nothing has changed.
+-- The member works with such fresh layers, or nothing has changed.
 abbrev pub BeginsAnew : (stack : List LayerTree) (most : ℕ) (view : View) (id : ℕ) → Works → Works → Bool → Type 0
 BeginsAnew stack most view id old new true = IsAnew stack most view id new
 BeginsAnew stack most view id old new false = new ≡ old
 
--- A member has begun again in a view: it stands where one is that is opened in it, and all else of it stays.
+-- A member has begun again in a view: it stands where a member opened in this view stands, and all else of it stays.
 pub record IsRestarted (view : View) (old new : Placed) : Type 0 where
   pub member : new.member ≡ opened_member old.stack view old.id
   pub place : SamePlace old new
 
--- It has, or nothing has changed.
+-- The member has begun again, or nothing has changed.
 abbrev pub Restarts : View → Placed → Placed → Bool → Type 0
 Restarts view old new true = IsRestarted view old new
 Restarts view old new false = new ≡ old

@@ -22,12 +22,12 @@ abbrev pub AreCodes : List LayerTree → Option CodesTree → Type 0
 AreCodes stack (Some codes) = AreCodesOf stack codes
 AreCodes stack None = Unit {0}
 
--- Nothing is kept, and there is room for a run of each of them.
+-- Nothing is kept, and there is room for a run of each code.
 abbrev pub Serves : Option CodesTree → Values → Type 0
 Serves (Some codes) v = ServesAll codes v
 Serves None v = IsEmpty v
 
--- So it is between two runs, with a place for each field of each plan.
+-- So a scratch is between two runs, and it has a place for each field of each plan.
 pub record IsSpare (codes : Option CodesTree) (plans : List Plan) (s : Scratch) : Type 0 where
   pub values : Serves codes s.values
   pub fields : AllByRecursion (HasAtMost (vec_capacity s.fields)) plans

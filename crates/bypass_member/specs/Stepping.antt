@@ -38,7 +38,7 @@ stack_of g = stack_tree g.stack.now
 abbrev pub plans_in : Ground → List Plan
 plans_in g = plans_tree g.plans.now
 
--- The code by which it runs, if it does, and its mode.
+-- The code by which it runs, if any, and its mode.
 abbrev pub codes_in : Ground → Option CodesTree
 codes_in g = option_map (λ codes. codes.now) g.codes
 

@@ -1,4 +1,4 @@
--- A step by its code: in the first case in which this passes, if there is one.
+-- A step made by its code, in the first case in which the code passes, if there is one.
 use Rattle.std.specs.Prelude.{◌≡◌, ℕ, ◌≤◌, Bool, true, false, List, [], map, length, Option, Some, None}
 use Rattle.msg_core.specs.Parts.{longest_body}
 use Rattle.msg_core.specs.View.{most_members}
@@ -25,7 +25,7 @@ use Rattle.bypass_member.specs.declared.entry.Entry.{Entry}
 use Rattle.bypass_member.specs.declared.ground.Ground.{Ground}
 use Rattle.bypass_member.specs.declared.works.Works.{Works}
 
--- The fields of what entered that the plan of its entry leaves variable; others than packets have none.
+-- The fields of what entered that the plan of its entry leaves variable; only packets have such fields.
 abbrev pub fields_given : List Plan → Entered → List ℕ
 fields_given plans (from_peer p) = variable (entry_fields plans (from_peer p)) (fields_of p.message)
 fields_given plans what = []
@@ -64,7 +64,8 @@ pub record IsMade (g : Ground) (old : Works) (what : Entered) (new : Works) (out
   pub here : out.here ≡ g.here.now
   pub taken : taken_in new ≡ taken_in old
 
--- Of a case: its code passed, and the step is common in the case and was made; or it isn't, and nothing has changed.
+-- One case: its code passed, and the step is common in this case and was made; or the step isn't common in it, and
+-- nothing has changed.
 pub record HasPassed (case : Case) (g : Ground) (old : Works) (what : Entered) (new : Works) (out : Gathered) : Type 0
   where
     pub common : is_common_in (stack_of g) (plans_in g) (step_over g (states_in old) what) case ≡ true
@@ -80,8 +81,8 @@ abbrev pub Tries : Case → Ground → Works → Entered → Gathered → Works 
 Tries case g old what first new out true = HasPassed case g old what new out
 Tries case g old what first new out false = HasMissed case g old what first new out
 
--- Of both cases: the step was made in the first in which it is common; or it is common in none, as far as there is
--- code, and nothing has changed.
+-- Both cases: the step was made in the first case in which it is common; or nothing has changed, and where there is
+-- code the step is common in neither case.
 pub record IsMadeIn (case : Case) (g : Ground) (old : Works) (what : Entered) (new : Works) (out : Gathered) : Type 0
   where
     pub mode : mode_of g ≡ bypass

@@ -32,7 +32,7 @@ input_at view id = record {
   body = [];
 }
 
--- The view of a member of a first view of n members has no more, and the states are that member's in it.
+-- A member whose first view had `most` members is in a view of no more members, and the states are this member's in it.
 pub record HasMembers (stack : List LayerTree) (most : ℕ) (view : View) (id : ℕ) (states : List State) : Type 0 where
   pub few : member_count view ≤ most
   pub own : AreOf (input_at view id) stack states
@@ -57,7 +57,7 @@ pub record Anew (me count ltime : ℕ) (p q : List Held) (old new : List FileLay
   pub taken : map taken_by new ≡ map taken_by old
   pub moved : Moved p q (flat_map refs_of old) []
 
--- A member comes into the view after its own in which these ranks are, with fresh layers; or it is in none any more.
+-- A member comes into the view after its own, made of these ranks, with fresh layers; or it is no longer in any view.
 -- Either way its layers took as many events as before.
 pub record ComesInto (stack : List LayerTree) (most : ℕ) (view : View) (id ranks : ℕ) (next : View) (old w : Works) :
     Type 0 where
@@ -75,7 +75,7 @@ abbrev pub Installs : (stack : List LayerTree) (most : ℕ) (view : View) (id ra
 Installs stack most view id ranks old w (Into next) = ComesInto stack most view id ranks next old w
 Installs stack most view id ranks old w Out = Leaves stack most view id ranks old w
 
--- The first view that was announced is installed, if one was; else nothing changes.
+-- The first announced view is installed, if there is one; else nothing changes.
 abbrev pub Changes : (stack : List LayerTree) (most : ℕ) (view : View) (id : ℕ) → Option ℕ → Works → Works →
     Option Change → Type 0
 Changes stack most view id (Some ranks) old new (Some change) = Installs stack most view id ranks old new change

@@ -54,8 +54,8 @@ pub record IsQuiet (stack : List LayerTree) (w : Works) : Type 0 where
   pub tasks : w.tasks ≡ buffer [] (largest_weight stack)
   pub outs : w.outs ≡ buffer [] (largest_weight stack)
 
--- A member of a first view of n members, between two steps: what its layers refer to is all that its pool counts,
--- which has a slot for each row with a message that they may keep, and those that a run asks for.
+-- A member whose first view had `most` members, between two steps: its pool counts exactly what its layers refer to,
+-- and has a slot for each row with a message that they may keep, and those that a run asks for.
 pub record IsReady (stack : List LayerTree) (most : ℕ) (w : Works) : Type 0 where
   pub stand : AreStanding stack w
   pub exact : Exact w.pool (refs_in w)
@@ -63,7 +63,7 @@ pub record IsReady (stack : List LayerTree) (most : ℕ) (w : Works) : Type 0 wh
   pub slots : length w.pool ≡ rows_of stack most + slots_beyond
   pub few : rows_of stack most ≤ most_rows
 
--- A run can begin from a task, which is the only one that is pending.
+-- A run can begin from this task, the only one pending.
 pub record CanRun (stack : List LayerTree) (w : Works) (first : PoolTask) : Type 0 where
   pub stand : AreStanding stack w
   pub exact : Exact w.pool (refs_in w ++ event_refs first.event)
@@ -81,8 +81,8 @@ abbrev pub work_of : List LayerTree → Works → PoolTask → Work
 work_of stack w first = (run most_turns stack (states_in w) (task_seen w.pool first)).world
 
 -- The run was made: the states of the layers and what came out, in order, are those of its work, and so are the visits
--- and whether they went as predicted. Each layer has taken an event at each of its visits. What the layers and what
--- came out refer to is all that the pool counts. No task is left.
+-- and whether they went as predicted. Each layer has taken an event at each of its visits. The pool counts exactly what
+-- the layers, and what came out, refer to. No task is left.
 pub record HasRun (stack : List LayerTree) (old : Works) (first : PoolTask) (before : ℕ) (new : Works) (after : ℕ)
     (result : Predicted) : Type 0 where
   pub states : states_in new ≡ (work_of stack old first).states
@@ -97,6 +97,6 @@ pub record HasRun (stack : List LayerTree) (old : Works) (first : PoolTask) (bef
   pub tasks : new.tasks ≡ buffer [] old.tasks.capacity
   pub room : new.outs.capacity ≡ old.outs.capacity
 
--- What events are that leave, as outputs of a member that is here; none is sent short.
+-- Events that leave, as outputs of a member that is here; none is sent short.
 abbrev pub outputs_in : Here → List Held → List (Dir × PoolEvent) → List (Output × Option ℕ)
 outputs_in here p sent = map (full_output here) (sent_seen p sent)

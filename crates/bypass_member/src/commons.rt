@@ -47,8 +47,8 @@ pub(crate) struct Tried<'c, 'g> {
     pub(crate) given: Given<'g>,
 }
 
-/// The number of the least plan that a packet fits of which a scan tells, and the fields that this leaves variable are
-/// kept; where reading told it, they are.
+/// Finds the number of the least plan that the packet of a scan fits, and keeps the fields that this plan leaves
+/// variable; where reading told the number, they are kept already.
 fn keep_packet(plans: &Plans, scan: &Scan, known: Option<u8>, fields: &mut Vec<u32>) -> Option<u8>
     requires room { AllByRecursion (HasAtMost (vec_capacity fields.old)) (plans_tree plans.now) }
     requires known { IsReadAs (plans_tree plans.now) known (kind_of scan.now.dest) scan.now.headers fields.old.items }
@@ -64,8 +64,8 @@ fn keep_packet(plans: &Plans, scan: &Scan, known: Option<u8>, fields: &mut Vec<u
     }
 }
 
-/// The entry by which it is told whether a step is common. The fields of a packet that its plan leaves variable are
-/// kept; others than packets have none.
+/// The entry that tells whether a step is common. The fields of a packet that its plan leaves variable are kept; only
+/// packets have such fields.
 #[inline(always)]
 pub(crate) fn keep_entry(plans: &Plans, entry: &Entry<'_>, fields: &mut Vec<u32>) -> EntryOf
     requires room { AllByRecursion (HasAtMost (vec_capacity fields.old)) (plans_tree plans.now) }
@@ -99,8 +99,8 @@ pub(crate) fn keep_entry(plans: &Plans, entry: &Entry<'_>, fields: &mut Vec<u32>
     }
 }
 
-/// The entry by which it is told whether a step is common; where it may be made by code, with the fields that this is
-/// given.
+/// The entry that tells whether a step is common; where the step may be made by code, the fields that the code is given
+/// are kept.
 #[inline(always)]
 pub(crate) fn entry_in(ground: &Ground<'_>, entry: &Entry<'_>, fields: &mut Vec<u32>) -> EntryOf
     requires room { AllByRecursion (HasAtMost (vec_capacity fields.old)) (plans_in ground.now) }
@@ -165,7 +165,7 @@ pub(crate) fn given_of<'a>(
     }
 }
 
-/// Makes a step by its code in a case, if there is some and it passes, and tells whether it did.
+/// Makes a step by its code in a case, if there is any and it passes, and answers whether it did.
 #[inline(always)]
 fn try_case(
     works: &mut Works,
@@ -197,7 +197,7 @@ fn try_case(
     perform(code, &tried.given, layers, &mut works.pool, values, out)
 }
 
-/// Makes a step by its code in the first case in which it passes, and tells that case, if there is one.
+/// Makes a step by its code in the first case in which the code passes, and answers this case, if there is one.
 #[inline(always)]
 fn try_cases(
     works: &mut Works,

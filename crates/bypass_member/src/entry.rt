@@ -32,8 +32,8 @@ pub(crate) enum Entry<'b> {
     Send(u32, &'b [u8]),
     Leave,
     Tick(u32),
-    /// What a datagram says, the datagram, in which its body lies, and the number of the least plan that its packet
-    /// fits, if reading it told that.
+    /// What a datagram says; the datagram itself, in which the body lies; and the number of the least plan that its
+    /// packet fits, if reading told this number.
     Packet(&'b Scan, &'b [u8], Option<u8>),
 }
 
@@ -68,8 +68,8 @@ fn read(
     scan_known(known, here, bytes, scan, fields)
 }
 
-/// What a member in a view makes of an input, or why it refuses it. A datagram is read into `scan`; where that tells
-/// the least plan that its packet fits, the fields that this leaves variable are kept.
+/// What a member in a view makes of an input, or why it refuses it. A datagram is read into `scan`; where reading tells
+/// the least plan that its packet fits, the fields that this plan leaves variable are kept.
 #[inline(always)]
 pub(crate) fn judge<'b>(
     known: &Known<'_>,
@@ -110,7 +110,7 @@ pub(crate) fn judge<'b>(
     }
 }
 
-/// The number of the least plan that a packet fits of which a scan tells, if it isn't known, is found.
+/// The number of the least plan that the packet of a scan fits, which is looked for if it isn't known.
 fn least_of(plans: &Plans, scan: &Scan, known: Option<u8>) -> Option<u8>
     requires { IsLeastFor (plans_tree plans.now) known (kind_of scan.now.dest) scan.now.headers }
     ensures { (here : Here) (bytes : List ℕ) →
@@ -122,7 +122,7 @@ fn least_of(plans: &Plans, scan: &Scan, known: Option<u8>) -> Option<u8>
     }
 }
 
-/// The entry by which it is told whether a step is common.
+/// The entry that tells whether a step is common.
 #[inline(always)]
 pub(crate) fn entry_of(plans: &Plans, entry: &Entry<'_>) -> EntryOf
     requires known { IsPlanned (plans_tree plans.now) entry.now }

@@ -16,8 +16,8 @@ use stack_shapes::{EntryShapes, PlanStarts, Plans};
 use std::rc::Rc;
 use view_core::{Change, rank};
 
-/// What a member in a view works over: its stack with what is known of it, the code by which it runs, if it does,
-/// headers that are none, where it stands, its id, and how many members its first view had.
+/// What a member in a view works over: its stack with what is known of it, the code by which it runs, if any, a list of
+/// no headers, where it stands, its id, and how many members its first view had.
 #[derive(Drop)]
 pub(crate) struct Ground<'a> {
     pub(crate) stack: &'a Stack,
@@ -38,7 +38,7 @@ pub(crate) struct Took {
     pub(crate) change: Option<Change>,
 }
 
-/// The rank of a member in a view; 0 where it isn't in it.
+/// The rank of a member in a view; 0 if the member isn't in the view.
 #[inline(never)]
 pub(crate) fn rank_in(view: View, id: u8) -> u8
     ensures rank { result ≡ rank_of view id }
@@ -67,7 +67,7 @@ pub(crate) fn follow(view: &mut Option<View>, rank: &mut u8, id: u8, change: Opt
     }
 }
 
-/// The code that a member keeps, if it does.
+/// The code that a member keeps, if any.
 pub(crate) fn lent(codes: &Option<Rc<Codes>>) -> Option<&Codes>
     ensures { option_map (λ codes. codes.now) result ≡ option_map rc_value codes.now }
 {

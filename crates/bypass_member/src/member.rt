@@ -140,8 +140,8 @@ impl Member {
         })
     }
 
-    /// Takes an input, one step, or refuses it, and then nothing has changed. Tells what came out by `out`, and adds
-    /// the visits of the step.
+    /// Takes an input, which makes one step, or refuses it, and then nothing has changed. What came out is told by
+    /// `out`, and the visits of the step are added to `visits`.
     pub fn step(&mut self, input: Input<'_>, out: &mut Outputs, visits: &mut u64) -> Stepped
         requires out { out.old.places ≡ largest_weight self.old.stack }
         requires visits { visits.old ≤ 2 ^ 63 }
@@ -199,8 +199,8 @@ impl Member {
     }
 
     /// Tries an input as a common step. If it is one, the step is made by its code, as `step` would make it, and what
-    /// came out is told by `out`. Else nothing changes, and of a cast, a send or a packet that would be taken it is
-    /// told what each case of its entry lacks.
+    /// came out is told by `out`. Else nothing changes; for a cast, a send or a packet that would be taken, the answer
+    /// tells what each case of its entry lacks.
     pub fn probe(&mut self, checks: &mut StackChecks, input: Input<'_>, out: &mut Outputs) -> Probed
         requires mode { self.old.mode ≡ bypass }
         requires sound { IsSound self.old.stack }
@@ -265,7 +265,8 @@ impl Member {
     }
 
     /// Begins again in a view of no more members than its first one had, in the memory that it has, and answers whether
-    /// it did. Where it didn't, since it isn't in that view or has come into one of fewer members, nothing has changed.
+    /// it did. It doesn't where it isn't in that view or has come into a view of fewer members; then nothing has
+    /// changed.
     pub fn restart(&mut self, view: View) -> bool
         ensures { Restarts view self.old self.new result }
     {

@@ -35,15 +35,15 @@ use step_misses::{Miss, Probed};
 use step_outputs::Outputs;
 use view_core::Change;
 
-/// What trying what entered as a common step gives: it was made, and where the member is after it, if it
-/// installed something; or nothing has changed, and what the step lacks, if that is told of it.
+/// The answer to trying what entered as a common step: the step was made, with where the member is after it, if it
+/// installed something; or nothing has changed, with what the step lacks, if that is told.
 #[derive(Clone, Copy)]
 pub(crate) enum Attempt {
     Made(Option<Change>),
     Left(Option<Miss>),
 }
 
-/// Whether it is told of what entered what its step lacks: a leave and a tick are never common.
+/// Whether what the step lacks is told for what entered; a leave and a tick are never common.
 fn is_told(entry: &Entry<'_>) -> bool
     ensures { (here : stands.Here) (plans : List mean.Plan) →
         result ≡ is_some (entry_named plans (entry_meant here entry.now)) }
@@ -57,7 +57,7 @@ fn is_told(entry: &Entry<'_>) -> bool
     }
 }
 
-/// What the step of what entered lacks, which isn't common, if that is told of it.
+/// What the step of what entered lacks, if that is told. The step isn't common.
 fn lacked<'x>(
     works: &Works,
     fields: &'x [u32],
@@ -91,7 +91,7 @@ fn lacked<'x>(
     Some(checks.miss(what, &given, works.layers.as_slice(), &works.pool))
 }
 
-/// Makes the step of what entered, if it is a common one; else nothing changes, and it is told what it lacks.
+/// Makes the step of what entered, if it is a common one; else nothing changes, and the answer tells what it lacks.
 pub(crate) fn try_common(
     works: &mut Works,
     scratch: &mut Scratch,

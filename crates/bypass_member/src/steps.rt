@@ -65,8 +65,8 @@ fn play(
     predicted
 }
 
-/// Sends the outputs of a common step in a case short, from the first plan of its entry on, if it has one: an
-/// application's cast or send has.
+/// Sends short the outputs of a common step in a case, from the first plan of its entry on. Only an application's cast
+/// or send has such a plan.
 fn send_short(ground: &Ground<'_>, what: EntryOf, case: Case, out: &mut Outputs)
     requires ground { IsGround ground.now }
     ensures { (entered : Entered) (outs : List Output) → what ≡ entry_for (plans_in ground.now) entered →
@@ -79,8 +79,8 @@ fn send_short(ground: &Ground<'_>, what: EntryOf, case: Case, out: &mut Outputs)
     }
 }
 
-/// Makes a common step by its code, its outputs sent short where they are, and tells whether it did; where there is no
-/// code, or none passes, nothing has changed.
+/// Makes a common step by its code, with the outputs sent short that are to be, and answers whether it did; where there
+/// is no code, or none passes, nothing has changed.
 #[inline(always)]
 pub(crate) fn make_by_code<'x>(
     works: &mut Works,
@@ -115,8 +115,8 @@ pub(crate) fn make_by_code<'x>(
     }
 }
 
-/// Makes the step of what entered, and tells whether it was a common one: by its code, where there is some that passes,
-/// and else by the run of the layers.
+/// Makes the step of what entered, by its code if there is any that passes, else by the run of the layers, and answers
+/// whether it was a common step.
 fn make(
     works: &mut Works,
     scratch: &mut Scratch,

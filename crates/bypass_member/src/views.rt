@@ -39,7 +39,7 @@ pub(crate) fn reset_all(
     }
 }
 
-/// Installs the view after a member's own in which these ranks are, if there is one and the member is in it.
+/// Installs the view after a member's own, made of these ranks, if there is such a view and the member is in it.
 #[inline(never)]
 fn install(works: &mut Works, _stack: &Stack, _most: u8, view: View, id: u8, ranks: u32) -> Change
     requires ready { IsReady (stack_tree _stack.now) _most works.old }

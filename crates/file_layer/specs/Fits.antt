@@ -20,8 +20,8 @@ most_desk_rows = 32768
 abbrev pub most_own : ℕ
 most_own = 15728638
 
--- The most numbers that a scope has before its block declares any: those of the event, and the fields of a header. Of
--- messages it has one at most.
+-- The most numbers that a scope has before its block declares any: those of the event, and the fields of a header. It
+-- has at most one message.
 abbrev pub most_bound : ℕ
 most_bound = 6
 
@@ -33,7 +33,7 @@ abbrev pub IsShortIf : Option PoolMessage → Type 0
 IsShortIf None = Unit {0}
 IsShortIf (Some m) = IsShort m
 
--- A queue has rows with such messages alone, and no more rows than a capacity.
+-- A queue's rows have only such messages, and are no more than a capacity.
 pub record QueueFits (capacity : ℕ) (rows : List PoolRow) : Type 0 where
   pub few : length rows ≤ capacity
   pub short : AllByRecursion (λ r. IsShortIf r.message) rows
@@ -43,7 +43,7 @@ abbrev pub CellFits : KeptCell PoolRow → Type 0
 CellFits cell = (length (queues_kept cell) ≤ most_members) ×
     AllByRecursion (QueueFits (capacity_of cell)) (queues_kept cell)
 
--- How many rows cells keep at most, from how many a queue of each keeps.
+-- The most rows that cells keep, by the capacities of their queues.
 abbrev pub rows_most : List ℕ → ℕ
 rows_most [] = 0
 rows_most (n ∷ capacities) = most_members * n + rows_most capacities
@@ -60,8 +60,8 @@ pub record StockFits (l : Layout) (s : Stock) : Type 0 where
   pub sent : length s.sent ≤ l.places
   pub few : rows_most l.rows + (l.messages + (2 + l.hand)) ≤ most_own
 
--- What is sent is added to a list with room for `list`: `first` events were there before, whose references are among
--- those of the beginning, and there may be `places`, which are no more than any list of events has.
+-- What is sent is added to a list with room for `list` events. `first` events were there before, and their references
+-- are among those of the beginning; there may be `places` events, no more than any list of events has.
 pub record SentGrows (from : List ℕ) (list first places : ℕ) (sent : Buffer (Dir × PoolEvent)) : Type 0 where
   pub kept : sent.capacity ≡ list
   pub before : first ≤ length sent.items

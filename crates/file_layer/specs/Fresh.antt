@@ -28,8 +28,8 @@ pub record IsEmpty (layer : LayerTree) (me n ltime : ℕ) (d : FileDesk) : Type 
   pub messages_room : 1 ≤ d.tray.messages.capacity
   pub layout : layout_of d ≡ room.layout_of layer 0
 
--- The layer at a desk has seen no event: it is at rest in any pool, refers to none, and its state is that of a layer at
--- first.
+-- The layer at a desk has seen no event: it is at rest in any pool, refers to no slot, and its state is that of a layer
+-- at first.
 pub record IsFresh (layer : LayerTree) (me n ltime : ℕ) (d : FileDesk) : Type 0 where
   pub rest : (p : List Held) → IsAtRest layer p d
   pub refs : kept_refs d.cells ≡ []

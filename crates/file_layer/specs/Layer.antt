@@ -52,7 +52,7 @@ pub record IsBegun (stack : List LayerTree) (at me count ltime : ℕ) (s : FileL
   pub refs : refs_of s ≡ []
   pub state : (p : List Held) → state_in p s ≡ fresh (slice_index_or stack at no_layer) me count ltime
 
--- A layer has begun again, with as much room as before, and took as many events.
+-- A layer has begun again, with as much room as before, and has taken as many events as before.
 pub record BeginsAgain (me count ltime : ℕ) (old new : FileLayer) : Type 0 where
   pub place : place_of new ≡ place_of old
   pub tree : tree_of new ≡ tree_of old

@@ -17,14 +17,14 @@ pub record Making : Type 0 where
 unfoldable pub making : Maker → Making
 making m = record { stack = stack_tree (rc_value m.stack); made = m.made }
 
--- One layer more was made: the one at a place, before its first event.
+-- One more layer was made: the layer at a place, before its first event.
 pub record MakesOne (place me count ltime : ℕ) (old new : Making) (s : FileLayer) : Type 0 where
   pub maker : new ≡ record old { made = old.made + 1 }
   pub begun : IsBegun old.stack place me count ltime s
   pub most : most_of s ≡ count
   pub taken : taken_by s ≡ 0
 
--- What comes of making one: where there is no memory nothing was made.
+-- What making a layer yields; where there is no memory nothing was made.
 abbrev pub Makes : ℕ → ℕ → ℕ → ℕ → Making → Making → Result FileLayer AllocError → Type 0
 Makes place me count ltime old new (Ok s) = MakesOne place me count ltime old new s
 Makes place me count ltime old new (Err e) = new ≡ old

@@ -44,16 +44,16 @@ pub record CanBeOwn (p : List Held) (m : Option PoolMessage) : Type 0 where
   pub lies : LiesIf p m
   pub short : IsShortIf m
 
--- The references of a row that may be none.
+-- The references of a row, if there is one.
 abbrev pub row_refs_if : Option PoolRow → List ℕ
 row_refs_if None = []
 row_refs_if (Some row) = row_refs row
 
--- All references are some and the rest, in any order.
+-- All references are these and the rest, in any order.
 pub record AreTogether (all some rest : List ℕ) : Type 0 where
   pub times : (i : ℕ) → times i all ≡ times i some + times i rest
 
--- But for its numbers and rows a layer is as it was.
+-- A layer is as it was but for its numbers and rows.
 pub record IsAsBefore (old new : FileLayer) : Type 0 where
   pub place : place_of new ≡ place_of old
   pub tree : tree_of new ≡ tree_of old
@@ -61,8 +61,8 @@ pub record IsAsBefore (old new : FileLayer) : Type 0 where
   pub taken : taken_by new ≡ taken_by old
   pub capacity : (c : ℕ) → capacity_at new c ≡ capacity_at old c
 
--- A number that is set as it was, a row that is put back in front, and one that is taken back leave the state that was
--- before.
+-- Setting a number back to what it was, putting a taken row back in front, and taking back a row that was pushed each
+-- leave the state as it was before.
 pub record OwnChangesAreUndone : Type 0 where
   pub number : (s : State) (c i v : ℕ) → with_number (with_number s c i v) c i (number_at s c i) ≡ s
   pub front : (s : State) (c i : ℕ) (row : Row) → row_at s c i 0 ≡ Some row →

@@ -42,8 +42,8 @@ room_of p d = record {
   hand = d.hand.capacity - length d.hand.items;
 }
 
--- Since a beginning its references alone have moved; and it has no more than it is made for, which is as it was, as are
--- its cells' forms.
+-- Since a beginning only its references have moved. It has no more than it is made for; what it is made for and its
+-- cells' forms are as they were.
 pub record IsReady (b : Begun) (p : List Held) (d : FileDesk) : Type 0 where
   pub pool : InPool b p (stock_of d)
   pub layout : layout_of d ≡ b.layout

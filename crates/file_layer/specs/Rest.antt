@@ -18,7 +18,7 @@ use Rattle.file_layer.specs.Ready.{layout_of}
 use Rattle.file_layer.specs.declared.desk.FileDesk.{FileDesk}
 
 -- A desk of this layout is made for a layer: on every event no part of the layer's tree is a misfit, and a visit takes
--- no more of the hand than there is.
+-- no more places of the hand than there are.
 pub record IsMadeFor (layer : LayerTree) (l : Layout) : Type 0 where
   pub misfits : (places : ℕ) (dir : Dir) (kind : Kind) (m : Met) →
       (visit_need (record l { places = places }) (handler_for layer dir kind m.tag) m).misfits ≡ 0

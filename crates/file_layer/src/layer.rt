@@ -38,8 +38,8 @@ impl FileLayer {
     ghost use Rattle.file_layer.specs.Making.{making, Makes};
 
     /// The layer at a place of the maker's stack before its first event, at the member of rank `me` of `count`. All
-    /// memory is taken here. A layer whose rows or hand would be more than a desk may have is answered as want of
-    /// memory; the language's limits never reach it for rows.
+    /// memory is taken here. A layer with more rows, or a larger hand, than a desk may have is answered as want of
+    /// memory; within the language's limits rows never are too many.
     #[tactic(auto, unfolding(crate::specs::Making::making))]
     pub fn fresh(
         alloc: Global,
@@ -67,8 +67,7 @@ impl FileLayer {
         })
     }
 
-    /// Begins again, at the member of rank `me` of `count`, of whom there are no more than there is room for. Its rows
-    /// go back.
+    /// Begins again, at the member of rank `me` of `count`; there is room for this many members. Its rows go back.
     #[tactic(auto, unfolding(crate::specs::Layer::layer_parts))]
     pub fn reset(&mut self, pool: &mut Pool, me: u32, count: u32, ltime: u32)
         requires order { IsInOrder pool.old self.old }
@@ -96,7 +95,7 @@ impl FileLayer {
         close(desk, pool, &layer);
     }
 
-    /// The number of members, of whom there are no more than there is room for.
+    /// The number of members, which is no more than there is room for.
     #[tactic(auto, unfolding(crate::specs::Layer::state_in, crate::specs::Layer::most_of))]
     pub fn count(&self) -> u32
         ensures count { (p : List Held) → result ≡ (state_in p self.now).count }

@@ -4,7 +4,7 @@ use event_graph::Stack;
 use std::alloc::{AllocError, Global};
 use std::rc::Rc;
 
-/// The stack whose layers are made, and how many were: all that members have for layers is made here.
+/// The stack whose layers are made, and how many were made. All layers that members have are made here.
 #[derive(Drop)]
 pub struct Maker {
     pub(crate) stack: Rc<Stack>,

@@ -66,7 +66,7 @@ fn capacity_of(form: &Form) -> u8
     }
 }
 
-/// How many rows cells keep at most, where these are no more than a desk may have.
+/// The most rows that cells keep, if a desk may have as many.
 fn rows_at_most(cells: &[Cell]) -> Option<u32>
     ensures { IfSome result (λ rows.
         (rows ≡ rows_most (map (λ c. rows_kept c.form) (map cell_tree cells.now))) × (rows ≤ most_kept)) }
@@ -81,7 +81,7 @@ fn rows_at_most(cells: &[Cell]) -> Option<u32>
     Some(rows)
 }
 
-/// What a desk of a layer is made for, where that is no more than a desk may have; there is no memory for more.
+/// What a desk of a layer is made for, if a desk may have as much; more than that is want of memory.
 fn reserve_few(layer: &TypedLayer) -> Result<Reserve, AllocError>
     ensures { IfOk result (IsReserved (layer_tree layer.now)) }
 {

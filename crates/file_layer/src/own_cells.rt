@@ -1,5 +1,5 @@
 //! A layer's own cells, as a caller changes them and undoes its changes. A row comes and goes with its message and the
-//! reference of that, so no slot and no memory is taken.
+//! message's reference, so no slot and no memory is taken.
 
 ghost use Rattle.file_layer.specs.OwnCells.{OwnChangesAreUndone};
 
@@ -99,7 +99,7 @@ impl FileLayer {
         self.desk.cells.put_front(cell, index, row);
     }
 
-    /// Takes the front row of a queue, which has room after it.
+    /// Takes the front row of a queue, which then has room.
     pub fn take_row(&mut self, cell: u8, index: u32) -> Option<PoolRow>
         ensures row { (p : List Held) → option_map (row_seen p) result ≡ row_at (state_in p self.old) cell index 0 }
         ensures own { (p : List Held) → IsInOrder p self.old → IfSome result (λ row. CanBeOwn p row.message) }
@@ -112,7 +112,7 @@ impl FileLayer {
         self.desk.cells.take(cell, index)
     }
 
-    /// Takes the last row of a queue, which has room after it.
+    /// Takes the last row of a queue, which then has room.
     pub fn take_back(&mut self, cell: u8, index: u32) -> Option<PoolRow>
         ensures row { (p : List Held) → option_map (row_seen p) result ≡ last_row_at (state_in p self.old) cell index }
         ensures own { (p : List Held) → IsInOrder p self.old → IfSome result (λ row. CanBeOwn p row.message) }
@@ -126,8 +126,8 @@ impl FileLayer {
     }
 }
 
-/// A number that is set as it was, a row that is put back in front, and one that is taken back leave the state that was
-/// before.
+/// Setting a number back to what it was, putting a taken row back in front, and taking back a row that was pushed each
+/// leave the state as it was before.
 pub fn own_changes_are_undone()
     ensures { OwnChangesAreUndone }
 {}

@@ -28,7 +28,7 @@ use msg_core::{Fields, Header};
 use pool_message::{MessagePlace, Messages, PoolMessage, Tray};
 use slot_pool::Pool;
 
-/// The newest message in hand becomes as it is sent, where it lies: going down it gets a header.
+/// Turns the newest message in hand, where it lies, into what is sent: going down it gets a header.
 fn put_last_after(direction: Dir, header: Header, hand: &mut Messages)
     requires { AllByRecursion IsShort hand.old.items }
     ensures { hand.new ≡ buffer (last_after direction header hand.old.items) hand.old.capacity }
@@ -39,7 +39,7 @@ fn put_last_after(direction: Dir, header: Header, hand: &mut Messages)
     }
 }
 
-/// A message that arrived becomes as it is sent, where it lies.
+/// Turns a message that arrived, where it lies, into what is sent.
 fn put_after(direction: Dir, header: Header, tray: &mut Tray)
     requires { IsShortIf tray.old.arrived }
     ensures { tray.new ≡ record tray.old { arrived = option_map (sent_after direction header) tray.old.arrived } }
@@ -122,7 +122,7 @@ fn send_nothing(tray: &mut Tray, direction: Dir, envelope: Envelope, header: Hea
     place.close();
 }
 
-/// Sends an event with the message of the scope that isn't there, which has no bytes, going down after a header.
+/// Sends an event with a message that is missing from the scope and so has no bytes, going down after a header.
 fn send_missing<K: Start>(
     desk: &mut FileDesk,
     pool: &Pool,
@@ -241,7 +241,7 @@ pub(crate) fn pop_header<K: Start>(desk: &mut FileDesk, pool: &Pool, fields: &mu
     desk.tray.pop_header(fields)
 }
 
-/// How many headers the message has that arrived.
+/// How many headers the message that arrived has.
 fn arrived_headers(desk: &FileDesk, pool: &Pool) -> u32
     ensures { result ≡ headers_of (seen_if pool.now desk.now.tray.arrived) }
 {

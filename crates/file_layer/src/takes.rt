@@ -103,8 +103,8 @@ pub(crate) fn lift_row<K: Start>(
     }
 }
 
-/// The message of a taken row, or the one that stands in for it, takes the place of one of the scope, whose reference
-/// goes back. The row's message is then without headers and bytes.
+/// Puts the message of a taken row, or what stands in for it, in place of a message of the scope, whose reference goes
+/// back. The row's message is then without headers and bytes.
 fn put_message(
     tray: &mut Tray,
     slot: u8,

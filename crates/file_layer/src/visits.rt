@@ -54,7 +54,7 @@ fn end(desk: &mut FileDesk, events: &mut Events)
     desk.tray.end(events);
 }
 
-/// The layer at a place takes the first of the events at its desk. That one goes, and what the layer sends comes after
+/// The layer at a place takes the first of the events at its desk. The event goes, and what the layer sends comes after
 /// the others.
 pub(crate) fn visit(
     place: u8,

@@ -13,7 +13,7 @@ use Rattle.file_expressions.specs.Found.{type_shown}
 abbrev pub rank_of : LayerTree → Option ℕ
 rank_of layer = first_rank (map type_shown (layer_type_faults layer))
 
--- The faults of the layer of the library that a place names, if it does, at this place.
+-- The faults of the library's layer that a place names, if it names one, at this place.
 abbrev pub called_faults : FileTree → PlaceTree → List TypeFault
 called_faults file place = option_map_or (faults_of_judged type_fault_at layer_type_faults) (called_at file place) []
 

@@ -13,8 +13,8 @@ use std::mem::forget;
 use typed_layer::Typed;
 
 /// The layers at the places of a file whose names are resolved, as members run them, if no type is at fault; else the
-/// first fault of the file's types in the order of the text. The memory of the file goes back with that of the program,
-/// which judges no other: it is in many pieces, and to give back each takes as long as to have it.
+/// first fault of the file's types in the order of the text. The file's memory goes back with that of the program,
+/// which judges no other file: it is in many pieces, and giving each back takes as long as taking it.
 pub fn check(alloc: Global, resolved: Resolved) -> Result<Typed, TypeError>
     requires { HasPlace (resolved_tree resolved) }
     ensures { Checks (resolved_tree resolved) result }

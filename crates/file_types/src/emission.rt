@@ -48,7 +48,7 @@ fn second(arguments: &Arguments) -> Option<&Argument>
     }
 }
 
-/// The argument after the first, for which something is wanted or nothing.
+/// The argument after the first, if one is wanted there.
 #[tactic(auto, using(crate::proofs::Rules::of_after_first))]
 fn after_first(found: &mut Found, scope: &Scope, wanted: Option<Wanted>, rest: &[Argument])
     ensures { Finds found.old

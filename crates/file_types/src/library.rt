@@ -89,7 +89,7 @@ pub fn rank_library<'a>(
     })
 }
 
-/// The layer of the library that a place names, if it does: its faults stand at this place.
+/// The library's layer that a place names, if it names one: its faults stand at this place.
 #[tactic(auto, using(file_scope::proofs::Layers::within_made))]
 fn called(found: &mut Found, library: &Ranked, place: &Place)
     ensures { Finds found.old (called_faults (file_tree library.now.file.now) (place_tree place.now)) found.new }

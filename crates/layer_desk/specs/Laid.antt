@@ -16,7 +16,7 @@ use Rattle.layer_mean.specs.Envelope.{event_in}
 use Rattle.layer_mean.specs.declared.envelope.Envelope.{Envelope}
 
 -- The layer's state; the scope of the handler's block; the message of the event, until it is bound or sent on; the
--- messages that are in hand, the latest first; and what was sent.
+-- messages in hand, the newest first; and what was sent.
 pub record Laid : Type 0 where
   pub state : State
   pub scope : Scope
@@ -38,7 +38,7 @@ assigned_square c row column v p = assigned c (flat_index p.state.count row colu
 abbrev pub lifted : Content → Laid → Laid
 lifted m p = record p { hand = m ∷ p.hand }
 
--- The first message in hand becomes another; an empty hand stays so.
+-- The newest message in hand becomes another; an empty hand stays empty.
 abbrev pub with_front : (Content → Content) → List Content → List Content
 with_front f [] = []
 with_front f (m ∷ rest) = f m ∷ rest
@@ -46,7 +46,7 @@ with_front f (m ∷ rest) = f m ∷ rest
 abbrev pub front_changed : (Content → Content) → Laid → Laid
 front_changed f p = record p { hand = with_front f p.hand }
 
--- The first two in hand become one: the second of them, which was taken earlier, is the part that comes first.
+-- The two newest messages in hand become one, with the older as its front part.
 abbrev pub with_joined : List Content → List Content
 with_joined (m ∷ part ∷ rest) = parts.join part m ∷ rest
 with_joined ms = ms
@@ -54,7 +54,7 @@ with_joined ms = ms
 abbrev pub front_joined : Laid → Laid
 front_joined p = record p { hand = with_joined p.hand }
 
--- What is done with the first message in hand, which leaves the hand; with an empty hand nothing is done.
+-- Something is done with the newest message in hand, which leaves the hand; with an empty hand nothing is done.
 abbrev pub with_first : (Content → Laid → Laid) → List Content → Laid → Laid
 with_first f [] p = p
 with_first f (m ∷ rest) p = f m (record p { hand = rest })
@@ -80,7 +80,7 @@ with_found c i taken (Some row) p =
 abbrev pub taken_row : ℕ → ℕ → TakenTree → Laid → Laid
 taken_row c i taken p = with_found c i taken (row_at p.state c i 0) p
 
--- An event is sent: without a message, or with the first in hand, on which a header is pushed going down.
+-- An event is sent: without a message, or with the newest message in hand, on which a header is pushed going down.
 abbrev pub sends : Dir → Event → Laid → Laid
 sends dir event p = record p { sent = p.sent ++ (dir, event) ∷ [] }
 

@@ -27,7 +27,7 @@ pub record Room : Type 0 where
   pub places : ℕ
   pub hand : ℕ
 
--- What is needed of these three; how many headers a message brings; and how many parts of a tree are none for the
+-- What is needed of these three; how many headers a message brings; and how many parts of a tree are misfits for the
 -- layout.
 pub record Need : Type 0 where
   pub slots : ℕ
@@ -56,7 +56,7 @@ one_in_hand = record nothing_needed { hand = 1 }
 abbrev pub one_if : Bool → ℕ
 one_if b = if b then 1 else 0
 
--- The headers of a message that stands in for another are of places above a layer, or aren't.
+-- Whether the headers of a message that stands in for another are of places above a layer.
 abbrev pub are_above : List Header → Bool
 are_above blank = nat_le (length blank) most_above && list_all (λ h. nat_lt h.layer most_places) blank
 
@@ -64,7 +64,7 @@ abbrev pub too_wide : Carried → ℕ
 too_wide part = 0
 too_wide (whole blank) = one_if (not (are_above blank))
 
--- A queue's rows are fewer than a capacity, or aren't.
+-- 1 where a queue's rows are fewer than a capacity, else 0.
 abbrev pub too_short : Layout → ℕ → ℕ → ℕ
 too_short layout c capacity = one_if (nat_lt (slice_index layout.rows c) capacity)
 
@@ -81,8 +81,8 @@ lifts (tail m from) = lifts m
 lifts (join p m) = lifts p + lifts m
 lifts _ = 1
 
--- What stands in for another may be a misfit where its headers are of use: a cut has none, and a join those of what
--- stands after.
+-- A message that stands in for another may be a misfit where its headers are used: a cut has none, and a join has those
+-- of its second message.
 abbrev pub message_misfits : MessageTree → ℕ
 message_misfits (held c i row carried) = too_wide carried
 message_misfits (tail m from) = message_misfits m
@@ -164,7 +164,7 @@ abbrev mutual
   block_in_hand (more x rest) = max (in_hand x) (block_in_hand rest)
 
 abbrev mutual
-  -- How many parts of a statement are none for a layout.
+  -- How many parts of a statement are misfits for a layout.
   pub misfits : Layout → StatementTree → ℕ
   misfits layout (push c i capacity row otherwise) = push_misfits layout c capacity row + block_misfits layout otherwise
   misfits layout (take c i taken block otherwise) =
@@ -197,7 +197,7 @@ block_need layout b =
 abbrev pub headers_of : Option Content → ℕ
 headers_of m = option_map_or (λ (c : Content). length c.headers) m 0
 
--- The names that a block declares are more than a layout has places for, or aren't.
+-- How many of the two counts that a block declares, of numbers and of messages, are more than a layout has places for.
 abbrev pub scope_misfits : Layout → ℕ → ℕ → ℕ
 scope_misfits layout numbers messages =
     one_if (nat_lt layout.numbers numbers) + one_if (nat_lt layout.messages messages)

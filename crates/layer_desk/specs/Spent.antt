@@ -6,8 +6,8 @@ use Rattle.layer_desk.specs.Need.{Layout, Room, Need, most_above}
 use Rattle.layer_desk.specs.declared.no_room.NoRoom.{NoRoom}
 use Rattle.layer_desk.specs.declared.no_room.NoRoom.TheVariants as lack
 
--- The pool as a visit found it, the references that the desk had then, what the desk is made for, how many events the
--- list keeps to which it adds those that it sends, and what its cells are.
+-- The pool as a visit found it, the references that the desk had then, what the desk is made for, the capacity of the
+-- list to which it adds the events that it sends, and what its cells are.
 pub record Begun : Type 0 where
   pub pool : List Held
   pub refs : List ℕ
@@ -38,12 +38,12 @@ Lacks old n lack.Hand = Short old.hand n.hand
 Lacks old n lack.Headers = Short most_above n.headers
 Lacks old n lack.Misfit = Short 0 n.misfits
 
--- Where it is done at most this was spent, and else there was less than this.
+-- Where an operation is done, at most this was spent; else there was less than this.
 abbrev pub Spent : {A : Type 0} → Room → Room → Need → Result A NoRoom → Type 0
 Spent old new n (Ok a) = SpentAtMost old new n
 Spent old new n (Err e) = Lacks old n e
 
--- The same of what leaves a message in hand.
+-- The same of an operation that leaves a message in hand.
 abbrev pub Lifted : {A : Type 0} → Room → Room → Need → Result A NoRoom → Type 0
 Lifted old new n (Ok a) = LiftedAtMost old new n
 Lifted old new n (Err e) = Lacks old n e

@@ -53,7 +53,7 @@ pub trait Desk {
     /// What the desk is made for.
     ghost layout: { Self → Layout };
 
-    /// How many events the list keeps to which the desk adds those that it sends.
+    /// The capacity of the list to which the desk adds the events that it sends.
     ghost list: { Self → ℕ };
 
     /// What its cells are, which no operation changes: the shape of each, and the capacity where it has queues.
@@ -187,7 +187,7 @@ pub trait Desk {
         ensures spent { Lifted (free pool.old self.old) (free pool.new self.new) (held_need (carried_tree carried))
             result };
 
-    /// Leaves, of the first message in hand, `count` bytes from a place on and no headers.
+    /// Leaves of the newest message in hand `count` bytes from a place on, and none of its headers.
     fn cut<K: Start>(&mut self, pool: &Pool, from: u32, count: u32)
         requires { ready K.begun pool.now self.old }
         ensures ready { ready K.begun pool.now self.new }
@@ -195,21 +195,21 @@ pub trait Desk {
             front_changed (λ m. parts.cut m from count) (shown pool.now self.old) }
         ensures free { free pool.now self.new ≡ free pool.now self.old };
 
-    /// Leaves, of the first message in hand, the bytes from a place on and the headers.
+    /// Leaves of the newest message in hand the bytes from a place on, and its headers.
     fn tail<K: Start>(&mut self, pool: &Pool, from: u32)
         requires { ready K.begun pool.now self.old }
         ensures ready { ready K.begun pool.now self.new }
         ensures shown { shown pool.now self.new ≡ front_changed (λ m. parts.tail m from) (shown pool.now self.old) }
         ensures free { free pool.now self.new ≡ free pool.now self.old };
 
-    /// Joins the first two messages in hand: the second of them, which was taken earlier, is the part that comes first.
+    /// Joins the two newest messages in hand, with the older as the front part.
     fn join<K: Start>(&mut self, pool: &mut Pool) -> Result<(), NoRoom>
         requires { ready K.begun pool.old self.old }
         ensures ready { ready K.begun pool.new self.new }
         ensures shown { OnOk result (shown pool.new self.new ≡ front_joined (shown pool.old self.old)) }
         ensures spent { Spent (free pool.old self.old) (free pool.new self.new) one_slot result };
 
-    /// Puts a row of numbers alone at the back of a queue whose capacity is this.
+    /// Puts a row of numbers alone at the back of a queue of this capacity.
     fn push<K: Start>(
         &mut self,
         pool: &Pool,
@@ -226,7 +226,7 @@ pub trait Desk {
         ensures spent { Spent (free pool.now self.old) (free pool.now self.new) (room_need K.begun.layout cell capacity)
             result };
 
-    /// Puts a row with the first message in hand at the back of a queue whose capacity is this.
+    /// Puts a row with the newest message in hand at the back of a queue of this capacity.
     fn push_first<K: Start>(
         &mut self,
         pool: &Pool,
@@ -273,7 +273,7 @@ pub trait Desk {
             (shown pool.now self.new ≡ sends direction (event_in envelope None) (shown pool.now self.old)) }
         ensures spent { Spent (free pool.now self.old) (free pool.now self.new) one_place result };
 
-    /// Sends an event with the first message in hand, going down after a header.
+    /// Sends an event with the newest message in hand, going down after a header.
     fn send_first<K: Start>(
         &mut self,
         pool: &Pool,
@@ -384,11 +384,11 @@ pub trait Desk {
     /// The list is as long as at the beginning.
     ghost listed: { (b : Begun) (p : List Held) (desk : Self) → ready b p desk → list desk ≡ b.list };
 
-    /// The messages in hand and the places left make out how many its hand takes.
+    /// The messages in hand and the places left add up to how many its hand takes.
     ghost hand: { (b : Begun) (p : List Held) (desk : Self) → ready b p desk →
         (free p desk).hand + length (shown p desk).hand ≡ b.layout.hand };
 
-    /// The events that were sent and the places left make out how many may be sent.
+    /// The events that were sent and the places left add up to how many may be sent.
     ghost places: { (b : Begun) (p : List Held) (desk : Self) → ready b p desk →
         (free p desk).places + length (shown p desk).sent ≡ b.layout.places };
 }

@@ -6,7 +6,7 @@ ghost use Rattle.layer_mean.specs.Tree.{StatementTree, StatementTrees};
 ghost use Rattle.stack_mean.specs.Emissions.{emissions, emissions_in};
 ghost use Rattle.layer_desk.specs.Need.{sends_at_most, block_sends};
 
-/// The places that statements need are as many as their emissions, each as often as it is done at most.
+/// Statements need as many places as they have emissions, each counted as often as it is done at most.
 pub fn places_are_of_emissions()
     ensures statement { (times : ℕ) (x : StatementTree) → sum_by (λ e. e.times) (emissions times x) ≡
         times * sends_at_most x }

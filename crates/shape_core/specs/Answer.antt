@@ -17,7 +17,7 @@ use Rattle.stack_mean.specs.Shape as mean
 use Rattle.shape_core.specs.declared.types.Shape.{Shape}
 use Rattle.shape_core.specs.declared.sketch.Sketch.{Sketch}
 
--- There is none for this very reason; of want of memory nothing is said.
+-- There is none, for this very reason; nothing is said about want of memory.
 abbrev pub FailsFor : {A : Type 0} → Result A no_shape.NoShape → NoShape → Type 0
 FailsFor drawn (Loop place) = drawn ≡ Err (no_shape.loop place)
 FailsFor drawn (Rare place) = drawn ≡ Err (no_shape.rare place)
@@ -46,7 +46,7 @@ abbrev pub Walks : Result Walking Stop → Walk → Result Unit NoShape → Type
 Walks r w (Ok done) = r ≡ Ok (walking w)
 Walks r w (Err e) = StopsFor r w.forks e
 
--- So does a run that is drawn.
+-- A run that is drawn gives what the code's sketch holds after it.
 abbrev pub Sketches : Result Sketching Stop → Sketch → Result Unit NoShape → Type 0
 Sketches r s (Ok done) = r ≡ Ok (sketching s)
 Sketches r s (Err e) = StopsFor r s.forks e

@@ -1,5 +1,5 @@
--- The queue of a run that is drawn, with what the code keeps of it: the tasks, and of the visits and outputs what a
--- shape says of them.
+-- The queue of a run that is drawn, with what the code keeps of it: the tasks, and what a shape says of the visits and
+-- outputs.
 use Rattle.std.specs.Prelude.{ℕ, zero, suc, ◌+◌, ◌-◌, Bool, false, nat_lt, if◌then◌else◌, List, [], ◌∷◌, ◌++◌, length}
 use Rattle.std.specs.Prelude.{map, option_map, Result, Ok, Err}
 use Rattle.layer_mean.specs.declared.run.Case.{Case}

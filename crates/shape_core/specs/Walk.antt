@@ -29,7 +29,7 @@ pub record Stop : Type 0 where
   pub reason : NoShape
   pub forks : Bool
 
--- What goes on after what didn't stop.
+-- The next step, unless the one before it stopped.
 abbrev pub onward : {A B : Type 0} → (A → Result B Stop) → Result A Stop → Result B Stop
 onward f (Ok x) = f x
 onward f (Err stop) = Err stop

@@ -16,7 +16,7 @@ abbrev pub first_place : Dir → ℕ → ℕ
 first_place Up at = at - 1
 first_place Down at = at
 
--- A message is there where the kind carries one, and its headers are a chain from a place.
+-- There is a message where the kind carries one, and its headers are a chain from a place.
 abbrev pub HasChain : List LayerTree → ℕ → Bool → Option Content → Type 0
 HasChain stack place true (Some m) = IsChain (drop place stack) place m.headers
 HasChain stack place false None = Unit {0}

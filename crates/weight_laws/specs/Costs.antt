@@ -7,8 +7,8 @@ use Rattle.stack_mean.specs.Acceptance.{largest, cost}
 use Rattle.weight_laws.specs.Nodes.{IsNode}
 use Rattle.weight_laws.specs.Orderly.{IsOrderly}
 
--- What some arrows cost, where a function tells what each node costs: for each arrow, `times` times the largest cost of
--- its targets.
+-- What some arrows cost, given what each node costs: for each arrow, the largest cost of its targets, as many times as
+-- the arrow stands.
 abbrev pub after_arrows : (Node → ℕ) → List Arrow → ℕ
 after_arrows f = sum_by (λ arrow. arrow.times * largest (map f arrow.targets))
 

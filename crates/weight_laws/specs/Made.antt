@@ -11,16 +11,15 @@ use Rattle.layer_mean.specs.Effect.{Act, turns, with_slot, with_taken, in_order,
 use Rattle.layer_mean.specs.Visit.{Met, met, handler_for, entered_scope}
 use Rattle.stack_mean.specs.Emissions.{joins_in, joins_in_emission, joins_in_row, joins_expected}
 
--- How many joins are made in the first n turns of an act, which are numbered from 0: each turn makes as many as `made`
--- yields at its own state and scope.
+-- How many joins the turns of an act make, for 0, 1 and so on below a number: each turn makes what `made` says at its
+-- own state and scope.
 abbrev pub made_in_turns : ℕ → ℕ → Act → (State → Scope → ℕ) → State → Scope → ℕ
 made_in_turns zero slot act made s l = 0
 made_in_turns (suc k) slot act made s l = let o = turns k slot act s l in
     made_in_turns k slot act made s l + made o.state (with_slot slot k o.scope)
 
 abbrev mutual
-  -- How many joins a statement makes, along the way that it takes: those that are written in the expressions on this
-  -- way.
+  -- How many joins a statement makes: those that are written in the expressions along the way that it takes.
   pub made : ℕ → StatementTree → State → Scope → ℕ
   made place (bind k e) s l = joins_in e
   made place (assign c i e) s l = joins_in i + joins_in e
@@ -37,18 +36,18 @@ abbrev mutual
       l
   made place (emit e) s l = joins_in_emission e
 
-  -- How many the statements of a block make, each where those before it have led.
+  -- How many joins the statements of a block make, each at the state and scope to which those before it have led.
   pub made_in : ℕ → StatementTrees → State → Scope → ℕ
   made_in place none s l = 0
   made_in place (more x rest) s l =
       made place x s l + (let o = does place x s l in made_in place rest o.state o.scope)
 
--- How many a handler makes, with the condition of its common case.
+-- How many joins a handler makes, those of its common case's condition included.
 abbrev pub handler_made : ℕ → Option HandlerTree → State → Event → Met → ℕ
 handler_made place None s event m = 0
 handler_made place (Some h) s event m = joins_expected h.expected + made_in place h.block s (entered_scope h event m)
 
--- How many a visit makes.
+-- How many joins a visit makes.
 abbrev pub visit_joins : ℕ → LayerTree → State → Dir → Event → ℕ
 visit_joins place layer s dir event = let m = met dir event.message in
     handler_made place (handler_for layer dir event.kind m.tag) s event m

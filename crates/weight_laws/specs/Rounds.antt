@@ -7,7 +7,7 @@ use Rattle.weight_laws.specs.Nodes.{IsNode}
 use Rattle.weight_laws.specs.Orderly.{IsOrderly}
 use Rattle.weight_laws.specs.Tables.{node_number, Edge, Vertex, vertex_of, IsTable}
 
--- A sum with the cost of an edge, which is `times` times the largest cost of its targets.
+-- A sum with the cost of an edge: the largest cost of its targets, as many times as the edge stands.
 abbrev pub with_edge : List ℕ → ℕ → Edge → ℕ
 with_edge costs sum edge = held_at_most (sum + edge.times * largest (map (slice_index costs) edge.targets))
 
@@ -48,7 +48,7 @@ LargestInRounds = (stack : List LayerTree) (vertices : List Vertex) → IsOrderl
     (largest_entry stack (rounds one_task vertices (length (nodes stack))) ≡ held_at_most (largest_weight stack)) ×
     (largest_entry stack (rounds joins_of_vertex vertices (length (nodes stack))) ≡ held_at_most (largest_joins stack))
 
--- A limit that 32 bits hold is passed by a number where it is passed by the number as it is held.
+-- A number passes a limit that 32 bits hold exactly where the number as it is held passes it.
 abbrev pub HeldIsJudged : Type 0
 HeldIsJudged = (limit n : ℕ) → limit < 4294967295 → nat_lt limit (held_at_most n) ≡ nat_lt limit n
 

@@ -48,7 +48,7 @@ pub record IsTurn (stack : List LayerTree) (w : Work) (t : Task Event) (rest : L
   pub before : AllByRecursion (IsKnown stack) (t ∷ rest)
   pub following : AllByRecursion (IsKnown stack) (next_of (length stack) (layers stack) (t ∷ rest) w).tasks
 
--- A turn makes the pending weight less.
+-- A turn lowers the pending weight.
 abbrev pub TurnsLighten : Type 0
 TurnsLighten = (stack : List LayerTree) (w : Work) (t : Task Event) (rest : List (Task Event)) → IsTurn stack w t rest →
     1 + pending_weight stack (next_of (length stack) (layers stack) (t ∷ rest) w).tasks ≤ pending_weight stack
@@ -65,9 +65,9 @@ TurnsJoinLess = (stack : List LayerTree) (w : Work) (t : Task Event) (rest : Lis
 abbrev pub turns_of : Work → ℕ
 turns_of w = w.visits + length w.outs
 
--- One turn of a loop that has this much weight left and n free slots: there is room for what the visit sends, for
--- the tasks that are then pending and for an output; the joins that it makes find a slot each; and what is left is
--- enough for the rest.
+-- One turn of a loop with `left` weight left and `free` free slots: there is room for what the visit sends, for the
+-- tasks that are then pending and for an output; each join that it makes finds a slot; and what is left is enough for
+-- the rest.
 pub record TurnFits (stack : List LayerTree) (w : Work) (t : Task Event) (rest : List (Task Event)) (left free : ℕ) :
     Type 0 where
   pub sent : is_place (length stack) t.at ≡ true → 1 + length (sent_tasks stack (state_at w t.at) t) ≤ left
@@ -92,13 +92,13 @@ pub record IsLine (stack : List LayerTree) (r : Line Work Event) : Type 0 where
   pub no_cycle : first_on_cycle stack ≡ None
   pub known : StaysKnown stack r
 
--- However many turns are taken, those and the weight that is then pending are no more than the weight that was.
+-- However many turns are taken, turns and pending weight together are no more than before them.
 abbrev pub TurnsAndWeight : Type 0
 TurnsAndWeight = (stack : List LayerTree) (n : ℕ) (r : Line Work Event) → IsLine stack r →
     let q = run_for (length stack) (layers stack) n r in
     turns_of q.world + pending_weight stack q.tasks ≤ turns_of r.world + pending_weight stack r.tasks
 
--- And the joins that are made, with those that are then pending, are no more than those that were.
+-- And the joins that are made, together with those then pending, are no more than those pending before.
 abbrev pub JoinsAndPending : Type 0
 JoinsAndPending = (stack : List LayerTree) (n : ℕ) (r : Line Work Event) → IsLine stack r →
     run_joins stack n r + pending_joins stack (run_for (length stack) (layers stack) n r).tasks ≤ pending_joins stack
@@ -127,8 +127,9 @@ pub record IsRun (stack : List LayerTree) (states : List State) (first : Task Ev
   pub enters : Enters stack first.at first.dir first.event.kind
   pub known : StaysKnown stack (starting (unstarted_work states) first)
 
--- What is so of such a run: it is within the limits; no task is left; any number of turns from its entry's weight on
--- gives that; its turns are at most this weight, and so its visits and outputs; its joins are at most its entry's.
+-- What holds of such a run: it is within the limits; no task is left; any number of turns from its entry's weight on
+-- gives the same run; its turns, and so its visits and outputs, are at most this weight; its joins are at most its
+-- entry's.
 pub record Ends (stack : List LayerTree) (states : List State) (first : Task Event) : Type 0 where
   pub weight : task_weight stack first ≤ weight_limit
   pub joins : task_joins stack first ≤ joins_limit

@@ -39,7 +39,7 @@ abbrev pub search_after : List Vertex → ℕ → Search → Search
 search_after vertices zero s = s
 search_after vertices (suc k) s = search_round vertices (search_after vertices k s)
 
--- A search that has seen what follows from a number at once.
+-- A search that has seen what follows directly from a number.
 abbrev pub search_from : List Vertex → ℕ → Search
 search_from vertices x = see_vertex vertices (record { seen = replicate (length vertices) false; last = [] }) x
 

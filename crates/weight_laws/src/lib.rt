@@ -33,7 +33,7 @@ pub fn counts_what_it_joins()
     ensures { CountsWhatItJoins }
 {}
 
-/// A turn makes the weight of the pending tasks less.
+/// A turn lowers the weight of the pending tasks.
 pub fn turns_lighten()
     ensures { TurnsLighten }
 {}
@@ -49,12 +49,12 @@ pub fn turns_fit()
     ensures { TurnsFit }
 {}
 
-/// Turns that were taken and weight that is pending are no more than the weight was.
+/// Turns that are taken and pending weight together are no more than before.
 pub fn turns_and_weight()
     ensures { TurnsAndWeight }
 {}
 
-/// Joins that were made and those that are pending are no more than the join counts were.
+/// Joins that are made and pending joins together are no more than the joins pending before.
 pub fn joins_and_pending()
     ensures { JoinsAndPending }
 {}
@@ -100,7 +100,7 @@ pub fn largest_in_rounds()
     ensures { LargestInRounds }
 {}
 
-/// A limit below 2^32 - 1 is passed by a number where the held number passes it.
+/// A number passes a limit below 2^32 - 1 exactly where the held number passes it.
 pub fn held_is_judged()
     ensures { HeldIsJudged }
 {}
