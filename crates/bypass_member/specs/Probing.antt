@@ -13,7 +13,7 @@ use Rattle.step_misses.specs.declared.miss.Probed.TheVariants.{Common, Other, Mi
 use Rattle.view_core.specs.declared.step.Change.{Change}
 use Rattle.bypass_member.specs.Placed.{Placed, step_of, StandsIn, Takes}
 
--- The input is a common step, and the step was made: the member is where it leaves it, and what came out is told. No
+-- The input is a common step, which was made: the member is where the step leaves it, and what came out is told. No
 -- visit is counted.
 pub record IsTakenAsCommon (old : Placed) (input : Input) (new : Placed) (outs : List (Output × Option ℕ)) : Type 0
   where

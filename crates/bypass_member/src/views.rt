@@ -18,7 +18,7 @@ use slot_pool::Pool;
 use step_outputs::Outputs;
 use view_core::{Change, next_view, rank};
 
-/// Begins again with each layer, at the member of rank `me` of `count`, of whom there are no more than there were.
+/// Begins again with each layer, at the member of rank `me` of `count`, which are no more than there were.
 pub(crate) fn reset_all(
     layers: &mut Vec<FileLayer>,
     pool: &mut Pool,

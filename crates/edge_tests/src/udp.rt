@@ -104,8 +104,8 @@ fn sizes_pass<N: Links>(
     Ok(none && some && most && first && second && following)
 }
 
-// Whether no member may listen at a place that is taken, a send to no port fails, members are heard that moved, and one
-// that the other doesn't know.
+// Whether listening at a place that is taken fails, a send to no port fails, and members are heard that moved or that
+// the other doesn't know.
 fn places_are_their_own<N: Links>(
     clock: &impl Clock,
     links: &mut N,

@@ -40,7 +40,7 @@ fn comment_length(bytes: &[u8]) -> usize
     length
 }
 
-/// How many bytes that go on a word are at the front.
+/// How many bytes at the front continue a word.
 fn word_length(bytes: &[u8]) -> usize
     ensures count { result ≡ prefix_len spelling.is_word_byte bytes.now }
     ensures within { result ≤ length bytes.now }

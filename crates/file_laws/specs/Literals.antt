@@ -1,4 +1,4 @@
--- Files of which every number that is written is below 2^32, as a text's numbers are.
+-- Files in which every written number is below 2^32, as a text's numbers are.
 use Rattle.std.specs.Prelude.{Option, Some, None}
 use Rattle.std.specs.List.{AllByRecursion}
 use Rattle.layer_ast.specs.Tree.{ExpressionTree, number, element, square, rows, item, size, binary, apply, pick}

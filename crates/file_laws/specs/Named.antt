@@ -1,5 +1,5 @@
--- Stacks in which each cell, item of a row and slot of a number that is named is there, in the form in which it is
--- used. (A value that stands for "not there" names a cell of another form, or none.)
+-- Stacks that name only cells, items of rows and slots of numbers that are there, each in the form in which it is used.
+-- (A value that stands for "not there" names a cell of another form, or none.)
 use Rattle.std.specs.Prelude.{◌≡◌, ℕ, ◌+◌, ◌<◌, ◌≤◌, ◌⊎◌, List, length, slice_get, Option, Some, None, option_and_then}
 use Rattle.std.specs.List.{AllByRecursion}
 use Rattle.std.specs.Option.{option_map_or}
@@ -18,7 +18,7 @@ use Rattle.file_mean.specs.Library.{IsFile}
 use Rattle.file_mean.specs.Stack.{stack_of}
 use Rattle.fault_mean.specs.Limits.{longest_loop, largest_capacity}
 
--- What a cell is of a form: numbers of a shape, a queue that is alone, queues of an array.
+-- What a cell of a form is: numbers of a shape, a queue that is alone, queues of an array.
 abbrev pub shape_in : Form → Option Shape
 shape_in (numbers shape initial) = Some shape
 shape_in _ = None
@@ -51,7 +51,7 @@ pub record NamesQueue (layer : LayerTree) (c : ℕ) (i : ExpressionTree) : Type 
   pub items : ItemsTree
   pub listed : NamesRows layer c i items
 
--- A number of its rows is named, and they have it.
+-- The number that is named is one that the queue's rows have.
 pub record NamesItem (layer : LayerTree) (c : ℕ) (i : ExpressionTree) (k : ℕ) : Type 0 where
   pub items : ItemsTree
   pub listed : NamesRows layer c i items
@@ -78,7 +78,7 @@ abbrev mutual
   NamedMessage layer slots (join p m) = NamedMessage layer slots p × NamedMessage layer slots m
   NamedMessage layer slots _ = Unit {0}
 
--- A size is from 1 on, and at most `most`.
+-- A size is at least 1 and at most `most`.
 abbrev pub IsSize : ℕ → ℕ → Type 0
 IsSize most n = (1 ≤ n) × (n ≤ most)
 
@@ -147,7 +147,7 @@ pub record NamedLayer (layer : LayerTree) : Type 0 where
 abbrev pub NamedStack : List LayerTree → Type 0
 NamedStack stack = AllByRecursion NamedLayer stack
 
--- A file with no fault of names or types means such a stack; so does a text that is one.
+-- A file with no fault of names or types means such a stack; so does a text that is such a file.
 abbrev pub FilesAreNamed : Type 0
 FilesAreNamed = (file : FileTree) → file_fault file ≡ None → NamedStack (stack_of file)
 

@@ -39,7 +39,7 @@ impl FileLayer {
 
     /// The layer at a place of the maker's stack before its first event, at the member of rank `me` of `count`. All
     /// memory is taken here. A layer with more rows, or a larger hand, than a desk may have is answered as want of
-    /// memory; within the language's limits rows never are too many.
+    /// memory; within the language's limits there are never too many rows.
     #[tactic(auto, unfolding(crate::specs::Making::making))]
     pub fn fresh(
         alloc: Global,

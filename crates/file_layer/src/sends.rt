@@ -241,7 +241,7 @@ pub(crate) fn pop_header<K: Start>(desk: &mut FileDesk, pool: &Pool, fields: &mu
     desk.tray.pop_header(fields)
 }
 
-/// How many headers the message that arrived has.
+/// The number of headers of the message that arrived.
 fn arrived_headers(desk: &FileDesk, pool: &Pool) -> u32
     ensures { result ≡ headers_of (seen_if pool.now desk.now.tray.arrived) }
 {

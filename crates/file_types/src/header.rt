@@ -16,7 +16,7 @@ use file_expressions::{Cause, NUMBER, argument, note_unless};
 use file_scope::{Found, Scope, declares_header};
 use layer_ast::{Argument, Arguments, At, Declaration, Name, Word};
 
-/// How many fields the header that a declaration declares has.
+/// The number of fields of the header that a declaration declares.
 fn declared_fields(d: &Declaration) -> Count
     ensures { count_of result ≡ length (labels_of (declaration_tree d.now)) }
 {

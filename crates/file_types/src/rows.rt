@@ -17,7 +17,7 @@ use file_expressions::{Cause, Wanted, argument, note_unless, queue};
 use file_scope::{Found, Scope};
 use layer_ast::{Argument, Arguments, At, Declaration, Item, Items, Queue};
 
-/// How many items the rows that a declaration declares have.
+/// The number of items of the rows that a declaration declares.
 #[tactic(auto, using(crate::proofs::Counts::trees_count))]
 fn declared_items(d: &Declaration) -> Count
     ensures { count_of result ≡ length (items_of (declaration_tree d.now)) }

@@ -20,7 +20,7 @@ pub record IsCommonly (c : Peopled) (h : Happening) (c' : Peopled) : Type 0 wher
   pub common : is_common c.stack c.plans step ≡ true
   pub world : Stands c' h.world
 
--- It isn't, and nothing changed: it is a step that lacked this, or it isn't told.
+-- What happened isn't a common step, and nothing changed: it is a step that lacked this, or what it lacked isn't told.
 abbrev pub IsUncommon : List LayerTree → List Plan → Did → Type 0
 IsUncommon stack plans (taken s) = is_common stack plans s ≡ false
 IsUncommon stack plans _ = Unit {0}

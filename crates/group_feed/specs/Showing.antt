@@ -19,15 +19,15 @@ abbrev pub state_shown : Member → ℕ → State
 state_shown (inside view states) place = slice_index_or states place no_state
 state_shown out place = no_state
 
--- A member of a group by its id, where the group doesn't have it one that is in no view; and the state of its layer at
--- a place.
+-- A member of a group by its id, or one in no view where the group doesn't have it; and the state of its layer at a
+-- place.
 abbrev pub shown_in : Peopled → ℕ → Member
 shown_in c id = slice_index_or c.members id out
 
 abbrev pub state_at : Peopled → (id place : ℕ) → State
 state_at c id place = state_shown (shown_in c id) place
 
--- What a message and a row are that are shown.
+-- A shown message, and a shown row, as the definitions have them.
 abbrev pub message_meant : MessageView → Content
 message_meant m = record { headers = m.headers.now; body = m.body.now }
 

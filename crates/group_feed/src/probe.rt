@@ -17,8 +17,8 @@ use step_outputs::Outputs;
 /// A group that runs by bypasses and tells of an event why it is no common step.
 pub trait Probe: Feed {
     /// Tries an event of a script as a common step. If it is one, it is made, as `feed` would make it; else nothing
-    /// changes, and of a cast, a send or a packet that would be taken it is told what each case of its entry lacks.
-    /// Where memory runs out, the group may only be let go.
+    /// changes, and for a cast, a send or a packet that would be taken the answer tells what each case of its entry
+    /// lacks. Where memory runs out, the group may only be let go.
     fn probe(&mut self, event: &ScriptEvent, out: &mut Outputs) -> Result<Probed, Memory>
         requires mode { (Self.group self.old).mode ≡ bypass }
         requires member { member_of event.now < length (Self.group self.old).members }

@@ -10,8 +10,8 @@ use crate::spot::Spot;
 use msg_core::View;
 
 /// A group whose members are read in place: where each is, and what the cells of its layers hold. A member that the
-/// group doesn't have is read as one that is in no view, and where a member has no such layer, or is in no view, a
-/// state without cells is read.
+/// group doesn't have is read as one in no view; a member in no view, or without such a layer, is read as having a
+/// state without cells.
 pub trait Shows: Feed {
     /// The view that a member is in, if it is in one.
     fn view(&self, id: u8) -> Option<View>

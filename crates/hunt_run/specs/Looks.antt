@@ -67,7 +67,7 @@ pub record IsStopped (r : Request) (told : Option Shelved) (reads reads_after : 
   pub read : IsText r.file told reads reads_after file
   pub stops : Stops r file end
 
--- How the program ends that writes nothing.
+-- How the program ends where it writes nothing.
 abbrev pub StopsAt : Request → Option Shelved → (reads reads_after : ℕ) → Ended → Type 0
 StopsAt r told reads reads_after (file_refused fault) = IsStopped r told reads reads_after (file_refused fault)
 StopsAt r told reads reads_after (second_refused too_many_rows) =

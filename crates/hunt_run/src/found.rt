@@ -12,7 +12,8 @@ use crate::words::Request;
 use report_lines::Line;
 use std::alloc::{AllocError, Global};
 
-/// A draft of a script with comments of what its report breaks, if it does, with the comments too.
+/// A draft of a script after comments on what its report breaks, if the report breaks the law and does so in the same
+/// way with the comments.
 pub(crate) fn find(
     alloc: Global,
     request: Request<'_>,

@@ -27,11 +27,11 @@ use std::io::Write;
 /// writes goes to `out`, in one put; where it ends with another status than 0, one line on `err` says why. What `watch`
 /// tells of its progress goes elsewhere.
 ///
-/// With status 8 `out` gained a script whose report breaks the law, by the definitions, after comments with the two
-/// lines that do; with 0 the number of runs in which no such script was found, and of breaches that were missed nothing
-/// is claimed. 1, 2 and 3 come exactly where the stack file is refused, the words ask for no hunt, and the members
-/// would keep too many rows; 4 and 5 only where the shelf or `out` counted a fault in this call; and 7 where memory ran
-/// out.
+/// With status 8, `out` gained a script whose report breaks the law, by the definitions, after comments with the two
+/// lines that break it; with 0, the number of runs in which no such script was found, which claims nothing about
+/// breaches that were missed. 1 comes exactly where the stack file is refused, 2 where the words ask for no hunt, and 3
+/// where the members would keep too many rows; 4 and 5 come only where the shelf or `out` counted a fault in this call;
+/// and 7 where memory ran out.
 pub fn run<S: Shelf, O: Sink, E: Sink, C: Clock + Drop, N: Write + Drop>(
     alloc: Global,
     words: &[String],

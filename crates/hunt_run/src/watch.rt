@@ -43,7 +43,7 @@ impl<C: Clock + Drop, N: Write + Drop> Watch<C, N> {
         self.told = self.began;
     }
 
-    /// Whether this many seconds are up, which is never where they are none.
+    /// Whether this many seconds are up; 0 seconds never are.
     pub(crate) fn is_up(&mut self, seconds: u32) -> bool
         ensures { seconds ≡ 0 → result ≡ false }
     {
@@ -51,7 +51,7 @@ impl<C: Clock + Drop, N: Write + Drop> Watch<C, N> {
         seconds > 0 && u64::from(self.now.wrapping_sub(self.began)) >= 1000 * u64::from(seconds)
     }
 
-    /// Tells how many runs were made, at times. Where there is no memory for it nothing is told.
+    /// Tells now and then how many runs were made. Where there is no memory for it, nothing is told.
     pub(crate) fn tell(&mut self, alloc: Global, made: u32, runs: u32) {
         if self.is_read && self.now.wrapping_sub(self.told) >= PAUSE {
             self.told = self.now;

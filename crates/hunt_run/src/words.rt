@@ -23,8 +23,8 @@ const MOST_EVENTS: u32 = 99_999;
 /// The most seconds of a hunt.
 const MOST_SECONDS: u32 = 1_000_000;
 
-/// A stack file, the law that its stack is to break, how many members a group has, and events a run; how many runs
-/// there are, and from which number on; and after how many seconds none begins, 0 for never.
+/// A stack file and the law that its stack is to break; how many members a group has, and how many events a run; how
+/// many runs there are, and from which number on; and after how many seconds no run begins, 0 for never.
 #[derive(Clone, Copy)]
 pub(crate) struct Request<'w> {
     pub file: &'w str,
@@ -78,7 +78,7 @@ fn members_of(given: Option<&str>) -> Option<u8>
     Some(a_number(1, u32::from(MOST_MEMBERS), given)? as u8)
 }
 
-/// The one command of the program, as `clap` is told of it.
+/// The one command of the program, as it is described to `clap`.
 fn command<'a>(alloc: Global) -> Result<Command<'a>, AllocError>
     ensures { IfOk result (λ command. app_of command ≡ spec.command) }
 {

@@ -6,8 +6,8 @@ use Rattle.outside.specs.Tells.{Tells}
 use Rattle.program_streams.specs.Streams.{HandsOn, Stream}
 use Rattle.job_ends.specs.Shown.{Said}
 
--- How a job ended whose output was put, where the stream got all or lacks something: then a whole output is a fault of
--- writing.
+-- How a job ended, by whether the output's stream got all that was put; where it lacks something, a whole output is a
+-- fault of writing.
 abbrev pub end_after_delivery : Bool → Ended → Ended
 end_after_delivery false done = write_failed
 end_after_delivery false breached = write_failed

@@ -31,7 +31,8 @@ pub fn close<O: Write + Drop, E: Write + Drop>(
     status
 }
 
-/// How a job ended whose stream got all that was put or didn't: then a whole output is a fault of writing.
+/// How a job ended, by whether the output's stream got all that was put; where it lacks something, a whole output is a
+/// fault of writing.
 fn end_after_delivery(whole: bool, ending: Ending) -> Ending
     ensures { shown_end result ≡ end_after_delivery whole (shown_end ending) }
 {

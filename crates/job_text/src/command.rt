@@ -1,4 +1,4 @@
-//! The one command of the program, as `clap` is told of it.
+//! The one command of the program, as it is described to `clap`.
 
 ghost use Rattle.std.specs.Prelude.{◌≡◌, IfOk};
 ghost use Rattle.clap.specs.Simple.{app_of};

@@ -381,7 +381,7 @@ pub trait Desk {
     /// It is made for what it was made for at the beginning.
     ghost kept: { (b : Begun) (p : List Held) (desk : Self) → ready b p desk → layout desk ≡ b.layout };
 
-    /// The list is as long as at the beginning.
+    /// The list's capacity is that of the beginning.
     ghost listed: { (b : Begun) (p : List Held) (desk : Self) → ready b p desk → list desk ≡ b.list };
 
     /// The messages in hand and the places left add up to how many its hand takes.

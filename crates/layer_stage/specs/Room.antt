@@ -28,7 +28,7 @@ slots_needed layer dir event = slots_for (handler_of layer dir event)
 abbrev pub places_needed : LayerTree → Dir → Event → ℕ
 places_needed layer dir event = places_for (handler_of layer dir event)
 
--- How many headers the message has that a layer meets.
+-- The number of headers of the message that a layer meets.
 abbrev pub headers_met : Dir → Event → ℕ
 headers_met dir event = headers_of (met dir event.message).message
 

@@ -41,9 +41,9 @@ pub trait Stage {
     /// How many events it took, held at 2^64 - 1.
     ghost taken: { Self → ℕ };
 
-    /// The layer takes the first of the events: that one goes, and what the layer sends comes after the others. Until
-    /// then it has its place, so that there is one place more than for what is sent. Its state, what it sends and
-    /// whether it decided as predicted are those of a visit. It then took one event more.
+    /// The layer takes the first of the events: this event goes, and what the layer sends comes after the others. Until
+    /// then the event keeps its place, so one place is needed beside those of what is sent. Its state, what it sends
+    /// and whether it decided as predicted are those of a visit. It then took one event more.
     fn take(&mut self, pool: &mut Pool, events: &mut Events) -> Predicted
         requires some { 0 < length events.old.items }
         requires ready { ready pool.old self.old }
@@ -79,8 +79,8 @@ pub trait Stage {
         ensures layer { layer self.new ≡ layer self.old }
         ensures taken { taken self.new ≡ one_more (taken self.old) };
 
-    /// Lets an event pass where the layer has no handler for it and doesn't drop it, and says whether it did. It is
-    /// then what a visit by it sends, and the layer took one event more; all else is as it was.
+    /// Lets an event pass where the layer has no handler for it and doesn't drop it, and answers whether it did. The
+    /// event is then what a visit by it sends, and the layer took one event more; all else is as it was.
     fn pass(&mut self, direction: Dir, event: &mut PoolEvent) -> bool
         requires room { CanPass direction event.old.message }
         ensures passes { (p : List Held) → result ≡ is_passed (layer self.old) direction (event_seen p event.old) }
@@ -97,7 +97,7 @@ pub trait Stage {
     ghost frame: { (p q : List Held) (a b : List ℕ) (s : Self) → Moved p q a b → Covers p (a ++ refs s) → ready p s →
         (ready q s × (state q s ≡ state p s)) };
 
-    /// It has at most n references.
+    /// It has at most `most_kept` references.
     ghost few: { (p : List Held) (s : Self) → ready p s → length (refs s) ≤ most_kept };
 
     /// It has no more references than there are rows with messages in its state.

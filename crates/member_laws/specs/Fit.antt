@@ -28,14 +28,14 @@ WireSpells stack plans _ = Unit {0}
 abbrev pub IsBare : List LayerTree → Here → List State → Entered → Type 0
 IsBare stack here states what = (case : Case) → BareRun case stack (run_start states (first_task stack here.rank what))
 
--- In whatever mode, each packet of a step that is sent short fits the plan under which it is.
+-- In either mode, each packet of a step that is sent short fits its plan.
 abbrev pub PredictedPacketsFit : Type 0
 PredictedPacketsFit = (mode : Mode) (stack : List LayerTree) (here : Here) (id : ℕ) (states : List State)
     (what : Entered) →
     IsBare stack here states what →
     All (FitsItsPlan (plans_of stack)) (as_sent mode stack (plans_of stack) (step_from stack here id states what))
 
--- So what is sent of each packet that can be spelled spells it, short or in full.
+-- So the bytes that are sent of a packet that can be spelled spell it, short or in full.
 abbrev pub ShortWiresSpell : Type 0
 ShortWiresSpell = (mode : Mode) (stack : List LayerTree) (here : Here) (id : ℕ) (states : List State) (what : Entered) →
     IsBare stack here states what →

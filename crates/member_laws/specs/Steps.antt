@@ -36,7 +36,7 @@ abbrev pub TypedRunsAreBare : Type 0
 TypedRunsAreBare = (case : Case) (stack : List LayerTree) (states : List State) (task : Task Event) → TypedStack stack →
     AreChainedStates stack states → IsChainedTask stack task → BareRun case stack (run_start states task)
 
--- So each packet of a step that is sent short fits the plan under which it is, in whatever mode.
+-- So each packet of a step that is sent short fits its plan, in either mode.
 abbrev pub PacketsFit : Type 0
 PacketsFit = (mode : Mode) (stack : List LayerTree) (here : Here) (id : ℕ) (states : List State) (what : Entered) →
     IsStep stack here states what →
@@ -53,7 +53,7 @@ WiresAreSpelled = (mode : Mode) (stack : List LayerTree) (here : Here) (id : ℕ
     All (WireIsSpelled stack (plans_of stack))
     (as_sent mode stack (plans_of stack) (step_from stack here id states what))
 
--- One turn of a chained line of a stack without cycles is one of which all is known, and so is the line.
+-- In a stack without cycles, all is known of a turn of a chained line, and of the line itself.
 abbrev pub ChainedTurns : Type 0
 ChainedTurns = (stack : List LayerTree) (w : Work) (t : Task Event) (rest : List (Task Event)) → TypedStack stack →
     first_on_cycle stack ≡ None → IsChainedLine stack (record { world = w; tasks = t ∷ rest }) → IsTurn stack w t rest

@@ -64,12 +64,12 @@ pub fn wires_are_spelled()
     ensures { WiresAreSpelled }
 {}
 
-/// A turn of a chained line of a stack without cycles is one of which all is known.
+/// In a stack without cycles, all is known of a turn of a chained line.
 pub fn chained_turns()
     ensures { ChainedTurns }
 {}
 
-/// So is a chained line.
+/// In such a stack, all is known of a chained line.
 pub fn chained_lines()
     ensures { ChainedLines }
 {}
@@ -104,7 +104,7 @@ pub fn predicted_packets_fit()
     ensures { PredictedPacketsFit }
 {}
 
-/// What is sent of a packet that can be spelled spells it, short or in full.
+/// The bytes that are sent of a packet that can be spelled spell it, short or in full.
 pub fn short_wires_spell()
     ensures { ShortWiresSpell }
 {}

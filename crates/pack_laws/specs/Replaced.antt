@@ -12,7 +12,7 @@ use Rattle.symbol_laws.specs.Replaced.{Replaces}
 use Rattle.pack_mean.specs.File.{Due, due_of}
 use Rattle.pack_mean.specs.Accepted.{Accepts}
 
--- A trace of a file is run in place of the own one where it joins no more.
+-- A trace of a file is run in place of the stack's own where it has no more joins.
 abbrev pub chosen_trace : (own trace : List Operation) → List Operation
 chosen_trace own trace = if nat_le (trace_joins trace) (trace_joins own) then trace else own
 
@@ -43,19 +43,19 @@ from_entries stack (e ∷ es) traces =
 abbrev pub from_file : List LayerTree → List (List Operation) → Bypasses
 from_file stack traces = from_entries stack (entries_of stack) traces
 
--- A trace of a file may be run in place of the own one of its case, whose entry is given by its number, where it joins
--- no more.
+-- A trace of a file may be run in place of the stack's own of its case, whose entry is given by its number, where it
+-- has no more joins.
 abbrev pub MayReplace : List LayerTree → Due → List Operation → Type 0
 MayReplace stack d trace = (e : Entry) → slice_get (entries_of stack) d.entry ≡ Some e →
     trace_joins trace ≤ trace_joins d.own →
     Replaces stack e d.own trace
 
--- Of a file that is accepted all may.
+-- All traces of an accepted file may be.
 abbrev pub AcceptedMayReplace : Type 0
 AcceptedMayReplace = (stack : List LayerTree) (text : List ℕ) (file : Accepts stack text) →
     AllZip (MayReplace stack) (due_of stack) file.traces
 
--- Its bypasses are the stack's.
+-- The bypasses of an accepted file are the stack's.
 abbrev pub AcceptedAreOfStack : Type 0
 AcceptedAreOfStack = (stack : List LayerTree) (text : List ℕ) → IsSound stack → (file : Accepts stack text) →
     AreOfStack stack (from_file stack file.traces)

@@ -8,13 +8,13 @@ ghost use Rattle.pack_laws.specs.Form.{WhatIsReadIsInForm};
 ghost use Rattle.pack_laws.specs.Replaced.{AcceptedAreOfStack, AcceptedMayReplace, OwnTracesGiveOwn};
 ghost use Rattle.pack_laws.specs.Written.{WhatIsReadIsWrittenSo};
 
-/// The traces that are read of a file name only what was made before and what there is, and there is one for each case
-/// that is due.
+/// The traces that are read from a file name only what was made before and what is there, and there is one for each
+/// case that is due.
 pub fn what_is_read_is_in_form()
     ensures { WhatIsReadIsInForm }
 {}
 
-/// Each trace of an accepted file that joins no more than the own one may be run in place of that.
+/// Each trace of an accepted file that has no more joins than the stack's own may be run in its place.
 pub fn accepted_may_replace()
     ensures { AcceptedMayReplace }
 {}

@@ -1,4 +1,4 @@
--- A drawn visit as a walk: what its layer's handler gives, or what an event without a handler gives.
+-- A drawn visit as a walk: what its layer's handler gives, or what the lack of a handler gives.
 use Rattle.std.specs.Prelude.{◌==◌, if◌then◌else◌, List, [], ◌∷◌, Option, Some, None, Result, Ok, Err, option_map}
 use Rattle.layer_ast.specs.declared.tokens.Dir.{Dir}
 use Rattle.layer_ast.specs.declared.tokens.Dir.TheVariants.{Up, Down}

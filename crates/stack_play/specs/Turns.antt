@@ -48,7 +48,7 @@ pub record IsTold (mode : Mode) (stack : List LayerTree) (plans : List Plan) (wi
   pub visits : new.visits ≡ old.visits + visits_in mode stack plans (happens stack plans w event).did
   pub gained : Gains before after (moment_lines stack plans (mode_if wire mode) (moment_at stack plans w event))
 
--- It was, or its lines were cut short.
+-- The event was told so, or its lines were cut short.
 abbrev pub TellsEvent : Mode → List LayerTree → List Plan → Bool → World → ScriptEvent → (old new : Playing) →
     (before after : Tells) →
     Result (Unit {0}) SinkError → Type 0

@@ -14,7 +14,7 @@ use Rattle.stack_shapes.specs.Shapes.{ShortShapes, short_shapes}
 use Rattle.stack_shapes.specs.declared.entry.EntryOf.{EntryOf}
 use Rattle.stack_shapes.specs.declared.entry.EntryOf.TheVariants as entry
 
--- The entry of what a step entered as: for a packet the least plan that it fits, if there is one.
+-- The entry of a step, by what it entered as: for a packet the least plan that it fits, if there is one.
 abbrev pub planned_entry : Option ℕ → EntryOf
 planned_entry (Some number) = entry.Plan number
 planned_entry None = entry.None

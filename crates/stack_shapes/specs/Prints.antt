@@ -1,5 +1,5 @@
--- Plans by prints: by a number that plans of one kind with one chain of tags have in common, so that few plans are
--- compared with a packet.
+-- Plans by prints: a print is a number that plans of one kind with one chain of tags have in common, so that few plans
+-- are compared with a packet.
 use Rattle.std.specs.Prelude.{◌≡◌, ◌≢◌, ℕ, ◌+◌, ◌*◌, ◌%◌, ◌<◌, ◌≤◌, List, fold, length, map, get_or, Option, Some, None}
 use Rattle.std.proofs.Props.{props}
 use Rattle.layer_ast.specs.declared.tokens.Kind.{Kind}

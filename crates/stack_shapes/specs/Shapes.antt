@@ -9,7 +9,7 @@ use Rattle.layer_mean.specs.declared.run.Case.TheVariants.{First, Second}
 use Rattle.run_mean.specs.Common.{plan_entry, longest_shape}
 use Rattle.shape_core.specs.Cases.{CaseShapes}
 
--- A shape that is too long is none.
+-- A shape that is too long counts as none.
 abbrev pub limited : Result Shape NoShape → Result Shape NoShape
 limited (Ok s) = if nat_le s.length longest_shape then Ok s else Err no_shape.long
 limited (Err reason) = Err reason
@@ -22,7 +22,7 @@ abbrev pub kept_shapes : List LayerTree → Known → CaseShapes
 kept_shapes stack known =
     record { first = limited (shape stack known First); second = limited (shape stack known Second) }
 
--- Those of an application's cast, of its send, and of the packets of each plan.
+-- The shapes of an application's cast, of its send, and of the packets of each plan.
 pub record ShortShapes : Type 0 where
   pub cast : CaseShapes
   pub send : CaseShapes

@@ -17,7 +17,7 @@ starts_of stack = map (plans_before stack) (0 ∷ 1 ∷ 2 ∷ 3 ∷ [])
 abbrev pub starts_tree : PlanStarts → List ℕ
 starts_tree s = 0 ∷ s.first_send ∷ s.second_cast ∷ s.second_send ∷ []
 
--- How many groups stand before that of an entry in a case; only an application's own events have one.
+-- How many groups stand before the group of an entry in a case; only an application's own events have a group.
 abbrev pub groups_for : EntryOf → Case → Option ℕ
 groups_for entry.Cast First = Some 0
 groups_for entry.Send First = Some 1

@@ -26,7 +26,7 @@ fn limited(drawn: Result<Shape, Absent>) -> Result<Shape, Absent>
     }
 }
 
-/// Those of an entry that aren't too long.
+/// The shapes of an entry that aren't too long.
 pub(crate) fn limited_cases(shapes: CaseShapes) -> CaseShapes
     ensures { case_trees result ≡ limited_cases (case_trees shapes) }
 {

@@ -49,8 +49,8 @@ impl EntryShapes {
         }
     }
 
-    /// Whether a step is common that began with an entry, where all decisions of its run went as predicted in the first
-    /// case, and in the second.
+    /// Whether a step that began with an entry is common, given whether all decisions of its run went as predicted in
+    /// the first case, and in the second.
     pub fn is_common(&self, entry: EntryOf, first: bool, second: bool) -> bool
         ensures told { result ≡ common_by (shapes_at self.now entry) first second }
         ensures common { (stack : List LayerTree) (plans : List Plan) (s : Step) → self.now ≡ short_shapes stack plans →

@@ -20,7 +20,7 @@ pub(crate) struct Index {
 }
 
 impl Index {
-    /// That of plans.
+    /// The index of plans.
     pub(crate) fn of(alloc: Global, plans: &[Plan]) -> Result<Index, Memory>
         requires { length plans.now ≤ MOST_PLANS }
         ensures { IfOk result (λ index. Indexes (map plan_tree plans.now) index.first.items index.next.items) }

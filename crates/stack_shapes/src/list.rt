@@ -15,7 +15,7 @@ use shape_core::{Absent, CaseShapes, Shape, ShapeOut};
 use std::alloc::Global;
 
 impl PlanList {
-    /// Those of the shapes of an application's own cast and send, in their order.
+    /// The plans of the shapes of an application's own cast and send, in their order.
     pub(crate) fn of(
         alloc: Global,
         cast: &CaseShapes,

@@ -40,7 +40,7 @@ fn kept_shapes(alloc: Global, stack: &Stack, known: &Known) -> Result<CaseShapes
     Ok(limited_cases(drawn))
 }
 
-/// Those of a plan's packets.
+/// The shapes of a plan's packets.
 fn plan_shapes(alloc: Global, stack: &Stack, plan: &Plan) -> Result<CaseShapes, Memory>
     ensures { IfOk result (λ kept. case_trees kept ≡ plan_shapes (stack_tree stack.now) (plan_tree plan.now)) }
 {
@@ -52,7 +52,7 @@ fn plan_shapes(alloc: Global, stack: &Stack, plan: &Plan) -> Result<CaseShapes, 
     kept_shapes(alloc, stack, &known)
 }
 
-/// Those of each plan's packets.
+/// The shapes of each plan's packets.
 pub(crate) fn all_shapes(
     alloc: Global,
     stack: &Stack,

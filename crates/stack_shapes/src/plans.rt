@@ -18,7 +18,7 @@ use shape_core::CaseShapes;
 use std::alloc::Global;
 
 impl Plans {
-    /// Those of the shapes of an application's own cast and send.
+    /// The plans of the shapes of an application's own cast and send.
     pub(crate) fn of(alloc: Global, cast: &CaseShapes, send: &CaseShapes) -> Result<Plans, Memory>
         ensures { (stack : List LayerTree) → case_trees cast.now ≡ shapes_of stack app_cast →
             case_trees send.now ≡ shapes_of stack app_send →

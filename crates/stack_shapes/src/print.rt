@@ -14,7 +14,7 @@ pub struct Print {
 }
 
 impl Print {
-    /// That of a kind, without tags.
+    /// The print of a kind, without tags.
     pub fn of(kind: Kind) -> Print
         ensures { result.byte ≡ first_print kind }
     {
@@ -25,7 +25,7 @@ impl Print {
         Print { byte }
     }
 
-    /// With one tag more.
+    /// The print with one more tag.
     pub fn with(self, tag: u8) -> Print
         ensures { result.byte ≡ print_with self.byte tag }
     {
@@ -35,7 +35,7 @@ impl Print {
     }
 }
 
-/// That of a plan's packets.
+/// The print of a plan's packets.
 pub(crate) fn print_of(plan: &Plan) -> Print
     ensures { result.byte ≡ plan_print (plan_tree plan.now) }
 {

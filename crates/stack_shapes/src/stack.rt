@@ -26,9 +26,9 @@ pub struct StackShapes {
 }
 
 impl StackShapes {
-    /// Those of a stack. The plans are one for each packet that an application's own cast, then its send, is predicted
-    /// to send in the first case, then in the second; of later packets than `MOST_PLANS` there are none. Each shape is
-    /// drawn once. Err comes only where memory runs out.
+    /// The plans, starts and shapes of a stack. There is one plan for each packet that an application's own cast, then
+    /// its send, is predicted to send, in the first case and then in the second; packets after the first `MOST_PLANS`
+    /// have none. Each shape is drawn once. Err comes only where memory runs out.
     pub fn of(alloc: Global, stack: &Stack) -> Result<StackShapes, Memory>
         ensures plans { IfOk result (λ s. plans_tree s.plans ≡ plans_of (stack_tree stack.now)) }
         ensures starts { IfOk result (λ s. starts_tree s.starts ≡ starts_of (stack_tree stack.now)) }

@@ -19,8 +19,8 @@ use crate::plan::is_packet;
 use layer_mean::Case;
 use shape_core::{Absent, CaseShapes, Shape, ShapeOut};
 
-/// The numbers of the first plans of an application's own events in each case. They are those of all packets that are
-/// predicted, also where the plans themselves end before. Those of a cast in the first case begin with 0.
+/// The numbers of the first plans of an application's own events in each case. They count all packets that are
+/// predicted, even where the plans themselves end earlier. The plans of a cast in the first case begin with 0.
 #[derive(Clone, Copy, Debug, PartialEq, Eq)]
 pub struct PlanStarts {
     pub(crate) first_send: u32,
@@ -56,7 +56,7 @@ fn packets_of(drawn: &Result<Shape, Absent>) -> u32
 }
 
 impl PlanStarts {
-    /// Those of the shapes of an application's own cast and send.
+    /// The starts for the shapes of an application's own cast and send.
     pub(crate) fn count(cast: &CaseShapes, send: &CaseShapes) -> PlanStarts
         requires casts { HaveFewOuts (case_trees cast.now) }
         requires sends { HaveFewOuts (case_trees send.now) }

@@ -12,7 +12,7 @@ pub const MOST_PLANS: usize = 250;
 #[derive(Drop)]
 pub struct Plan {
     pub kind: Kind,
-    /// Those of its headers, lowest layer first.
+    /// The tags of its headers, lowest layer first.
     pub tags: Vec<u8>,
     /// For each field of these headers, in the same order, the number that it always is, or None for one that varies.
     pub fields: Vec<Option<u32>>,

@@ -12,6 +12,6 @@ pub record Gathered : Type 0 where
   pub outputs : List (Output × Option ℕ)
   pub places : ℕ
 
--- The outputs that events are which leave the stack of a member that is here; none is sent short.
+-- An event that leaves the stack of a member that is here, as an output; it isn't sent short.
 abbrev pub full_output : Here → Dir × Event → Output × Option ℕ
 full_output here x = (output_of here x, None)

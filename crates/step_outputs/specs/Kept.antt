@@ -1,4 +1,4 @@
--- What outputs are that are kept, with the bytes of all.
+-- What kept outputs are, given the bytes of all.
 use Rattle.std.specs.Prelude.{◌≡◌, ℕ, ◌+◌, ◌*◌, ◌≤◌, Bool, true, false, ◌&&◌, nat_lt, if◌then◌else◌, List, [], ◌∷◌}
 use Rattle.std.specs.Prelude.{length, Option, Some, None}
 use Rattle.std.specs.List.{AllByRecursion}
@@ -21,7 +21,7 @@ use Rattle.step_outputs.specs.declared.kept.What.TheVariants.{Quiet}
 abbrev pub bytes_in : List ℕ → Span → List ℕ
 bytes_in bytes span = range span.from span.len bytes
 
--- Where a body stands that is put after bytes.
+-- Where a body stands once it is put after bytes.
 abbrev pub span_of : (bytes body : List ℕ) → Span
 span_of bytes body = record { from = length bytes; len = length body }
 
@@ -44,7 +44,7 @@ output_with here (Quiet dir signal) headers body = (member.quiet dir (signal_mea
 abbrev pub output_in : Here → List ℕ → Kept → member.Output × Option ℕ
 output_in here bytes k = output_with here k.what k.headers (bytes_in bytes k.body)
 
--- What an event is that leaves at the upper edge, or at the lower one, whatever its message.
+-- What an event is as it leaves at the upper edge, or at the lower one, whatever its message.
 abbrev pub IsFor : Here → Dir → Event → What → Type 0
 IsFor here dir e what = output_with here what (member.content e).headers (member.content e).body ≡
     (member.output_of here (dir, e), None)
@@ -66,11 +66,11 @@ under plan (Packet dest _) = Packet dest plan
 under plan (Nowhere _) = Nowhere plan
 under plan what = what
 
--- A number, as far as there are n plans.
+-- A number, if there is a plan of this number among `count` plans.
 abbrev pub number_below : ℕ → ℕ → Option ℕ
 number_below count k = if nat_lt k count then Some k else None
 
--- The next number after it; those that no plan has are all the same.
+-- The number after an output's; past the last plan it stays the same.
 abbrev pub number_following : ℕ → ℕ → What → ℕ
 number_following count k what = if takes_number what && nat_lt k count then k + 1 else k
 

@@ -60,7 +60,7 @@ pub struct Kept {
     pub body: Span,
 }
 
-/// The bytes of an event's message; there is none where it has no message.
+/// The bytes of an event's message; none where it has no message.
 pub(crate) fn body_of<'p>(event: &'p PoolEvent, pool: &'p Pool) -> &'p [u8]
     requires { EventLies pool.now event.now }
     ensures is { result.now ≡ (content (event_seen pool.now event.now)).body }
@@ -219,7 +219,7 @@ pub(crate) fn what_bare(direction: Dir, envelope: Envelope) -> What
     }
 }
 
-/// A number as that of a plan, where there are more plans.
+/// A number as that of a plan, if there is a plan of this number.
 fn plan_at(next: u32, count: u32) -> Option<u8>
     requires { count ≤ plans_limit }
     ensures { result ≡ number_below count next }
@@ -234,8 +234,8 @@ fn number_more(next: u32, count: u32) -> u32
     if next < count { next + 1 } else { next }
 }
 
-/// An output takes the next number, if it takes one, and is sent short under it where there are more plans. Tells the
-/// next number after it.
+/// Gives an output the next number, if it takes one; it is sent short under it if there is a plan of this number.
+/// Answers the next number after it.
 pub(crate) fn take_number(kept: &mut Kept, next: u32, count: u32) -> u32
     requires { count ≤ plans_limit }
     ensures kept { kept.new ≡ record kept.old { what = under (number_below count next) kept.old.what } }
@@ -254,7 +254,7 @@ pub(crate) fn take_number(kept: &mut Kept, next: u32, count: u32) -> u32
     }
 }
 
-/// Puts what an event is after the others, with the headers of its message; there is none where it has no message.
+/// Puts what an event is after the others, with the headers of its message, or with none where it has no message.
 pub(crate) fn keep(list: &mut KeptList, what: What, event: &PoolEvent, body: Span)
     requires { length list.old.items < list.old.capacity }
     ensures { (p : List Held) →

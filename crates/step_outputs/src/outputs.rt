@@ -95,7 +95,7 @@ impl Outputs {
         self.bytes.clear();
     }
 
-    /// Puts what an event is that leaves the stack going up or down after the others.
+    /// Puts an event that leaves the stack, going up or down, after the others, as the output that it is.
     pub fn put(&mut self, direction: Dir, event: &PoolEvent, pool: &Pool)
         requires lies { EventLies pool.now event.now }
         requires brings { is_some event.now.message ≡ carries event.now.kind }
@@ -110,8 +110,8 @@ impl Outputs {
         keep(&mut self.list, what, event, body);
     }
 
-    /// Puts what an event is that leaves the stack with a message of these headers and a copy of these bytes after the
-    /// others.
+    /// Puts an event that leaves the stack, with a message of these headers and a copy of these bytes, after the
+    /// others, as the output that it is.
     pub fn put_content(
         &mut self,
         direction: Dir,
@@ -134,7 +134,7 @@ impl Outputs {
         keep_bytes(body, &mut self.bytes);
     }
 
-    /// Puts what an event is that leaves the stack without a message after the others.
+    /// Puts an event that leaves the stack without a message after the others, as the output that it is.
     pub fn put_bare(&mut self, direction: Dir, envelope: Envelope)
         requires carries { carries envelope.kind ≡ false }
         requires room { length self.old.outputs < self.old.places }
@@ -146,7 +146,7 @@ impl Outputs {
         self.list.push_bare(what, body);
     }
 
-    /// Outputs that are sent in full get their plans, of which there are `count`: each packet, and each send that has
+    /// Gives plans, of which there are `count`, to outputs that are sent in full: each packet, and each send that has
     /// nowhere to go, takes one number, in order, from `first` on.
     pub fn send_short(&mut self, first: u32, count: u32)
         requires { count ≤ plans_limit }

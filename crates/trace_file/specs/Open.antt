@@ -38,7 +38,7 @@ pub record IsEmpty (fields : ℕ) (o : Open) : Type 0 where
   pub rows : o.rows.items ≡ []
   pub left : o.left ≡ most_operations
 
--- How many operations it may have after one, where it may have `left` with it: notes don't count.
+-- How many operations it may have after this one, if it may have `left` with it; notes don't count.
 abbrev pub left_after : ℕ → trace.Operation → Option ℕ
 left_after left (trace.note m) = Some left
 left_after zero o = None

@@ -27,7 +27,7 @@ bare d = record { entry = d.entry; case = d.case; fields = d.fields; own = [] }
 abbrev pub due_tree : Due → file.Due
 due_tree d = record { entry = d.entry; case = d.case; fields = d.fields; own = [] }
 
--- What a file was read as: its traces, or its first line that is out of form. Of want of memory nothing is said.
+-- What a file was read as: its traces, or its first line that is out of form. Nothing is said about want of memory.
 abbrev pub Reads : Result (List (List trace.Operation)) ℕ → Result (Vec Trace Global) ReadError → Type 0
 Reads read (Ok traces) = read ≡ Ok (map trace_tree traces.items)
 Reads read (Err (Line number)) = read ≡ Err number

@@ -52,7 +52,7 @@ fn read_after(
 
 /// The traces of a file, one for each case that is due, in order; or its first line that is out of form.
 ///
-/// `Memory` is answered beside want of memory where a line names more than traces keep.
+/// `Memory` is answered where memory runs out, and also where a line names more than traces keep.
 pub fn read_traces(
     alloc: Global,
     stack: &Stack,

@@ -1,4 +1,4 @@
--- How the handler for an event is found: by a number that its direction, kind and popped tag have together.
+-- How the handler for an event is found: by one number for its direction, kind and popped tag together.
 use Rattle.std.specs.Prelude.{ℕ, suc, ◌+◌, ◌*◌, ◌<◌, ◌==◌, if◌then◌else◌, List, [], ◌∷◌, map}
 use Rattle.std.specs.List.{range_with_len}
 use denote.Enum.Declared.{tag_of}

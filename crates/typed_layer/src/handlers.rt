@@ -21,7 +21,7 @@ const KINDS: usize = 12;
 /// How many tags a layer's headers can have, `none` counted.
 const TAGS: u8 = 8;
 
-/// How many numbers a direction, a kind and a tag have together.
+/// How many numbers there are for a direction, a kind and a tag together.
 const CODES: usize = 192;
 
 /// What stands in the table where no handler is.
@@ -90,7 +90,7 @@ impl Handlers {
     }
 }
 
-/// The number that a direction, a kind and a tag have together.
+/// The number for a direction, a kind and a tag together.
 fn code_of(direction: Dir, kind: Kind, tag: u8) -> usize
     ensures { result ≡ code direction kind tag }
 {

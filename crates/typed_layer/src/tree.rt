@@ -55,7 +55,7 @@ pub struct ItemMessage {
 pub enum Carried {
     /// Bytes alone.
     Part,
-    /// A message of the layers above; for a row that isn't there stands one with their headers `none`.
+    /// A message of the layers above; one with their headers `none` stands in for a row that isn't there.
     Whole(Blank),
 }
 
@@ -158,7 +158,7 @@ pub enum Statement {
         block: Block,
         otherwise: Block,
     },
-    /// Runs a block for 0, 1 and so on below a number and a maximum; a slot tells it which.
+    /// Runs a block for 0, 1 and so on, below a number and a maximum; a slot tells the block which.
     Each {
         slot: u8,
         below: Expression,

@@ -15,7 +15,7 @@ fn has(number: u32, place: u8) -> bool
     number >> place & 1 == 1
 }
 
-/// The rank of a member in a view: how many smaller ids it has. None exactly where it hasn't this one.
+/// The rank of a member in a view: how many smaller ids it has. None exactly where the view doesn't have this id.
 #[inline(always)]
 pub fn rank(view: View, id: u8) -> Option<u8>
     ensures { result ≡ members.rank view id }

@@ -92,7 +92,7 @@ pub record IsLine (stack : List LayerTree) (r : Line Work Event) : Type 0 where
   pub no_cycle : first_on_cycle stack ≡ None
   pub known : StaysKnown stack r
 
--- However many turns are taken, turns and pending weight together are no more than before them.
+-- However many turns are taken, the turns and the pending weight together are no more than before.
 abbrev pub TurnsAndWeight : Type 0
 TurnsAndWeight = (stack : List LayerTree) (n : ℕ) (r : Line Work Event) → IsLine stack r →
     let q = run_for (length stack) (layers stack) n r in

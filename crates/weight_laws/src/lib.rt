@@ -49,12 +49,12 @@ pub fn turns_fit()
     ensures { TurnsFit }
 {}
 
-/// Turns that are taken and pending weight together are no more than before.
+/// The turns taken and the pending weight together are no more than before.
 pub fn turns_and_weight()
     ensures { TurnsAndWeight }
 {}
 
-/// Joins that are made and pending joins together are no more than the joins pending before.
+/// The joins made and the pending joins together are no more than the joins pending before.
 pub fn joins_and_pending()
     ensures { JoinsAndPending }
 {}
