@@ -33,7 +33,7 @@ abbrev pub same_place : Lists → Placed → Placed → Bool
 same_place lists a b = same_name a.entry.segment.name b.entry.segment.name &&
     (same_source lists a.entry b.entry && a.place == b.place)
 
--- two members have another delivery at the same place
+-- two members have different deliveries at the same place
 abbrev pub clashes : Lists → Placed → Placed → Bool
 clashes lists b a = same_place lists a b &&
     (not (a.entry.member == b.entry.member) && not (same_content a.entry b.entry))

@@ -23,12 +23,12 @@ breaches Same lines = lacks_of lines
 abbrev pub comes_before : ℕ × ℕ → ℕ × ℕ → Bool
 comes_before x y = nat_lt x.1 y.1 || (x.1 == y.1 && nat_lt x.0 y.0)
 
--- the first of a breach and another
+-- the first of a breach and another, which may be none
 abbrev pub lesser : ℕ × ℕ → Option (ℕ × ℕ) → ℕ × ℕ
 lesser x None = x
 lesser x (Some y) = if comes_before y x then y else x
 
--- the breach before which none comes
+-- the breach that no other comes before
 abbrev pub least : List (ℕ × ℕ) → Option (ℕ × ℕ)
 least [] = None
 least (x ∷ xs) = Some (lesser x (least xs))

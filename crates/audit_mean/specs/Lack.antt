@@ -20,7 +20,7 @@ pub record Ended : Type 0 where
 abbrev pub is_in : ℕ → Segment → Entry → Bool
 is_in member segment entry = entry.member == member && entry.segment.began == segment.began
 
--- the segment that a line after these ends, if it does by `view`
+-- the segment that a line after these ends, if it is a `view` line that ends one
 abbrev pub ended_by : List Numbered → Numbered → Option Ended
 ended_by before (number, view member ltime mask) =
     option_map
@@ -45,15 +45,16 @@ abbrev pub goes_along : Ended → Ended → Bool
 goes_along one other = (same_name one.name other.name && same_name one.next other.next) &&
     not (one.member == other.member)
 
--- the first deliveries, of those after others, that have as many of their kind in front as the one segment has in all
+-- of deliveries that come after others, the first of each content beyond those of the one segment: as many come before
+-- it as the segment has in all
 abbrev pub surplus_after : List Entry → List Entry → List Entry → List Entry
 surplus_after all before [] = []
 surplus_after all before (entry ∷ entries) =
     filter (λ e. count_by (same_content e) before == count_by (same_content e) all) (entry ∷ []) ++
     surplus_after all (before ++ entry ∷ []) entries
 
--- what the one segment lacks of the other: the line of the other's first delivery too many of each kind, and the line
--- that ended the one
+-- what the one segment lacks of the other: the line of the other's first delivery too many of each content, and the
+-- line that ended the one
 abbrev pub lacks : Ended → Ended → List (ℕ × ℕ)
 lacks one other = map (λ entry. (entry.line, one.line)) (surplus_after one.entries [] other.entries)
 

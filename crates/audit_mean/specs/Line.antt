@@ -5,8 +5,8 @@ use Rattle.script_mean.specs.Words.{Word, words_of, body_of}
 use Rattle.script_mean.specs.Form.{Form, ◌>>=◌, one, a_word, a_number, a_number_within, ends}
 use Rattle.msg_core.specs.View.{last_member}
 
--- what a line says: a member delivers a peer's cast with this body, is in a new view or is out; the number of events is
--- told, or of visits; or it says nothing on which a law looks
+-- what a line says: a member delivers a peer's cast with this body, is in a new view or is out; the number of events,
+-- or of visits; or nothing that a law looks at
 pub data ReportLine : Type 0 where
   deliver : (member peer : ℕ) (body : Word) → ReportLine
   view : (member ltime mask : ℕ) → ReportLine

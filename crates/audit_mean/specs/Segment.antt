@@ -27,7 +27,7 @@ first_segment = record { name = start; began = 0 }
 abbrev pub Numbered : Type 0
 Numbered = ℕ × ReportLine
 
--- a member's segment after a line, given the one in front: `view` begins another, and `out` ends it and begins none
+-- a member's segment after a line, given the one before: `view` begins another, and `out` ends it and begins none
 abbrev pub segment_next : ℕ → Option Segment → Numbered → Option Segment
 segment_next member now (number, view m ltime mask) =
     if m == member then Some (record { name = in_view ltime mask; began = number }) else now

@@ -5,7 +5,7 @@ ghost use Rattle.audit_mean.specs.Finding.{audit_of, bad_line};
 ghost use Rattle.audit_mean.specs.declared.law.Law.TheVariants.{Sender, Total, Same};
 ghost use Rattle.audit_mean.specs.declared.law.Finding.TheVariants.{Holds, Breach};
 
-/// Members that deliver in another order, or leave a view with other deliveries.
+/// Members that deliver in different orders, or leave a view with different deliveries.
 pub fn find_breaches()
     ensures order { audit_of Total (codes "deliver 0 cast 0 61\ndeliver 1 cast 1 62\ndeliver 1 cast 0 61\nend 3\n") ≡
         Ok (Breach 1 2) }

@@ -1,4 +1,4 @@
--- What is printed of a stack's bypasses, by which job.
+-- What is printed of a stack's bypasses, and by which job.
 use Rattle.std.specs.Prelude.{ℕ, List}
 use Rattle.clap.specs.Walk.{Text}
 use Rattle.layer_mean.specs.Tree.{LayerTree}
@@ -14,7 +14,7 @@ abbrev pub printing : Printing → Lines
 printing Handlers = printed_lines
 printing Traces = packed_file
 
--- That of the stack's own.
+-- What is printed of the stack's own bypasses.
 abbrev pub own_lines : Printing → List LayerTree → List (List ℕ)
 own_lines what stack = printing what stack (plans_of stack) (bypasses_of simplest stack)
 

@@ -85,7 +85,7 @@ module _ {R : Type 0} where
   abbrev pub with_kept_rows : Kept R → ℕ → ℕ → List R → Kept R
   with_kept_rows k c i rows = with_kept k c (rows_set i rows (kept_at k c))
 
-  -- A queue with one more row at the back or at the front, and with one less at the front or at the back.
+  -- One row more at the back or front of a queue, and one less at the front or back.
   abbrev pub with_last : Kept R → ℕ → ℕ → R → Kept R
   with_last k c i row = with_kept_rows k c i (kept_rows k c i ++ row ∷ [])
 

@@ -1,4 +1,4 @@
--- Seeing the rows of what is kept goes together with reading and changing it.
+-- Seeing the rows of what is kept commutes with reading and changing it.
 use Rattle.std.specs.Prelude.{◌≡◌, ℕ, ◌+◌, ◌<◌, true, List, [], map, length, slice_index, Some, option_map}
 use Rattle.std.specs.List.{sum_by}
 use Rattle.layer_mean.specs.Tree.{LayerTree}

@@ -15,7 +15,7 @@ use Rattle.cell_store.specs.declared.slot.Frame.TheVariants.{Numbers, Queues}
 use Rattle.cell_store.specs.declared.slot.StoredCell.{StoredCell}
 use Rattle.msg_core.specs.View.{most_members}
 
--- The shape of a cell, and the capacity where it has queues; that or 0.
+-- The shape of a cell, with its capacity where it has queues; and its capacity, 0 where it has none.
 abbrev pub form_framed : Frame → ℕ → Shape × Option ℕ
 form_framed (Numbers shape) capacity = (shape, None)
 form_framed (Queues shape) capacity = (shape, Some capacity)

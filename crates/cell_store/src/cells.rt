@@ -72,8 +72,7 @@ impl<R> Cells<R> {
         })
     }
 
-    /// Begins again, at the member of rank `me` of `count`, of whom there are no more than there were at first. No row
-    /// may be left.
+    /// Begins again, at the member of rank `me` of `count`, which is no more than at first. No row may be left.
     pub fn reset(&mut self, layer: &TypedLayer, me: u32, count: u32, ltime: u32)
         requires layer { IsFor (layer_tree layer.now) self.old }
         requires few { count ≤ self.old.most }
@@ -247,7 +246,7 @@ impl<R> Cells<R> {
         slot.rings.push(index as usize, row);
     }
 
-    /// Puts a row before a queue.
+    /// Puts a row at the front of a queue.
     pub fn put_front(&mut self, cell: u8, index: u32, row: R)
         requires { keeps_room self.old cell index (kept_capacity self.old cell) ≡ true }
         ensures { self.new ≡ with_first self.old cell index row }
@@ -284,7 +283,7 @@ impl<R> Cells<R> {
         }
     }
 
-    /// Takes the front row of the first queue that has one, to empty all queues by.
+    /// Takes the front row of the first queue that has one. Repeated, it empties all queues.
     pub fn take_any(&mut self) -> Option<R>
         ensures rows { rows_in self.old ≡ option_to_list result ++ rows_in self.new }
         ensures none { IfNone result (rows_in self.new ≡ []) }

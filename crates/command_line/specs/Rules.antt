@@ -1,4 +1,4 @@
--- The command line of a program as `clap` is told of it, and what is found in words.
+-- The command line of a program as it is described to `clap`, and what is found in words.
 use Rattle.std.specs.Prelude.{◌≡◌, Bool, true, false, List, Option, Some, None, codes, fold, if◌then◌else◌}
 use Rattle.std.specs.Option.{option_map_or}
 use Rattle.std.specs.Str.{bytes_eq}

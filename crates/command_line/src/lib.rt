@@ -1,5 +1,5 @@
-//! What programs of one command share that read their words by `clap`: how a command is told to it, and what it finds
-//! in words.
+//! What programs of one command that read their words by `clap` share: how a command is described to it, and what it
+//! finds in words.
 #![tactic(auto)]
 
 mod rules;

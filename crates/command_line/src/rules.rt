@@ -1,4 +1,4 @@
-//! A command as `clap` is told of it.
+//! A command as it is described to `clap`.
 
 ghost use Rattle.std.specs.Prelude.{◌≡◌, IfOk, false};
 ghost use Rattle.clap.specs.Simple.{app_of, new_app, on_top, with_rule};

@@ -26,7 +26,7 @@ pub fn taken<'w>(
     }
 }
 
-/// In words that `clap` refuses nothing is found, but for want of memory.
+/// What is found in words that `clap` refuses: nothing, or want of memory.
 fn refused<'w>(error: &Error) -> Result<Option<ArgMatches<'w>>, AllocError>
     ensures { IfOk result (λ found. (found ≡ None) × (kind_of error.now ≢ OutOfMemory)) }
 {

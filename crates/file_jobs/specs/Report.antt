@@ -13,7 +13,7 @@ use Rattle.job_ends.specs.declared.ending.Ending.{Ending}
 use Rattle.file_jobs.specs.Stack.{IsMissed}
 use Rattle.file_jobs.specs.declared.judged.Output.{Output}
 
--- What an audit whose output this is writes over the bytes of its report, and how it ends.
+-- What an audit with this output writes over the bytes of its report, and how it ends.
 pub record Finds (law : Law) (text : List ℕ) (o : Output) : Type 0 where
   pub output : Audited text law (string_bytes o.line ∷ [])
   pub ends : end_found (audit_of law text) ≡ (if o.breach then breached else done)
@@ -36,7 +36,7 @@ pub record IsReport (name : Text) (law : Law) (told : Option Shelved) (reads rea
     pub finds : Finds law file o
     pub sound : reads_after ≡ reads
 
--- It found a file that is no report, for this fault.
+-- The next read of this name found a file that is no report, for this fault.
 pub record IsNone (name : Text) (law : Law) (told : Option Shelved) (reads reads_after : ℕ) (fault : AuditFault) : Type
     0 where
   pub file : List ℕ

@@ -17,7 +17,7 @@ use Rattle.file_jobs.specs.declared.second.TheConstants.{LONGEST_SECOND}
 abbrev pub longest_second : ℕ
 longest_second = LONGEST_SECOND
 
--- It found a text of too many bytes.
+-- The next read of this name found a text of too many bytes.
 pub record IsLarge (name : Text) (told : Option Shelved) (reads reads_after : ℕ) : Type 0 where
   pub text : List ℕ
   pub large : longest_second < length text
@@ -45,7 +45,7 @@ pub record IsSpelled {A : Type 0} (spelled : List ℕ → Result A ScriptFault) 
   pub runs : Runs value
   pub sound : reads_after ≡ reads
 
--- It found a text that spells none, for this fault.
+-- The next read of this name found a text that is refused for this fault.
 pub record IsRefused {A : Type 0} (spelled : List ℕ → Result A ScriptFault) (name : Text) (told : Option Shelved)
     (reads reads_after : ℕ)
     (fault : ScriptFault) : Type 0 where
@@ -81,7 +81,7 @@ abbrev pub Judges : {A : Type 0} → (List ℕ → Result A ScriptFault) → (A 
 Judges spelled Runs text (Ok value) = (spelled text ≡ Ok value) × Runs value
 Judges spelled Runs text (Err ending) = Refused spelled text (shown_end ending)
 
--- How a job ends that a reader refuses.
+-- How a job ends whose second file a reader refuses.
 abbrev pub refused_as : ScriptError → Ended
 refused_as TooLong = second_refused (misspelled too_long)
 refused_as (BadLine line) = second_refused (misspelled (bad_line line))

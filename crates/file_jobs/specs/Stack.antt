@@ -27,14 +27,14 @@ pub record IsStack (name : Text) (told : Option Shelved) (reads reads_after : �
   pub means : Means file stack
   pub sound : reads_after ≡ reads
 
--- It found a file that is refused for this cause.
+-- The next read of this name found a file that is refused for this cause.
 pub record IsRefused (name : Text) (told : Option Shelved) (reads reads_after : ℕ) (fault : FileFault) : Type 0 where
   pub file : List ℕ
   pub found : IfSome told (λ shelf. found_in shelf name ≡ Some file)
   pub refused : Refuses file fault
   pub sound : reads_after ≡ reads
 
--- It found none, and the count of the shelf's faults rose.
+-- The next read of this name found no file, and the count of the shelf's faults rose.
 pub record IsMissed (name : Text) (told : Option Shelved) (reads reads_after : ℕ) : Type 0 where
   pub none : IfSome told (λ shelf. found_in shelf name ≡ None)
   pub rose : Rose reads reads_after

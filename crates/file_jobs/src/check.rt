@@ -35,7 +35,7 @@ pub fn check_stack<S: Shelf, O: Sink>(
     }
 }
 
-/// How many places a stack has that is no longer needed. Its memory goes back with that of the program.
+/// How many places a stack has. The stack is no longer needed, and its memory goes back with that of the program.
 fn places_of(stack: Stack) -> u8
     ensures { result ≡ length (stack_tree stack) }
 {

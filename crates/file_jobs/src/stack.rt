@@ -58,7 +58,7 @@ fn judged(alloc: Global, text: &[u8]) -> Result<Stack, Ending>
     Ok(stack)
 }
 
-/// The same, with the tree of the file that the text spells: judging takes its own apart, so the text is read once
+/// The same, with the tree of the file that the text spells: judging takes its own tree apart, so the text is read once
 /// more. The memory of a stack that is no longer needed goes back with that of the program.
 fn judged_file(alloc: Global, text: &[u8]) -> Result<StackFile, Ending>
     ensures { JudgesFile text.now result }

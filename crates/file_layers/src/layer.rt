@@ -27,7 +27,7 @@ fn own_words(alloc: Global, declarations: &[Declaration]) -> Result<Words, Alloc
     Ok(words)
 }
 
-/// The layer that a layer of a file is at its place.
+/// The layer that a layer of a file means at its place.
 #[tactic(auto, unfolding(file_mean::specs::Layers::layer_of))]
 fn layer_of(alloc: Global, place: &PlacedLayer, layer: &Layer) -> Result<TypedLayer, AllocError>
     requires layer { (placed_of place.now).layer ≡ written.layer_tree layer.now }
@@ -45,7 +45,7 @@ fn layer_of(alloc: Global, place: &PlacedLayer, layer: &Layer) -> Result<TypedLa
     })
 }
 
-/// The layer that a layer of a file is at a place that gives these params and has these places above.
+/// The layer that a layer of a file means at a place that gives these params and has these places above.
 pub fn layer(
     alloc: Global,
     layer: &Layer,

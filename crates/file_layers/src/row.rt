@@ -187,7 +187,7 @@ fn taken_row(
     Ok(Taken { numbers, message })
 }
 
-/// Makes the names visible that the parts of a taken row get.
+/// Makes visible the names that the parts of a taken row get.
 #[tactic(auto, using(crate::proofs::Rows::numbers_are, crate::proofs::Rows::message_is))]
 fn bring_row(names: &mut VisibleNames, has_message: bool, new: &[Name]) -> Result<(), AllocError>
     requires numbers { (names_of names.old).taken.numbers + length (numbers_among has_message new.now) ≤ 256 }

@@ -381,7 +381,7 @@ fn when(
     Ok(branch(likely, condition, first, empty(alloc)))
 }
 
-/// The turns of a loop: the name that counts them, below which number, and how many there are at most.
+/// The turns of a loop: the name that counts them, the number below which it stays, and how many there are at most.
 #[derive(Clone, Copy)]
 struct Turns<'a> {
     name: &'a Name,

@@ -1,4 +1,4 @@
--- The layers that follow what has come at all members, and put casts into one order.
+-- The layers that follow what has arrived at all members, and put casts into one order.
 use Rattle.std.specs.Prelude.{ℕ, List, [], ◌∷◌, codes}
 use Rattle.file_library.specs.Lines.{lines}
 
@@ -15,7 +15,7 @@ collect = lines
     ∷ codes "}"
     ∷ [])
 
--- `stable`: tells how many of a member's casts have come at all others
+-- `stable`: tells how many of a member's casts have arrived at all others
 unfoldable pub stable : List ℕ
 stable = lines
     (codes "layer stable {"

@@ -1,4 +1,4 @@
-//! The layers that follow what has come at all members, and put casts into one order.
+//! The layers that follow what has arrived at all members, and put casts into one order.
 
 /// `collect`: acknowledges every sixteenth cast of each member.
 pub(crate) const COLLECT: &[u8] = b"layer collect {
@@ -11,7 +11,7 @@ pub(crate) const COLLECT: &[u8] = b"layer collect {
 }
 ";
 
-/// `stable`: tells how many of a member's casts have come at all others.
+/// `stable`: tells how many of a member's casts have arrived at all others.
 pub(crate) const STABLE: &[u8] = b"layer stable {
   state int has[n];
   state int low;

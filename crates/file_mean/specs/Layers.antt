@@ -1,4 +1,4 @@
--- The layer that a layer of a file is at a place of its stack.
+-- What a layer of a file means at a place of its stack.
 use Rattle.std.specs.Prelude.{ℕ, ◌-◌, List, ◌++◌, map, length, filter_map, is_some, Option, Some, None, option_to_list}
 use Rattle.std.specs.Option.{option_map_or, option_zip}
 use Rattle.layer_ast.specs.Tree as ast

@@ -27,7 +27,7 @@ each_once (word ∷ rest) = word ∷ filter (λ other. not (bytes_eq other word)
 abbrev pub called_for : FileTree → List (List ℕ)
 called_for file = filter_map library_text (each_once (filter (lacks file) (map (λ place. place.name.word) file.places)))
 
--- A file has what the library brings: of each text that it calls for the layer that this spells.
+-- A file has what the library brings: for each text that it calls for, the layer that the text spells.
 abbrev pub HasLibrary : FileTree → Type 0
 HasLibrary file = AllZip SpellsLayer (called_for file) file.library
 

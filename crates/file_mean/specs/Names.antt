@@ -58,8 +58,8 @@ carried_in p items = option_and_then (λ i. carried_as p.blank i.sort) (last_or 
 abbrev pub item_number : List ItemTree → Name → ℕ
 item_number items label = unwrap_or (position (λ i. bytes_eq i.name.word label.word) items) 0
 
--- Of things that stand for numbers, and the last of them for a message if there is one: those of the numbers, and that
--- of the message.
+-- Of things that each stand for a number, or the last of them for a message: those of the numbers, and that of the
+-- message.
 abbrev pub numbers_among : {A : Type 0} → Bool → List A → List A
 numbers_among true xs = take (length xs - 1) xs
 numbers_among false xs = xs
@@ -73,9 +73,8 @@ pub record Slots : Type 0 where
   pub numbers : ℕ
   pub messages : ℕ
 
--- The names that are visible at a statement, each with its slot and the newest in front, and the slots that are taken:
--- every name that a handler declares has a slot of its own, in the order of the text, also where it is no longer
--- visible.
+-- The names that are visible at a statement, each with its slot, the newest first; and the slots that are taken. Every
+-- name that a handler declares has a slot of its own, in the order of the text, even where it is no longer visible.
 pub record Names : Type 0 where
   pub place : Placed
   pub numbers : List (Word × ℕ)
@@ -90,7 +89,7 @@ own_names p = record { place = p; numbers = []; messages = []; taken = record { 
 abbrev pub in_slots : ℕ → List Name → List (Word × ℕ)
 in_slots first names = zip (map (λ name. name.word) names) (range_with_len first (length names))
 
--- With new names for numbers, and for messages.
+-- Names with new ones for numbers, and with new ones for messages.
 abbrev pub with_numbers : List Name → Names → Names
 with_numbers new names = record names {
   numbers = in_slots names.taken.numbers new ++ names.numbers;

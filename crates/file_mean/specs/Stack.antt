@@ -23,7 +23,7 @@ placed_layer file number place = option_map_or
     }))
     (layer_at file place) no_layer
 
--- The stack that a file means: the layer at each place, lowest first. (Of a file with a fault of names or types it says
--- nothing that is used.)
+-- The stack that a file means: the layer at each place, lowest first. (For a file with a fault of names or types,
+-- nothing uses what it says.)
 unfoldable pub stack_of : ast.FileTree → List LayerTree
 stack_of file = map (λ x. placed_layer file x.0 x.1) (enumerate_from 0 file.places)

@@ -47,7 +47,7 @@ pushed_row names q items =
       message = option_map (argument_message names) (message_among has_message items);
     }
 
--- The names that are visible where a row was taken from a queue, and the slots that it fills.
+-- The names that are visible once a row is taken from a queue, and the slots that the row fills.
 abbrev pub with_taken : ast.QueueTree → List Name → Names → Names
 with_taken q new names =
     let has_message = is_some (queue_carries names q) in
@@ -59,14 +59,14 @@ taken_row names q new = record {
   message = option_map (λ carried. (names.taken.messages, carried)) (queue_carries names q);
 }
 
--- The names after a block, from those before it and those at its end: what it declared is visible no longer, and
--- has its slots.
+-- The names after a block, from those before it and those at its end: what the block declared is no longer visible, but
+-- keeps its slots.
 abbrev pub after_block : Names → Names → Names
 after_block names inner = record names { taken = inner.taken }
 
 abbrev mutual
-  -- The names after a statement: those that it declares for the rest of its block are visible, and of all that it
-  -- declares the slots are taken.
+  -- The names after a statement: those that it declares for the rest of its block are visible, and the slots of all
+  -- that it declares are taken.
   pub following : ast.StatementTree → Names → Names
   following (ast.bind at name value) names = with_numbers (name ∷ []) names
   following (ast.push at q items otherwise) names = after_block names (after_all otherwise names)

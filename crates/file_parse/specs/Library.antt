@@ -1,4 +1,4 @@
--- What bringing a file the layers of the library means, place by place.
+-- What it means to bring a file the layers of the library, place by place.
 use Rattle.std.specs.Prelude.{◌≡◌, ◌≢◌, ℕ, ◌≤◌, List, [], ◌∷◌, ◌++◌, length, filter, filter_map, Bool, bytes_eq, None}
 use Rattle.std.specs.List.{AllZip, list_any}
 use Rattle.file_mean.specs.Library.{SpellsLayer, lacks, each_once}
@@ -19,7 +19,7 @@ pub record IsLayerText (text : List ℕ) : Type 0 where
 abbrev pub of_layers : List LayerTree → FileTree
 of_layers layers = record { layers = layers; places = []; library = [] }
 
--- the texts that these words call for where a file has these layers
+-- the texts of the library that these words call for in a file with these layers
 abbrev pub called_texts : List LayerTree → List Word → List (List ℕ)
 called_texts layers words = filter_map library_text (each_once (filter (lacks (of_layers layers)) words))
 
@@ -27,7 +27,7 @@ called_texts layers words = filter_map library_text (each_once (filter (lacks (o
 abbrev pub has : List Word → Word → Bool
 has words word = list_any (λ other. bytes_eq other word) words
 
--- what was brought for these words so far, and of which names of the library it is known that they are among them
+-- what was brought for these words so far; `seen` has the same names of the library as the words
 pub record Brought (layers : List LayerTree) (words seen : List Word) (brought : List LayerTree) : Type 0 where
   pub spelled : AllZip SpellsLayer (called_texts layers words) brought
   pub known : (word : Word) → library_text word ≢ None → has seen word ≡ has words word

@@ -1,4 +1,4 @@
--- How parts are printed that are no trees of their own.
+-- How the parts that are no trees of their own are printed.
 use Rattle.std.specs.Prelude.{◌≡◌, Bool, true, false, List, [], ◌∷◌, Option, Some, None, option_map, Result, Ok, Err}
 use Rattle.std.specs.Borrow.{Bor}
 use Rattle.layer_ast.specs.declared.names.At.{At}
@@ -87,7 +87,7 @@ block_after_else b k = plain Else ∷ block b k
 abbrev pub print_assigned : ExpressionTree → List Printed → List Printed
 print_assigned value k = plain Assign ∷ expression value (plain Semicolon ∷ k)
 
--- a statement is the assignment of a value to what has this name and these indices
+-- a statement assigns a value to what has this name and these indices
 pub record AssignmentPrints (at : At) (n : Name) (element : Option Element) (value : Expression) (s : Statement) : Type
     0 where
   pub spelled : (k : List Printed) (tokens : List Lexed) →
@@ -136,7 +136,7 @@ pub record QueuePrints (at : At) (n : Name) (size : QueueCapacity) (items : Item
       ) tokens →
       Fits (declaration (declaration_tree d) k) tokens
 
--- params that a place gives after a first one
+-- the params that a place gives: a first one, and those read after it
 pub record ReadsGiven (first : GivenTree) (tokens : List Lexed) (all : List GivenTree) (rest : List Lexed) : Type 0
   where
     pub more : List GivenTree

@@ -35,14 +35,14 @@ pub record Reads {T : Type 0} (print : T → List Printed → List Printed) (exp
 pub record Stops (expected : List Symbol) (room : ℕ) (tokens : List Lexed) (n : ℕ) : Type 0 where
   pub stops : (stack : List Symbol) → run room (expected ++ stack) tokens ≡ refused n
 
--- what a reader answers for which the machine expects these symbols
+-- what a reader answers where the machine expects these symbols
 abbrev pub ParsesAll : {A T : Type 0} → (T → List Printed → List Printed) → (A → T) → List Symbol → ℕ → List Lexed →
     Result (A × Bor (List Lexed)) Fault → Type 0
 ParsesAll print view expected room tokens (Ok r) = Reads print expected room tokens (view r.0) r.1.now
 ParsesAll print view expected room tokens (Err Memory) = Unit {0}
 ParsesAll print view expected room tokens (Err (Refused n)) = Stops expected room tokens n
 
--- what a reader answers for which the machine expects this symbol
+-- what a reader answers where the machine expects this symbol
 abbrev pub Parses : {A T : Type 0} → (T → List Printed → List Printed) → (A → T) → Symbol → ℕ → List Lexed →
     Result (A × Bor (List Lexed)) Fault → Type 0
 Parses print view s room tokens result = ParsesAll print view (s ∷ []) room tokens result
@@ -58,14 +58,14 @@ pub record ReadsFlat {T : Type 0} (print : T → List Printed → List Printed) 
 pub record StopsFlat (expected : List Symbol) (tokens : List Lexed) (n : ℕ) : Type 0 where
   pub stops : (room : ℕ) (stack : List Symbol) → run room (expected ++ stack) tokens ≡ refused n
 
--- what a reader of a part with no brackets in it answers for which the machine expects these symbols
+-- what a reader of a part with no brackets in it answers where the machine expects these symbols
 abbrev pub ParsesAllFlat : {A T : Type 0} → (T → List Printed → List Printed) → (A → T) → List Symbol → List Lexed →
     Result (A × Bor (List Lexed)) Fault → Type 0
 ParsesAllFlat print view expected tokens (Ok r) = ReadsFlat print expected (λ room. room) tokens (view r.0) r.1.now
 ParsesAllFlat print view expected tokens (Err Memory) = Unit {0}
 ParsesAllFlat print view expected tokens (Err (Refused n)) = StopsFlat expected tokens n
 
--- what a reader of a part with no brackets in it answers for which the machine expects this symbol
+-- what a reader of a part with no brackets in it answers where the machine expects this symbol
 abbrev pub ParsesFlat : {A T : Type 0} → (T → List Printed → List Printed) → (A → T) → Symbol → List Lexed →
     Result (A × Bor (List Lexed)) Fault → Type 0
 ParsesFlat print view s tokens result = ParsesAllFlat print view (s ∷ []) tokens result
@@ -76,7 +76,7 @@ ParsesOne print s tokens (Ok r) = ReadsFlat (λ t k. print t ∷ k) (s ∷ []) (
 ParsesOne print s tokens (Err Memory) = ⊥
 ParsesOne print s tokens (Err (Refused n)) = StopsFlat (s ∷ []) tokens n
 
--- what a reader of a given sign answers, which is no opening bracket
+-- what a reader of a given sign that is no opening bracket answers
 abbrev pub ParsesSign : (ℕ → ℕ) → Sign → List Lexed → Result (Bor (List Lexed)) Fault → Type 0
 ParsesSign change s tokens (Ok rest) = ReadsFlat (λ p k. p ∷ k) (one s ∷ []) change tokens (plain s) rest.now
 ParsesSign change s tokens (Err Memory) = ⊥

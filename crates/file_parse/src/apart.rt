@@ -10,10 +10,11 @@ use file_lex::{Left, cut_part};
 use layer_ast::{File, Layer, Lexed, Place};
 use std::alloc::{AllocError, Global};
 
-/// For how many tokens there is room at first.
+/// How many tokens there is room for at first.
 const ROOM: usize = 256;
 
-/// Reads a file whose layers are cut and read one after another. It answers none where a part isn't what it should be.
+/// Reads a file by cutting and reading its layers one after another. It answers none where a part isn't what it should
+/// be.
 pub fn by_layers(alloc: Global, text: &[u8]) -> Result<Option<File>, AllocError>
     requires { length text.now ≤ longest_file }
     ensures { IfOk result (λ o. IfSome o (λ f. Spells text.now (file_tree f))) }

@@ -155,7 +155,7 @@ fn shape(room: u32, tokens: &[Lexed]) -> Result<(Shape, &[Lexed]), Fault>
     Ok((Shape::Array, rest))
 }
 
-/// Reads what says that an array is a square one. The result has whether it does.
+/// Reads what says that an array is square, where it does, and answers whether it does.
 fn square(tokens: &[Lexed]) -> Result<(bool, &[Lexed]), Fault>
     ensures { ParsesFlat print_square (λ s. s) a_square tokens.now result }
 {

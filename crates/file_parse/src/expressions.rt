@@ -1,4 +1,4 @@
-//! Readers of numbers and messages. Each is told how many brackets may still be opened.
+//! Readers of numbers and messages. Each takes the number of brackets that may still be opened.
 ghost use Rattle.std.specs.Prelude.{◌≡◌, [], ◌∷◌};
 ghost use Rattle.std.specs.Option.{option_map};
 ghost use Rattle.layer_ast.specs.Print as print;
@@ -79,7 +79,7 @@ fn boxed(alloc: Global, room: u32, tokens: &[Lexed]) -> Result<(Box<Expression>,
     Ok((value, rest))
 }
 
-/// Reads an expression that begins with a parenthesis, from after that.
+/// Reads an expression that begins with a parenthesis, from after the parenthesis.
 #[tactic(auto, using(crate::proofs::Fit::fits_first))]
 #[cycle(expression)]
 fn binary(
@@ -108,7 +108,7 @@ fn binary(
     ))
 }
 
-/// Reads an expression that begins with a name, from after that.
+/// Reads an expression that begins with a name, from after the name.
 #[tactic(auto, using(crate::proofs::Fit::fits_first))]
 #[cycle(expression)]
 fn named(

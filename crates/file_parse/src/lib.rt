@@ -31,7 +31,7 @@ use library::library;
 use readers::Fault;
 use std::alloc::Global;
 
-/// Reads the file that a text is: the file that it spells, with the layers of the library that its places name and it
+/// Reads the file that a text is: the file that it spells, with the library's layers that its places name and that it
 /// lacks. A refusal has the first place where the text stops being the beginning of a file.
 pub fn parse(alloc: Global, text: &[u8]) -> Result<File, ParseError>
     ensures { Answers text.now result }

@@ -27,7 +27,7 @@ pub fn library(alloc: Global, layers: &[Layer], places: &[Place]) -> Result<Vec<
     Ok(brought)
 }
 
-/// Brings the library's layer of a name, where there is one, it wasn't looked for before, and the file lacks it.
+/// Brings the library's layer of a name, if there is one, the name wasn't looked for before, and the file lacks it.
 fn bring(
     alloc: Global,
     layers: &[Layer],

@@ -114,7 +114,7 @@ pub fn open(room: u32, want: Sign, tokens: &[Lexed]) -> Result<(u32, &[Lexed]), 
     }
 }
 
-/// The tokens after a sign that begins an optional part of a file, where it is next.
+/// The tokens after a sign that begins an optional part of a file, if that sign is next.
 pub fn past(want: Sign, tokens: &[Lexed]) -> Option<&[Lexed]>
     ensures { SeesSign want tokens.now result }
 {

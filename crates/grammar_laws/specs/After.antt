@@ -15,6 +15,6 @@ pub record Stands (room : ℕ) (printed : List Printed) (tokens : List Lexed) : 
   pub fits : Fits printed tokens
   pub within : IsWithin room (tokens_in tokens)
 
--- tokens that are the first printed ones are the second with these tokens after them
+-- tokens that stand as the first printed ones stand, with these tokens after them, as the second
 pub record GoesOn (more : List Lexed) (room : ℕ) (k l : List Printed) : Type 0 where
   pub goes : (tokens : List Lexed) → Stands room k tokens → Stands room l (tokens ++ more)

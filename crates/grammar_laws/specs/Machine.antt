@@ -54,7 +54,8 @@ pub data Symbol : Type 0 where
   a_place : Symbol
   places : Symbol
 
--- what an expected symbol does at a token: it takes it and then expects others, it is left out, or there is no way on
+-- what an expected symbol does at a token: it takes the token and then expects others, it is left out, or there is no
+-- way on
 pub data Move : Type 0 where
   eats : (expected : List Symbol) → Move
   skips : Move

@@ -4,7 +4,7 @@ use Rattle.layer_ast.specs.Print.{file}
 use Rattle.layer_ast.specs.Spells.{Spells}
 use Rattle.layer_ast.specs.Tree.{FileTree}
 
--- a text spells at most one file with the same layers of the library, which aren't spelled
+-- a text spells at most one file with given layers of the library, which it doesn't spell
 abbrev pub SpelledOnce : Type 0
 SpelledOnce = (text : List ℕ) (s t : FileTree) → s.library ≡ t.library → Spells text s → Spells text t → s ≡ t
 

@@ -1,5 +1,4 @@
--- The printed tokens of parts of the grammar that stand for themselves where a file is read, and are no trees of their
--- own.
+-- The printed tokens of parts of the grammar that are read by themselves and are no trees of their own.
 use Rattle.std.specs.Prelude.{List, ◌∷◌, Bool, true, false, Option, Some, None}
 use Rattle.layer_ast.specs.declared.tokens.Sign.TheVariants as sign
 use Rattle.layer_ast.specs.Print as print

@@ -7,7 +7,7 @@ ghost use Rattle.grammar_laws.specs.Once.{PrintedOnce, SpelledOnce};
 ghost use Rattle.grammar_laws.specs.Stopped.{BadByteStops, EmptyStops};
 ghost use Rattle.grammar_laws.specs.Verdict.{EachDecided};
 
-/// A text spells at most one file, for each layers that the library brings.
+/// A text spells at most one file, for given layers that the library brings.
 pub fn spelled_once()
     ensures { SpelledOnce }
 {}

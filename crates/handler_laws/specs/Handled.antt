@@ -56,7 +56,8 @@ IsHandled case stack plans here id states what None = is_common_in
     stack plans (step_from stack here id states what) case ≡ false
 IsHandled case stack plans here id states what (Some c) = HandlesStep case stack plans here id states what c
 
--- So are all steps of a member of an accepted stack of typed layers, by the code of whatever bypasses are the stack's.
+-- All steps of a member of an accepted stack of typed layers are handled so, by the code of whatever bypasses are the
+-- stack's.
 abbrev pub StepsAreHandled : Type 0
 StepsAreHandled = (case : Case) (stack : List LayerTree) (plans : List Plan) (b : mean.Bypasses) (here : Here) (id : ℕ)
     (states : List State)

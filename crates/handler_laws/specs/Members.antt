@@ -1,5 +1,4 @@
--- That the states of a member are those of its rank in its view, as far as its layers' states say so; and that they
--- stay so.
+-- That the states of a member are those of its rank in its view, as far as its layers' states say so, and stay so.
 use Rattle.std.specs.Prelude.{◌≡◌, ℕ, List, Option, map}
 use Rattle.std.specs.List.{AllByRecursion}
 use Rattle.msg_core.specs.View.{member_count}

@@ -99,7 +99,7 @@ impl Ground {
         })
     }
 
-    /// Begins a group of this many members. Where as many groups began as may, memory is said to have run out.
+    /// Begins a group of this many members. Once `MOST_GROUPS` groups have begun, memory is said to have run out.
     pub fn begin(&mut self, alloc: Global, members: u8) -> Result<Group, OpenError>
         requires { (1 ≤ members) × (members ≤ most_members) }
         ensures begins { Begins self.old members result }

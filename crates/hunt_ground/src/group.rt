@@ -53,8 +53,8 @@ impl Group {
         }
     }
 
-    /// An event happens in the group, and the outputs are those of its step; one of a member that the group doesn't
-    /// have happens to none, and nothing changes. Where memory runs out, the group may only be let go.
+    /// An event happens in the group, and the outputs become those of its step. An event of a member that the group
+    /// doesn't have changes nothing, and yields no outputs. Where memory runs out, the group may only be let go.
     pub fn feed(&mut self, event: &ScriptEvent) -> Result<Option<Did>, Memory>
         ensures fed { (w : mean.World) → Stands self.old w → Feeds self.old w event.now self.new result }
         ensures stays { Stays self.old self.new }

@@ -20,8 +20,8 @@ use Rattle.hunt_mean.specs.Words.{Request, request_of}
 abbrev pub holds_line : ℕ → List ℕ
 holds_line runs = codes "holds " ++ decimal runs ++ codes "\n"
 
--- The bytes of a file mean a stack, and it is told in how many runs no breach was found: all that were asked for, where
--- the time doesn't count.
+-- The bytes of a file mean a stack, and the text tells in how many runs no breach was found: in all that were asked
+-- for, where the time doesn't count.
 pub record IsHeld (r : Request) (file text : List ℕ) : Type 0 where
   pub stack : List LayerTree
   pub means : Means file stack
@@ -30,7 +30,7 @@ pub record IsHeld (r : Request) (file text : List ℕ) : Type 0 where
   pub all : r.seconds ≡ 0 → runs ≡ r.runs
   pub told : text ≡ holds_line runs
 
--- What a hunt writes over the bytes of its file that ends so.
+-- What a hunt that ends so writes over the bytes of its file.
 abbrev pub IsOutput : Request → Ended → (file text : List ℕ) → Type 0
 IsOutput r done file text = IsHeld r file text
 IsOutput r breached file text = IsFind r file text
@@ -96,7 +96,7 @@ Hunts r a write_failed = CutOff r a
 Hunts r a no_memory = (a.output_after ≡ a.output) ⊎ Begun r a
 Hunts r a _ = ⊥
 
--- How a run ended whose words ask for this, or for nothing.
+-- How a run ended whose words ask for this hunt, or for none.
 abbrev pub Comes : Option Request → Around → Ended → Type 0
 Comes (Some r) a end = Hunts r a end
 Comes None a end = NoJob a end

@@ -1,5 +1,5 @@
--- A file with a layer that hides the one of the library by its name, and with one of the library at two places; and the
--- stack that it means.
+-- A file with a layer that hides the library's layer of the same name, and with a layer of the library at two places;
+-- and the stack that it means.
 use Rattle.std.specs.Prelude.{ℕ, List, [], ◌∷◌, ◌++◌, codes}
 use Rattle.layer_ast.specs.Reader.{file_of}
 use Rattle.layer_ast.specs.Tree.{FileTree}

@@ -17,7 +17,8 @@ pub fn whole_stack()
     ensures { IsFile whole.text whole.file }
 {}
 
-/// A layer of the file hides the library's of its name, and one that two places name is brought once.
+/// A layer of the file hides the library's layer of the same name, and a layer of the library that two places name is
+/// brought once.
 pub fn hiding_stack()
     ensures spelled { IsFile hiding.text hiding.file }
     ensures means { stack_of hiding.file ≡ hiding.stack }

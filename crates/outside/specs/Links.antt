@@ -10,7 +10,7 @@ use Rattle.outside.specs.declared.links.Fate.TheVariants.{Fails, Lost, Once, Twi
 use Rattle.outside.specs.Count.{next_count}
 use Rattle.outside.specs.Shelf.{is_next_to_fail}
 
--- a listen: of which member, and where each member is reached
+-- a listen: which member listens, and where each member is reached
 pub record Listen : Type 0 where
   pub member : ℕ
   pub peers : List Peer
@@ -75,7 +75,7 @@ abbrev pub first_for : ℕ → List Sent → Option (List ℕ)
 first_for member [] = None
 first_for member (sent ∷ waiting) = if sent.to == member then Some sent.bytes else first_for member waiting
 
--- what waits once that one was received
+-- what waits once that datagram was received
 abbrev pub without_first : ℕ → List Sent → List Sent
 without_first member [] = []
 without_first member (sent ∷ waiting) = if sent.to == member then waiting else sent ∷ without_first member waiting
@@ -134,7 +134,8 @@ Receives member into old new (Err Failed) = IfSome old (λ n. next_met member n 
     (new ≡ option_map (after_recv member) old)
 Receives member into old new (Err Memory) = new ≡ old
 
--- which bytes of the buffer a recv writes: those in front that the datagram took, and none where there was no datagram
+-- which bytes of the buffer a recv writes: the first ones, which the datagram took, and none where there was no
+-- datagram
 abbrev pub WritesFront : List ℕ → List ℕ → Result (Option ℕ) LinkError → Type 0
 WritesFront old new (Ok (Some k)) = drop k new ≡ drop k old
 WritesFront old new (Ok None) = new ≡ old

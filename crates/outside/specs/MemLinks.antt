@@ -21,6 +21,6 @@ met_of (entries.Came bytes) = Came bytes.items
 met_of entries.Quiet = Quiet
 met_of entries.Broke = Broke
 
--- with how many peers a member listens, where each member's number stands at its place
+-- how many peers a member listens with, where each member's number stands at its place
 unfoldable pub listening_in : List (Option ℕ) → ℕ → Option ℕ
 listening_in members member = option_flatten (slice_get members member)

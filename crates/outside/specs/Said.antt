@@ -1,4 +1,4 @@
--- What is said on a sink of why a program ended, and the status.
+-- What a program says on a sink about why it ended, and its status.
 use Rattle.std.specs.Prelude.{◌≡◌, ◌⊎◌, ℕ, List, [], ◌∷◌, drop}
 use Rattle.std.specs.Option.{option_map}
 use Rattle.outside.specs.Tells.{Tells}
@@ -25,7 +25,8 @@ pub data SaysLine (line : List ℕ) (status : ℕ) (e : Errors) : Type 0 where
   failed : Fails e.before e.after (line ∷ []) → e.status ≡ status → SaysLine line status e
   no_memory : Begins e.before e.after line → e.status ≡ 7 → SaysLine line status e
 
--- A line was put: its status comes, or 7 in its place where memory ran out in the put, and then the line isn't whole.
+-- A line was put, and the status is its own; or memory ran out in the put: then the status is 7, and the line isn't
+-- whole.
 pub record EndsSo (line : List ℕ) (status : ℕ) (e : Errors) : Type 0 where
   pub put : e.after.failures ≡ option_map (drop 1) e.before.failures
   pub ended : (e.status ≡ status) ⊎ ((e.status ≡ 7) × AppendsPart e.before.contents e.after.contents line)

@@ -25,11 +25,11 @@ faults_after_put count (Err Memory) = count
 abbrev pub AppendsPrefix : Option (List ℕ) → Option (List ℕ) → List ℕ → Type 0
 AppendsPrefix old new bytes = (n : ℕ) × Appends old new (take n bytes)
 
--- they grow by a prefix of these bytes that isn't all of them
+-- where the contents are told, they grow by a prefix of these bytes that isn't all of them
 abbrev pub AppendsPart : Option (List ℕ) → Option (List ℕ) → List ℕ → Type 0
 AppendsPart old new bytes = (n : ℕ) × Appends old new (take n bytes) × (n < length bytes)
 
--- what a put of these bytes does: all are appended, or as many as its failure says, or where memory ends not all
+-- what a put of these bytes does: all are appended; or as many as its failure says; or, where memory ran out, not all
 abbrev pub Puts : {T : Type 0} → Option (List (Option ℕ)) → Option (List ℕ) → Option (List ℕ) → List ℕ →
     Result T SinkError → Type 0
 Puts failures old new bytes (Ok done) = Appends old new bytes × Meets failures None

@@ -1,4 +1,4 @@
--- Streams: a read of one to its end, up to a number of bytes, and the one that a sink writes to.
+-- Streams: what a read of one to its end, up to a number of bytes, answers; and the stream that a sink writes to.
 use Rattle.std.specs.Prelude.{◌≡◌, ℕ, ◌<◌, List, length, Result, Ok, Err, ⊤}
 use Rattle.outside.specs.declared.shelf.Got.{Got}
 use Rattle.outside.specs.declared.shelf.Got.TheVariants.{Whole, TooLong}

@@ -15,7 +15,7 @@
 //!   after another are joined by `appends_then`, and a series that ends early by `appends_then_prefix`, where
 //!   `puts_prefix` says what the last put appended, whatever it answered.
 //! - `O.failures` tells which puts to come are to fail, and after how many bytes.
-//! - `N.listening links m` is with how many peers the member m listens, which every implementation tells.
+//! - `N.listening links m` is how many peers the member m listens with, which every implementation tells.
 //! - `N.told` is `Some` of the network: what was handed to `send`, what the calls of `recv` met, what waits, and what
 //!   becomes of the calls to come. Each call's clause gives the network after it as a function of the one before, so a
 //!   series of calls is joined by computing.

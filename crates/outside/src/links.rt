@@ -67,13 +67,13 @@ pub trait Links {
     /// How many calls of `send` have failed, likewise.
     ghost send_faults: { Self → ℕ };
 
-    /// With how many peers a member listens, if it does.
+    /// How many peers a member listens with, if it listens.
     ghost listening: { Self → ℕ → Option ℕ };
 
     /// What was handed in, waits, and is to fail, where the links tell.
     ghost told: { Self → Option Network };
 
-    /// Lets a member listen at its own place of `peers`, which are indexed by member. On an error what listens is as
+    /// Lets a member listen at its own place of `peers`, which are indexed by member. On an error, who listens stays as
     /// before.
     fn listen(&mut self, member: u8, peers: &[Peer]) -> Result<(), LinkError>
         requires member { member < length peers.now }
@@ -95,8 +95,8 @@ pub trait Links {
         ensures told { Sends (record { from = from; to = to; bytes = bytes.now }) (told self.old) (told self.new)
             result };
 
-    /// Takes a datagram that waits for a member that listens: its bytes are the first of `into`, of which all others
-    /// stay as they were. None waits where the answer is None; then, and on an error, `into` is as before.
+    /// Takes a datagram that waits for a listening member: its bytes are the first of `into`, and the others stay as
+    /// they were. The answer None says that none waits; then, and on an error, `into` is as before.
     fn recv(&mut self, member: u8, into: &mut [u8]) -> Result<Option<usize>, LinkError>
         requires listens { IsSome (listening self.old member) }
         requires room { length into.old ≡ LONGEST_DATAGRAM }

@@ -25,7 +25,7 @@ enum Entry {
     Broke,
 }
 
-/// A network in memory: every member is reached in it, and what becomes of each send is told at its making.
+/// A network in memory: every member is reached in it, and it is given what becomes of each send when it is made.
 #[derive(Drop)]
 pub struct MemLinks {
     alloc: Global,

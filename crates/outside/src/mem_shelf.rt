@@ -16,7 +16,7 @@ pub struct MemShelf {
     faults: u64,
 }
 
-/// Files in memory that are never failed to be read. Every name that was given no file has the empty one.
+/// Files in memory of which no read fails. Every name that was given no file has the empty file.
 #[derive(Drop)]
 pub struct StillShelf {
     files: Vec<NamedFile>,

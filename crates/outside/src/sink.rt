@@ -40,7 +40,8 @@ pub trait Sink {
     /// The bytes that were appended so far, where the sink tells them.
     ghost contents: { Self → Option (List ℕ) };
 
-    /// For the puts to come, in their order, how many bytes each that is to fail appends first, where the sink tells.
+    /// For the puts to come, in order, how many bytes each appends before it fails, if it is to fail; where the sink
+    /// tells.
     ghost failures: { Self → Option (List (Option ℕ)) };
 
     /// Appends the bytes. On an error a prefix of them was appended.

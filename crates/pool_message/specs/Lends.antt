@@ -1,4 +1,4 @@
--- What a list of events ends as, once a `&mut` to its first one has ended.
+-- What a list of events becomes once a `&mut` to its first event has ended.
 use Rattle.std.specs.Prelude.{List, [], ◌∷◌, ◌++◌, drop}
 use denote.Struct.Tuple.{Tuple}
 use Rattle.std.specs.Borrow.{Fml, MutBor, Lends}
@@ -11,7 +11,7 @@ use Rattle.pool_message.specs.contracts.list.List as list
 use Rattle.pool_message.specs.Sent.{first_sent}
 use Rattle.pool_message.specs.declared.event.PoolEvent.{PoolEvent}
 
--- the first one is the last that was written through r
+-- the first event is what was last written through r
 abbrev pub lends_first : MutBor (Buffer (Dir × PoolEvent)) → MutBor (Dir × PoolEvent) → Fml
 lends_first es r = Lends the_row (Tuple (dir.the_row ∷ event.the_row ∷ [])) es r
     (λ w. buffer (w ∷ drop 1 es.now.items) es.now.capacity)
@@ -32,7 +32,7 @@ before_last [] = []
 before_last (e ∷ []) = []
 before_last (e ∷ e' ∷ es) = e ∷ before_last (e' ∷ es)
 
--- the last one is the last that was written through r
+-- the last event is what was last written through r
 abbrev pub lends_last : MutBor (Buffer (Dir × PoolEvent)) → MutBor (Dir × PoolEvent) → Fml
 lends_last es r = Lends list.the_row (Tuple (dir.the_row ∷ event.the_row ∷ [])) es r
     (λ w. buffer (before_last es.now.items ++ w ∷ []) es.now.capacity)

@@ -1,7 +1,7 @@
 -- Lines, of which the first item stands by itself.
 use Rattle.std.specs.Prelude.{ℕ, zero, suc, List, [], ◌∷◌}
 
--- No item, or the first and those after it, where there are n.
+-- The items of a line of n: none, or the first and those after it.
 abbrev pub in_line : {A : Type 0} → ℕ → A → List A → List A
 in_line zero first others = []
 in_line (suc n) first others = first ∷ others

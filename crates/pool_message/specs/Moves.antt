@@ -29,13 +29,13 @@ pub record Counts (m : PoolMessage) (n : ℕ) : Type 0 where
   pub bytes : (p : List Held) → Lies p m → length (content_seen p m).body ≡ n
   pub few : n ≤ longest_body
 
--- A part of a part: it refers to the same slot, lies where that one lies, and shows this of what that one shows.
+-- A part of a part: it refers to the same slot, lies wherever the other lies, and shows f of what the other shows.
 pub record Shortened (f : List ℕ → List ℕ) (x y : Part) : Type 0 where
   pub slot : y.slot ≡ x.slot
   pub within : y.from + y.len ≤ x.from + x.len
   pub bytes : (bs : List ℕ) → range y.from y.len bs ≡ f (range x.from x.len bs)
 
--- A message that refers to the slot of another, lies where that one lies, and shows this of what that one shows.
+-- A message that refers to the slot of another, lies wherever the other lies, and shows f of what the other shows.
 pub record Derived (f : Content → Content) (x y : PoolMessage) : Type 0 where
   pub slots : refs y ≡ refs x
   pub lies : (p : List Held) → Lies p x → Lies p y
@@ -48,7 +48,8 @@ pub record Made (p q : List Held) (from : List ℕ) (content : Content) (m : Poo
   pub lies : Lies q m
   pub shows : content_seen q m ≡ content
 
--- Two bodies have bytes, which are no more than one body has, and no slot is left for them. They are given back.
+-- Two bodies have bytes, together no more than one body has, and no slot is left for them. Their references are given
+-- back.
 pub record NoSlot (p q : List Held) (from : List ℕ) (x y : List ℕ) : Type 0 where
   pub returned : Returned p q from
   pub full : spare p ≡ 0

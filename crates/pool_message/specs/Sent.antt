@@ -54,7 +54,7 @@ abbrev pub message_passed : Dir → Header → PoolMessage → PoolMessage
 message_passed Up header m = without_first m
 message_passed Down header m = with_header header m
 
--- An event of which all but its message is known, with a message, if it has one; and what is known of an event then.
+-- An event with this envelope, and with a message if it has one; and the envelope of an event.
 abbrev pub pool_event : Envelope → Option PoolMessage → PoolEvent
 pool_event e message = record { kind = e.kind; peer = e.peer; a = e.a; b = e.b; message = message }
 

@@ -12,7 +12,7 @@ slot_at slots k = get_or slots k (first_sent [])
 abbrev pub standing : List (Dir × PoolEvent) → List ℕ → List (Dir × PoolEvent)
 standing slots order = map (slot_at slots) order
 
--- The first number of some; 0 where there is none. Where there is one, it is this.
+-- The first of some numbers, 0 where there is none; and that a number is the first, where there is one.
 abbrev pub first_number : List ℕ → ℕ
 first_number [] = 0
 first_number (k ∷ ks) = k
@@ -20,7 +20,7 @@ first_number (k ∷ ks) = k
 abbrev pub IsFirst : ℕ → List ℕ → Type 0
 IsFirst first order = 0 < length order → first ≡ first_number order
 
--- Each slot's number stands once, in the order or among those that are free; in a free one there is no message.
+-- Each slot's number stands once, in the order or among the free ones; a free slot has no message.
 pub record AreParted (slots : List (Dir × PoolEvent)) (order free : List ℕ) : Type 0 where
   pub count : length slots ≡ length order + length free
   pub once : (i : ℕ) → times i order + times i free ≤ 1

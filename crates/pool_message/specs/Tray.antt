@@ -1,4 +1,4 @@
--- What lies on a tray, on which the event that a layer takes stays before those that it sends until it goes on.
+-- What lies on a tray. The event that a layer takes stays on it, before those that the layer sends, until it goes on.
 use Rattle.std.specs.Prelude.{◌≡◌, ℕ, ◌<◌, true, List, [], ◌∷◌, ◌++◌, drop, length, slice_index_or, Option, None}
 use Rattle.std.specs.Prelude.{option_to_list, is_some}
 use Rattle.circular_buffer.specs.Buffer.{Buffer, buffer}
@@ -21,7 +21,7 @@ pub record OnTray : Type 0 where
 abbrev pub first_message : List (Dir × PoolEvent) → Option PoolMessage
 first_message xs = (first_sent xs).1.message
 
--- What the first of some events brings, and what was sent, by how that event stands.
+-- What the first of some events brings, and what was sent, depending on how that event stands.
 abbrev pub arrived_at : Front → List (Dir × PoolEvent) → Option PoolMessage
 arrived_at Gone xs = None
 arrived_at Arrived xs = first_message xs
@@ -37,13 +37,13 @@ sent_at Gone xs = xs
 sent_at Arrived xs = drop 1 xs
 sent_at Bound xs = drop 1 xs
 
--- There is an event that stands so, and one that is bound has a message.
+-- An event that arrived or is bound is there, and one that is bound has a message.
 abbrev pub StandsSo : Front → List (Dir × PoolEvent) → Type 0
 StandsSo Gone xs = Unit {0}
 StandsSo Arrived xs = 0 < length xs
 StandsSo Bound xs = (0 < length xs) × (is_some (first_message xs) ≡ true)
 
--- Where one is bound, the other messages of the scope leave a place for it.
+-- Where an event is bound, the other messages of the scope leave a place for its message.
 abbrev pub HasSpare : Front → Buffer PoolMessage → Type 0
 HasSpare Gone ms = Unit {0}
 HasSpare Arrived ms = Unit {0}
@@ -55,7 +55,7 @@ also_sent dir envelope message t = record t {
   sent = buffer (t.sent.items ++ (dir, pool_event envelope message) ∷ []) t.sent.capacity;
 }
 
--- The message number k of some, and of the scope.
+-- Message number k of a list, and of the scope.
 abbrev pub message_in : ℕ → List PoolMessage → PoolMessage
 message_in k ms = slice_index_or ms k (bodiless [])
 

@@ -8,7 +8,7 @@ use layer_mean::Envelope;
 /// message.
 pub struct PoolEvent {
     pub kind: Kind,
-    /// The rank that a Cast or a Send names: its sender going up, and going down the one that it is for.
+    /// The rank that a Cast or a Send names: going up its sender, going down the member that it is for.
     pub peer: u32,
     pub a: u32,
     pub b: u32,

@@ -29,9 +29,8 @@ use std::marker::Model;
 /// The most places for events.
 pub const MOST_SENT: usize = 1_048_576;
 
-/// The events that were sent, in order, each with its direction. There is a number of places for them, at most
-/// `MOST_SENT`, which is chosen once. Two lists are swapped by their pointers. It can't be let go: it is emptied, and
-/// then closed.
+/// The events that were sent, in order, each with its direction. The number of places for them, at most `MOST_SENT`, is
+/// chosen once. Two lists are swapped by their pointers. A list can't be let go: it is emptied, and then closed.
 pub struct Events {
     list: Box<List>,
 }
@@ -88,7 +87,7 @@ impl Events {
         self.list.first()
     }
 
-    /// The first one, of those that there are.
+    /// The first event. There is one.
     pub fn front(&self) -> &(Dir, PoolEvent)
         requires { 0 < length self.now.items }
         ensures { result.now ≡ first_sent self.now.items }
@@ -193,8 +192,8 @@ impl Events {
         fill_made(self.list.last_mut(), headers, body);
     }
 
-    /// Puts an event with this envelope and with a message once more, which goes down after this header, after the
-    /// others. The two share the message's bytes, to which there is one more reference.
+    /// Puts an event with this envelope, and with this message once more, after the others; going down, the message
+    /// gets this header first. The two share the message's bytes, to which there is one more reference.
     #[tactic(auto, using(crate::proofs::Slots::last_pushed, crate::proofs::Slots::rest_pushed))]
     pub fn push_kept(
         &mut self,
@@ -228,7 +227,7 @@ impl Events {
         self.list.end_first();
     }
 
-    /// The first one goes, and the reference of its message back.
+    /// Removes the first event, and gives its message's reference back.
     pub fn drop_first(&mut self, pool: &mut Pool)
         requires some { 0 < length self.old.items }
         requires there { Covers pool.old (event_refs (first_sent self.old.items).1) }
@@ -239,7 +238,7 @@ impl Events {
         self.list.end_first();
     }
 
-    /// The first one goes, which has no message.
+    /// Removes the first event, which has no message.
     pub(crate) fn end_first(&mut self)
         requires some { 0 < length self.old.items }
         requires bare { (first_sent self.old.items).1.message ≡ None }
@@ -248,7 +247,7 @@ impl Events {
         self.list.end_first();
     }
 
-    /// The direction of event number `k`, which is one of those that there are.
+    /// The direction of event number `k`. There is such an event.
     pub fn direction(&self, k: usize) -> Dir
         requires { k < length self.now.items }
         ensures { option_map (λ e. e.0) (slice_get self.now.items k) ≡ Some result }
@@ -319,7 +318,7 @@ fn fill_last(sent: &mut (Dir, PoolEvent), messages: &mut Messages)
     messages.pop_to(&mut sent.1.message);
 }
 
-/// An event without a message gets one once more, which goes down after a header.
+/// An event without a message gets this message once more; going down, the message gets a header first.
 fn fill_kept(
     sent: &mut (Dir, PoolEvent),
     direction: Dir,

@@ -14,9 +14,9 @@ use layer_mean::Envelope;
 use std::alloc::{AllocError, Global};
 use std::marker::Model;
 
-/// The events that were sent, in order, each with its direction. There is a number of places for them, at most
-/// `MOST_SENT`, which is chosen once. An event stays in its slot while the order moves on, and its slot is used again
-/// when it is gone, so few slots are ever touched. It can't be let go: it is emptied, and then closed.
+/// The events that were sent, in order, each with its direction. The number of places for them, at most `MOST_SENT`, is
+/// chosen once. An event stays in its slot while the order moves on, and the slot is used again once the event is gone,
+/// so few slots are ever touched. A list can't be let go: it is emptied, and then closed.
 pub(crate) struct List {
     slots: Vec<(Dir, PoolEvent)>,
     /// The numbers of the slots in which events stand.
@@ -91,7 +91,7 @@ impl List {
         Some((sent.0, &sent.1))
     }
 
-    /// The first one, of those that there are.
+    /// The first event. There is one.
     pub fn front(&self) -> &(Dir, PoolEvent)
         requires { 0 < length self.now.items }
         ensures { result.now ≡ first_sent self.now.items }
@@ -155,7 +155,7 @@ impl List {
         &mut self.slots[k as usize]
     }
 
-    /// The first one goes, which has no message.
+    /// Removes the first event, which has no message.
     pub fn end_first(&mut self)
         requires some { 0 < length self.old.items }
         requires bare { (first_sent self.old.items).1.message ≡ None }
@@ -168,7 +168,7 @@ impl List {
         self.first = first_of(&self.order);
     }
 
-    /// The direction of event number `k`, which is one of those that there are.
+    /// The direction of event number `k`. There is such an event.
     pub fn direction(&self, k: usize) -> Dir
         requires { k < length self.now.items }
         ensures { option_map (λ e. e.0) (slice_get self.now.items k) ≡ Some result }

@@ -188,8 +188,8 @@ impl Messages {
         }
     }
 
-    /// A message takes the place of the message number `k`, whose reference goes back; where there is none, its own
-    /// goes back.
+    /// Puts a message in the place of message number `k`, whose reference goes back; where there is none, the new
+    /// message's reference goes back.
     pub fn replace(&mut self, k: usize, message: PoolMessage, pool: &mut Pool)
         requires { Covers pool.old (refs (slice_index_or self.old.items k message)) }
         ensures set { self.new ≡ buffer (slice_set self.old.items k message) self.old.capacity }

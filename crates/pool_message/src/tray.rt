@@ -28,9 +28,9 @@ use std::mem;
 enum Front {
     /// It was sent, as all others were.
     Gone,
-    /// It is the one that is taken, and its message arrived, if it has one.
+    /// It is the event that the layer takes, and its message, if it has one, arrived.
     Arrived,
-    /// It is the one that is taken, and its message is the first of the scope.
+    /// It is the event that the layer takes, and its message is the first of the scope.
     Bound,
 }
 
@@ -93,8 +93,8 @@ impl Tray {
         }
     }
 
-    /// Takes the first of some events, after which what is sent will come, and says its direction and its envelope.
-    /// What was sent before goes there. Nothing has arrived, and the scope is empty.
+    /// Takes the first of these events, and answers its direction and its envelope; what is sent will come after the
+    /// others. `events` gets what was sent before. Before the call nothing has arrived, and the scope is empty.
     pub fn begin(&mut self, events: &mut Events) -> (Dir, Envelope)
         requires some { 0 < length events.old.items }
         requires within { length events.old.items ≤ events.old.capacity }
@@ -113,8 +113,8 @@ impl Tray {
         way_of(&self.events)
     }
 
-    /// Gives what was sent back, and has these events in its place. Nothing has arrived that didn't go, and the scope
-    /// is empty.
+    /// Hands back in `events` what was sent, and has these events in its place. Before the call no message that arrived
+    /// is left, and the scope is empty.
     pub fn end(&mut self, events: &mut Events)
         requires places { 1 ≤ events.old.capacity }
         requires idle { (self.old.arrived ≡ None) × (self.old.messages.items ≡ []) }
@@ -220,8 +220,8 @@ impl Tray {
         self.messages.push_bare();
     }
 
-    /// A message takes the place of the message number `k` of the scope, whose reference goes back; where there is
-    /// none, its own goes back.
+    /// Puts a message in the place of message number `k` of the scope, whose reference goes back; where there is none,
+    /// the new message's reference goes back.
     pub fn replace(&mut self, k: usize, message: PoolMessage, pool: &mut Pool)
         requires { Covers pool.old (refs (slice_index_or self.old.messages.items k message)) }
         ensures set { self.new ≡
@@ -334,8 +334,8 @@ impl Tray {
         }
     }
 
-    /// Sends an event with this envelope and with the message number `k` of the scope once more, which goes down after
-    /// this header. The two share the message's bytes, to which there is one more reference.
+    /// Sends an event with this envelope, and with message number `k` of the scope once more; going down, the message
+    /// gets this header first. The two share the message's bytes, to which there is one more reference.
     pub fn send_message(
         &mut self,
         direction: Dir,
@@ -464,7 +464,7 @@ fn send_first(events: &mut Events, direction: Dir, envelope: Envelope)
     events.go_round();
 }
 
-/// The same where its message, if it has one, goes down after a header.
+/// The same, but going down its message, if it has one, gets a header first.
 fn send_first_after(events: &mut Events, direction: Dir, envelope: Envelope, header: Header)
     requires some { 0 < length events.old.items }
     requires room { CanPass direction (first_message events.old.items) }
@@ -477,7 +477,7 @@ fn send_first_after(events: &mut Events, direction: Dir, envelope: Envelope, hea
     events.go_round();
 }
 
-/// An event gets this direction and this envelope, and its message, if it has one, goes down after a header.
+/// An event gets this direction and this envelope; going down, its message, if it has one, gets a header first.
 fn begin_after(sent: &mut (Dir, PoolEvent), direction: Dir, envelope: Envelope, header: Header)
     requires { CanPass direction sent.old.1.message }
     ensures { sent.new ≡ (
@@ -492,8 +492,8 @@ fn begin_after(sent: &mut (Dir, PoolEvent), direction: Dir, envelope: Envelope, 
     }
 }
 
-/// The message of the first event, which there is, goes once more, and down after a header. Meanwhile it lies in a
-/// spare place.
+/// Sends the message of the first event, which has one, once more; going down, it gets a header first. Meanwhile it
+/// lies in a spare place.
 #[tactic(auto, using(crate::proofs::Piles::last_more, crate::proofs::Piles::rest_more))]
 fn send_first_again(
     events: &mut Events,
@@ -523,7 +523,7 @@ fn send_first_again(
     events.push_last(direction, envelope, spare);
 }
 
-/// A message comes once more after others, and going down after a header.
+/// Puts a message once more after others; going down, it gets a header first.
 #[tactic(auto, using(crate::proofs::Piles::changed_more))]
 fn keep_after(
     others: &mut Messages,
@@ -547,7 +547,7 @@ fn keep_after(
     }
 }
 
-/// The message of the first event, which there is, if it has one.
+/// The message of the first event, if it has one. There is such an event.
 fn message_of(events: &Events) -> Option<&PoolMessage>
     requires { 0 < length events.now.items }
     ensures { option_copied result ≡ first_message events.now.items }
@@ -555,7 +555,7 @@ fn message_of(events: &Events) -> Option<&PoolMessage>
     events.front().1.message.get()
 }
 
-/// Message number `k` of some, which there is, goes once more, and down after a header.
+/// Sends message number `k` of a list once more; going down, it gets a header first. There is such a message.
 fn send_listed(
     events: &mut Events,
     messages: &Messages,
@@ -584,8 +584,8 @@ fn send_listed(
     }
 }
 
-/// The message of an event goes, whose reference goes back, and another takes its place, which is left without headers
-/// and bytes.
+/// Puts a message in the place of an event's own, whose reference goes back; `message` is left without headers and
+/// bytes.
 fn refill(sent: &mut (Dir, PoolEvent), message: &mut PoolMessage, pool: &mut Pool)
     requires { Covers pool.old (refs_if sent.old.1.message) }
     ensures filled { sent.new ≡ (sent.old.0, record sent.old.1 { message = Some message.old }) }

@@ -66,8 +66,8 @@ abbrev pub ExplainsLate : Type 0
 ExplainsLate = Explains late.text casts (codes "miss 1 0 cast absent loop 0 or visit 1 place 0 late line 7\n" ++
     codes "end 2\n")
 
--- A report in which two members deliver two casts in another order: that is a breach of the one order of all casts, and
--- none of each peer's.
+-- A report in which two members deliver two casts in different orders: that is a breach of the one order of all casts,
+-- and not of the order of each peer's.
 abbrev pub crossed_report : List ℕ
 crossed_report = codes "deliver 0 cast 0 61\n" ++ codes "deliver 1 cast 1 62\n" ++ codes "deliver 1 cast 0 61\n" ++
     codes "end 3\n"

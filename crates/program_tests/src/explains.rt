@@ -1,4 +1,4 @@
-//! Why steps weren't common: what is written was told by an independent reading of the rules.
+//! Why steps weren't common: the expected texts come from an independent reading of the rules.
 
 use crate::jobs::{FLIP, REPEATER};
 use crate::runs::{COUNTER, ROWS, leaves};
@@ -32,13 +32,13 @@ const TWINS: &[u8] =
     b"layer twin { header h(v) passes; down Cast(p, m) { down Cast(p, m) with h(1); down Cast(p, m) with h(2); } } \
     stack { twin; twin; twin; twin; twin; twin; twin; twin; twin; twin; }";
 
-/// Whether it is told of a script's steps what they lacked.
+/// Whether `explain` tells this of what a script's steps lacked.
 fn tells(alloc: Global, file: &[u8], script: &[u8], told: &[u8]) -> Result<bool, AllocError> {
     leaves(alloc, EXPLAIN, file, script, 0, told, b"")
 }
 
-/// A decision of a layer of the file and of one of the library, with its line; no plan; and what isn't told of: common
-/// steps, what is refused, ticks, members that left.
+/// A decision of a layer of the file and one of a layer of the library, each with its line; no plan; and what nothing
+/// is told about: common steps, what is refused, ticks, members that left.
 #[test]
 fn decisions_are_told_by_their_lines(rt: HostRuntime) -> Result<(), Fail> {
     let alloc = rt.alloc();

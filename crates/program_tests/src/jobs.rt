@@ -214,7 +214,7 @@ fn prints_bypasses(rt: HostRuntime) -> Result<(), Fail> {
     Ok(())
 }
 
-/// A report in which two members deliver two casts in another order.
+/// A report in which two members deliver two casts in different orders.
 const CROSSED: &[u8] = b"deliver 0 cast 0 61\ndeliver 1 cast 1 62\ndeliver 1 cast 0 61\nend 3\n";
 
 #[test]

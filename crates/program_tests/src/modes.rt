@@ -1,4 +1,4 @@
-//! Replays in both modes: what is written was told by an independent reading of the rules. The reports are equal;
+//! Replays in both modes: the expected texts come from an independent reading of the rules. The reports are equal;
 //! packets of common steps go short by bypasses, and their visits aren't made.
 
 use crate::jobs::{FLIP, REPEATER};

@@ -7,7 +7,7 @@ use stack_shapes::Plans;
 use step_outputs::Outputs;
 use view_core::Did;
 
-/// How the lines of a run are written: by the names of its stack, and where it is wanted with the bytes of each packet
+/// How the lines of a run are written: with the names of its stack, and, where wanted, with the bytes of each packet
 /// after its line, as it is sent with these plans.
 #[derive(Clone, Copy)]
 pub struct Manner<'a> {

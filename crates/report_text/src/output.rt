@@ -26,7 +26,7 @@ use report_lines::{
 use stack_shapes::Plans;
 use step_outputs::{OutputView, PacketView};
 
-/// Builds the line of an output, if it has one: whether it has.
+/// Builds the line of an output, if it has one, and answers whether it has.
 fn build_output(
     line: &mut Line,
     stack: &NamedStack,

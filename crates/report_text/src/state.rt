@@ -150,8 +150,8 @@ fn write_cell<S: Shows, O: Sink>(
     }
 }
 
-/// Puts the lines of a layer's cells. They have numbers of eight bits: beyond this bound of the type, a layer with more
-/// than 256 cells, which no file declares, is answered as want of memory is.
+/// Puts the lines of a layer's cells. Cells have numbers of eight bits: a layer with more than 256 of them, which no
+/// file declares, is answered like want of memory.
 fn write_layer<S: Shows, O: Sink>(
     pen: &mut Pen,
     group: &S,

@@ -20,7 +20,7 @@ use Rattle.run_audit.specs.declared.ended.Ended.{Ended}
 use Rattle.run_audit.specs.declared.ended.Way.{Way}
 use Rattle.std.specs.declared.alloc.Global.{Global}
 
--- deliveries that stand after others, each with how many of these and of its own kind come before it
+-- deliveries that stand after others, each with how many of the same content come before it
 abbrev pub ranked_after : List spec.Entry → List spec.Entry → List Placed
 ranked_after before [] = []
 ranked_after before (entry ∷ entries) = record { entry = entry; place = count_by (same_content entry) before } ∷
@@ -40,7 +40,7 @@ abbrev pub Counts : (Content → Option ℕ) → List spec.Entry → Type 0
 Counts counts entries = (e : Entry) → unwrap_or (counts (content_of e)) 0 ≡
     count_by (same_content (entry_shown e)) entries
 
--- one more of a content, and of the others as many as before
+-- one more of a content, and as many of the others as before
 abbrev pub OneMore : (Content → Option ℕ) → (Content → Option ℕ) → Content → Type 0
 OneMore old new content = (q : Content) →
     new q ≡ (if same_content_key content q then Some (unwrap_or (old content) 0 + 1) else old q)
@@ -103,7 +103,7 @@ same_way a b = option_eq same_view a.from b.from && same_view a.to b.to
 abbrev pub goes : Way → Known → Bool
 goes way ended = same_name (name_shown way.from) ended.name && same_name (next_shown way.to) ended.next
 
--- the first deliveries too many of each content
+-- whether a delivery is the first of its content beyond those in a list
 abbrev pub exceeds : List spec.Entry → Placed → Bool
 exceeds all placed = placed.place == count_by (same_content placed.entry) all
 
@@ -135,7 +135,7 @@ lacks_in all one = lacks_of_one one (filter (goes_with one) all)
 abbrev pub all_lacks : List Known → List (ℕ × ℕ)
 all_lacks all = flat_map (lacks_in all) all
 
--- the first of two breaches, where there are
+-- the first of two breaches, each of which may be none
 abbrev pub first_of : Option (ℕ × ℕ) → Option (ℕ × ℕ) → Option (ℕ × ℕ)
 first_of None b = b
 first_of (Some a) b = Some (lesser a b)

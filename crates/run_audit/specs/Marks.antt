@@ -13,7 +13,7 @@ use Rattle.run_audit.specs.declared.marks.Item.{Item}
 use Rattle.run_audit.specs.declared.marks.Mark.{Mark}
 use Rattle.run_audit.specs.declared.marks.Group.{Group}
 
--- two deliveries have the same content, and as many of it in front in their segments
+-- two deliveries have the same content, and as many deliveries of it before them in their segments
 abbrev pub same_item : Placed → Placed → Bool
 same_item a b = same_content a.entry b.entry && a.place == b.place
 
@@ -33,7 +33,7 @@ lacking mark None = None
 lacking None (Some group) = Some group.front
 lacking (Some mark) (Some group) = if mark.front == group.front then mark.gap else Some group.front
 
--- the line that ended the first segment of another member than this
+-- the line that ended the first segment of a member other than this one
 abbrev pub other_than : ℕ → Option Group → Option ℕ
 other_than member None = None
 other_than member (Some group) = if group.member == member then group.other else Some group.front
@@ -84,7 +84,7 @@ sooner None b = b
 sooner (Some x) None = Some x
 sooner (Some x) (Some y) = if nat_lt y x then Some y else Some x
 
--- the first of a line and the one at which this delivery is lacking
+-- the first of a line and the line at which this delivery is lacking
 abbrev pub sooner_of : (Item → Option Mark) → (Way → Option Group) → Way → Option ℕ → Ranked → Option ℕ
 sooner_of items groups way found ranked = sooner found (lack_line (items (item_for way ranked)) (groups way))
 
@@ -97,7 +97,7 @@ abbrev pub Rises : ℕ → List Known → Type 0
 Rises line [] = Unit {0}
 Rises line (one ∷ more) = (line < one.line) × Rises one.line more
 
--- each delivery of a segment has fewer of its content in front than there are
+-- each delivery of a segment has fewer of its content before it than the segment has
 abbrev pub IsRanked : Known → Type 0
 IsRanked one = AllByRecursion (λ placed. placed.place < count_by (same_content placed.entry) (entries_in one))
     one.deliveries

@@ -22,8 +22,8 @@ struct PlaceKey {
     place: u32,
 }
 
-/// The deliveries seen at a place, among which no two members disagree: the first of them, and
-/// whether another is of another member, or says something else. Not both can be.
+/// The deliveries seen at a place, among which no two members disagree: the first of them, and whether another one is
+/// another member's or says something else. At most one of the two is so.
 #[derive(Clone, Copy)]
 struct Seen<'a> {
     first: Entry<'a>,
@@ -31,8 +31,8 @@ struct Seen<'a> {
     more_contents: bool,
 }
 
-/// The numbers of the lines of the least clash: the second number is the least of all clashes, and
-/// the first is the least of those.
+/// The numbers of the lines of the least clash: its second number is the least of all clashes, and its first the least
+/// of those with this second number.
 pub(crate) fn least_clash<'a>(
     alloc: Global,
     lists: Lists,

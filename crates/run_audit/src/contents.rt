@@ -63,7 +63,7 @@ pub(crate) fn content_of<'a>(entry: &Entry<'a>) -> Content<'a>
     }
 }
 
-/// How often a content came so far, which is once more afterwards.
+/// Answers how often a content came so far, and counts it once more.
 fn next_rank<'a>(
     counts: &mut HashMap<Content<'a>, usize>,
     content: Content<'a>,

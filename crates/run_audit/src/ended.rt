@@ -16,8 +16,8 @@ use crate::segments::{Entry, Segments};
 use std::alloc::{AllocError, Global};
 use std::collections::HashMap;
 
-/// From which view a member went into which, each with its logical time and its mask; none is before
-/// the first.
+/// The view that a member left and the view that it went into, each with its logical time and its mask; `from` is none
+/// for a member's first segment.
 #[derive(Clone, Copy, PartialEq, Eq, Hash)]
 pub(crate) struct Way {
     from: Option<(u32, u32)>,
@@ -55,7 +55,7 @@ pub(crate) fn ended_segments<'a>(
     Ok(all)
 }
 
-/// The segment that a line ends, if it does by `view`.
+/// The segment that a line ends, if it is a `view` line that ends one.
 fn ended_by<'a>(
     alloc: Global,
     segments: &Segments,

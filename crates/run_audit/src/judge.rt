@@ -22,8 +22,8 @@ use std::alloc::{AllocError, Global};
 /// The most bytes of a report.
 const LONGEST_REPORT: usize = 67_108_864;
 
-/// Judges a law of the group on a finished run, by its report. It fails where the text is too large or
-/// no report, which names the first line out of form, and where memory runs out.
+/// Judges a law of the group on a finished run, by its report. It fails where the text is too large, where it is no
+/// report (then it names the first line out of form), and where memory runs out.
 pub fn audit(alloc: Global, text: &[u8], law: Law) -> Result<Finding, AuditError>
     ensures { Audits (audit_of law text.now) result }
 {

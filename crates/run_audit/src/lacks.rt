@@ -1,4 +1,4 @@
-//! The least delivery that a member lacks of one with which it goes into a view.
+//! The least delivery that a member lacks of another with which it goes into a view.
 ghost use Rattle.std.specs.Prelude.{◌≡◌, ◌&&◌, ◌∷◌, [], List, map, filter, IfOk};
 ghost use Rattle.std.specs.HashMap as hash;
 ghost use Rattle.audit_mean.specs.Segment as segment;
@@ -13,8 +13,8 @@ use crate::marks::first_lacking;
 use std::alloc::{AllocError, Global};
 use std::collections::HashMap;
 
-/// The numbers of the lines of the least breach: the second ended a segment, and the first is of a
-/// delivery that it lacks of another member's.
+/// The numbers of the lines of the least breach: the second line ended a segment, and the first is another member's
+/// delivery that the segment lacks.
 pub(crate) fn least_lack<'a>(
     alloc: Global,
     ended: &[Ended<'a>],
@@ -51,8 +51,8 @@ fn lack_of<'a>(
     Ok(found)
 }
 
-/// The first delivery that a segment with these counts lacks of another, if that is of its group and
-/// of another member.
+/// The first delivery of another segment that a segment with these counts lacks, if the other is of its group and of
+/// another member.
 fn lack_from<'a>(
     one: &Ended<'a>,
     counts: &HashMap<Content<'a>, usize>,

@@ -14,7 +14,7 @@ const HIGHEST: u64 = 4_294_967_295;
 /// The highest number of 64 bits, such as counts of lines and visits are.
 const HIGHEST_COUNT: u64 = 18_446_744_073_709_551_615;
 
-/// The first words of lines at which no law looks, whatever follows.
+/// The first words of the lines that no law looks at, whatever follows them.
 static SKIPPED: [&[u8]; 12] = [
     b"block",
     b"announce",

@@ -21,9 +21,9 @@ struct Item<'a> {
     place: usize,
 }
 
-/// Who has an item, of the segments of a group from some segment on: the member of the last that has
-/// it, and whether another member has it; the line that ended the first that has it, and the line that
-/// ended the first after that which lacks it.
+/// Who has an item, among the segments of a group from some segment on: the member of the last segment that has it, and
+/// whether another member has it; the line that ended the first segment that has it, and the line that ended the first
+/// segment after that one which lacks it.
 #[derive(Clone, Copy)]
 struct Mark {
     member: u8,
@@ -48,7 +48,7 @@ struct Marks<'a> {
     items: HashMap<Item<'a>, Mark>,
 }
 
-/// The line that ended the first segment that lacks something of another member's in its group.
+/// The line that ended the first segment that lacks a delivery of another member's segment in its group.
 pub(crate) fn first_lacking<'a>(
     alloc: Global,
     ended: &[Ended<'a>],
@@ -179,7 +179,7 @@ fn other_than(member: u8, group: Option<Group>) -> Option<u32>
     }
 }
 
-/// The first of a line and of those that ended segments that lack something that this one has.
+/// The first of a line and the lines that ended segments lacking something that this segment has.
 fn sooner_in(found: Option<u32>, marks: &Marks<'_>, one: &Ended<'_>) -> Option<u32>
     ensures { result ≡ sooner_in (hash.get same_item_key marks.now.items) (hash.get same_way marks.now.groups) found
         one.now }

@@ -77,7 +77,7 @@ fn list_key(lists: Lists, entry: &Entry<'_>) -> ListKey
     }
 }
 
-/// The length of a list, which is longer by one afterwards.
+/// Answers the length of a list, and makes it longer by one.
 fn next_place(counts: &mut HashMap<ListKey, u32>, key: ListKey) -> Result<u32, AllocError>
     requires { unwrap_or (hash.get same_key counts.old key) 0 < 4294967295 }
     ensures { IfOk result (λ place. (place ≡ unwrap_or (hash.get same_key counts.old key) 0) ×

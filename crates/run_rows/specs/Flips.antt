@@ -43,7 +43,7 @@ FlipWires = script_output (flip ∷ []) 1 2 (script.Cast 0 [] ∷ script.Cast 0 
     ++ codes "packet 3 0 1 flip.none() -\n" ++ codes "wire 3 e6000000010000000100000000000000030001" ++ codes "01\n"
     ++ codes "end 3\n"
 
--- In which case a step is common, if it was taken and is.
+-- The case in which a step is common, if it was taken and is common in one.
 abbrev pub case_in : List LayerTree → List Plan → Did → Option Case
 case_in stack plans (taken s) = case_of stack plans s
 case_in stack plans _ = None

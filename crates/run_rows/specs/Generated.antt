@@ -8,7 +8,7 @@ use Rattle.run_mean.specs.Mode.{Mode, layered, bypass}
 use Rattle.run_mean.specs.Tally.{tally, accepted_lines}
 use Rattle.layer_rows.specs.Counter.{counter}
 
--- One event of one member, which gives a packet that there isn't.
+-- One event of one member, which gives a packet that doesn't exist.
 abbrev pub OneEvent : Type 0
 OneEvent =
     concat (tally (counter ∷ []) (plans_of (counter ∷ [])) layered (generate 0 1 1 false))

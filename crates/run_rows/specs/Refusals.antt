@@ -17,9 +17,9 @@ front form group stamp mask sender dest = form ∷ small group ++ small stamp ++
 abbrev pub taken_raw : List (List ℕ) → List ℕ
 taken_raw datagrams = script_report (counter ∷ []) 7 3 (map (script.Raw 1) datagrams)
 
--- Each cause in its order: a short datagram, another form, group, stamp and view, the own rank and one that there
--- isn't, another destination, a plan that there isn't, a cut chain in both forms, a body that is too long; and one that
--- is taken.
+-- Each cause in its order: a short datagram; another form, group, stamp and view; the member's own rank and one that
+-- doesn't exist; another destination; a plan that doesn't exist; a cut chain in both forms; a body that is too long;
+-- and a datagram that is taken.
 abbrev pub Refuses : Type 0
 Refuses =
     taken_raw (
@@ -43,7 +43,7 @@ Refuses =
     ++ codes "refused 1 plan\n" ++ codes "refused 1 chain\n" ++ codes "refused 1 view\n" ++ codes "refused 1 chain\n"
     ++ codes "refused 1 body\n" ++ codes "deliver 1 cast 0 6869\n" ++ codes "end 14\n"
 
--- The own packet, a packet that there isn't, and a body that is too long.
+-- The member's own packet, a packet that doesn't exist, and a body that is too long.
 abbrev pub RefusesGiven : Type 0
 RefusesGiven =
     script_report (counter ∷ []) 7 3 (

@@ -1,5 +1,5 @@
--- A view is agreed on and installed: a member that wasn't heard of is suspected, the lowest that is left is elected,
--- blocks the others and announces the view without it.
+-- A view is agreed on and installed: a member that wasn't heard from is suspected; the lowest that is left is elected,
+-- blocks the others and announces the view without the suspected one.
 use Rattle.std.specs.Prelude.{◌≡◌, ℕ, List, [], ◌∷◌, ◌++◌, codes}
 use Rattle.layer_ast.specs.Reader.{file_of}
 use Rattle.layer_ast.specs.Tree.{FileTree}
@@ -19,7 +19,7 @@ file = record (file_of (codes "stack { suspect; elect; sync; intra; top; }")) {
   library = suspect.layer ∷ elect.layer ∷ sync.layer ∷ intra.layer ∷ top.layer ∷ [];
 }
 
--- Each of three members first hears its clock; member 2 is never heard of again.
+-- Each of three members first hears its clock; member 2 is never heard from again.
 abbrev pub beginning : List ScriptEvent
 beginning =
     script.Tick 0 0 ∷ script.Tick 1 0 ∷ script.Tick 2 0 ∷ script.Tick 0 400 ∷ script.Tick 1 400 ∷ script.Give 1 1
@@ -33,8 +33,8 @@ beginning_report =
     ++ codes "packet 5 0 1 suspect.ping() -\n" ++ codes "packet 6 0 2 suspect.ping() -\n" ++ codes "timer 0 700\n"
     ++ codes "packet 7 0 1 suspect.none()/elect.none()/sync.block(4) -\n" ++ codes "block 0 4\n"
 
--- The others answer, and the view is installed at both; a packet of the old view is refused; the one that was left out
--- installs a view of its own.
+-- The others answer, and the view is installed at both; a packet of the old view is refused; the member that was left
+-- out installs a view of its own.
 abbrev pub ending : List ScriptEvent
 ending = script.Give 7 1 ∷ script.Give 8 0 ∷ script.Give 9 1 ∷ script.Give 5 1 ∷ script.Tick 2 600 ∷ []
 

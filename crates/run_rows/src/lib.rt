@@ -34,7 +34,7 @@ pub fn refuses()
     ensures { Refuses }
 {}
 
-/// The own packet, packets that there aren't, and a body that is too long.
+/// The member's own packet, packets that don't exist, and a body that is too long.
 pub fn refuses_given()
     ensures { RefusesGiven }
 {}
@@ -93,7 +93,7 @@ pub fn accepts()
     ensures { Accepts }
 {}
 
-/// A view without a member that wasn't heard of, agreed on and installed.
+/// A view without a member that wasn't heard from, agreed on and installed.
 pub fn installs_views()
     ensures { InstallsViews }
 {}

@@ -7,7 +7,7 @@ use Rattle.script_mean.specs.Words.{hex_digit, hex_bytes}
 abbrev pub digit_value : ℕ → ℕ
 digit_value byte = unwrap_or (hex_digit byte) 16
 
--- the bytes of a block are written after those in front, or not all of its digits are some
+-- a block's bytes are written after those before it, or what spells it isn't all digits
 abbrev pub WritesBlock : ℕ → (digits old new : List ℕ) → Bool → Type 0
 WritesBlock at digits old new true = (length new ≡ length old) ×
     (option_map (λ more. take at old ++ more) (hex_bytes (drop (2 * at) digits))

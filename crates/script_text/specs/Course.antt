@@ -18,7 +18,7 @@ pub record Course : Type 0 where
   pub workload : Workload
   pub made : ℕ
 
--- The event that came next is the script's event of that number, and it is one of the group's members'.
+-- The next event is the script's event of this number, and its member is one of the group's.
 pub record IsNext (old new : Course) (event : ScriptEvent) : Type 0 where
   pub event_is : slice_get (script_for old.workload).events old.made ≡ Some event
   pub of_member : member_of event < old.workload.members

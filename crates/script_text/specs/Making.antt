@@ -14,6 +14,6 @@ abbrev pub MakesEvent : (ScriptEvent × List ℕ) × ℕ → Result ScriptEvent 
 MakesEvent made (Ok event) following = made ≡ ((event, following.cursors.items), following.seed.value)
 MakesEvent made (Err error) following = Unit {0}
 
--- no cursor is beyond two for each event
+-- no cursor is higher than twice the number of events
 abbrev pub IsWithin : ℕ → List ℕ → Type 0
 IsWithin number cursors = (member : ℕ) → slice_index cursors member ≤ 2 * number

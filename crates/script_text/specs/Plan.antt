@@ -7,7 +7,7 @@ use Rattle.script_mean.specs.Script.{ScriptFault, ◌>>=◌}
 use Rattle.script_mean.specs.declared.plan.NodePlan.{NodePlan}
 use Rattle.msg_core.specs.View.{most_members}
 
--- where each of n members is reached, as the first lines say; the line of this number is after the last
+-- where each of n members is reached, as the first lines say; `following` is the number of the line after the last
 abbrev pub first_peers : ℕ → ℕ → List (ℕ × List ℕ) → Result (List Peer) ScriptFault
 first_peers members following lines = peers_of 0 (take members lines) >>= for_each members following
 

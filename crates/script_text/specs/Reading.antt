@@ -26,7 +26,7 @@ numbered_line line = (line.number, line.text.now)
 abbrev pub all_left : Lines → List (ℕ × List ℕ)
 all_left lines = enumerate_from lines.number (parts_after 10 lines.rest)
 
--- those of them that say something
+-- the lines that are left and say something
 abbrev pub lines_left : Lines → List (ℕ × List ℕ)
 lines_left lines = speaking_lines (all_left lines)
 

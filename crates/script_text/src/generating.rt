@@ -66,7 +66,7 @@ impl Generation {
         })
     }
 
-    /// Makes the next event. It fails only where memory runs out; then none more is made.
+    /// Makes the next event. It fails only where memory runs out; after that no more are made.
     pub fn next(&mut self, alloc: Global) -> Result<ScriptEvent, AllocError>
         requires more { self.old.made < self.old.workload.events }
         ensures { IfOk result (IsNext self.old self.new) }

@@ -83,7 +83,7 @@ fn says_nothing(line: &[u8]) -> bool
     }
 }
 
-/// How many lines a text has, which may be more than say something.
+/// How many lines a text has, including those that say nothing.
 pub(crate) fn line_count(text: &[u8]) -> usize
     ensures { result ≡ spec.line_count text.now }
 {

@@ -35,7 +35,7 @@ fn peer(member: u8, mut words: Words<'_>) -> Result<Peer, LineError>
     Ok(peer)
 }
 
-/// The turn of a line of a plan with this number of members, which is no earlier than the one in front.
+/// The turn that a line of a plan with this number of members gives, no earlier than `earliest`.
 pub(crate) fn turn_on(
     alloc: Global,
     members: u8,

@@ -13,21 +13,21 @@ const NEAR: usize = 6;
 /// How many bytes are compared at once where a byte may stand near.
 const LANES: usize = 16;
 
-/// The text before the first such byte, and what stands after it where there is one.
+/// The text before the first byte `at`, and what stands after that byte, if there is one.
 pub fn cut(at: u8, text: &[u8]) -> (&[u8], Option<&[u8]>)
     ensures { slice_split (λ byte. byte == at) text.now ≡ result.0.now ∷ parts_after at result.1 }
 {
     parted(at, text, memchr(at, text))
 }
 
-/// The same, faster where most often such a byte stands near.
+/// The same, faster where such a byte is most often near.
 pub(crate) fn cut_near(at: u8, text: &[u8]) -> (&[u8], Option<&[u8]>)
     ensures { slice_split (λ byte. byte == at) text.now ≡ result.0.now ∷ parts_after at result.1 }
 {
     parted(at, text, first_near(at, text))
 }
 
-/// The same, faster where often such a byte stands among the first 16.
+/// The same, faster where such a byte is often among the first 16.
 #[inline(always)]
 pub(crate) fn cut_before(at: u8, text: &[u8]) -> (&[u8], Option<&[u8]>)
     ensures { slice_split (λ byte. byte == at) text.now ≡ result.0.now ∷ parts_after at result.1 }
@@ -46,8 +46,8 @@ fn parted(_at: u8, text: &[u8], place: Option<usize>) -> (&[u8], Option<&[u8]>)
     }
 }
 
-/// The text before a place, and what stands after it, where the text ends at that place or such a byte stands
-/// there. None stands in front.
+/// The text before a place, and what stands after it, if the text ends at that place or such a byte stands there. No
+/// such byte stands before it.
 #[inline(always)]
 pub(crate) fn cut_at(at: u8, text: &[u8], place: usize) -> Option<(&[u8], Option<&[u8]>)>
     requires { (place ≤ length text.now) × Nowhere (Passes (is_byte at) text.now) 0 place }

@@ -34,7 +34,7 @@ pub fn number_within(low: u32, high: u32, word: &[u8]) -> Option<u32>
     value_within(low, high, word)
 }
 
-/// Whether a number may begin as the word does: with anything but a 0 that isn't alone.
+/// Whether a number may begin as the word does: not with a 0, unless the 0 is alone.
 fn begins_plainly(word: &[u8]) -> bool
     ensures { spec.is_plain word.now ≡ (result && list_all is_ascii_digit word.now) }
 {
@@ -67,7 +67,7 @@ fn value_within(low: u32, high: u32, word: &[u8]) -> Option<u32>
     Some(value as u32)
 }
 
-/// How many digits stand before a text, of at most nine, and their value.
+/// How many digits a text begins with, counting nine at most, and their value.
 #[inline(always)]
 pub(crate) fn leading_digits(text: &[u8]) -> (usize, u32)
     ensures { IsAllDigits (take result.0 text.now) result.1 × (result.0 ≤ length text.now) }
@@ -83,7 +83,7 @@ pub(crate) fn leading_digits(text: &[u8]) -> (usize, u32)
     (most, value)
 }
 
-/// The number of a word that is all digits, which have this value, within bounds.
+/// The number that a word of digits with this value spells, within bounds.
 #[inline(always)]
 pub(crate) fn valued_within(low: u32, high: u32, word: &[u8], value: u32) -> Option<u32>
     requires { IsAllDigits word.now value }
@@ -112,7 +112,7 @@ pub(crate) fn body(alloc: Global, word: &[u8]) -> Result<Bytes, LineError>
     hex_body(alloc, word)
 }
 
-/// The bytes that a text spells that is all digits of a body, if it is.
+/// The bytes that a text spells, if it is all digits of a body.
 pub(crate) fn whole_body(alloc: Global, text: &[u8]) -> Result<Option<Bytes>, AllocError>
     ensures { IfOk result (IsWholeBody text.now) }
 {
@@ -155,7 +155,7 @@ fn write_bytes(digits: &[u8], bytes: &mut [u8]) -> bool
     write_last(digits, bytes, done)
 }
 
-/// Writes the bytes after those that are done, and answers whether all of their digits are some.
+/// Writes the bytes after those that are done, and answers whether digits spell all of them.
 fn write_last(digits: &[u8], bytes: &mut [u8], done: usize) -> bool
     requires { (length digits.now ≡ 2 * length bytes.old) × (done ≤ length bytes.old) }
     ensures { option_map (λ more. take done bytes.old ++ more) (spec.hex_bytes (drop (2 * done) digits.now))

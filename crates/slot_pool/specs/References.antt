@@ -3,7 +3,7 @@ use Rattle.std.specs.Prelude.{◌≡◌, ℕ, ◌+◌, ◌<◌, ◌≤◌, List,
 use Rattle.slot_pool.specs.Held.{Held, count_at, bytes_at}
 use Rattle.slot_pool.specs.Times.{times}
 
--- the references from became the references to: each count follows, and a slot to which there are others keeps its
+-- the references `from` became the references `to`: each count follows, and a slot with other references keeps its
 -- bytes
 pub record Moved (old new : List Held) (from to : List ℕ) : Type 0 where
   pub slots : length new ≡ length old

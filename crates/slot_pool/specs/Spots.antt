@@ -31,7 +31,7 @@ spot p long = record {
       if nat_lt SHORT p.len then long else p.bytes;
 }
 
--- the places, with those for long bodies, which are as many or fewer
+-- the places, each with the bytes at its number among those for long bodies, which are as many or fewer
 abbrev pub joined_spots : List SlotRecord → List (List ℕ) → List Spot
 joined_spots [] ls = []
 joined_spots (p ∷ ps) [] = spot p [] ∷ joined_spots ps []
@@ -67,7 +67,7 @@ pub record Adds (old new : Run Spot) (bs : List ℕ) : Type 0 where
   pub holds : HoldsOne (spot_at new.values (length old.values)) bs
   pub rest : new ≡ run (old.values ++ spot_at new.values (length old.values) ∷ []) old.capacity
 
--- there are values up to the number i, those that there were in front
+-- there are values up to the number i, the first of them those that there were before
 pub record Reaches (old new : Run (List ℕ)) (i : ℕ) : Type 0 where
   pub more : List (List ℕ)
   pub values : new.values ≡ old.values ++ more

@@ -26,7 +26,7 @@ pub fn a_pool_is_a_finite_map()
         remove (as_map p) s }
 {}
 
-/// Pools of as many slots with one map are equal, where what is unused shows no bytes; and the calls keep that so.
+/// Pools with as many slots and the same map are equal, if unused slots show no bytes; and the calls keep that so.
 pub fn a_map_is_of_one_pool()
     ensures same { (p q : List Held) → length p ≡ length q → ShowsUsed p → ShowsUsed q → as_map p ≡ as_map q → p ≡ q }
     ensures fresh { (n : ℕ) → ShowsUsed (replicate n unused) }
@@ -46,7 +46,7 @@ pub fn calls_move_references()
         Moved p (slice_set p s (one_less (held_at p s))) (s ∷ []) [] }
 {}
 
-/// Moves of references come one after the other, beside other references, and in any order.
+/// Moves of references compose: one after the other, beside other references, and in any order.
 pub fn moves_compose()
     ensures same { (p : List Held) (xs : List ℕ) → Moved p p xs xs }
     ensures chain { (p q r : List Held) (a b c : List ℕ) → Moved p q a b → Moved q r b c → Moved p r a c }
@@ -56,8 +56,8 @@ pub fn moves_compose()
         ((i : ℕ) → times i b ≡ times i b') → Moved p q a b → Moved p q a' b' }
 {}
 
-/// Where the references are all that there are, or among them, they are so after a move; and a body to which others
-/// refer keeps its bytes.
+/// References that are all that there are, or are among them, stay so through a move; and a body to which others refer
+/// keeps its bytes.
 pub fn counts_stay_exact()
     ensures fresh { (n : ℕ) → Exact (replicate n unused) [] }
     ensures exact { (p q : List Held) (a b : List ℕ) → Exact p a → Moved p q a b → Exact q b }

@@ -1,5 +1,5 @@
-//! The places of a pool in their order. A short body lies in its place, and a long one in a block for such, at the same
-//! number.
+//! The places of a pool in their order. A short body lies in its place, and a long one at the same number of a block
+//! for long bodies.
 ghost use Rattle.std.specs.Prelude.{◌≡◌, ℕ, ◌+◌, ◌-◌, ◌^◌, ◌<◌, ◌≤◌, ◌↔◌, List, [], ◌∷◌, ◌++◌, length, take, slice_set};
 ghost use Rattle.std.specs.Prelude.{slice_index_or, IfOk, IsTrue};
 ghost use Rattle.raw_block.specs.Run.{run};
@@ -106,7 +106,7 @@ impl Row {
         self.block.at_mut(index).end_reference()
     }
 
-    /// Makes `next` the free place after this one.
+    /// Makes `next` the free place after a free place.
     pub(crate) fn link(&mut self, index: usize, next: u32)
         requires { index < length self.old.values }
         ensures { self.new ≡ run

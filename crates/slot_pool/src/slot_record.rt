@@ -7,8 +7,8 @@ pub(crate) const SHORT: usize = 512;
 /// The most bytes of a body.
 pub const LONGEST: usize = 8192;
 
-/// With a count of 0 it is free, and `next` is the free place after it; else its body has `len` bytes, which are the
-/// first here where they are at most `SHORT`, and else lie in a place of their own.
+/// With a count of 0 the place is free, and `next` is the free place after it. Otherwise its body has `len` bytes: they
+/// are the first of `bytes` where they are at most `SHORT`, and else lie in a place of their own.
 #[derive(Clone, Copy)]
 pub struct SlotRecord {
     pub(crate) count: u32,

@@ -50,7 +50,7 @@ core_value v (trace.taken_message row carried) = taken_message (taken_row v row)
 core_value v trace.nothing = nothing
 
 abbrev mutual
-  -- The value of an expression where so much is known.
+  -- The value of an expression where this is known.
   pub number_value : Values → TraceNumber → NumberValue
   number_value v (atom a) = atom_value v a
   number_value v trace.me = me

@@ -1,4 +1,4 @@
--- What is so at each step of a predicted way, as far as all goes as predicted.
+-- What holds at each step of a predicted way, as far as all goes as predicted.
 use Rattle.std.specs.Prelude.{ℕ, List, [], ◌∷◌, Option, Some, None}
 use Rattle.layer_ast.specs.declared.tokens.Dir.{Dir}
 use Rattle.layer_mean.specs.declared.run.Case.{Case}

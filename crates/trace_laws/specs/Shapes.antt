@@ -31,11 +31,11 @@ tags_of_links links = map (λ l. l.tag) links
 abbrev pub shape_outlet : ShapeOut → Outlet
 shape_outlet out = record { dir = out.dir; kind = out.kind; tags = tags_of_headers out.headers }
 
--- The tags of the headers of a message that a trace puts out; where there is none, none.
+-- The tags of the headers of a message that a trace puts out; none where there is no message.
 abbrev pub tags_of_message : Option Chained → List ℕ
 tags_of_message message = option_map_or (λ m. tags_of_links m.chain) message []
 
--- The output of an operation that puts out, told so; other operations have none.
+-- The output of an operation that puts one out, told so; other operations have none.
 abbrev pub outlets_of : Operation → List Outlet
 outlets_of (output dir kind numbers message) = record { dir = dir; kind = kind; tags = tags_of_message message } ∷ []
 outlets_of _ = []

@@ -7,7 +7,7 @@ use Rattle.trace_mean.specs.Worth.{Input}
 use Rattle.trace_mean.specs.Follow.{Trail, on, before, reached, follow, follows, perform, unchecked}
 use Rattle.trace_laws.specs.Safe.{SafeTrace}
 
--- Where a trace is followed to its end, and safely, so are its operations without checks, which leave the same but for
+-- Where a trace is followed to its end, and safely, its operations without checks are too, and leave the same but for
 -- the count of checks.
 pub record GoesUnchecked (stack : List LayerTree) (i : Input) (operations : List Operation) (states : List State)
     (u : Trail) : Type 0 where

@@ -13,8 +13,8 @@ pub fn traces_are_right()
     ensures { TracesAreRight }
 {}
 
-/// An entry has a trace exactly where it has a shape, for the same reason none; a trace is as long as the shape, and
-/// its outputs are the shape's.
+/// An entry has a trace exactly where it has a shape, and else has none for the same reason; a trace is as long as the
+/// shape, and its outputs are the shape's.
 pub fn traces_stand_for_shapes()
     ensures { TracesStandForShapes }
 {}

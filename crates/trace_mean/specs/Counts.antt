@@ -3,7 +3,7 @@ use Rattle.std.specs.Prelude.{ℕ, ◌+◌, List}
 use Rattle.std.specs.List.{sum_by}
 use Rattle.trace_mean.specs.Trace.{TraceMessage, core, held, cut, tail, join, Operation, note, output}
 
--- An operation counts for one, but for a note.
+-- An operation counts as one, a note as none.
 abbrev pub operation_length : Operation → ℕ
 operation_length (note m) = 0
 operation_length _ = 1

@@ -27,8 +27,8 @@ use Rattle.trace_operations.specs.declared.store.Store.{Store}
 use Rattle.trace_operations.specs.declared.header.Header.{Header}
 use Rattle.trace_operations.specs.declared.sent.Sent.{Sent}
 
--- What a reader took from the front as definitions see it, and the bytes after it; or that it takes nothing. Of want of
--- memory nothing is said.
+-- What a reader took from the front, as the definitions see it, and the bytes after it; or that it takes nothing. Want
+-- of memory says nothing.
 abbrev pub TakesAs : {A B : Type 0} → (A → B) → Option (B × List ℕ) → Result A LineError → List ℕ → Type 0
 TakesAs tree taken (Ok value) after = taken ≡ Some (tree value, after)
 TakesAs tree taken (Err Form) after = taken ≡ None

@@ -1,4 +1,4 @@
-//! Operations of traces are read, each from a line of its own.
+//! Reads operations of traces, each from a line of its own.
 #![tactic(auto)]
 
 mod atoms;

@@ -21,7 +21,7 @@ pub(crate) struct Sent {
     pub(crate) message: Option<Core>,
 }
 
-/// After these numbers the message of this name.
+/// These numbers, and after them the message of this name.
 fn with_message(
     _text: &Text<'_>,
     scope: &Scope<'_>,

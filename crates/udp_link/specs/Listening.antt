@@ -16,6 +16,6 @@ peers_in members member = option_map peers_of (option_flatten (slice_get members
 unfoldable pub place_in : List (Option Member) → ℕ → Option Peer
 place_in members member = option_map (λ m. m.place) (option_flatten (slice_get members member))
 
--- with how many peers a member listens
+-- how many peers a member listens with
 abbrev pub listening_in : List (Option Member) → ℕ → Option ℕ
 listening_in members member = option_map length (peers_in members member)

@@ -1,5 +1,5 @@
-//! A node that bears failed receives, or doesn't, over a network in memory: its lines are told by hand from the
-//! definitions.
+//! A node that tolerates failed receives, or doesn't, over a network in memory: its lines were worked out by hand from
+//! the definitions.
 
 use super::served::{PLAN, SERVED};
 use crate::runs::{COUNTER, Left, left_over, pair, words};
@@ -10,7 +10,7 @@ use std::test::Fail;
 /// What is written before the first receives.
 const TICKS: &[u8] = b"> tick 0 5\n> tick 1 5\n> tick 2 5\n";
 
-/// What a node of two turns writes, where the second receive failed and was borne.
+/// What a node of two turns writes, where the second receive failed and was tolerated.
 const BORNE: &[u8] =
     b"> tick 0 5\n> tick 1 5\n> tick 2 5\ndeaf 1\n> cast 0 6869\npacket 1 0 all cnt.num(0) 6869\n> tick 0 6\n> tick 1 6\n> tick 2 6\n> raw 1 e50000000100000007000000000000000700ff01000000006869\ndeliver 1 cast 0 6869\n> raw 2 e50000000100000007000000000000000700ff01000000006869\ndeliver 2 cast 0 6869\n> cast 2 7a\npacket 2 2 all cnt.num(0) 7a\nend 10\n";
 
