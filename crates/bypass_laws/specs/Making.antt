@@ -56,7 +56,7 @@ MadeAreOfStack = (guard : List Operation → Guarded) (stack : List LayerTree) �
     Reduces guard →
     AreOfStack stack (bypasses_of guard stack)
 
--- Hoisting is such a way, and what is simplified after such a way is one, too.
+-- Hoisting is such a way, and so is simplifying after such a way.
 abbrev pub HoistingGuards : Type 0
 HoistingGuards = (stack : List LayerTree) → NamedStack stack → Guards hoist stack
 

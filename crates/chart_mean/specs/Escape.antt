@@ -1,5 +1,5 @@
--- Text in a picture: `&`, `<`, `>` and `"` are spelled by their names, and what is no printable ASCII by the sign for
--- what can't be shown.
+-- Text in a picture: `&`, `<`, `>` and `"` are spelled by their names, and each byte that isn't printable ASCII by the
+-- sign for what can't be shown.
 use Rattle.std.specs.Prelude.{ℕ, ◌==◌, ◌&&◌, ◌||◌, not, nat_le, Bool, true, List, [], ◌∷◌, length, take, codes}
 use Rattle.std.specs.Prelude.{bytes_eq, if◌then◌else◌}
 use Rattle.std.specs.List.{flat_map, list_any}

@@ -1,4 +1,4 @@
--- The whole picture, and of which texts there is one.
+-- The whole picture, and which texts have one.
 use Rattle.std.specs.Prelude.{ℕ, ◌+◌, ◌-◌, List, [], ◌++◌, length, take, drop, Result, Ok, Err, codes, if◌then◌else◌}
 use Rattle.std.specs.List.{concat}
 use Rattle.std.specs.Fmt.{decimal}
@@ -34,7 +34,7 @@ picture lines =
     ++ concat (marks [] lines)
     ++ codes "</svg>\n"
 
--- those of the lines of a report that are in a range: up to the last, but for those before the first
+-- the lines of a report that are in a range: up to the last, without those before the first
 abbrev pub in_range : Range → List (List ℕ) → List (List ℕ)
 in_range range texts = drop (range.first - 1) (take range.last texts)
 
@@ -42,13 +42,13 @@ in_range range texts = drop (range.first - 1) (take range.last texts)
 abbrev pub range_picture : Range → List (List ℕ) → List ℕ
 range_picture range texts = picture (lines_from range.first 0 (in_range range texts))
 
--- a picture of what is a report; else the first line that is out of form
+-- the picture of a text that is a report; else its first line that is out of form
 abbrev pub report_picture : Range → List (List ℕ) → Result (List ReportLine) ℕ → Result (List ℕ) AuditFault
 report_picture range texts (Err line) = Err (bad_line line)
 report_picture range texts (Ok said) = Ok (range_picture range texts)
 
--- the picture of a range of a text, unless that is too large or no report: the texts that an audit takes are those of
--- which there is one
+-- the picture of a range of a text, unless the text is too large or no report: exactly the texts that an audit takes
+-- have a picture
 abbrev pub chart_of : Range → List ℕ → Result (List ℕ) AuditFault
 chart_of range text = if is_too_large text then Err too_large else report_picture range (lines_of text)
     (report_from running 1 (lines_of text))

@@ -58,7 +58,7 @@ untold_band member x end = codes "<g class='untold'>" ++ band member x end ++ co
 abbrev pub tinted_band : ℕ → (x end ltime : ℕ) → List ℕ
 tinted_band member x end ltime = codes "<g class='view" ++ decimal (ltime % 6) ++ codes "'>" ++ band member x end
 
--- a stay up to where it ends; who is out has none
+-- the band of a stay, up to where it ends; a member that is out has none
 abbrev pub stay_band : ℕ → (x end : ℕ) → Stay → List ℕ
 stay_band member x end Untold = untold_band member x end
 stay_band member x end (View ltime mask) = tinted_band member x end ltime ++ label member x ltime mask ++ codes "</g>\n"

@@ -75,7 +75,7 @@ pub record Missed (r : Request) (a : Around) : Type 0 where
   pub rose : Rose a.reads a.reads_after
   pub untouched : a.output_after ≡ a.output
 
--- How a run ended that was asked for a picture.
+-- How a run that was asked for a picture ended.
 abbrev pub Draws : Request → Around → Ending → Type 0
 Draws r a Done = Whole r a
 Draws r a TooLarge = Refused r a too_large
@@ -85,7 +85,7 @@ Draws r a Read = Missed r a
 Draws r a Write = CutOff r a
 Draws r a Memory = (a.output_after ≡ a.output) ⊎ Begun r a
 
--- How a run ended whose words ask for this, or for nothing.
+-- How a run whose words ask for this, or for nothing, ended.
 abbrev pub Comes : Option Request → Around → Ending → Type 0
 Comes (Some r) a end = Draws r a end
 Comes None a Words = Nothing a
@@ -96,12 +96,12 @@ Comes None a _ = ⊥
 abbrev pub Due : ℕ → ℕ → Type 0
 Due due status = (status ≡ due) ⊎ (status ≡ 7)
 
--- The output's count of faults didn't rise, nor does it stand at its last value.
+-- The output's count of faults didn't rise, and isn't at its last value.
 abbrev pub NoPutFailed : Around → Type 0
 NoPutFailed a = Rose a.output.faults a.output_after.faults → ⊥
 
--- Where the shelf tells, what it finds of a request determines the status: 4 where there is no file, 1 where it is no
--- report, and where it is one and no put failed, 0, and the output gained the picture.
+-- Where the shelf tells, what it finds for a request determines the status: 4 where there is no file; 1 where the file
+-- is no report; and where it is one and no put failed, 0, and the output gained the picture.
 pub record Exact (r : Request) (a : Around) (status : ℕ) : Type 0 where
   pub unread : (shelf : Shelved) → a.told ≡ Some shelf → found_in shelf r.file ≡ None → Due 4 status
   pub refused : (shelf : Shelved) (file : List ℕ) (fault : AuditFault) → a.told ≡ Some shelf →
@@ -116,7 +116,7 @@ abbrev pub ExactFor : Option Request → Around → ℕ → Type 0
 ExactFor (Some r) a status = Exact r a status
 ExactFor None a status = Due 2 status
 
--- A run of these words: it ended in one way, that was said, and its status is the one that is due.
+-- A run of these words: it ended in one way, which was said, and its status is the one that is due.
 pub record Runs (words : List Text) (a : Around) (e : Errors) : Type 0 where
   pub end : Ending
   pub came : Comes (request_of words) a end

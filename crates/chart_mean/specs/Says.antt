@@ -23,7 +23,7 @@ is_one_of words word = list_any (bytes_eq word) words
 abbrev pub kinds : List Word
 kinds = codes "cast" ∷ codes "send" ∷ []
 
--- the first words of the other lines whose second word is the member of which they tell
+-- the first words of the other lines that tell of a member, which is their second word
 abbrev pub others : List Word
 others =
     codes "block" ∷ codes "announce" ∷ codes "timer" ∷ codes "refused" ∷ codes "absent" ∷ codes "state" ∷ codes "cell" ∷

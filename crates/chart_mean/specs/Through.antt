@@ -12,7 +12,8 @@ use Rattle.chart_mean.specs.Runs.{surrounding, Good, Comes, Runs}
 use Rattle.chart_mean.specs.declared.types.Ending.{Ending}
 use Rattle.chart_mean.specs.declared.types.Ending.TheVariants.{Done, TooLarge, Line, Words, Read, Write, Memory}
 
--- How a run ended whose picture was put, where the stream got all or lacks something: then that is a fault of writing.
+-- How a run whose picture was put ended, by whether the stream got all: if it lacks something, that is a fault of
+-- writing.
 abbrev pub end_after_delivery : Bool → Ending → Ending
 end_after_delivery true end = end
 end_after_delivery false Done = Write
@@ -23,9 +24,9 @@ end_after_delivery false Read = Read
 end_after_delivery false Write = Write
 end_after_delivery false Memory = Memory
 
--- A run that put so much on the output and ended so; what was handed on to the output's stream; and what was said then,
--- of the end that comes of both, and handed on to the standard error's. Where that is the run's own end, all that `run`
--- does is done.
+-- A run: what it put on the output, and how it ended; what was handed on to the output's stream; and what was then said
+-- of the end that comes of both, and handed on to the stream of the standard error. Where that end is the run's own
+-- end, all that `run` does is done.
 pub record RunsThrough (words : List Text) (told : Option Shelved) (reads reads_after : ℕ) (out err : Stream)
     (status : ℕ) : Type 0 where
   pub put : Tells

@@ -6,7 +6,7 @@ use Rattle.command_line.specs.Rules.{command_of, option, read_in, required}
 use Rattle.script_mean.specs.Words.{◌>>=◌, number_within}
 use Rattle.chart_mean.specs.declared.types.Range.{Range}
 
--- `REPORT`, may have `--from A` and `--to B`
+-- `REPORT`, and perhaps `--from A` and `--to B`
 abbrev pub rules : List Rule
 rules = required (codes "report") ∷ option (codes "from") ∷ option (codes "to") ∷ []
 

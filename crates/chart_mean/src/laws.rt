@@ -10,7 +10,7 @@ pub fn each_line_has_its_mark()
     ensures marks { (before lines : List Line) → length (marks before lines) ≡ length lines }
 {}
 
-/// No text of a report can be taken for anything else in a picture: no `<`, `>` or `"` is left of it, and each `&`
+/// No text of a report can be taken for anything else in a picture: no `<`, `>` or `"` of it remains, and each `&`
 /// begins a name.
 pub fn text_is_escaped()
     ensures { (text : List ℕ) → is_escaped (escaped text) ≡ true }

@@ -1,5 +1,5 @@
 //! What a picture of a run is: in `specs/` what it shows of each line of a report, where that stands, and the text of
-//! the whole, as SVG. Its code is the types that the definitions share with what draws.
+//! the whole, as SVG. The code here is the types that the definitions share with the code that draws.
 #![tactic(auto)]
 
 mod examples;

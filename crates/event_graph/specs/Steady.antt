@@ -10,11 +10,11 @@ abbrev pub is_steady_at : (Vertex → ℕ) → List Vertex → List ℕ → Node
 is_steady_at own vertices costs n =
     nat_eq (slice_index costs (node_number n)) (vertex_cost own costs (vertex_at vertices (node_number n)))
 
--- Whether an edge stands for one time at least.
+-- Whether an edge stands for at least one time.
 abbrev pub is_often : Edge → Bool
 is_often edge = nat_lt 0 edge.times
 
--- Whether a node's cost is below what 32 bits hold, and each of its edges stands for one time at least: then steady
+-- Whether a node's cost is below what 32 bits hold, and each of its edges stands for at least one time: then steady
 -- costs fall along them.
 abbrev pub falls_at : List Vertex → List ℕ → Node → Bool
 falls_at vertices costs n =

@@ -30,7 +30,7 @@ pub struct Node {
     pub tag: u8,
 }
 
-/// That one of `count` nodes, of neighbouring numbers from `first` on, follows `times` times.
+/// An edge: one of `count` nodes, with neighbouring numbers from `first` on, follows `times` times.
 #[derive(Clone, Copy)]
 pub struct Edge {
     pub times: u32,

@@ -10,7 +10,7 @@ use thiserror::Error;
 /// Why a stack is not accepted.
 #[derive(Debug, Drop, Error)]
 pub enum StackError {
-    /// An event that arrives at a place, counted from 0, and is of a kind can follow from itself.
+    /// An event of this kind that arrives at this place, counted from 0, can follow from itself.
     #[error("an event at place {0} can follow from itself")]
     Cycle(u8, Kind),
     /// Too many tasks can follow from an entry: this many, as far as 32 bits hold the number.

@@ -59,7 +59,7 @@ fn is_free(stack: &Typed, nodes: &[Node], vertices: &[Vertex], weights: &[u32]) 
     all_fall(nodes, vertices, weights)
 }
 
-/// The first node of a stack that lies on a cycle; steady weights, if there are some, may show that there is none.
+/// The first node of a stack that lies on a cycle; steady weights, if there are any, may show that no node does.
 fn cycle_of(
     alloc: Global,
     stack: &Typed,

@@ -1,4 +1,4 @@
-//! Which stacks are accepted: those of which it is known beforehand that each run ends, and how much it may take.
+//! Which stacks are accepted: those for which it is known beforehand that each run ends, and how much it may take.
 #![tactic(auto)]
 
 mod acceptance;

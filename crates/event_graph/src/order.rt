@@ -4,7 +4,7 @@ use crate::edges::{Edge, Node, number_at};
 use crate::table::{Edges, Vertex};
 use std::alloc::{AllocError, Global};
 
-/// A number to be put into the order: after those that follow from it, or now, as they are in it.
+/// A number to be put into the order: after those that follow from it, or now, since they are in it.
 #[derive(Clone, Copy)]
 enum Open {
     After(u32),
@@ -67,8 +67,8 @@ impl Walk {
     }
 }
 
-/// The numbers of some nodes and of what follows from them, in an order. (Nothing is proved of it: it only tells in
-/// which order costs are improved.)
+/// The numbers of some nodes and of what follows from them, in an order. (Nothing is proved of it: it only sets the
+/// order in which costs are improved.)
 pub fn order_of(
     alloc: Global,
     nodes: &[Node],

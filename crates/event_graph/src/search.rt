@@ -113,7 +113,7 @@ impl Search {
         Ok(())
     }
 
-    /// The numbers that were seen last, which are so no longer.
+    /// The numbers that were seen last; none counts as seen last any longer.
     fn take_last(&mut self, alloc: Global) -> Vec<usize>
         ensures taken { result.items ≡ (search_tree self.old).last }
         ensures kept { search_tree self.new ≡ record { seen = (search_tree self.old).seen; last = [] } }
@@ -130,7 +130,7 @@ impl Search {
         self.see_after(vertices, &last)
     }
 
-    /// Makes `most` rounds; once a round sees nothing, no more are made.
+    /// Makes that many rounds; once a round sees nothing, no more are made.
     fn rounds(&mut self, alloc: Global, vertices: &[Vertex], most: usize) -> Result<(), AllocError>
         ensures { OnOk result
             (search_tree self.new ≡ search.search_after (map vertex_tree vertices.now) most (search_tree self.old)) }
@@ -156,7 +156,7 @@ fn is_met(alloc: Global, vertices: &[Vertex], most: usize, node: Node) -> Result
     Ok(search.has_seen(number))
 }
 
-/// The first of `nodes` that a search from it meets in `most` rounds.
+/// The first of some nodes that a search from the node itself meets, in that many rounds.
 pub fn first_met(
     alloc: Global,
     vertices: &[Vertex],

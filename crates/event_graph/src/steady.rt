@@ -75,7 +75,7 @@ pub fn steady_costs(
     Ok(None)
 }
 
-/// Whether each edge stands for one time at least.
+/// Whether each edge stands for at least one time.
 fn are_often(edges: &[Edge]) -> bool
     ensures { result ≡ true → list_all is_often (map edge_tree edges.now) ≡ true }
 {
@@ -87,7 +87,7 @@ fn are_often(edges: &[Edge]) -> bool
     true
 }
 
-/// Whether each edge from a vertex stands for one time at least.
+/// Whether each edge from a vertex stands for at least one time.
 fn is_often_left(vertex: &Vertex) -> bool
     ensures { result ≡ true → list_all is_often (vertex_tree vertex.now).edges ≡ true }
 {
@@ -98,7 +98,7 @@ fn is_often_left(vertex: &Vertex) -> bool
     }
 }
 
-/// Whether the cost of a node is below what is held, and each of its edges stands for one time at least.
+/// Whether the cost of a node is below what 32 bits hold, and each of its edges stands for at least one time.
 fn falls(vertices: &[Vertex], costs: &[u32], node: Node) -> bool
     ensures { result ≡ true → falls_at (map vertex_tree vertices.now) costs.now (node_tree node) ≡ true }
 {
@@ -110,7 +110,7 @@ fn falls(vertices: &[Vertex], costs: &[u32], node: Node) -> bool
     }
 }
 
-/// Whether it is so for all nodes.
+/// Whether both hold for all nodes.
 pub fn all_fall(nodes: &[Node], vertices: &[Vertex], costs: &[u32]) -> bool
     ensures { result ≡ true → list_all (falls_at (map vertex_tree vertices.now) costs.now) (map node_tree nodes.now) ≡
         true }

@@ -1,5 +1,5 @@
--- What a layer's own names stand for: its params, its cells and its headers are one space of names, visible in the
--- whole layer.
+-- What a layer's own names stand for: its params, cells and headers share one space of names, visible in the whole
+-- layer.
 use Rattle.std.specs.Prelude.{ℕ, ◌+◌, Bool, true, false, List, [], ◌∷◌, bytes_eq, Option, Some, None, option_map}
 use Rattle.std.specs.List.{find, filter, position}
 use Rattle.layer_ast.specs.declared.names.Name.{Name}

@@ -13,7 +13,7 @@ key_at at rank = at.line ∷ at.col ∷ rank ∷ []
 abbrev pub precedes : {F : Type 0} → (F → List ℕ) → F → F → Bool
 precedes key f g = is_lt (slice_cmp nat_cmp (key f) (key g))
 
--- The one of two faults that comes before the other; the first, if neither does.
+-- The earlier of two faults; the first of them, if neither comes before the other.
 abbrev pub earlier_of : {F : Type 0} → (F → List ℕ) → F → F → F
 earlier_of key f g = if precedes key g f then g else f
 
@@ -21,7 +21,7 @@ earlier_of key f g = if precedes key g f then g else f
 abbrev pub earliest : {F : Type 0} → (F → List ℕ) → List F → Option F
 earliest key = reduce (earlier_of key)
 
--- The earlier of two faults that there may be.
+-- The earlier of two faults, each of which may be missing.
 abbrev pub earlier : {F : Type 0} → (F → List ℕ) → Option F → Option F → Option F
 earlier key None g = g
 earlier key (Some f) None = Some f

@@ -3,8 +3,8 @@ use Rattle.std.specs.Prelude.{◌≡◌, ℕ, false, List, [], ◌++◌, Contain
 use Rattle.std.specs.List.{AllByRecursion}
 use Rattle.fault_mean.specs.Earliest.{earlier, earliest, precedes}
 
--- Whatever was found before, the first fault of one list and then that of another give that of both in a row, so a
--- file may be judged part by part.
+-- Whatever was found before, the first fault of one list and then that of another yield the same as the first fault of
+-- both in a row, so a file may be judged part by part.
 abbrev pub IsInOrder : {F : Type 0} → (F → List ℕ) → Type 0
 IsInOrder {F} key =
     (found : Option F) (xs ys : List F) →

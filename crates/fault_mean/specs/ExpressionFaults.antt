@@ -87,6 +87,6 @@ argument_faults scope wanted (value e) = unless (allows wanted Int) (kind (expre
 argument_faults scope wanted (content b) =
     unless (may_be wanted (argument_sort scope (content b))) (kind (argument_at (content b))) ++ built_faults scope b
 
--- The faults of arguments, for each of which one of some sorts is wanted.
+-- The faults of arguments, each of which is to be of one of the sorts listed for it.
 abbrev pub arguments_faults : Scope → List (List Sort) → List ArgumentTree → List TypeFault
 arguments_faults scope wanted arguments = flat_map (λ x. argument_faults scope x.0 x.1) (zip wanted arguments)

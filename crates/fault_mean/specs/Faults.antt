@@ -23,8 +23,7 @@ name_fault_at at (twice _) = twice at
 name_fault_at at (too_many _) = too_many at
 
 -- A fault of types at a place: something of another kind than is needed, another number of arguments or names, a header
--- where none may stand, a header that doesn't suit the message, or an initial value that isn't made of what it may be
--- made of.
+-- where none may stand, a header that doesn't suit the message, or an initial value that contains something it may not.
 pub data TypeFault : Type 0 where
   kind : (at : At) → TypeFault
   arity : (at : At) → TypeFault

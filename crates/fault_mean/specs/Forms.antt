@@ -11,7 +11,7 @@ use Rattle.layer_ast.specs.Tree.{DeclarationTree, int, rows_cell, rows_array, he
 use Rattle.layer_ast.specs.Tree.{queue, queue_at}
 use Rattle.fault_mean.specs.Declared.{declaration_of, items_in, names_in}
 
--- Whether a layer declares a word, as something of which a test holds.
+-- Whether a layer declares a word, and a test holds of the declaration.
 abbrev pub declared_as : (DeclarationTree → Bool) → LayerTree → Word → Bool
 declared_as test layer word = option_map_or test (declaration_of layer word) false
 
@@ -50,7 +50,7 @@ labels_of _ = []
 abbrev pub fields_of : LayerTree → Word → List Name
 fields_of layer word = option_map_or labels_of (declaration_of layer word) []
 
--- The name of a queue or of an array of which it is one.
+-- The name of a queue, or of the array to which it belongs.
 abbrev pub queue_name : QueueTree → Name
 queue_name (queue name) = name
 queue_name (queue_at name index) = name

@@ -73,7 +73,8 @@ abbrev pub number_outside : ℕ → SizeTree → List At
 number_outside most (fixed at number) = if is_within most number then [] else at ∷ []
 number_outside most (sized name) = []
 
--- Whether a size is, at a place of the stack, within its limit as far as it is a param of the layer.
+-- Whether a size that is a param of the layer is within its limit at a place of the stack; any other size counts as
+-- within it.
 abbrev pub is_within_at : LayerTree → PlaceTree → SizeTree → ℕ → Bool
 is_within_at layer place (fixed at number) most = true
 is_within_at layer place (sized name) most = option_map_or (is_within most) (param_value layer place.given name.word)

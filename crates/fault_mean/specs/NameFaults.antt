@@ -23,7 +23,7 @@ use Rattle.fault_mean.specs.Scope.{is_visible, layer_scope, visible}
 use Rattle.fault_mean.specs.Uses.{Use, of_name, of_label, uses, size_uses, statement_uses}
 use Rattle.msg_core.specs.Headers.{most_places, most_declared, most_fields}
 
--- Those of these things that are the same as one before them in the list, or as one of the earlier things.
+-- The items of a list that are the same as one before them in the list, or as one of the `earlier` items.
 abbrev pub repetitions : {A : Type 0} → (A → A → Bool) → List A → List A → List A
 repetitions same earlier [] = []
 repetitions same earlier (x ∷ rest) = (if list_any (same x) earlier then x ∷ [] else []) ++
@@ -80,7 +80,7 @@ declaration_name_faults layer declaration =
 abbrev pub names_where : (DeclarationTree → Bool) → LayerTree → List Name
 names_where test layer = map declared_name (filter test layer.declarations)
 
--- The faults of a layer's own names: none is there twice, and there are few params, cells and headers.
+-- The faults of a layer's own names: none is there twice, and the params, cells and headers are within their limits.
 abbrev pub declared_faults : LayerTree → List NameFault
 declared_faults layer =
     twice_among [] (map declared_name layer.declarations)
@@ -89,7 +89,7 @@ declared_faults layer =
     ++ too_many_of most_declared (names_where is_header layer)
     ++ flat_map (declaration_name_faults layer) layer.declarations
 
--- Whether two written headers are the same: none is one, and each name another.
+-- Whether two written headers are the same: both are missing, or both have the same name.
 abbrev pub same_popped : Option PoppedTree → Option PoppedTree → Bool
 same_popped None None = true
 same_popped (Some p) (Some q) = same_word p.name q.name
@@ -113,8 +113,8 @@ abbrev pub expected_uses : Expected → List Use
 expected_uses (common condition) = uses condition
 expected_uses _ = []
 
--- The faults of a handler. The name of the header that it takes off is one of the layer's own names, and it declares
--- few names.
+-- The faults of a handler. The name of the header that it takes off is one of the layer's own names, and it declares no
+-- more names than the limit.
 abbrev pub handler_name_faults : LayerTree → HandlerTree → List NameFault
 handler_name_faults layer handler =
     uses_faults (layer_scope layer) (option_map_or (λ p. of_name p.name ∷ []) handler.popped [])
@@ -123,7 +123,8 @@ handler_name_faults layer handler =
     ++ flat_map statement_name_faults (handler_statements layer handler)
     ++ too_many_of most_names (handler_names layer handler)
 
--- The faults of the names of a layer; it has few handlers, and no two of the same direction, kind and header.
+-- The faults of the names of a layer: it has no more handlers than the limit, and no two of the same direction, kind
+-- and header.
 abbrev pub layer_name_faults : LayerTree → List NameFault
 layer_name_faults layer =
     declared_faults layer
@@ -144,7 +145,7 @@ place_faults_in place layer =
 abbrev pub place_faults : FileTree → PlaceTree → List NameFault
 place_faults file place = option_map_or (place_faults_in place) (layer_at file place) (unknown place.name.at ∷ [])
 
--- All faults of a file's names: a file has few layers, with no name twice, and few places.
+-- All faults of a file's names: its layers and places are within their limits, and no two layers have the same name.
 abbrev pub name_faults : FileTree → List NameFault
 name_faults file =
     twice_among [] (map (λ layer. layer.name) file.layers)

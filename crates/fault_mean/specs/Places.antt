@@ -7,7 +7,7 @@ use Rattle.layer_ast.specs.declared.names.Word.{Word}
 use Rattle.layer_ast.specs.Tree.{DeclarationTree, param, GivenTree, LayerTree, PlaceTree, FileTree}
 use Rattle.fault_mean.specs.Declared.{declaration_of}
 
--- The layer of a name among some.
+-- The layer of a list that has this name.
 abbrev pub layer_among : List LayerTree → Word → Option LayerTree
 layer_among layers word = find (λ layer. bytes_eq layer.name.word word) layers
 
@@ -36,7 +36,7 @@ pub data Judged : Type 0 where
   written : (layer : LayerTree) → Judged
   called : (at : At) (layer : LayerTree) → Judged
 
--- The layer of the library that a place names: one of the file hides it.
+-- The layer of the library that a place names, unless a layer of the file hides it.
 abbrev pub called_at : FileTree → PlaceTree → Option Judged
 called_at file place = if is_some (layer_among file.layers place.name.word)
     then None
@@ -47,7 +47,7 @@ called_at file place = if is_some (layer_among file.layers place.name.word)
 abbrev pub judged_layers : FileTree → List Judged
 judged_layers file = map written file.layers ++ filter_map (called_at file) file.places
 
--- The faults of a judged layer, and of all of a file.
+-- The faults of a judged layer, and those of all judged layers of a file.
 abbrev pub faults_of_judged : {F : Type 0} → (At → F → F) → (LayerTree → List F) → Judged → List F
 faults_of_judged moved faults (written layer) = faults layer
 faults_of_judged moved faults (called at layer) = map (moved at) (faults layer)

@@ -1,4 +1,4 @@
--- What it is that a small text is judged.
+-- What it means that a small text is judged.
 use Rattle.std.specs.Prelude.{◌≡◌, ℕ, List, [], ◌∷◌, ◌++◌, flat_map, codes, Option, None}
 use Rattle.layer_ast.specs.declared.names.At.{At}
 use Rattle.layer_ast.specs.declared.tokens.Dir.{Dir}
@@ -16,12 +16,13 @@ use Rattle.fault_mean.specs.FileFault.{file_fault}
 abbrev pub file_over : List LayerTree → List ℕ → FileTree
 file_over library text = record (file_of text) { library = library }
 
--- A text spells the file that it is read as, and with these layers of the library this is the first fault of the file.
+-- A text spells the file as which it is read, and with these layers of the library this is the first fault of that
+-- file.
 pub record IsJudgedOver (library : List LayerTree) (text : List ℕ) (fault : Option FileFault) : Type 0 where
   pub spelled : Spells text (file_over library text)
   pub judged : file_fault (file_over library text) ≡ fault
 
--- So without a library.
+-- The same without a library.
 abbrev pub IsJudged : List ℕ → Option FileFault → Type 0
 IsJudged = IsJudgedOver []
 

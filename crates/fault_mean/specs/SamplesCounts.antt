@@ -59,7 +59,7 @@ abbrev pub lets : List Name → StatementTrees
 lets [] = none
 lets (n ∷ rest) = more (bind n.at n (number n.at 0)) (lets rest)
 
--- 64 locals, which a handler's argument and 63 names of its block are.
+-- 64 locals: a handler's argument and 63 names of its block.
 abbrev pub Locals : Type 0
 Locals =
     (name_fault (small_file 3 [] (timer_down 1 (lets (numbered_names 63)) ∷ [])) ≡ None)

@@ -59,7 +59,7 @@ InitialOfArray = IsJudged
     (small_text (codes "  state int e[n];" ∷ codes "  state int j = e;" ∷ []))
     (Some (of_types (fault.kind (at 3 17))))
 
--- A fault of names comes before an earlier one of fault.
+-- A fault of names comes before an earlier fault of types.
 abbrev pub NamesFirst : Type 0
 NamesFirst = IsJudged
     (small_text (codes "  down Timer(t) { set t = z; }" ∷ []))

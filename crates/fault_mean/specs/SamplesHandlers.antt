@@ -11,7 +11,7 @@ HandlerArity = IsJudged
     (small_text (codes "  down Cast(p) { }" ∷ []))
     (Some (of_types (fault.arity (at 2 3))))
 
--- A handler that names no field of a header with one.
+-- A handler that names no field of a header that has one.
 abbrev pub FieldsArity : Type 0
 FieldsArity = IsJudged
     (small_text (codes "  header h(v) passes;" ∷ codes "  up Cast(o, m) with h() { }" ∷ []))

@@ -16,13 +16,13 @@ of_library handlers =
 abbrev pub FromLibrary : Type 0
 FromLibrary = IsJudgedOver (of_library []) (lines (codes "stack { b; }" ∷ [])) None
 
--- A param of it gets a value that is too large for the capacity that it is.
+-- A param of it is a capacity, and gets a value that is too large for one.
 abbrev pub GivenToLibrary : Type 0
 GivenToLibrary =
     IsJudgedOver (of_library []) (lines (codes "stack { b(keep = 65); }" ∷ []))
     (Some (of_names (fault.too_many (at 1 9))))
 
--- Were a type at fault in it, this would be at the place's name.
+-- A fault of types in it stands at the place's name.
 abbrev pub FaultOfLibrary : Type 0
 FaultOfLibrary =
     IsJudgedOver (of_library (codes "down Timer(t) { set q = 1; }")) (lines (codes "stack { b; }" ∷ []))

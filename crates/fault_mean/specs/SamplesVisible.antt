@@ -55,19 +55,19 @@ DeclaredAfter = IsJudged
     (small_text (codes "  state int k = late;" ∷ codes "  param late = 1;" ∷ []))
     None
 
--- A label that the rows of a queue haven't.
+-- A label that no item of the queue's rows has.
 abbrev pub UnknownLabel : Type 0
 UnknownLabel = IsJudged
     (small_text (codes "  state queue q[2] of (u: int);" ∷ codes "  down Timer(t) { let x = at(q, 0).v; }" ∷ []))
     (Some (of_names (fault.unknown (at 3 36))))
 
--- A label after what is no queue.
+-- A label after something that is no queue.
 abbrev pub LabelOfNone : Type 0
 LabelOfNone = IsJudged
     (small_text (codes "  down Timer(t) { let x = at(t, 0).u; }" ∷ []))
     (Some (of_names (fault.unknown (at 2 36))))
 
--- A place of an unknown layer is only unknown.
+-- A place that names an unknown layer has no other fault.
 abbrev pub UnknownLayer : Type 0
 UnknownLayer = IsJudged
     (lines (codes "layer a {" ∷ codes "}" ∷ codes "stack { b(k = 99); }" ∷ []))

@@ -72,7 +72,7 @@ abbrev pub scope_after : Scope → StatementTree → Scope
 scope_after scope (bind at name value) = with_locals scope (locals_as [] (name ∷ []))
 scope_after scope _ = scope
 
--- The scope in which a row that was taken off a queue has names.
+-- The scope in which the parts of a row that was taken off a queue have names.
 abbrev pub taken_scope : Scope → QueueTree → NamesTree → Scope
 taken_scope scope q names =
     with_locals scope (locals_as (map (λ i. i.sort) (row_of scope.layer (queue_name q).word)) (names_in (Some names)))

@@ -26,7 +26,7 @@ use Rattle.fault_mean.specs.Uses.{arguments_in}
 use Rattle.fault_mean.specs.ExpressionFaults.{argument_faults, arguments_faults, number_faults, queue_faults}
 use Rattle.fault_mean.specs.Faults.{TypeFault, kind, arity, direction, header, initial, type_key, type_fault_at}
 
--- A size is a number or a param; the place is that of a fault.
+-- A size is a number or a param; if it is neither, the fault stands at this place.
 abbrev pub size_type_faults : LayerTree → At → SizeTree → List TypeFault
 size_type_faults layer at (fixed _ most) = []
 size_type_faults layer at (sized name) = unless (declared_as is_param layer name.word) (kind at)
@@ -44,8 +44,8 @@ abbrev pub pushes : Dir → Bool
 pushes Down = true
 pushes Up = false
 
--- Whether a message of this sort may be sent in this direction under a header that ends or passes: a part goes down
--- alone, and under a header that ends, and a message of the layers above goes down under one that passes.
+-- Whether a message of this sort may be sent in this direction under a header that ends or passes: a part never goes
+-- up, and goes down under a header that ends; a message of the layers above goes down under one that passes.
 abbrev pub suits : Dir → Bool → Sort → Bool
 suits Up ends Part = false
 suits Down false Part = false

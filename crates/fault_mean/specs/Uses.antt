@@ -50,7 +50,7 @@ abbrev pub argument_uses : ArgumentTree → List Use
 argument_uses (value e) = uses e
 argument_uses (content b) = built_uses b
 
--- Arguments with commas between them, which may be missing, as a list.
+-- Arguments with commas between them, as a list; the empty one where they are missing.
 abbrev pub arguments_in : Option ArgumentsTree → List ArgumentTree
 arguments_in None = []
 arguments_in (Some arguments) = arguments.first ∷ arguments.rest

@@ -2,7 +2,8 @@
 ghost use Rattle.fault_mean.specs.EarliestOf.{IsFirst, IsInOrder, IsThere};
 ghost use Rattle.fault_mean.specs.Faults.{name_key, type_key};
 
-/// What was found before, and then in one list and in another, gives what is found in both in a row.
+/// Whatever was found before, the first fault of one list and then that of another yield the same as the first fault of
+/// both in a row.
 pub fn in_order()
     ensures names { IsInOrder name_key }
     ensures types { IsInOrder type_key }

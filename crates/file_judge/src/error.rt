@@ -44,7 +44,7 @@ pub enum FileError {
     /// A header that doesn't suit the message.
     #[error("header {}:{}", .0.line, .0.col)]
     Header(At),
-    /// An initial value that isn't made of what it may be made of.
+    /// An initial value that contains something it may not.
     #[error("initial {}:{}", .0.line, .0.col)]
     Initial(At),
     /// An event of this kind that arrives at this place, counted from 0, can follow from itself.

@@ -17,7 +17,7 @@ use pieces::{Piece, front, is_blank, piece_at};
 use std::alloc::{AllocError, Global};
 use words::{is_part_word, push_word};
 
-/// How many bytes of a text most have for each token; where there are more tokens, their room grows.
+/// How many bytes most texts have for each token; where there are more tokens, their room grows.
 const BYTES_A_TOKEN: usize = 2;
 
 /// The tokens of a text before its first bad one, and the place of that one.

@@ -56,14 +56,14 @@ abbrev pub class_of : List ℕ → Class
 class_of [] = class.Apart
 class_of (b ∷ bs) = if is_word_byte b then word_class (b ∷ bs) else sign_class b
 
--- what nothing stands apart after: ( [ .
+-- whether nothing stands apart after this: ( [ .
 abbrev pub holds_next : Class → Bool
 holds_next class.Parenthesis = true
 holds_next class.Bracket = true
 holds_next class.Dot = true
 holds_next _ = false
 
--- what stands apart from nothing before it: ; , ) ] : . [
+-- whether this stands apart from nothing before it: ; , ) ] : . [
 abbrev pub holds_last : Class → Bool
 holds_last class.Semicolon = true
 holds_last class.Tight = true

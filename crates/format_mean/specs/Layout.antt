@@ -9,7 +9,7 @@ use Rattle.format_mean.specs.declared.stand.TheConstants.{DEEPEST, STEP, HANG, C
 use Rattle.format_mean.specs.Classes.{class_of, are_joined, ends_statement, is_brace, seen_after}
 use Rattle.format_mean.specs.Pieces.{Piece, pieces}
 
--- how many braces are open after a token or comment; one that closes none closes none
+-- how many braces are open after a token or comment; a closing brace changes nothing where none is open
 abbrev pub depth_after : ℕ → Class → ℕ
 depth_after depth class.Opening = if nat_lt depth DEEPEST then depth + 1 else depth
 depth_after depth class.Closing = depth - 1

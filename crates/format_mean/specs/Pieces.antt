@@ -26,7 +26,7 @@ abbrev pub comment_length : List ℕ → ℕ
 comment_length [] = 0
 comment_length (b ∷ bs) = if nat_eq b 10 then 0 else one_more (is_blank b) (comment_length bs)
 
--- the bytes that an equals sign after them makes one sign with: = ! < >
+-- the bytes that make one sign with an equals sign after them: = ! < >
 abbrev pub doubles : ℕ → Bool
 doubles b = nat_eq b 61 || (nat_eq b 33 || (nat_eq b 60 || nat_eq b 62))
 

@@ -1,4 +1,4 @@
--- What a node is told, by its words and by what surrounds it, and what of that.
+-- What a node is told, by its words and by what surrounds it, and what comes of that.
 use Rattle.std.specs.Prelude.{ℕ, ◌==◌, Bool, true, false, List, count_by}
 use Rattle.layer_mean.specs.Tree.{LayerTree}
 use Rattle.script_mean.specs.declared.plan.NodePlan.{NodePlan}

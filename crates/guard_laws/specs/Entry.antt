@@ -1,5 +1,5 @@
--- That the code of an entry passes its tests exactly where the run of its entry goes as predicted, and then does what
--- that does.
+-- That the code of an entry passes its tests exactly where the run of the entry goes as predicted, and then does what
+-- the run does.
 use Rattle.std.specs.Prelude.{◌≡◌, ℕ, List, Option, Ok}
 use Rattle.layer_mean.specs.declared.run.Case.{Case}
 use Rattle.layer_mean.specs.Queue.{run}

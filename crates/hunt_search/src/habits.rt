@@ -2,8 +2,8 @@
 
 use crate::random::Random;
 
-/// How often what happens, in a hundred times; and by how many milliseconds the clock goes on at most from tick to
-/// tick.
+/// How often each thing happens, in a hundred times; and by how many milliseconds at most the clock goes on from tick
+/// to tick.
 #[derive(Clone, Copy)]
 pub(crate) struct Habits {
     /// That a member casts, sends, ticks, or leaves; else a packet is given.
@@ -23,7 +23,7 @@ pub(crate) struct Habits {
 }
 
 impl Habits {
-    /// Those of a run, each of which is often left out: a law that one of them breaks isn't hidden by others then.
+    /// The habits of a run. Each is often left out, so that a law that one of them breaks isn't hidden by others.
     pub(crate) fn draw(random: &mut Random) -> Habits {
         Habits {
             casts: 8 + random.below(30),
@@ -39,7 +39,7 @@ impl Habits {
         }
     }
 
-    /// Those of a run that becomes quiet: nothing is lost, and all that is due comes in order.
+    /// The habits of a run that becomes quiet: nothing is lost, and all that is due comes in order.
     pub(crate) fn quiet(self) -> Habits {
         Habits {
             casts: 0,
@@ -54,7 +54,7 @@ impl Habits {
     }
 }
 
-/// A number from 1 to the most, as often as it is said; else 0.
+/// A number from 1 to `most`, `often` times in a hundred; else 0.
 fn some(random: &mut Random, often: u32, most: u32) -> u32 {
     if most > 0 && random.percent(often) {
         1u32.saturating_add(random.below(most))

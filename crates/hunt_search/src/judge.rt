@@ -23,8 +23,8 @@ struct Stays {
     contents: Vec<Content>,
 }
 
-/// Whether the notes of a group of this many members break a law: if they do, so does the report, but for two bodies of
-/// one number.
+/// Whether the notes of a group of this many members break a law: if they do, so does the report, unless two bodies
+/// have the same number.
 pub(crate) fn is_broken(
     alloc: Global,
     law: Law,
@@ -201,7 +201,7 @@ fn is_other_of(peer: u32, bodies: &[u64], contents: &[Content]) -> bool {
     false
 }
 
-/// Whether two lists have something not equally often.
+/// Whether something stands in one list more often than in the other.
 fn are_others(mine: &[Content], yours: &[Content]) -> bool {
     if mine.len() != yours.len() {
         return true;

@@ -1,8 +1,8 @@
 //! The search of a hunt: runs over a network that loses, repeats, reorders, delays and parts, each judged when it is
-//! quiet; and a run that breaks a law made small, as a script.
+//! quiet; and a run that breaks a law, made small, as a script.
 //!
-//! What is written of a run is judged again by whoever asks for it, from its bytes: nothing here is claimed but that it
-//! ends.
+//! Whoever asks for a run judges again, from its bytes, what is written of it: all that is claimed here is that the
+//! search ends.
 #![tactic(auto)]
 
 mod error;

@@ -19,9 +19,9 @@ pub(crate) struct Due {
     pub ltime: u32,
 }
 
-/// The packets that are on their way, in the order in which they were sent; those of views in which the members aren't
-/// yet to whom they go; the logical time of each member's view; how many members there are; those on the one side where
-/// the network is parted; and those that neither hear nor are heard.
+/// The packets on their way, in the order in which they were sent; those of views that the members to whom they go
+/// haven't entered yet; the logical time of each member's view; how many members there are; the members on one side,
+/// where the network is parted; and the members that neither hear nor are heard.
 #[derive(Drop)]
 pub(crate) struct Network {
     dues: Vec<Due>,
@@ -32,7 +32,7 @@ pub(crate) struct Network {
     pub silent: u32,
 }
 
-/// A set of the one member.
+/// The set of this member alone.
 pub(crate) fn only(member: u8) -> u32 {
     if member < 32 { 1u32 << member } else { 0 }
 }
@@ -63,7 +63,7 @@ impl Network {
         self.silent = 0;
     }
 
-    /// Puts the packets of a step on their way, in the view in which it was made, each to all to whom it goes.
+    /// Puts the packets of a step on their way, each to all to whom it goes, in the view in which the step was made.
     pub(crate) fn send(
         &mut self,
         view: View,
@@ -85,7 +85,7 @@ impl Network {
         Ok(())
     }
 
-    /// Puts a packet on its way to each of a view's members to whom it goes, but the one that sent it.
+    /// Puts a packet on its way to each member of a view to whom it goes, except its sender.
     fn send_one(&mut self, due: Due, mask: u32, dest: Dest) -> Result<(), SearchError> {
         let mut rank = 0u8;
         for to in 0..self.members {
@@ -99,7 +99,8 @@ impl Network {
         Ok(())
     }
 
-    /// Puts a packet on its way, or to those that wait for their view. One of a view that the member left is lost.
+    /// Puts a packet on its way, or with those that wait for their view. A packet of a view that the member left is
+    /// lost.
     fn put(&mut self, due: Due) -> Result<(), SearchError> {
         let ltime = self.ltime_of(due.to);
         if due.ltime == ltime {
@@ -111,7 +112,7 @@ impl Network {
         }
     }
 
-    /// The place of the first packet from a place on that can come.
+    /// The place of the first packet that can come, from a place on.
     pub(crate) fn first_from(&self, start: usize) -> Option<usize> {
         for place in start..self.dues.len() {
             if self.can_come(self.dues[place]) {
@@ -153,8 +154,8 @@ impl Network {
         Ok(())
     }
 
-    /// A member is in the view of this logical time: what was sent to it in those before is lost, and what waited for
-    /// this one is on its way.
+    /// A member is in the view of this logical time: what was sent to it in earlier views is lost, and what waited for
+    /// this view is on its way.
     pub(crate) fn enter(&mut self, member: u8, ltime: u32) -> Result<(), SearchError> {
         if let Some(now) = self.ltimes.get_mut(usize::from(member)) {
             *now = ltime;

@@ -1,6 +1,6 @@
 //! What a law looks at.
 
-/// What a delivered cast says: whose it is, and its body, by a number that other bodies hardly have.
+/// What a delivered cast says: whose it is, and its body, by a number that hardly any other body has.
 #[derive(Clone, Copy, PartialEq, Eq)]
 pub(crate) struct Content {
     pub peer: u32,

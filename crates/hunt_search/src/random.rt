@@ -32,7 +32,7 @@ impl Random {
         self.below(100) < often
     }
 
-    /// A member of this many, if there are some.
+    /// One of this many members, if there are any.
     pub(crate) fn member(&mut self, members: u8) -> u8 {
         if members == 0 {
             return 0;

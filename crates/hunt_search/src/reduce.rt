@@ -7,10 +7,10 @@ use crate::schedule::{Act, Body, Schedule};
 use crate::search::Search;
 use std::alloc::Global;
 
-/// How often at most all that can be made smaller is gone through.
+/// The most rounds through all that can be made smaller.
 const MOST_ROUNDS: u32 = 16;
 
-/// The body of the first cast or send, and those of the next ones follow.
+/// The body of the first cast or send; those of the next ones follow it.
 const FIRST_BODY: u8 = b'a';
 
 /// Makes a schedule that breaks the law small: it still breaks it.
@@ -111,7 +111,7 @@ fn thin_out(search: &mut Search, least: &mut Schedule) -> Result<(), SearchError
     Ok(())
 }
 
-/// Takes out groups of this many steps, the last first, and answers whether one could be.
+/// Takes out groups of this many steps, the last first, and answers whether any could be taken out.
 fn take_out(search: &mut Search, least: &mut Schedule, size: usize) -> Result<bool, SearchError> {
     let mut is_less = false;
     let mut end = least.steps.len();
@@ -146,7 +146,7 @@ fn without(
     })
 }
 
-/// Leaves out members with all that happens to them, and answers whether one could be.
+/// Leaves out members with all that happens to them, and answers whether any could be left out.
 fn leave_out_members(search: &mut Search, least: &mut Schedule) -> Result<bool, SearchError> {
     let mut is_less = false;
     for member in (0..least.members).rev() {
@@ -173,7 +173,7 @@ fn without_member(alloc: Global, schedule: &Schedule, member: u8) -> Result<Sche
     })
 }
 
-/// Makes bodies shorter, and answers whether one could be made so.
+/// Makes bodies shorter, and answers whether any could be made shorter.
 fn shorten_bodies(search: &mut Search, least: &mut Schedule) -> Result<bool, SearchError> {
     let mut is_less = false;
     for place in 0..least.steps.len() {
@@ -217,7 +217,7 @@ fn put_letters(schedule: &mut Schedule) {
     }
 }
 
-/// Makes moments less, and answers whether one could be made so.
+/// Lowers moments, and answers whether any could be lowered.
 fn lower_moments(search: &mut Search, least: &mut Schedule) -> Result<bool, SearchError> {
     let mut is_less = false;
     for place in 0..least.steps.len() {
@@ -226,7 +226,7 @@ fn lower_moments(search: &mut Search, least: &mut Schedule) -> Result<bool, Sear
     Ok(is_less)
 }
 
-/// Makes the moment at a place as little as halving finds it.
+/// Lowers the moment at a place as far as halving finds.
 fn lower(search: &mut Search, least: &mut Schedule, place: usize) -> Result<bool, SearchError> {
     let Some(Act::Tick(moment)) = act_at(least, place) else {
         return Ok(false);

@@ -7,7 +7,7 @@ pub(crate) struct Body {
     pub count: u8,
 }
 
-/// A packet, told by the step that sent it and by how many this step sent before.
+/// A packet, named by the step that sent it and by how many packets that step sent before it.
 #[derive(Clone, Copy)]
 pub(crate) struct Source {
     pub step: u32,
@@ -58,7 +58,7 @@ impl Act {
 }
 
 impl Step {
-    /// The same in a group without one member, where it isn't that member's, nor goes to it.
+    /// The same in a group without one member, unless the step is that member's or sends to it.
     pub(crate) fn without(self, gone: u8) -> Option<Step> {
         let member = number_without(self.member, gone)?;
         let act = match self.act {
@@ -73,7 +73,8 @@ impl Step {
     }
 }
 
-/// The number of a member in a group without another one: those after that one take its number and the next ones.
+/// The number of a member in a group without another one: the members after that one each take the number before
+/// theirs.
 fn number_without(member: u8, gone: u8) -> Option<u8> {
     if member == gone {
         None
@@ -84,7 +85,7 @@ fn number_without(member: u8, gone: u8) -> Option<u8> {
     }
 }
 
-/// A run: how many members its group has, below which number the names of its steps are, and the steps.
+/// A run: how many members its group has, a number above the names of all its steps, and the steps.
 #[derive(Drop)]
 pub(crate) struct Schedule {
     pub members: u8,

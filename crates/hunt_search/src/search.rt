@@ -16,7 +16,7 @@ use hunt_ground::{Ground, Group};
 use msg_core::MOST_MEMBERS;
 use std::alloc::Global;
 
-/// Of four parts of a run, in how many it is unquiet.
+/// In how many of the four parts of a run it is unquiet.
 const UNQUIET: u32 = 3;
 
 /// What is looked for: a law that runs of this many members and events are to break.
@@ -28,7 +28,7 @@ pub struct Aim {
 }
 
 /// A search over a stack, with what groups begin with, what is noted of a run, and the group of the last run, in whose
-/// memory the next one begins, if that has as many members. It can't be let go: it is closed.
+/// memory the next one begins, if it has as many members. It can't be let go, only closed.
 pub struct Search {
     alloc: Global,
     aim: Aim,
@@ -85,8 +85,8 @@ impl Search {
         self.is_broken(schedule.members)
     }
 
-    /// Begins a group of this many members, or of as many as there may be, in the memory of the last one where that can
-    /// begin again.
+    /// Begins a group of this many members, or of the nearest number that there may be, in the memory of the last group
+    /// where that can begin again.
     fn open(&mut self, members: u8) -> Result<Group, SearchError> {
         let members = members.clamp(1, MOST_MEMBERS);
         if let Some(group) = renewed(self.spare.take(), members) {
@@ -155,7 +155,7 @@ impl Search {
         played
     }
 
-    /// The script of a schedule that was made of the run of a number.
+    /// The script of a schedule that was made from the run of this number.
     fn script_of(&mut self, number: u64, schedule: &Schedule) -> Result<Vec<u8>, SearchError> {
         let mut text = Text::of(self.alloc, number, schedule.names, schedule.members)?;
         self.ledger.clear(schedule.names)?;
@@ -173,7 +173,7 @@ impl Search {
     }
 }
 
-/// A group that begins again, if there is one of this many members, and it does.
+/// The group, begun again, if there is one, it has this many members and it can begin again.
 fn renewed(group: Option<Group>, members: u8) -> Option<Group> {
     let mut group = group?;
     if group.members() == members && group.restart() {

@@ -10,10 +10,10 @@ use msg_core::Dest;
 use std::alloc::Global;
 use view_core::{Change, Stepped};
 
-/// How many packets on their way there are to be for each member, before members wait with casts.
+/// How many packets for each member may be on their way before members hold back their casts.
 const CROWD: usize = 6;
 
-/// How many packets are lost in a row at most.
+/// The most packets that are lost in a row.
 const LOST_IN_ROW: u32 = 8;
 
 /// By how many milliseconds the clock goes on at most in a run that becomes quiet: so few that nobody is suspected.
@@ -107,7 +107,7 @@ impl Wander {
         }
     }
 
-    /// A member that isn't out, as far as a few draws find one.
+    /// The first member, from a drawn one on, that is neither out nor silent, if there is one.
     fn someone(&mut self) -> u8 {
         let mut member = self.random.member(self.members);
         for _ in 0..32 {
@@ -173,7 +173,7 @@ impl Wander {
         (self.turn, Act::Tick(self.moment))
     }
 
-    /// A packet is given that can come, where some aren't lost before.
+    /// A packet that can come is given; some that could come before it may be lost.
     fn give(&mut self) -> Result<Option<(u8, Act)>, SearchError> {
         for _ in 0..LOST_IN_ROW {
             let Some((place, due)) = self.coming() else {
@@ -215,8 +215,8 @@ impl Wander {
         }
     }
 
-    /// What a step yielded: the packets that it sent to these are on their way, and who is in another view now hears
-    /// that one alone.
+    /// Takes in what a step yielded: the packets that it sent to these are on their way, and a member that is in
+    /// another view now hears that view alone.
     pub(crate) fn follow(
         &mut self,
         group: &Group,

@@ -42,8 +42,8 @@ all_as case decided = list_all (went_as case) decided
 abbrev pub first_missed : Case → List Decision → Option ℕ
 first_missed case decided = position (λ d. not (went_as case d)) decided
 
--- What a stretch of statements gives: the state and the scope after it, the events that it sent, in order, and its
--- decisions in order.
+-- What a stretch of statements yields: the state and the scope after it, and, in order, the events that it sent and its
+-- decisions.
 pub record Outcome : Type 0 where
   pub state : State
   pub scope : Scope
@@ -54,7 +54,7 @@ pub record Outcome : Type 0 where
 abbrev pub Act : Type 0
 Act = State → Scope → Outcome
 
--- Nothing is sent and decided, and this is the state and the scope.
+-- Nothing is sent or decided, and the state and the scope are these.
 abbrev pub done : Act
 done s l = record { state = s; scope = l; sent = []; decided = [] }
 
@@ -78,12 +78,12 @@ with_slot k v l = record l { numbers = slice_set l.numbers k v }
 abbrev pub with_message : ℕ → Content → Scope → Scope
 with_message k m l = record l { messages = slice_set l.messages k m }
 
--- An act done for 0, 1 and so on below a number of turns, which a slot of the scope tells it.
+-- An act done for each number below a count, from 0 up; a slot of the scope holds the number.
 abbrev pub turns : ℕ → ℕ → Act → Act
 turns zero slot act s l = done s l
 turns (suc k) slot act s l = after (turns k slot act s l) (λ t m. act t (with_slot slot k m))
 
--- A row with the numbers and the message that its expressions are worth.
+-- The row whose numbers and message are the values of its expressions.
 abbrev pub row_of : RowTree → State → Scope → Row
 row_of r s l = record { numbers = map (λ e. val e s l) r.numbers; message = option_map (λ m. mval m s l) r.message }
 
@@ -112,7 +112,7 @@ abbrev pub emitted_event : ℕ → EmissionTree → State → Scope → Event
 emitted_event place e s l = event_of e.kind (map (λ n. val n s l) e.numbers)
     (option_map (λ c. sent_as e.direction (header_of place c s l) (mval c.message s l)) e.content)
 
--- Which of two acts a condition chooses, with the decision that this is.
+-- The outcome that a condition chooses of two, with the decision that the choice is.
 abbrev pub chosen_outcome : Bool → Likely → Outcome → Outcome → Outcome
 chosen_outcome true likely.First first second = decides usual first
 chosen_outcome true likely.Else first second = decides unusual first
@@ -121,7 +121,7 @@ chosen_outcome false likely.First first second = decides unusual second
 chosen_outcome false likely.Else first second = decides usual second
 chosen_outcome false likely.Two first second = decides (forked Second) second
 
--- A row that was looked for: with it one act is done, and else another.
+-- A row that was looked for: if it was found, one act is done with it, and else another.
 abbrev pub taking : Option Row → (Row → Outcome) → Outcome → Outcome
 taking (Some row) first second = decides usual (first row)
 taking None first second = decides unusual second

@@ -62,7 +62,7 @@ abbrev pub next_of : {W E : Type 0} → ℕ → Player W E → List (Task E) →
 next_of places play [] w = record { world = w; tasks = [] }
 next_of places play (t ∷ rest) w = advance places play t rest w
 
--- One turn of the queue; with no task it is done.
+-- One turn of the queue; without a task nothing changes.
 abbrev pub next : {W E : Type 0} → ℕ → Player W E → Line W E → Line W E
 next places play r = next_of places play r.tasks r.world
 
@@ -109,7 +109,7 @@ layers stack = record {
   output = λ dir event w. record w { outs = w.outs ++ (dir, event) ∷ [] };
 }
 
--- The work that is before a run of layers in these states, and a line with one task.
+-- The work before a run of layers in these states, and a line with one task.
 abbrev pub unstarted_work : List State → Work
 unstarted_work states = record { states = states; outs = []; decided = []; visits = 0 }
 

@@ -19,7 +19,7 @@ pub record State : Type 0 where
   pub ltime : ℕ
   pub cells : List Contents
 
--- What a cell that there isn't holds.
+-- What a missing cell holds.
 abbrev pub no_cell : Contents
 no_cell = numbers []
 
@@ -42,7 +42,7 @@ abbrev pub number_at : State → ℕ → ℕ → ℕ
 number_at s c i = slice_index (numbers_in (cell_at s c)) i
 
 -- The flat index of a row and a column of a square cell: the row times n plus the column where both are below n, and
--- outside else.
+-- otherwise n times n, which is outside.
 abbrev pub flat_index : ℕ → ℕ → ℕ → ℕ
 flat_index n row column = if nat_lt row n && nat_lt column n then row * n + column else n * n
 

@@ -9,8 +9,8 @@ use Rattle.layer_ast.specs.declared.syntax.Likely.{Likely}
 use Rattle.layer_ast.specs.declared.syntax.Operator.{Operator}
 use Rattle.layer_ast.specs.declared.syntax.Shape.{Shape}
 
--- What the rows of a queue carry beside their numbers: a part, or a message of the layers above; of the latter the
--- headers that stand in for a row that isn't there, which are `none` of each place above.
+-- What the rows of a queue carry beside their numbers: a part, or a message of the layers above. For such a message it
+-- keeps the headers that stand in for a missing row: `none` for each place above.
 pub data Carried : Type 0 where
   part : Carried
   whole : (blank : List Header) → Carried
@@ -45,7 +45,7 @@ mutual
     tail : MessageTree → (from : ExpressionTree) → MessageTree
     join : MessageTree → MessageTree → MessageTree
 
--- The message of an emission, and the header that is pushed on it going down; going up none is.
+-- The message of an emission, and the header that is pushed on it going down; going up, none is pushed.
 pub record ContentTree : Type 0 where
   pub message : MessageTree
   pub tag : ℕ
@@ -69,9 +69,9 @@ pub record TakenTree : Type 0 where
   pub message : Option (ℕ × Carried)
 
 mutual
-  -- A statement: a number of the scope is set, a number of a cell or of a square cell is, a row is pushed on a queue of
-  -- a capacity or another block run, a row is taken and a block run or else another, one of two blocks is run by a
-  -- condition, a block is run again and again, or an event is sent.
+  -- A statement: it sets a number of the scope, of a cell or of a square cell; pushes a row on a queue of a capacity,
+  -- or else runs a block; takes a row and runs a block, or else runs another; runs one of two blocks by a condition;
+  -- runs a block again and again; or sends an event.
   pub data StatementTree : Type 0 where
     bind : (slot : ℕ) (value : ExpressionTree) → StatementTree
     assign : (cell : ℕ) (index value : ExpressionTree) → StatementTree
@@ -94,9 +94,8 @@ pub data Expected : Type 0 where
   common : ExpressionTree → Expected
   rare : Expected
 
--- What a layer does on one direction, kind and popped tag. Beside the event's numbers, the fields of the popped header
--- and the event's message its scope has `numbers` numbers and `messages` messages more, for names that the block
--- declares.
+-- What a layer does for one direction, kind and popped tag. Beside the event's numbers, the fields of the popped header
+-- and the event's message, its scope has this many more numbers and messages, for the names that the block declares.
 pub record HandlerTree : Type 0 where
   pub direction : Dir
   pub kind : Kind

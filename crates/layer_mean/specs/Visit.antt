@@ -49,7 +49,7 @@ pub record Met : Type 0 where
   pub fields : List ℕ
   pub message : Option Content
 
--- What stands after a header, and where there is none.
+-- A message as a layer meets it: after this header, or without one.
 abbrev pub following : Option Header → Content → Met
 following None m = record { tag = 0; fields = []; message = Some m }
 following (Some h) m = record { tag = h.tag; fields = h.fields; message = Some m }
@@ -83,7 +83,7 @@ entered_scope h event m = record {
 abbrev pub none_header : ℕ → Header
 none_header place = record { layer = place; tag = 0; fields = [] }
 
--- What a visit gives: the state after it, what it sent, and its decisions in order.
+-- What a visit yields: the state after it, what it sent, and its decisions in order.
 pub record Visited : Type 0 where
   pub state : State
   pub sent : List (Dir × Event)
@@ -102,14 +102,14 @@ unhandled_visit place s Down event m (Some content) = sent_on s Down event (Some
 unhandled_visit place s Up event m (Some content) =
     if m.tag == 0 then sent_on s Up event (Some content) else record { state = s; sent = []; decided = unusual ∷ [] }
 
--- The decision that a handler's expectation is, if it is one: a common case is predicted to hold at entry, and a rare
--- handler is never predicted.
+-- The decision that a handler's expectation makes, if it makes one: a common case is predicted to hold at entry, and a
+-- rare handler is never predicted.
 abbrev pub expecting : Expected → State → Scope → Outcome → Outcome
 expecting always s l o = o
 expecting (common e) s l o = if is_true (val e s l) then decides usual o else decides unusual o
 expecting rare s l o = decides unusual o
 
--- What the chosen handler does, or the lack of one.
+-- What the chosen handler does, or what is done where there is none.
 abbrev pub handled_visit : ℕ → Option HandlerTree → State → Dir → Event → Met → Visited
 handled_visit place None s dir event m = unhandled_visit place s dir event m m.message
 handled_visit place (Some h) s dir event m =

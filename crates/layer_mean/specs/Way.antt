@@ -10,9 +10,9 @@ use Rattle.layer_mean.specs.Tree.{ExpressionTree, EmissionTree, RowTree, TakenTr
 use Rattle.layer_mean.specs.Tree.{assign_square, push, take, branch, each, emit, StatementTrees, none, more, Expected}
 use Rattle.layer_mean.specs.Tree.{always, common, rare, HandlerTree}
 
--- A predicted step: a test that an expression is true, or 0; a condition with two predicted ways, which is to go that
--- of a case; a number of the scope, of a cell or of a square cell that is set; a push for which there is room; a take
--- of a row that is there; an emission; or a loop, which can't be predicted.
+-- A predicted step: a test that an expression is true, or 0; a condition with two predicted ways, which is to go the
+-- way of a case; setting a number of the scope, of a cell or of a square cell; a push that finds room; a take that
+-- finds a row; an emission; or a loop, which can't be predicted.
 pub data Step : Type 0 where
   test : (wanted : Bool) → ExpressionTree → Step
   fork : Case → ExpressionTree → Step
@@ -46,7 +46,7 @@ abbrev mutual
   ways case none = []
   ways case (more x rest) = way case x ++ ways case rest
 
--- The steps of a handler; one that is rare has no predicted way.
+-- The steps of a handler; a rare one has no predicted way.
 abbrev pub expected_way : Expected → List Step → Option (List Step)
 expected_way always steps = Some steps
 expected_way (common e) steps = Some (test true e ∷ steps)

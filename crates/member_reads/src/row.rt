@@ -33,7 +33,7 @@ fn message_of<'b>(message: &'b PoolMessage, pool: &'b Pool) -> MessageView<'b>
     }
 }
 
-/// What a row shows whose message lies in a pool.
+/// What a row whose message lies in a pool shows.
 pub(crate) fn row_of<'b>(row: &'b PoolRow, pool: &'b Pool) -> RowView<'b>
     requires { RowLies pool.now row.now }
     ensures { row_meant result ≡ row_seen pool.now row.now }

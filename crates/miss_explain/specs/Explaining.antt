@@ -28,13 +28,13 @@ pub record IsReady (stack : List LayerTree) (plans : List Plan) (c : Peopled) (p
   pub plans_are : c.plans ≡ plans
   pub room : places ≡ largest_weight stack
 
--- It is where the group of a script begins.
+-- A ready group stands where the group of a script begins.
 pub record IsAtFirst (stack : List LayerTree) (plans : List Plan) (s : Script) (c : Peopled) (places : ℕ) : Type 0 where
   pub ready : IsReady stack plans c places
   pub world : Stands c (first_world stack s.group s.stamp s.members)
   pub count : length c.members ≡ s.members
 
--- It stands where a world of the definitions does.
+-- A group stands where a world of the definitions does.
 pub record SomeWorld (c : Peopled) : Type 0 where
   pub world : World
   pub stands : Stands c world
@@ -49,7 +49,7 @@ abbrev pub FedOn : Peopled → ScriptEvent → World → Peopled → Result (Uni
 FedOn c event w c' (Ok done) = Stands c' (happens c.stack c.plans w event).world
 FedOn c event w c' (Err memory) = Unit {0}
 
--- It was fed, unless it was made as a common step when it was probed.
+-- An event was fed, unless it was made as a common step when it was probed.
 abbrev pub Follows : Probed → Peopled → ScriptEvent → World → Peopled → Result (Unit {0}) Memory → Type 0
 Follows Common c event w c' result = c' ≡ c
 Follows _ c event w c' result = FedOn c event w c' result

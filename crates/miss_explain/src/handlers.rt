@@ -10,7 +10,7 @@ use file_expressions::expression_at;
 use layer_ast::{Expected, Handler};
 use layer_mean::Case;
 
-/// Passes that of a handler which is common where a condition holds.
+/// Passes the decision of a handler that is common where a condition holds.
 #[tactic(auto, using(crate::proofs::Passing::passes_none))]
 fn pass_expected(search: &mut Search, expected: &Expected)
     ensures { Passes search.old (expected_lines (expected_tree expected.now)) search.new }
@@ -22,7 +22,7 @@ fn pass_expected(search: &mut Search, expected: &Expected)
     }
 }
 
-/// Passes those of a handler.
+/// Passes the decisions of a handler.
 #[tactic(auto, using(crate::proofs::Passing::passes_both))]
 pub(crate) fn pass_handler(search: &mut Search, case: Case, handler: &Handler)
     ensures { Passes search.old (handler_lines case (handler_tree handler.now)) search.new }

@@ -1,5 +1,5 @@
 //! Why the steps of a script weren't common, written line by line: what each case of such a step lacked, and where in
-//! the layers' texts the decision stands that left the prediction.
+//! the layers' texts the decision that left the prediction stands.
 #![tactic(auto)]
 
 mod handlers;

@@ -15,7 +15,7 @@ use file_scope::is_same;
 use layer_ast::{Dir, File, Handler, Kind, Layer, Place, Word};
 use shape_core::ShapeVisit;
 
-/// The tag that is popped of an event with this first tag: going down none is.
+/// The tag that is popped from an event with this first tag; going down, none is popped.
 fn popped_tag(dir: Dir, tag: u8) -> u8
     ensures { result ≡ spots.popped_tag dir tag }
 {
@@ -56,7 +56,7 @@ pub(crate) fn handler_number(stack: &Stack, visit: ShapeVisit) -> Option<usize>
     )
 }
 
-/// The layer of a name among some.
+/// The layer of a list that has this name.
 fn named<'a>(layers: &'a [Layer], word: &Word) -> Option<&'a Layer>
     ensures { option_map (λ l. l.now) result ≡ find (λ l. bytes_eq l.name.word word.now) layers.now }
 {

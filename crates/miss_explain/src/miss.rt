@@ -22,7 +22,7 @@ use report_lines::Line;
 use stack_shapes::EntryOf;
 use step_misses::{Lack, Miss};
 
-/// A step of a member at an event of a script, which is told by its number.
+/// A step of a member at an event of a script, which its number names.
 #[derive(Clone, Copy)]
 pub struct Step {
     pub event: u64,
@@ -66,7 +66,7 @@ fn push_second(
     }
 }
 
-/// Builds the line of a step of a member at an event that wasn't common.
+/// Builds the line of a step that wasn't common, of a member at an event.
 fn build_miss(line: &mut Line, texts: Texts<'_>, step: Step, miss: &Miss) -> Result<(), Memory>
     requires entries { texts.entries.now ≡ short_shapes (stack_tree texts.stack.now) (plans_tree texts.plans.now) }
     requires told { IsTold (stack_tree texts.stack.now) (plans_tree texts.plans.now) (miss_meant miss.now) }
@@ -80,7 +80,7 @@ fn build_miss(line: &mut Line, texts: Texts<'_>, step: Step, miss: &Miss) -> Res
     line.text(b"\n")
 }
 
-/// Puts the line of a step of a member at an event of a script that wasn't common. The line is built in one that is
+/// Puts the line of a step that wasn't common, of a member at an event of a script. The line is built in one that is
 /// kept from line to line.
 pub fn write_miss<O: Sink>(
     line: &mut Line,

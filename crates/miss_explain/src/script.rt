@@ -159,8 +159,8 @@ fn write_end<O: Sink>(line: &mut Line, events: u64, out: &mut O) -> Result<(), S
     put_line(line.slice(), out)
 }
 
-/// Explains a script with a group that begins, runs by bypasses and tells of an event why it is no common step: of each
-/// step that isn't common its line is put, then the last line.
+/// Explains a script with a group that begins, runs by bypasses and tells why an event is no common step: puts the line
+/// of each step that isn't common, and then the last line.
 pub fn explain<P: Probe, O: Sink>(
     alloc: Global,
     probe: &mut P,

@@ -16,7 +16,7 @@ use layer_ast::File;
 use layer_mean::Case;
 use shape_core::{Shape, ShapeVisit};
 
-/// A decision on the way of a shape: the visit in which it is made, counted from 1, the place of that, and its line in
+/// A decision on the way of a shape: the visit in which it is made, counted from 1, the visit's place, and its line in
 /// the text of the place's layer.
 #[derive(Clone, Copy, Debug, PartialEq, Eq)]
 pub(crate) struct Spot {

@@ -23,7 +23,7 @@ fn is_entered(case: Case, likely: Likely) -> bool
     }
 }
 
-/// Passes those of a block.
+/// Passes the decisions of a block.
 #[cycle(blocks)]
 pub(crate) fn pass_block(search: &mut Search, case: Case, b: &Block)
     ensures { Passes search.old (block_lines case (block_tree b.now)) search.new }
@@ -31,7 +31,7 @@ pub(crate) fn pass_block(search: &mut Search, case: Case, b: &Block)
     pass_statements(search, case, &b.statements);
 }
 
-/// Passes those of statements one after the other.
+/// Passes the decisions of statements, one statement after the other.
 #[cycle(blocks)]
 fn pass_statements(search: &mut Search, case: Case, all: &[Statement])
     ensures { Passes search.old (block_lines case (statement_trees all.now)) search.new }
@@ -41,7 +41,7 @@ fn pass_statements(search: &mut Search, case: Case, all: &[Statement])
     }
 }
 
-/// Passes those of a statement, and of the blocks that are predicted of it.
+/// Passes the decisions of a statement, and those of its predicted blocks.
 #[cycle(blocks)]
 #[tactic(auto, using(crate::proofs::Passing::passes_none, crate::proofs::Passing::passes_more))]
 fn pass_statement(search: &mut Search, case: Case, s: &Statement)

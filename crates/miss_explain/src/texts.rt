@@ -4,7 +4,7 @@ use layer_ast::File;
 use report_lines::NamedStack;
 use stack_shapes::{EntryShapes, Plans};
 
-/// What lines are made from: a file, the stack that it means, the plans of that, and the shapes of its entries.
+/// What lines are made from: a file, the stack that it means, the stack's plans, and the shapes of its entries.
 #[derive(Clone, Copy)]
 pub struct Texts<'a> {
     pub file: &'a File,

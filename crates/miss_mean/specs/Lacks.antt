@@ -40,7 +40,7 @@ entry_named plans (from_peer p) = Some (option_map_or plan (least_fit plans p) n
 entry_named plans app_leave = None
 entry_named plans (clock_tick moment) = None
 
--- A case with a shape that isn't too long lacks that its run goes as predicted.
+-- What a case lacks: a shape that isn't too long or, where it has one, a run that goes as predicted.
 abbrev pub lack_of : Case → Step → Result Shape NoShape → Lack
 lack_of case s (Err reason) = absent reason
 lack_of case s (Ok x) =

@@ -50,7 +50,7 @@ handler_lines case h = expected_lines h.expected ++ block_lines case h.block
 abbrev pub layer_at_place : FileTree → ℕ → Option ast.LayerTree
 layer_at_place file place = option_and_then (layer_at file) (slice_get file.places place)
 
--- The tag that is popped of an event with this first tag: going down none is.
+-- The tag that is popped from an event with this first tag; going down, none is popped.
 abbrev pub popped_tag : Dir → ℕ → ℕ
 popped_tag Up tag = tag
 popped_tag Down tag = 0
@@ -69,7 +69,7 @@ abbrev pub visit_lines : Case → FileTree → List LayerTree → ShapeVisit →
 visit_lines case file stack v =
     option_map_or (handler_lines case) (option_and_then (handler_at file v.place) (handler_number stack v)) []
 
--- A decision on the way of a shape: the visit in which it is made, counted from 1, the place of that, and its line in
+-- A decision on the way of a shape: the visit in which it is made, counted from 1, the visit's place, and its line in
 -- the text of the place's layer, which for a layer of the library is counted in that layer's own text.
 pub record Spot : Type 0 where
   pub visit : ℕ

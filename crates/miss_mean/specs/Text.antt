@@ -1,4 +1,4 @@
--- How it is told why steps weren't common: a line for each of a script.
+-- How it is told why the steps of a script weren't common: a line for each.
 use Rattle.std.specs.Prelude.{ℕ, List, [], ◌∷◌, ◌++◌, codes, length, slice_get, slice_index_or, Option, Some, None}
 use Rattle.std.specs.Prelude.{option_map, option_to_list, Result, Ok, Err}
 use Rattle.std.specs.Fmt.{decimal}
@@ -49,8 +49,8 @@ abbrev pub spot_text : List LayerTree → Spot → List ℕ
 spot_text stack s = codes "visit " ++ decimal s.visit ++ codes " place " ++ decimal s.place ++ codes " "
     ++ (slice_index_or stack s.place no_layer).name ++ codes " line " ++ decimal s.line
 
--- What a case lacks: `noplan`, `absent` with the reason, or where the first decision stands that wasn't taken as
--- predicted.
+-- What a case lacks: `noplan`, `absent` with the reason, or where the first decision that wasn't taken as predicted
+-- stands.
 abbrev pub lack_text : List LayerTree → List Spot → Lack → List ℕ
 lack_text stack spots no_plan = codes "noplan"
 lack_text stack spots (absent reason) = codes "absent " ++ reason_text reason

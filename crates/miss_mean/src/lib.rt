@@ -1,3 +1,3 @@
 //! Why a step wasn't common, and how that is told: what each case of its entry lacks, and where in the layers' texts a
-//! decision stands that left the prediction, as definitions.
+//! decision that left the prediction stands, as definitions.
 #![tactic(auto)]

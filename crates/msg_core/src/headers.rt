@@ -82,7 +82,7 @@ impl Headers {
         copy
     }
 
-    /// Becomes what other headers are; those that aren't there aren't touched.
+    /// Becomes what other headers are; places without a header aren't touched.
     pub fn copy_from(&mut self, other: &Headers)
         ensures { self.new ≡ other.now }
     {

@@ -12,7 +12,7 @@ use Rattle.pack_mean.specs.File.{Due, due_of, traces_in}
 abbrev pub longest_file : ℕ
 longest_file = 33554432
 
--- A trace does what the own one of its case does.
+-- A trace does what its case's own trace does.
 abbrev pub SameActs : Due → List Operation → Type 0
 SameActs d trace = symbolic trace ≡ symbolic d.own
 
@@ -28,7 +28,7 @@ pub record DifferAt {X : Type 0} (xs ys : List X) (k : ℕ) : Type 0 where
   pub equal : take k xs ≡ take k ys
   pub other : slice_get xs k ≡ slice_get ys k → ⊥
 
--- The first case whose trace does something else is this one, and it differs from the own one's at this act.
+-- This is the first case whose trace does something else than its own one, and the two differ first at this act.
 pub record DiffersIn (due : List Due) (traces : List (List Operation)) (entry : ℕ) (case : Case) (k : ℕ) : Type 0 where
   pub before : List Due
   pub due_here : Due

@@ -18,7 +18,7 @@ pub record QueueNamed : Type 0 where
   pub cell : ℕ
   pub index : TraceNumber
 
--- How what stands one bracket deeper is read.
+-- How text that stands one bracket deeper is read.
 pub record Inner : Type 0 where
   pub number : Reader TraceNumber
   pub message : Reader TraceMessage
@@ -214,7 +214,7 @@ message_with stack s inner = do
 abbrev pub most_brackets : ℕ
 most_brackets = 200
 
--- How what stands in a bracket is read, where brackets may go n deep, this one counted.
+-- How the text in a bracket is read, where this many brackets may be opened, that one included.
 abbrev pub inside : List LayerTree → Named → ℕ → Inner
 inside stack s zero = nothing_inside
 inside stack s (suc n) = record {

@@ -26,8 +26,8 @@ within_limit _ _ = None
 abbrev pub own_trace : List LayerTree → Entry → Case → Option (List Operation)
 own_trace stack e case = within_limit (shape stack e.known case) (trace_of case stack e.known e.fields)
 
--- A case that a file of the stack has to hold: the number of its entry, how many fields of that vary, and its own
--- trace.
+-- A case that a file of the stack has to hold: the number of its entry, how many of the entry's fields vary, and its
+-- own trace.
 pub record Due : Type 0 where
   pub entry : ℕ
   pub case : Case
@@ -42,7 +42,7 @@ due_in stack n e case = option_to_list (option_map (λ own. record {
   own = own;
 }) (own_trace stack e case))
 
--- Those of entries from a number on, by entry and then by case; and those of a stack.
+-- The cases due of entries from a number on, by entry and then by case; and those of a stack.
 abbrev pub due_from : List LayerTree → ℕ → List Entry → List Due
 due_from stack n [] = []
 due_from stack n (e ∷ es) = due_in stack n e First ++ due_in stack n e Second ++ due_from stack (suc n) es
@@ -84,7 +84,7 @@ pub record Reading : Type 0 where
 abbrev pub begun : List Due → Reading
 begun due = record { stage = opening due; held = []; traces = [] }
 
--- The line with which the next case begins, or with which the file ends after the last.
+-- The line with which the next case begins or, after the last case, the file ends.
 abbrev pub next_case : List Due → List (List Operation) → List ℕ → Option Reading
 next_case [] traces line =
     if bytes_eq line (codes "end") then Some (record { stage = ended; held = []; traces = traces }) else None
@@ -113,7 +113,7 @@ abbrev pub first_line : List Due → List ℕ → Option Reading
 first_line due line =
     if bytes_eq line (codes "bypasses 1") then Some (record { stage = idle due; held = []; traces = [] }) else None
 
--- What is read with a line more, if it is in form.
+-- What has been read after one more line, if that is in form.
 abbrev pub line_read : List LayerTree → Reading → Stage → List ℕ → Option Reading
 line_read stack r (opening due) line = first_line due line
 line_read stack r (idle due) line = next_case due r.traces line
@@ -121,7 +121,7 @@ line_read stack r (within due s left) line =
     case_line stack due s left r line (next_case due (r.traces ++ r.held ∷ []) line)
 line_read stack r ended line = None
 
--- A file may end after `end` alone; else that is missing.
+-- A file may end only after `end`; elsewhere `end` is missing.
 abbrev pub traces_at_end : Stage → ℕ → List (List Operation) → Result (List (List Operation)) ℕ
 traces_at_end ended number traces = Ok traces
 traces_at_end _ number traces = Err number

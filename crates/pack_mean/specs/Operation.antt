@@ -63,7 +63,7 @@ some_links stack s place = do
   more ← links_after stack s (place + 1) (length stack)
   yields (first ∷ more)
 
--- Those after what they are of, which may be missing.
+-- The known headers after a message, or none where they are missing.
 abbrev pub a_chain : List LayerTree → Named → ℕ → Reader (List Link)
 a_chain stack s place [] = Some ([], [])
 a_chain stack s place (byte ∷ bytes) = if byte == 32 then some_links stack s place bytes else Some ([], byte ∷ bytes)
@@ -75,8 +75,8 @@ a_chained stack s place = do
   chain ← a_chain stack s place
   yields (record { chain = chain; core = c })
 
--- The message of a row to be pushed, where its queue's rows have one: it stands after their numbers, and a comma where
--- there are some.
+-- The message of a row to be pushed, where its queue's rows have one: it stands after the row's numbers, and after a
+-- comma where there are any.
 abbrev pub comma_after : List (List ℕ) → Reader (Unit {0})
 comma_after [] = yields tt
 comma_after (name ∷ names) = the_text (codes ",")

@@ -5,7 +5,7 @@ use Rattle.msg_core.specs.declared.packet.Stray.{Stray}
 use Rattle.packet_mean.specs.declared.here.Here.{Here}
 use Rattle.packet_full.specs.declared.scan.Scan.{Scan}
 
--- A scan of a datagram that a member takes: what stands in front is the member's, and the body is after a place of the
+-- A scan of a datagram that a member takes: its preamble is the member's, and its body begins at a place of the
 -- datagram.
 abbrev pub packet_scanned : Here → List ℕ → Scan → Packet
 packet_scanned here bytes scan = record {
@@ -17,7 +17,8 @@ packet_scanned here bytes scan = record {
   message = record { headers = scan.headers; body = drop scan.body bytes };
 }
 
--- What reading into a scan answers: the packet that it tells of is the one that is received, or the cause is.
+-- What reading into a scan answers: the packet received is the one that the scan tells of, or the answer is the cause
+-- for which none is.
 abbrev pub Scans : Here → List ℕ → Result Packet Stray → Result (Unit {0}) Stray → Scan → Type 0
 Scans here bytes is_received (Ok _) scan = is_received ≡ Ok (packet_scanned here bytes scan)
 Scans here bytes is_received (Err cause) scan = is_received ≡ Err cause

@@ -1,4 +1,4 @@
--- A datagram is read in three steps: what stands in front, the headers, and the body.
+-- A datagram is read in three steps: the preamble, the headers, and the body.
 use Rattle.std.specs.Prelude.{◌≡◌, ℕ, ◌-◌, ◌<◌, ◌≤◌, ◌==◌, ◌||◌, nat_le, List, length, Result, Ok, Err, ok_or}
 use Rattle.msg_core.specs.Parts.{longest_body}
 use Rattle.msg_core.specs.declared.message.Header.{Header}
@@ -17,8 +17,8 @@ use Rattle.packet_full.specs.declared.opened.Opened.{Opened}
 use Rattle.packet_full.specs.declared.scan.Scan.{Scan}
 use Rattle.packet_full.specs.Taking.{left, preamble_tree}
 
--- The preamble of a datagram of one of the two forms that is meant for a member, and the bytes after; or the
--- first cause for which it isn't one.
+-- The preamble of a datagram that has one of the two forms and is meant for a member, and the bytes after it; or the
+-- first cause for which the datagram isn't such a one.
 unfoldable pub opened : Here → List ℕ → Result (reading.Preamble × List ℕ) Stray
 opened here bytes = do
   (p, following) ← ok_or (preamble bytes) cause.Short
@@ -26,7 +26,7 @@ opened here bytes = do
   _ ← meant_for here p
   Ok (p, following)
 
--- The headers after what stands in front, and the body.
+-- The headers after the preamble, and the body.
 unfoldable pub contents : List LayerTree → List Plan → reading.Preamble → List ℕ → Result (List Header × List ℕ) Stray
 contents stack plans p following = do
   (plan, following) ← ok_or (named_plan plans p following) cause.Plan
@@ -48,7 +48,7 @@ abbrev pub Opens : Result (reading.Preamble × List ℕ) Stray → Result Opened
 Opens is_opened (Ok o) = is_opened ≡ Ok (preamble_tree o.front, left o.cursor)
 Opens is_opened (Err cause) = is_opened ≡ Err cause
 
--- What is told of a datagram whose last bytes are the body.
+-- The scan of a datagram whose last bytes are the body.
 abbrev pub datagram_scan : List ℕ → Preamble → List Header → (body : List ℕ) → Scan
 datagram_scan bytes front headers body =
     record { sender = front.sender; dest = front.dest; headers = headers; body = length bytes - length body }

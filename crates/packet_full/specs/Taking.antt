@@ -9,7 +9,7 @@ use Rattle.packet_full.specs.declared.front.Preamble.{Preamble}
 abbrev pub left : Cursor → List ℕ
 left cursor = cursor.bytes.now
 
--- what stands in front, as the definition has it
+-- a preamble, as the definition has it
 abbrev pub preamble_tree : Preamble → reading.Preamble
 preamble_tree p = record {
   form = p.form;
@@ -20,7 +20,7 @@ preamble_tree p = record {
   dest = p.dest;
 }
 
--- the group, the stamp and the view in front are a member's own
+-- the group, the stamp and the view of a preamble are a member's own
 pub record IsOwn (here : Here) (front : Preamble) : Type 0 where
   pub group : front.group ≡ here.group
   pub stamp : front.stamp ≡ here.stamp

@@ -71,9 +71,9 @@ impl<'a> Cursor<'a> {
         Some(fields)
     }
 
-    /// The preamble of a datagram. Whether there are bytes enough is asked once, before the first is taken, so
-    /// that the compiler reads them all at once. The view's numbers are set where they stay: a view that is made apart
-    /// is moved as one number of 64 bits.
+    /// The preamble of a datagram. Whether there are enough bytes is asked once, before the first is taken, so that the
+    /// compiler reads them all at once. The view's numbers are set in place: a view that is made apart is moved as one
+    /// number of 64 bits.
     pub fn preamble(&mut self) -> Option<Preamble>
         ensures { Takes (reading.preamble (left self.old)) (option_map preamble_tree result) (left self.new) }
     {

@@ -1,4 +1,4 @@
-//! The two ends of reading a datagram, whatever its form: what stands in front, and the body.
+//! The two ends of reading a datagram, whatever its form: the preamble, and the body.
 
 ghost use Rattle.std.specs.Prelude.{◌≡◌, ◌==◌, ◌||◌, ◌-◌, ◌≤◌, true, IfOk, Some, length};
 ghost use Rattle.msg_core.specs.Parts.{longest_body};
@@ -15,8 +15,8 @@ use crate::scan::Scan;
 use msg_core::{LONGEST_BODY, Stray};
 use packet_mean::Here;
 
-/// The preamble of a datagram of one of the two forms that is meant for a member; or the first cause for which
-/// it isn't one.
+/// The preamble of a datagram that has one of the two forms and is meant for a member; or the first cause for which the
+/// datagram isn't such a one.
 #[inline]
 #[tactic(auto, unfolding(crate::specs::Steps::opened))]
 pub fn open<'a>(here: &Here, bytes: &'a [u8]) -> Result<Opened<'a>, Stray>
@@ -46,8 +46,8 @@ fn body_place(bytes: &[u8], cursor: &Cursor<'_>) -> u32
     (bytes.len() - cursor.len()) as u32
 }
 
-/// Makes a scan whose headers were read into it that of their datagram, the bytes that are left being its body; Err
-/// where that is too long.
+/// Completes a scan into which the headers of a datagram were read: the bytes that are left are its body. Err where the
+/// body is too long.
 pub fn close(
     bytes: &[u8],
     front: &Preamble,

@@ -35,7 +35,7 @@ pub struct Preamble {
 }
 
 impl Preamble {
-    /// One that nothing was read into: numbers of 0, to all.
+    /// A preamble that nothing was read into: numbers of 0, to all.
     pub(crate) fn none() -> Preamble
         ensures { result ≡ record {
           form = 0;
@@ -93,15 +93,15 @@ fn is_for(rank: u8, dest: Dest) -> bool
     }
 }
 
-/// Whether a rank is another one of a view.
+/// Whether a rank is one of a view, and not the own one.
 fn is_other(view: View, own: u8, rank: u8) -> bool
     ensures { result ≡ nat_lt rank (members_of view) && not (rank == own) }
 {
     u32::from(rank) < member_count(view) && rank != own
 }
 
-/// Whether the group, the stamp and the view in front are a member's own. No test waits for another, so the compiler
-/// compares all sixteen bytes at once.
+/// Whether the group, the stamp and the view of a preamble are a member's own. No test waits for another, so the
+/// compiler compares all sixteen bytes at once.
 fn is_own(here: &Here, front: &Preamble) -> bool
     ensures is { result ≡ (front.now.group == here.now.group) && (front.now.stamp == here.now.stamp)
         && received.same_view front.now.view here.now.view }
@@ -113,7 +113,7 @@ fn is_own(here: &Here, front: &Preamble) -> bool
         & (front.view.mask == here.view.mask)
 }
 
-/// Tells the first cause for which a datagram isn't meant for a member, by what stands in front.
+/// Tells the first cause for which a datagram isn't meant for a member, by its preamble.
 pub(crate) fn meant_for(here: &Here, front: &Preamble) -> Result<(), Stray>
     ensures cause { result ≡ received.meant_for here.now (preamble_tree front.now) }
     ensures own { IfOk result (λ _. IsOwn here.now front.now) }

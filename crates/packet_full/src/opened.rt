@@ -1,4 +1,4 @@
-//! A datagram after what stands before it.
+//! A datagram after its preamble.
 
 use crate::cursor::Cursor;
 use crate::front::Preamble;

@@ -13,7 +13,7 @@ use event_graph::Stack;
 use msg_core::{Dest, Headers, Stray};
 use packet_mean::Here;
 
-/// What a datagram says that a member takes: the sender's rank, to whom it goes, the headers, and where its body
+/// What a datagram that a member takes says: the sender's rank, to whom it goes, the headers, and where its body
 /// begins.
 #[derive(Drop)]
 pub struct Scan {
@@ -24,7 +24,7 @@ pub struct Scan {
 }
 
 impl Scan {
-    /// One that nothing was read into: no headers and no body, of rank 0 to all.
+    /// A scan that nothing was read into: no headers and no body, from rank 0 to all.
     pub fn none() -> Scan
         ensures { result ≡ record { sender = 0; dest = to.All; headers = []; body = 0 } }
     {

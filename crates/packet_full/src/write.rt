@@ -98,8 +98,8 @@ pub fn put_body(body: &[u8], into: &mut Vec<u8>)
     }
 }
 
-/// Puts in full what comes before a packet's body. The vector is held as a value meanwhile, so that where its
-/// bytes lie is looked up once.
+/// Puts in full what comes before a packet's body. Meanwhile the vector is held as a value, so that the place of its
+/// bytes is looked up once.
 fn put_front(here: &Here, dest: Dest, headers: &Headers, into: &mut Vec<u8>)
     requires { vec_len into.old + 19 + 17 * length headers.now ≤ vec_capacity into.old }
     ensures items { into.new.items ≡ into.old.items ++
@@ -116,7 +116,7 @@ fn put_front(here: &Here, dest: Dest, headers: &Headers, into: &mut Vec<u8>)
 }
 
 /// Puts in full what a member sends to a destination, with these headers and this body, after what a vector holds. It
-/// takes no memory: there is to be room for 17 bytes of each header, and for the rest.
+/// takes no memory: there must be room for 17 bytes of each header, and for the rest.
 pub fn put_full_of(here: &Here, dest: Dest, headers: &Headers, body: &[u8], into: &mut Vec<u8>)
     requires { vec_len into.old + room_needed (sent_packet here.now dest headers.now body.now) ≤ vec_capacity into.old }
     ensures items { into.new.items ≡ into.old.items ++

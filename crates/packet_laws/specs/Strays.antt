@@ -25,8 +25,7 @@ TakenAsSpelled = (stack : List LayerTree) (plans : List Plan) (here : Here) (byt
     AreNumbered plans → AreBytes bytes →
     (received stack plans here bytes ≡ Ok p) ↔ (SpellsPacket stack plans bytes p × IsFor here p)
 
--- Bytes aren't stray exactly where they spell a packet that is for the member, and the packet that they then are is
--- this one.
+-- Bytes aren't stray exactly where they spell a packet that is for the member, and they are then taken as this packet.
 abbrev pub StrayOrSpelled : Type 0
 StrayOrSpelled = (stack : List LayerTree) (plans : List Plan) (here : Here) (bytes : List ℕ) → AreNumbered plans →
     AreBytes bytes →

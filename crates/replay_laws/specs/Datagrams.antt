@@ -28,7 +28,7 @@ datagrams_from plans id k ((packet p, plan) ∷ sent) =
     record { number = k; member = id; packet = p; bytes = wire plans p plan } ∷ datagrams_from plans id (k + 1) sent
 datagrams_from plans id k (x ∷ sent) = datagrams_from plans id k sent
 
--- Those of what an event gave, of a moment, and of moments, in a mode.
+-- The datagrams of what an event yielded, of a moment, and of moments, in a mode.
 abbrev pub did_send : Mode → List LayerTree → List Plan → (id k : ℕ) → Did → List Datagram
 did_send mode stack plans id k (taken s) = datagrams_from plans id k (as_sent mode stack plans s)
 did_send mode stack plans id k _ = []
@@ -45,8 +45,8 @@ world_after w [] = w
 world_after w (m ∷ run) = world_after m.happening.world run
 
 -- Datagrams go from a world to one after it: the packets of the second are those of the first and then the datagrams',
--- in order; the numbers go on from those of the first; and each datagram has the number of its own packet. So have the
--- datagrams of a run, in whatever mode.
+-- in order; the numbers go on from those of the first; and each datagram has the number of its own packet. The
+-- datagrams of a run go from one to the other so, in any mode.
 pub record AreNumbered (before after : World) (ds : List Datagram) : Type 0 where
   pub packets : after.packets ≡ before.packets ++ map (λ d. d.packet) ds
   pub numbers : map (λ d. d.number) ds ≡ range_with_len (length before.packets + 1) (length ds)
@@ -61,7 +61,7 @@ DatagramsAreNumbered = (mode : Mode) (stack : List LayerTree) (plans : List Plan
 abbrev pub Said : Type 0
 Said = List ℕ × Option Datagram
 
--- A line, and after it that of its datagram's bytes.
+-- A line, and after it the line of its datagram's bytes.
 abbrev pub with_bytes : Said → List (List ℕ)
 with_bytes (line, None) = line ∷ []
 with_bytes (line, Some d) = line ∷ wire_line d.number d.bytes ∷ []
@@ -80,7 +80,7 @@ pub record AreWoven (stack : List LayerTree) (report written : List (List ℕ)) 
   pub datagrams_are : filter_map (λ x. x.1) lines ≡ ds
   pub said : AllByRecursion (IsSaid stack) lines
 
--- So are the lines of a run with its packets' bytes in a mode, and those without, whatever is counted.
+-- The lines of a run with its packets' bytes in a mode are woven so from those without, whatever is counted.
 abbrev pub LinesAreWoven : Type 0
 LinesAreWoven = (mode : Mode) (count : Option Mode) (stack : List LayerTree) (plans : List Plan) (script : Script)
     (run : List Moment) →

@@ -1,4 +1,4 @@
--- A decision that doesn't go as predicted, the first of a step, is one on the way of the entry's shape.
+-- The first decision of a step that doesn't go as predicted is one on the way of the entry's shape.
 use Rattle.std.specs.Prelude.{◌≡◌, ℕ, ◌<◌, Bool, true, false, List, count_by, length, slice_index_or, Option, Some}
 use Rattle.std.specs.Prelude.{None, Ok}
 use Rattle.std.specs.List.{sum_by}
@@ -27,7 +27,7 @@ is_decision (get c i taken) = true
 is_decision loop = true
 is_decision _ = false
 
--- How many decisions a way has; one that there isn't has none.
+-- How many decisions a way has; a missing way has none.
 abbrev pub way_decisions : Option (List way.Step) → ℕ
 way_decisions None = 0
 way_decisions (Some steps) = count_by is_decision steps
@@ -41,8 +41,8 @@ visit_decisions case stack v = way_decisions (option_and_then (handler_way case)
 abbrev pub shape_decisions : Case → List LayerTree → Shape → ℕ
 shape_decisions case stack s = sum_by (visit_decisions case stack) s.visits
 
--- Where a decision of a step whose entry has a shape in a case doesn't go as predicted in it, the number of the first
--- that doesn't is below how many decisions the shape has; and where all do, they are as many.
+-- In a step whose entry has a shape in a case: where a decision doesn't go as predicted in the case, the number of the
+-- first that doesn't is below the number of the shape's decisions; and where all do, the step has as many as the shape.
 abbrev pub MissedIsOnTheWay : Type 0
 MissedIsOnTheWay = (case : Case) (stack : List LayerTree) (here : Here) (id : ℕ) (states : List State) (what : Entered)
     (known : Known) (s : Shape) →

@@ -25,8 +25,8 @@ use Rattle.replay_laws.specs.Short.{IsDueShort, AreShort}
 use Rattle.replay_laws.specs.Standing.{IsStandingWorld}
 use Rattle.replay_laws.specs.Steps.{IsReplay}
 
--- A datagram is that of an output of a step of a run: which moment's, by its member, at which position, and under which
--- plan it is sent, if it is.
+-- A datagram is that of an output of a step of a run: the moment in which its member took the step, the output's
+-- position, and the plan under which it is sent, if there is one.
 pub record IsSent (mode : Mode) (stack : List LayerTree) (run : List Moment) (d : Datagram) : Type 0 where
   pub event : ℕ
   pub moment : Moment
@@ -55,8 +55,8 @@ pub record RunExpands (mode : Mode) (stack : List LayerTree) (w : World) (run : 
       map (λ d. d.packet) (datagrams mode stack (plans_of stack) run)
   pub each : AllByRecursion (Expands mode stack (world_after w run) run) (datagrams mode stack (plans_of stack) run)
 
--- So it is in each run of events that are made of bytes and numbers, from a chained world whose members stand in their
--- views.
+-- This holds in each run of events that are made of bytes and numbers, from a chained world whose members stand in
+-- their views.
 abbrev pub RunsExpand : Type 0
 RunsExpand = (mode : Mode) (stack : List LayerTree) (w : World) (events : List ScriptEvent) → TypedStack stack →
     AllByRecursion IsGivenEvent events →
@@ -66,12 +66,12 @@ RunsExpand = (mode : Mode) (stack : List LayerTree) (w : World) (events : List S
 abbrev pub script_world : List LayerTree → Script → World
 script_world stack script = first_world stack script.group script.stamp script.members
 
--- So it is in the run of a script.
+-- The same in the run of a script.
 abbrev pub ScriptExpands : Mode → List LayerTree → Script → Type 0
 ScriptExpands mode stack script =
     RunExpands mode stack (script_world stack script) (run_of stack (plans_of stack) script)
 
--- And so in each replay.
+-- It holds in each replay.
 abbrev pub PacketsExpand : Type 0
 PacketsExpand = (file script_text : List ℕ) (stack : List LayerTree) (script : Script) (mode : Mode) →
     IsReplay file script_text stack script →
@@ -90,7 +90,8 @@ ReplaysWriteTheReport = (file script_text out : List ℕ) (mode : Mode) (count :
     (r : Replays file script_text mode false count out) →
     out ≡ concat (report_lines r.stack (plans_of r.stack) r.script ++ count_lines r.stack r.script mode count)
 
--- And with them: the same lines, and after the line of each packet the bytes of its datagram, which expands to it.
+-- What a replay writes with its packets' bytes: the same lines, and after the line of each packet the bytes of its
+-- datagram, which expands to it.
 pub record WritesDatagrams (file script_text : List ℕ) (mode : Mode) (count : Bool) (out : List ℕ) : Type 0 where
   pub stack : List LayerTree
   pub script : Script
@@ -101,7 +102,7 @@ pub record WritesDatagrams (file script_text : List ℕ) (mode : Mode) (count : 
       (datagrams mode stack (plans_of stack) (run_of stack (plans_of stack) script))
   pub expand : ScriptExpands mode stack script
 
--- What a replay writes with its packets' bytes is so.
+-- Each replay with its packets' bytes writes this.
 abbrev pub ReplaysWriteDatagrams : Type 0
 ReplaysWriteDatagrams = (file script_text out : List ℕ) (mode : Mode) (count : Bool) →
     Replays file script_text mode true count out →
@@ -115,7 +116,7 @@ MissesOnTheWay stack (taken s) = (case : Case) (known : Known) (shape_is : Shape
     shape stack known case ≡ Ok shape_is → first_missed case s ≡ Some n → n < shape_decisions case stack shape_is
 MissesOnTheWay stack _ = Unit {0}
 
--- It is so at each moment of a replay.
+-- This holds at each moment of a replay.
 abbrev pub ReplaysMissOnTheWay : Type 0
 ReplaysMissOnTheWay = (file script_text : List ℕ) (stack : List LayerTree) (script : Script) →
     IsReplay file script_text stack script →

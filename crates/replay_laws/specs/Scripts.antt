@@ -1,4 +1,4 @@
--- What a script is made of that a text spells.
+-- What a script that a text spells is made of.
 use Rattle.std.specs.Prelude.{◌≡◌, ℕ, List, Ok}
 use Rattle.std.specs.List.{AllByRecursion}
 use Rattle.packet_mean.specs.ChainedState.{IsNumber}
@@ -6,8 +6,8 @@ use Rattle.script_mean.specs.Script.{IsRunnable, script_of}
 use Rattle.script_mean.specs.declared.script.Script.{Script}
 use Rattle.member_laws.specs.Members.{IsGivenEvent}
 
--- Its numbers are below 2^32, it has 1 to 32 members, its events are of these, and what they say is made of bytes and
--- numbers.
+-- A script's numbers are below 2^32; it has 1 to 32 members; its events are of these members, and what they say is made
+-- of bytes and numbers.
 pub record IsGivenScript (script : Script) : Type 0 where
   pub group : IsNumber script.group
   pub stamp : IsNumber script.stamp

@@ -29,8 +29,8 @@ group_outs stack g = outs_of (shape stack g.entry g.case)
 abbrev pub packets_before : List ShapeOut → ℕ → ℕ
 packets_before outs position = length (filter (λ out. is_packet out out.dir) (take position outs))
 
--- The output at a position of the shape of a group, before which stand n groups, has plan k: it is a packet, and
--- this plan is its own.
+-- The output at a position of the shape of a group, which comes after n groups, has plan k: it is a packet, and this
+-- plan is its own.
 pub record HasPlan (stack : List LayerTree) (number : ℕ) (g : Group) (position k : ℕ) : Type 0 where
   pub out : ShapeOut
   pub stands : slice_get (group_outs stack g) position ≡ Some out

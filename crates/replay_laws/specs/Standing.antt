@@ -29,8 +29,8 @@ abbrev pub IsStanding : ℕ → Member → Type 0
 IsStanding id (inside view states) = StandIn view id states
 IsStanding id out = Unit {0}
 
--- A run, of however many turns and whatever stack, keeps them so; a member that comes into a view has such states; and
--- so has one that took a step, in its view or in the one that it installed.
+-- A run of any stack, in any number of turns, keeps them so; a member that comes into a view has such states; and so
+-- has one that took a step, in its view or in the one that it installed.
 abbrev pub RunsKeepStanding : Type 0
 RunsKeepStanding = (turns : ℕ) (stack : List LayerTree) (states : List State) (first : Task Event)
     (me count ltime : ℕ) →

@@ -40,8 +40,8 @@ ComesTo stack m _ = m.happening.world ≡ m.before
 abbrev pub IsMoment : List LayerTree → Moment → Type 0
 IsMoment stack m = ComesTo stack m m.happening.did
 
--- So it is in each run of events that are made of bytes and numbers, from a chained world whose members stand in their
--- views.
+-- This holds in each run of events that are made of bytes and numbers, from a chained world whose members stand in
+-- their views.
 abbrev pub MomentsAreSteps : Type 0
 MomentsAreSteps = (stack : List LayerTree) (w : World) (events : List ScriptEvent) → TypedStack stack →
     AllByRecursion IsGivenEvent events →

@@ -24,12 +24,13 @@ pub fn runs_keep_standing()
     ensures { RunsKeepStanding }
 {}
 
-/// A member that comes into a view has those of the view.
+/// The states of a member that comes into a view have the rank, the number of members and the count of views of that
+/// view.
 pub fn opened_is_standing()
     ensures { OpenedIsStanding }
 {}
 
-/// A step keeps them, in its view or in the one that it installs.
+/// A step keeps all three, in its view or in the one that it installs.
 pub fn steps_keep_standing()
     ensures { StepsKeepStanding }
 {}
@@ -44,7 +45,7 @@ pub fn events_keep_standing()
     ensures { EventsKeepStanding }
 {}
 
-/// Along a run they stand in them before and after each event.
+/// Along a run the members stand in their views before and after each event.
 pub fn moments_are_standing()
     ensures { MomentsAreStanding }
 {}

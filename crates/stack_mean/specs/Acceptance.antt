@@ -1,4 +1,4 @@
--- Which stacks are accepted: those of which it is known beforehand that each run ends, and how much it may take. (This
+-- Which stacks are accepted: those for which it is known beforehand that each run ends, and how much it may take. (This
 -- project's own.)
 use Rattle.std.specs.Prelude.{ℕ, zero, suc, ◌+◌, ◌*◌, ◌-◌, nat_lt, max, min, if◌then◌else◌, List, ◌++◌, map, fold}
 use Rattle.std.specs.Prelude.{length, Option, Some, None, Result, Ok, Err}
@@ -16,8 +16,8 @@ use Rattle.stack_mean.specs.Graph.{Node, nodes, nodes_of, arrows, entered_handle
 abbrev pub largest : List ℕ → ℕ
 largest = fold max 0
 
--- What a node and all that follows from it may cost at most, in n steps: its own cost, and for each arrow `times` times
--- the largest cost of the nodes that may follow.
+-- The most that a node and all that follows from it may cost, in n steps: its own cost, and for each arrow the largest
+-- cost of the nodes that may follow, as many times as the arrow stands for.
 abbrev pub cost_in : ℕ → List LayerTree → (Node → ℕ) → Node → ℕ
 cost_in zero stack own node = own node
 cost_in (suc steps) stack own node =
@@ -36,7 +36,7 @@ abbrev pub own_joins : List LayerTree → Node → ℕ
 own_joins stack node = if is_place (length stack) node.at then option_map_or handler_joins (entered_handler stack node)
     0 else 0
 
--- How many joins are made at most in what follows from a node.
+-- The most joins that are made in what follows from a node.
 abbrev pub most_joins : List LayerTree → Node → ℕ
 most_joins stack node = cost stack (own_joins stack) node
 
@@ -64,14 +64,14 @@ weight_limit = 65536
 abbrev pub joins_limit : ℕ
 joins_limit = 1024
 
--- Why a stack isn't accepted: a node at this place, counted from 0, of this kind lies on a cycle; an entry is too
--- heavy, the heaviest being told; or an entry makes too many joins.
+-- Why a stack isn't accepted: a node of this kind at this place, counted from 0, lies on a cycle; an entry is too
+-- heavy, with the weight of the heaviest; or an entry makes too many joins.
 pub data Refusal : Type 0 where
   cycle : (place : ℕ) → Kind → Refusal
   too_many : (weight : ℕ) → Refusal
   too_many_joins : Refusal
 
--- A number as far as 32 bits hold it.
+-- A number, or the largest that 32 bits hold, if it is larger.
 abbrev pub held_at_most : ℕ → ℕ
 held_at_most n = min n 4294967295
 
@@ -82,12 +82,12 @@ without_cycle stack None =
     else if nat_lt joins_limit (largest_joins stack) then Err too_many_joins
     else Ok stack
 
--- A stack where it is accepted, or the first reason for which it isn't. Cycles are judged first, and of those the
--- lowest place, and there the first kind.
+-- A stack that is accepted, or the first reason why it isn't. Cycles are judged first: the lowest place on one, and
+-- there the first kind.
 abbrev pub acceptance : List LayerTree → Result (List LayerTree) Refusal
 acceptance stack = without_cycle stack (first_on_cycle stack)
 
--- How many rows with messages a cell keeps at most, at a member of a view of n.
+-- The most rows with messages that a cell keeps, at a member of a view of n.
 abbrev pub capacity_for : ItemsTree → ℕ → ℕ
 capacity_for items capacity = option_map_or (λ carried. capacity) items.message 0
 
@@ -96,7 +96,7 @@ message_rows n (numbers shape initial) = 0
 message_rows n (queue capacity items) = capacity_for items capacity
 message_rows n (queues capacity items) = capacity_for items capacity * n
 
--- How many rows with messages a member of a view of n keeps at most.
+-- The most rows with messages that a member of a view of n keeps.
 abbrev pub rows_of : List LayerTree → ℕ → ℕ
 rows_of stack n = sum_by (λ layer. sum_by (λ cell. message_rows n cell.form) layer.cells) stack
 

@@ -28,14 +28,14 @@ ack_echo = bare_layer (codes "acks") (on Down Ack 0 always (acks Up ∷ []) ∷ 
 abbrev pub two_echoes_at_once : LayerTree
 two_echoes_at_once = bare_layer (codes "both") (ack_echo.handlers ++ echo.handlers)
 
--- A cycle counts that no entry reaches; the lowest place on a cycle is told, and there the first kind.
+-- A cycle counts even if no entry reaches it; the refusal names the lowest place on a cycle, and there the first kind.
 abbrev pub UnreachedCycles : Type 0
 UnreachedCycles =
     (acceptance (ack_echo ∷ ack_echo ∷ []) ≡ Err (cycle 0 Ack)) ×
     (acceptance (silent_layer ∷ ack_echo ∷ ack_echo ∷ []) ≡ Err (cycle 1 Ack)) ×
     (acceptance (two_echoes_at_once ∷ two_echoes_at_once ∷ []) ≡ Err (cycle 0 Cast))
 
--- A weight that 32 bits don't hold is told as the largest number that they do.
+-- In the refusal a weight that 32 bits don't hold is the largest number that they do.
 abbrev pub HugeWeight : Type 0
 HugeWeight = acceptance (replicate 9 fan) ≡ Err (too_many 4294967295)
 
@@ -69,7 +69,7 @@ abbrev pub ConstantFields : Type 0
 ConstantFields = map (λ out. out.headers) (outs_of (shape (constant_layer ∷ []) app_cast First)) ≡
     (header 1 (Some 14 ∷ None ∷ None ∷ Some 6 ∷ []) ∷ []) ∷ []
 
--- A message that no handler is for passes after `none`, and can't be drawn after another header.
+-- A message without a handler passes after `none`, and can't be drawn after another header.
 abbrev pub Unhandled : Type 0
 Unhandled =
     (length_of (shape (counter ∷ []) (packet_entry Cast (0 ∷ [])) First) ≡ Ok 1) ×

@@ -16,7 +16,7 @@ use Rattle.layer_mean.specs.declared.run.Case.TheVariants.{First}
 use Rattle.stack_mean.specs.NoShape as no_shape
 use Rattle.stack_mean.specs.NoShape.{NoShape, drawn_from}
 
--- A header as far as it is known: its tag, and of each field the number that it always is, or None for one that varies.
+-- A header as far as it is known: its tag, and for each field its constant number, or None if it varies.
 pub record DrawnHeader : Type 0 where
   pub tag : ℕ
   pub fields : List (Option ℕ)
@@ -31,11 +31,11 @@ pub record DrawnEvent : Type 0 where
   pub kind : Kind
   pub headers : Option (List DrawnHeader)
 
--- What two numbers that may be known make, where both are.
+-- What two numbers make, where both are known.
 abbrev pub of_both : (ℕ → ℕ → ℕ) → Option ℕ → Option ℕ → Option ℕ
 of_both f a b = option_and_then (λ x. option_map (f x) b) a
 
--- The number that an expression always is: one that is written with numbers, operators, functions and choices alone.
+-- The constant number of an expression that is written with numbers, operators, functions and choices alone.
 abbrev pub constant_of : ExpressionTree → Option ℕ
 constant_of (number n) = Some n
 constant_of (binary operator a b) = of_both (applied operator) (constant_of a) (constant_of b)
@@ -63,7 +63,7 @@ pub record Drawing : Type 0 where
   pub scope : List DrawnMessage
   pub sent : List (Dir × DrawnEvent)
 
--- The headers with which a message is sent: going down it gets its layer's.
+-- The headers with which a message is sent: going down, it gets one of its layer's.
 abbrev pub with_header : Dir → ContentTree → List DrawnHeader → List DrawnHeader
 with_header Up c headers = headers
 with_header Down c headers = record { tag = c.tag; fields = map constant_of c.fields } ∷ headers
@@ -85,7 +85,7 @@ with_sent d e headers = record d { sent = d.sent ++ (e.direction, record { kind 
 abbrev pub with_taken : TakenTree → List DrawnMessage → List DrawnMessage
 with_taken t scope = option_map_or (λ slot. slice_set scope slot.0 (drawn_row slot.1)) t.message scope
 
--- A predicted step: a take and an emission change what is drawn, and a loop can't be.
+-- A predicted step: a take and an emission change what is drawn, and a loop can't be drawn.
 abbrev pub draw_step : ℕ → Step → Drawing → Result Drawing NoShape
 draw_step place (get c i taken) d = Ok (record d { scope = with_taken taken d.scope })
 draw_step place (send e) d =

@@ -77,7 +77,7 @@ abbrev mutual
   joins_of none = 0
   joins_of (more x rest) = joins x + joins_of rest
 
--- The joins of the condition that a handler's common case is, if there is one.
+-- The joins of the condition of a handler's common case, if there is one.
 abbrev pub joins_expected : Expected → ℕ
 joins_expected (common e) = joins_in e
 joins_expected _ = 0

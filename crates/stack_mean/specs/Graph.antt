@@ -15,9 +15,9 @@ use Rattle.layer_mean.specs.Visit.{handler_for}
 use Rattle.layer_mean.specs.Queue.{beyond, is_place, layer_at}
 use Rattle.stack_mean.specs.Emissions.{Repeated, emissions_in}
 
--- A node is an event that arrives at a place or an edge of the queue. Of a message it tells the tag of the first
--- header, which is the one of the layer above the gap that the event crosses; it is 0 where there is no layer above,
--- and where there is no message.
+-- A node is an event that arrives at a place or an edge of the queue. The tag is that of the first header of its
+-- message, a header of the layer above the gap that the event crosses; it is 0 where there is no layer above, and where
+-- there is no message.
 pub record Node : Type 0 where
   pub at : ℕ
   pub dir : Dir
@@ -64,8 +64,8 @@ abbrev pub goes_down : Dir → Kind → Bool
 goes_down Up kind = false
 goes_down Down kind = carries kind
 
--- The tags that an emitted message can have: going down the one that it is sent with; going up the tag with which it
--- came down, and else each one of the layer above.
+-- The tags that an emitted message can have: going down, the one with which it is sent; going up, the one with which it
+-- came down, if it keeps those headers, and else each tag of the layer above.
 abbrev pub content_tags : List LayerTree → Node → Dir → ContentTree → List ℕ
 content_tags stack node Down c = c.tag ∷ []
 content_tags stack node Up c =
@@ -94,15 +94,15 @@ abbrev pub emission_arrow : List LayerTree → Node → Repeated → Arrow
 emission_arrow stack node x =
     arrow_to x.times node x.emission.direction x.emission.kind (emission_tags stack node x.emission x.emission.content)
 
--- A missing handler passes an event on once: down after `none`, and up after whatever header of the layer above; it
--- drops a message after another header than `none`.
+-- A missing handler passes an event on once: down after `none`, and up after any header of the layer above. A message
+-- that comes up after a header other than `none` is dropped.
 abbrev pub passing : List LayerTree → Node → Dir → List Arrow
 passing stack node Down = arrow_to 1 node Down node.kind (0 ∷ []) ∷ []
 passing stack node Up = if node.tag == 0
     then arrow_to 1 node Up node.kind (tags_for node.kind (layer_at stack (node.at + 1))) ∷ []
     else []
 
--- The tag of the header that is popped on arrival: going down none is.
+-- The tag of the header that is popped on arrival; going down, none is popped.
 abbrev pub popped_tag : Node → Dir → ℕ
 popped_tag node Up = node.tag
 popped_tag node Down = 0

@@ -2,8 +2,8 @@
 use Rattle.std.specs.Prelude.{ℕ, List, Option}
 use Rattle.layer_ast.specs.declared.tokens.Kind.{Kind}
 
--- A plan has the kind of its packets, the tags of their headers, the lowest layer's first, and of each field of these
--- headers, in the same order, the number that it always is, or None for one that varies.
+-- A plan has the kind of its packets, the tags of their headers, the lowest layer's first, and for each field of these
+-- headers, in the same order, its constant number, or None if it varies.
 pub record Plan : Type 0 where
   pub kind : Kind
   pub tags : List ℕ

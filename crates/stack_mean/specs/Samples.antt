@@ -146,7 +146,7 @@ CounterLengths = map (λ k. length_of (shape (counter ∷ []) k First))
     (app_cast ∷ app_send ∷ packet_entry Cast (1 ∷ []) ∷ packet_entry Send (0 ∷ []) ∷ []) ≡ Ok 4 ∷ Ok 1 ∷ Ok 4 ∷ Ok 1 ∷
     []
 
--- An event for a layer without handlers, and what it makes of it at place 3.
+-- An event for a layer without handlers, and what such a layer makes of it at place 3.
 abbrev pub cast_of : Content → Event
 cast_of m = record { kind = Cast; peer = 1; a = 0; b = 0; message = Some m }
 
@@ -166,7 +166,7 @@ untagged_content = record { headers = []; body = codes "x" }
 abbrev pub tick : Event
 tick = record { kind = Timer; peer = 0; a = 5; b = 0; message = None }
 
--- An event without a message passes, a message passes going down after `none`, and going up where that was popped;
+-- An event without a message passes. A message passes going down, after `none`, and going up, where `none` was popped;
 -- after another header it is dropped, which isn't predicted.
 abbrev pub MissingHandlers : Type 0
 MissingHandlers =

@@ -34,7 +34,7 @@ drawn_turn p (Err reason) = record { world = Err reason; sent = [] }
 drawn_turn p (Ok v) =
     record { world = Ok (record { visits = p.visits + 1; length = p.length + v.length }); sent = v.sent }
 
--- A visit is looked at where none failed before, and where there may be one more.
+-- A visit is looked at if none failed before it and one more is allowed.
 abbrev pub shaped_visit : Case → List LayerTree → ℕ → Dir → DrawnEvent → Result Progress NoShape →
     Turn (Result Progress NoShape) DrawnEvent
 shaped_visit case stack at dir event (Err reason) = record { world = Err reason; sent = [] }
@@ -102,7 +102,7 @@ pub record Watched : Type 0 where
   pub drawn : Result Progress NoShape
   pub forks : Bool
 
--- A visit that is looked at may meet one.
+-- A visit that is looked at may meet such a condition.
 abbrev pub meets_fork : List LayerTree → ℕ → Dir → DrawnEvent → Result Progress NoShape → Bool
 meets_fork stack at dir event (Err reason) = false
 meets_fork stack at dir event (Ok p) = nat_lt p.visits visits_limit &&
@@ -182,8 +182,8 @@ shape_with log p = record { visits = map shape_visit log.visits; outs = map shap
 abbrev pub shape_of : Log (Result Progress NoShape) DrawnEvent → Result Shape NoShape
 shape_of log = drawn_from (λ p. Ok (shape_with log p)) log.world
 
--- What is drawn of an entry in a case, or the first reason for which it can't be. (As many turns as an accepted stack's
--- heaviest entry weighs are enough.)
+-- What is drawn of an entry in a case, or the first reason why it can't be drawn. (As many turns as the heaviest entry
+-- of an accepted stack may weigh are enough.)
 unfoldable pub drawn_shape : List LayerTree → Known → Case → Result Shape NoShape
 drawn_shape stack k case =
     shape_of (run_for (length stack) (marking_player (shaper case stack)) weight_limit

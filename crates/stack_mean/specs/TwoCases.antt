@@ -75,8 +75,8 @@ looping = each 1 (number 2) 2 (block [])
 abbrev pub plain_cast : StatementTree
 plain_cast = sends Down Cast (local 0) (message 0) 0 []
 
--- The first case may fail after a condition with two predicted ways, and the second have a shape; before it both
--- fail. A condition that the first case meets after a visit of another layer counts.
+-- The first case may fail after a condition with two predicted ways while the second has a shape; a failure before the
+-- condition fails both. A condition that the first case meets after a visit of another layer counts.
 abbrev pub FailedCases : Type 0
 FailedCases =
     (shape (casting (either (looping ∷ []) (plain_cast ∷ []) ∷ []) ∷ []) app_cast First ≡ Err (no_shape.loop 0)) ×

@@ -1,4 +1,4 @@
--- A run that goes on: how what is there now comes from what there was when it began.
+-- A run that goes on: how what it has now follows from what it had when it began.
 use Rattle.std.specs.Prelude.{◌≡◌, ℕ, ◌+◌, ◌≤◌, List, ◌++◌, length, None}
 use Rattle.slot_pool.specs.Held.{Held, spare}
 use Rattle.slot_pool.specs.References.{Moved, Covers}
@@ -70,9 +70,9 @@ pub record BeginsWell (b : Begun) : Type 0 where
   pub joins : task_joins b.stack b.first ≤ spare b.pool
   pub counts : CountsWithin most_at_first b.pool
 
--- The run goes on: in a pool, what it shows is a line of the definition's queue, from which the run that began reaches
--- its end, and its visits what the layers have taken then; and the pending weights and join counts are left of those
--- of the first task.
+-- The run goes on in a pool. What it shows is a line of the definition's queue, from which the run that began reaches
+-- its end; the visits from there on, added to what the layers have taken, yield what they have taken at that end. The
+-- pending weights and join counts are left of those of the first task.
 pub record Going (b : Begun) (p : List Held) (n : Now) : Type 0 where
   pub world : Work
   pub left : ℕ

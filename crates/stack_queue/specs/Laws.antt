@@ -18,6 +18,6 @@ abbrev pub EntriesFit : Type 0
 EntriesFit = (stack : List LayerTree) (first : Task Event) → IsChainedTask stack first →
     Enters stack first.at first.dir first.event.kind → FitsStack stack first
 
--- A stack that is accepted weighs less than there may be events in a list.
+-- A stack that is accepted weighs less than the most events that a list may have.
 abbrev pub StacksFit : Type 0
 StacksFit = (stack : List LayerTree) → acceptance stack ≡ Ok stack → largest_weight stack < most_sent

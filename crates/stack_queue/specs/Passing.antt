@@ -46,7 +46,7 @@ pub record GoesWith {S : Type 0} (place : S → ℕ) (layer : S → LayerTree) (
         taken = map taken stages;
       })
 
--- Whatever run goes on with the first stages, tasks and visits goes on with the second, and no more weight is pending
+-- Any run that goes on with the first stages, tasks and visits goes on with the second, and no more weight is pending
 -- in it.
 pub record Continues {S : Type 0} (place : S → ℕ) (layer : S → LayerTree) (refs : S → List ℕ)
     (Ready : List Held → S → Type 0)

@@ -34,6 +34,6 @@ tasks_at [] xs = []
 tasks_at (at ∷ places) [] = []
 tasks_at (at ∷ places) (x ∷ xs) = record { at = at; direction = x.0; event = x.1 } ∷ tasks_at places xs
 
--- Where each event goes that was sent from somewhere.
+-- Where each event that was sent from a place goes.
 abbrev pub places_on : ℕ → List (Dir × PoolEvent) → List ℕ
 places_on at xs = map (λ x. beyond x.0 at) xs

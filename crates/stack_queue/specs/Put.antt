@@ -21,7 +21,7 @@ task_with t message = record { at = t.at; direction = t.direction; event = pool_
 abbrev pub carrying_task : BareTask → Content → Task Event
 carrying_task t content = record { at = t.at; dir = t.direction; event = event_in t.envelope (Some content) }
 
--- In a pool that wasn't full a task was made that shows this, with its body in one more slot, and it is the last.
+-- In a pool that wasn't full a task that shows this was made, with its body in one more slot, and it is the last.
 pub record PutLast (p : List Held) (old : Buffer PoolTask) (shown : Task Event) (q : List Held) (new : Buffer PoolTask)
     : Type 0 where
   pub task : PoolTask

@@ -27,7 +27,7 @@ pub record HasPassed {S : Type 0} (place : S → ℕ) (layer : S → LayerTree) 
   pub same_layer : layer s' ≡ layer s
   pub one_taken : taken s' ≡ one_more (taken s)
 
--- It let it pass; or nothing has changed.
+-- The stage let the event pass, or nothing has changed.
 abbrev pub Passes : {S : Type 0} (place : S → ℕ) (layer : S → LayerTree) (refs : S → List ℕ)
     (Ready : List Held → S → Type 0)
     (state : List Held → S → State) (taken : S → ℕ) (s : S) (sent : Dir × PoolEvent) (s' : S)
@@ -49,7 +49,7 @@ pub record HasGoneRound {S : Type 0} (place : S → ℕ) (layer : S → LayerTre
   pub to : task.at ≡ beyond (first_task tasks.items).direction (first_task tasks.items).at
   pub round : after ≡ buffer (drop 1 tasks.items ++ task ∷ []) tasks.capacity
 
--- It did; or nothing has changed.
+-- The first task did so, or nothing has changed.
 abbrev pub PassesRound : {S : Type 0} (place : S → ℕ) (layer : S → LayerTree) (refs : S → List ℕ)
     (Ready : List Held → S → Type 0)
     (state : List Held → S → State) (taken : S → ℕ) (s : S) (tasks : Buffer PoolTask) (s' : S)

@@ -11,8 +11,8 @@ use layer_ast::Dir;
 use layer_stage::Stage;
 use pool_message::PoolEvent;
 
-/// An event that stands at a place, with which alone a run goes on, passes the layers that have no handler for it, up
-/// to an edge or to a layer that has one. Each of them is a visit. Says where it stands then.
+/// An event that stands at a place, the only one with which a run goes on, passes the layers that have no handler for
+/// it, up to an edge or to a layer that has one. Each layer that it passes is a visit. Answers where it stands then.
 pub(crate) fn pass_along<S: Stage>(
     stages: &mut [S],
     at: u16,

@@ -38,7 +38,7 @@ pub(crate) fn stand_alone(places: &mut ShortQueue<u16>, at: u16)
     places.set_first(at);
 }
 
-/// The first place goes, from which the events were sent that have no place: each of these goes on to its neighbour.
+/// The first place goes. The events that have no place were sent from it: each goes on to its neighbour.
 pub(crate) fn go_on(places: &mut ShortQueue<u16>, events: &Events, at: u16)
     requires place { (1 ≤ at) × (at ≤ 255) }
     requires some { 0 < length places.old.items }
@@ -55,7 +55,7 @@ pub(crate) fn go_on(places: &mut ShortQueue<u16>, events: &Events, at: u16)
     put_places(places, events, at);
 }
 
-/// The events after those that have places were sent from one: each goes on to its neighbour.
+/// The events after those that have places were sent from this one: each goes on to its neighbour.
 fn put_places(places: &mut ShortQueue<u16>, events: &Events, at: u16)
     requires place { (1 ≤ at) × (at ≤ 255) }
     requires room { events.now.capacity ≤ places.old.capacity }

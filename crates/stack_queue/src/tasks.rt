@@ -25,7 +25,7 @@ pub struct PoolTask {
     pub event: PoolEvent,
 }
 
-/// A task of whose event all but its message is known.
+/// A task whose event is known but for its message.
 #[derive(Clone, Copy)]
 pub struct BareTask {
     pub at: u16,
@@ -147,8 +147,9 @@ impl Tasks {
         self.events.move_first(out);
     }
 
-    /// Where the first task is the only one, its event passes the layers that have no handler for it, as it lies, up to
-    /// an edge or to a layer that has one. Each of them is a visit. Says where the first task stands then.
+    /// Where the first task is the only one, its event passes, as it lies, the layers that have no handler for it, up
+    /// to an edge or to a layer that has one. Each layer that it passes is a visit. Answers where the first task stands
+    /// then.
     pub(crate) fn pass<S: Stage>(&mut self, at: u16, stages: &mut [S], visits: &mut u64) -> u16
         requires first { (self.old.items ≡ first_task self.old.items ∷ drop 1 self.old.items) ×
             ((first_task self.old.items).at ≡ at) }
@@ -223,7 +224,8 @@ impl Tasks {
     }
 
     /// Where others are pending, the event of the first task passes a layer that has no handler for it, and the task
-    /// becomes the last. Says whether it did; where it didn't, nothing has changed. One that is alone was asked before.
+    /// becomes the last. Answers whether it did; where it didn't, nothing has changed. A task that is alone was tried
+    /// before.
     fn pass_round<S: Stage>(&mut self, at: u16, stage: &mut S) -> bool
         requires some { 0 < length self.old.items }
         requires at { (first_task self.old.items).at ≡ at }

@@ -1,4 +1,4 @@
--- What the words' job gave, whichever it is, and what was said of that.
+-- What the words' job yielded, whichever it is, and what was said of that.
 use Rattle.std.specs.Prelude.{List, Option, Some, None}
 use Rattle.clap.specs.Walk.{Text}
 use Rattle.job_mean.specs.Job.{Job, check, synth, pack, replay, replay_with, explain, load, node, audit, job_of_words}
@@ -29,7 +29,7 @@ way_of (node file plan turns me patience mode) =
     over_network (record { file = file; plan = plan; turns = turns; me = me; patience = patience; mode = mode })
 way_of (audit file law) = over_files
 
--- How a job ended that is done in a way. One that is no node left the network and the clock as they were.
+-- How a job that is done in a way ended. A job that is no node left the network and the clock as they were.
 abbrev pub PerformedBy : Way → Job → Around → Beyond → Ended → Type 0
 PerformedBy over_files job a n end = Comes job a end × Untouched n
 PerformedBy (over_network w) job a n end = NodeComes w a n end

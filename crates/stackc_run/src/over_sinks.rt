@@ -19,10 +19,10 @@ use std::alloc::Global;
 /// With status 0 `out` gained the whole output of the definitions, byte for byte, in the mode that the words ask for,
 /// and with 8 the breach that an audit found; 1, 2 and 3 come exactly where a file, the words, or the script, the plan
 /// or the members are refused, 4 and 5 only where the shelf or `out` counted a fault in this call, 6 only where `links`
-/// did, and 7 where memory ran out. A job that is good by what the shelf tells, on which no put of `out` failed, ends
-/// with 0, 8 or 7, a node only where the network bore it. Only a node has to do with `links` and `clock`.
+/// did, and 7 where memory ran out. A job that is good by what the shelf tells, and for which no put of `out` failed,
+/// ends with 0, 8 or 7; a node does so only where the network bore it. Only a node uses `links` and `clock`.
 ///
-/// What these lines are in bypass mode, laws of `replay_laws` say: the report is that of the layered meaning
+/// Laws of `replay_laws` say what these lines are in bypass mode: the report is that of the layered meaning
 /// (`replays_write_the_report`), each datagram spells the layered packet of its number (`packets_expand`), and one is
 /// short exactly where its step was a common cast or send of an application whose output has a plan
 /// (`short_exactly_where`).

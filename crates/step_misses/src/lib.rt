@@ -1,4 +1,4 @@
-//! What a step lacked that wasn't common, as it is told.
+//! What a step that wasn't common lacked, as it is told.
 #![tactic(auto)]
 
 mod miss;

@@ -1,4 +1,4 @@
-//! What a step lacked that wasn't common.
+//! What a step that wasn't common lacked.
 
 use shape_core::Absent;
 use stack_shapes::EntryOf;

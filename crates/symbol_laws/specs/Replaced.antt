@@ -20,8 +20,8 @@ pub record Replaces (stack : List LayerTree) (e : Entry) (own trace : List Opera
   pub there : AreThere stack trace
   pub joins : trace_joins trace ≤ trace_joins own
 
--- What is made of such a trace has its simplest handler. Where nothing is made of the own one, nothing is, for the same
--- reason.
+-- What is made of such a trace has its simplest handler. Where nothing is made of the own trace, nothing is made here,
+-- for the same reason.
 abbrev pub IsReplaced : List LayerTree → Entry → Made → Made → Type 0
 IsReplaced stack e (fused own guarded) (fused trace other) = Replaces stack e own trace × (other ≡ simplest trace)
 IsReplaced stack e (absent reason) (absent other) = other ≡ reason

@@ -8,7 +8,7 @@ use Rattle.trace_mean.specs.Follow.{on, before}
 use Rattle.trace_laws.specs.Safe.{SafeTrace}
 use Rattle.symbol_mean.specs.Symbolic.{symbolic}
 
--- Of traces with one list one is followed safely where the other is.
+-- Of two traces with one list, one is followed safely where the other is.
 abbrev pub SameActsAreSafe : Type 0
 SameActsAreSafe = (stack : List LayerTree) (a b : List Operation) → symbolic a ≡ symbolic b →
     (i : Input) (states : List State) →

@@ -7,7 +7,7 @@ abbrev pub Differs : {X : Type 0} → List X → List X → Option ℕ → Type 
 Differs xs ys None = xs ≡ ys
 Differs xs ys (Some k) = DifferAt xs ys k
 
--- Whether they have the same at a place.
+-- Whether two lists have the same at a place.
 abbrev pub SameAt : {X : Type 0} → List X → List X → ℕ → Bool → Type 0
 SameAt xs ys k true = slice_get xs k ≡ slice_get ys k
 SameAt xs ys k false = slice_get xs k ≡ slice_get ys k → ⊥

@@ -40,7 +40,7 @@ AreBelow n ks = AllByRecursion (λ k. k < n) ks
 abbrev pub seen_in : Counts → ℕ → ℕ → Seen
 seen_in counts p c = record { place = p; cell = c; writes = count_in counts p c }
 
--- The form of a node whose parts have these values, where cells are seen so.
+-- The form of a node whose parts have these values, with its cell as `seen` has it.
 abbrev pub form_of : (ℕ → ℕ → Seen) → Node → List ℕ → Form
 form_of seen nodes.Me vs = forms.Number numbers.Me
 form_of seen nodes.Count vs = forms.Number numbers.Count

@@ -34,7 +34,7 @@ IsChain ms k = Stands ms k (a_chain (chain_in ms k))
 abbrev pub IsSending : List Meant → ℕ → Type 0
 IsSending ms k = Stands ms k (a_sending (sending_in ms k))
 
--- A form's parts are there, and what they must be.
+-- A form's parts are there, and are what they must be.
 abbrev pub IsWellNumber : List Meant → number_form.NumberForm → Type 0
 IsWellNumber ms (numbers.Element s index) = IsNumber ms index
 IsWellNumber ms (numbers.Square s row column) = IsNumber ms row × IsNumber ms column

@@ -22,7 +22,7 @@ values_after os n = fold known_after no_values (take n os)
 abbrev pub known_to : Walk → Values
 known_to w = values_after (trace_tree w.trace.now) w.done
 
--- What an expression means there, and that of a node.
+-- What an expression means there, and what the expression of a node means.
 abbrev pub meant_by : Values → Term → Meant
 meant_by v (term.a_number n) = a_number (number_value v n)
 meant_by v (term.a_message m) = a_message (message_value v m)

@@ -31,7 +31,7 @@ fn atom_at(atoms: &Atoms, number: u32) -> Atom
     }
 }
 
-/// The values of the first of some atoms.
+/// The values of the first `many` of some atoms.
 fn atom_values(
     table: &mut Table,
     walk: &Walk<'_>,
@@ -53,7 +53,7 @@ fn atom_values(
     Ok(made)
 }
 
-/// The row of some numbers, without the first.
+/// The row of some numbers, without the first `first` of them.
 #[tactic(auto, using(crate::proofs::Rules::of_row_after))]
 fn row_after(table: &mut Table, numbers: &Fields, first: u32) -> Result<u32, AllocError>
     requires numbers { AllNumbers (meanings table.old) numbers.now }

@@ -49,7 +49,7 @@ impl Table {
         }
     }
 
-    /// A value of earlier ones, added where it isn't there; its number.
+    /// Adds a value made of earlier ones, unless it is there, and answers its number.
     #[tactic(auto, using(crate::proofs::Sharing::put_made, crate::proofs::Sharing::put_well))]
     pub fn put(&mut self, form: Form) -> Result<u32, AllocError>
         requires { IsWell (meanings self.old) form }

@@ -180,7 +180,7 @@ fn node_value(table: &mut Table, walk: &Walk<'_>, node: u32) -> Result<u32, Allo
     }
 }
 
-/// What the first of some nodes mean, which are below another.
+/// What the first `many` of some nodes mean; all of them are below another one.
 #[cycle(values)]
 fn node_values(
     table: &mut Table,

@@ -6,11 +6,11 @@ use Rattle.trace_words.specs.declared.error.LineError.{LineError}
 use Rattle.trace_words.specs.declared.error.LineError.TheVariants.{Form, Memory}
 use Rattle.trace_words.specs.declared.scope.Scope.{Scope}
 
--- How what stands in a bracket of a line is read, where `room` more may be opened inside it.
+-- How the text in a bracket of a line is read, where `room` brackets may be opened, that one included.
 unfoldable pub inner : Scope → ℕ → Inner
 inner s room = inside (layers_in s) (named_in s) room
 
--- How many may be opened inside the next one, if one may.
+-- How many brackets may be opened inside the next one, if that may be opened.
 abbrev pub Opens : ℕ → Result ℕ LineError → Type 0
 Opens room (Ok less) = room ≡ suc less
 Opens room (Err Form) = room ≡ zero

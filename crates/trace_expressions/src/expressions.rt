@@ -331,7 +331,7 @@ fn operation(
     Ok(number)
 }
 
-/// A number that a word begins which is no number by itself.
+/// A number that begins with a word that is no number by itself.
 #[cycle(expressions)]
 fn begun_by(
     text: &mut Text<'_>,

@@ -35,7 +35,7 @@ first_of (tag ∷ tags) = tag
 abbrev pub entry_node : List LayerTree → Known → Node
 entry_node stack k = record { at = entry_place stack k.dir; dir = k.dir; kind = k.kind; tag = first_of k.tags }
 
--- What has an input that is chained is an entry.
+-- What has a chained input is an entry.
 abbrev pub ChainedIsEntry : Type 0
 ChainedIsEntry = (stack : List LayerTree) (k : Known) (fields : List (Option ℕ)) (i : Input) →
     IsChainedTask stack (entry_task stack k fields i) → IsEntry stack k

@@ -10,7 +10,7 @@ ghost use Rattle.trace_form_laws.specs.Plans.{PlansAreEntries};
 ghost use Rattle.trace_form_laws.specs.There.{TracesNameWell};
 ghost use Rattle.trace_form_laws.specs.WellFormed.{TracesAreWellFormed};
 
-/// What has an input that is chained is an entry.
+/// What has a chained input is an entry.
 pub fn chained_is_entry()
     ensures { ChainedIsEntry }
 {}

@@ -24,7 +24,7 @@ cell_shown (Some cell) = Some (cell_tree cell.now)
 abbrev pub form_shown : Option CellTree → Option Form
 form_shown cell = option_map (λ cell. cell.form) cell
 
--- What rows have that are borrowed; none have nothing.
+-- What borrowed rows have; where there are none, nothing.
 abbrev pub items_shown : Option (Bor Items) → ItemsTree
 items_shown None = no_items
 items_shown (Some items) = items_tree items.now
@@ -50,7 +50,7 @@ named_in s = record {
       map (row_of (layers_in s)) s.rows.now;
 }
 
--- The number of a row that a name is.
+-- Which number of a row a name is.
 abbrev pub item_in : ItemsTree → List (List ℕ) → Option ℕ
 item_in items (word ∷ []) = place_of word items.numbers
 item_in items _ = None

@@ -1,7 +1,6 @@
 //! Cells and headers of layers, by name.
 //!
-//! Numbers of cells, of items and of headers are of eight bits in a trace: what has a larger one is answered as want of
-//! memory.
+//! In a trace the numbers of cells, items and headers have eight bits: a larger one is answered as want of memory.
 
 ghost use Rattle.std.specs.Prelude.{◌≡◌, ◌<◌, ◌∷◌, [], IfOk, IfSome, bytes_eq, length, map, option_map, slice_get};
 ghost use Rattle.std.specs.List.{position};
@@ -39,7 +38,7 @@ pub fn layer_at(stack: &Stack, place: u32) -> Option<&TypedLayer>
     }
 }
 
-/// The cell of a number of a layer, if there is one.
+/// The cell of a layer that has this number, if there is one.
 fn cell_of(layer: Option<&TypedLayer>, cell: u8) -> Option<&Cell>
     ensures { cell_shown result ≡ slice_get (layer_shown layer.entry).cells cell }
 {
@@ -122,7 +121,7 @@ pub(crate) fn item_place(items: Option<&Items>, word: &[u8]) -> Option<usize>
     }
 }
 
-/// The number of a row of a queue that a name is.
+/// Which number of a queue's rows a name is.
 pub fn item_named(stack: &Stack, spot: Spot, name: Name<'_>) -> Result<Option<u8>, AllocError>
     ensures { IfOk result
         (λ found. found ≡ item_in (items_at (stack_tree stack.now) spot.place spot.cell) (words_in name.entry)) }
@@ -133,7 +132,7 @@ pub fn item_named(stack: &Stack, spot: Spot, name: Name<'_>) -> Result<Option<u8
     }
 }
 
-/// What rows carry, if they do.
+/// What rows carry, if anything.
 pub(crate) fn load_of(items: Option<&Items>) -> Option<Load>
     ensures { option_map load_tree result ≡ option_map (λ m. m.1) (items_shown items.entry).message }
 {
@@ -143,7 +142,7 @@ pub(crate) fn load_of(items: Option<&Items>) -> Option<Load>
     }
 }
 
-/// What the rows of a queue carry, if they do.
+/// What the rows of a queue carry, if anything.
 pub fn load_at(stack: &Stack, spot: Spot) -> Option<Load>
     ensures { option_map load_tree result ≡
         option_map (λ m. m.1) (items_at (stack_tree stack.now) spot.place spot.cell).message }
@@ -240,7 +239,7 @@ fn header_called(layer: Option<&TypedLayer>, word: &[u8]) -> Option<usize>
     }
 }
 
-/// Whether a layer is called so.
+/// Whether a layer has this name.
 fn is_called(layer: Option<&TypedLayer>, word: &[u8]) -> bool
     ensures { result ≡ bytes_eq word.now (layer_shown layer.entry).name }
 {

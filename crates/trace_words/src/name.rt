@@ -6,7 +6,7 @@ ghost use Rattle.trace_words.specs.Names.{words_in};
 
 use script_text::cut;
 
-/// The words of a name, of which nothing has more than three.
+/// The words of a name. Nothing has a name of more than three words.
 #[derive(Clone, Copy)]
 pub enum Name<'a> {
     One(&'a [u8]),
