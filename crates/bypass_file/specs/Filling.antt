@@ -51,7 +51,7 @@ pub record IsOther (o : Owned) (trace : List Operation) (entry : ℕ) (case : Ca
   pub case_is : o.case ≡ case
   pub differ : DifferAt (symbolic trace) (symbolic o.own) act
 
--- So does the first that does something else.
+-- The first trace that does something else than the stack's own does so in this case of this entry, at this act first.
 abbrev pub FirstOther : List Owned → List (List Operation) → (entry : ℕ) → Case → (act : ℕ) → Type 0
 FirstOther (o ∷ os) (trace ∷ traces) entry case act =
     IsOther o trace entry case act ⊎ ((symbolic trace ≡ symbolic o.own) × FirstOther os traces entry case act)

@@ -30,8 +30,8 @@ bracketed_list parts = codes "(" ++ join_by (λ part. part) (codes ",") parts ++
 abbrev pub bracketed_index : List ℕ → List ℕ
 bracketed_index index = codes "[" ++ index ++ codes "]"
 
--- What an operation may name, and the lines so far: how many numbers were bound, of each taken row how its numbers are
--- called, and of each noted message how it is written.
+-- What an operation may name, and the lines so far: how many numbers were bound, what the numbers of each taken row are
+-- called, and how each noted message is written.
 pub record Written : Type 0 where
   pub binds : ℕ
   pub rows : List (List (List ℕ))
@@ -44,13 +44,13 @@ nothing_written = record { binds = 0; rows = []; notes = []; lines = [] }
 abbrev pub layer_of : List LayerTree → ℕ → LayerTree
 layer_of stack place = slice_index_or stack place no_layer
 
--- How the numbers of a queue's rows are called.
+-- What the numbers of a queue's rows are called.
 abbrev pub numbers_called : Option Form → List (List ℕ)
 numbers_called (Some (queue capacity items)) = items.numbers
 numbers_called (Some (queues capacity items)) = items.numbers
 numbers_called _ = []
 
--- A cell: PLACE.NAME, and its index but where the cell or queue is alone.
+-- A cell: PLACE.NAME, and its index unless the cell or queue is alone.
 abbrev pub cell_name : List LayerTree → ℕ → ℕ → List ℕ
 cell_name stack place c =
     decimal place ++ codes "." ++ option_map_or (λ (x : CellTree). x.name) (slice_get (layer_of stack place).cells c) []
@@ -123,7 +123,7 @@ link_text stack shown l =
 abbrev pub chain_text : List LayerTree → (Atom → List ℕ) → List Link → List ℕ
 chain_text stack shown chain = join_by (link_text stack shown) (codes "/") chain
 
--- Known headers after what they are of, where there are any.
+-- Known headers after what they belong to, where there are any.
 abbrev pub following : List LayerTree → Written → List Link → List ℕ
 following stack w [] = []
 following stack w (l ∷ ls) = codes " " ++ chain_text stack (atom_text w) (l ∷ ls)

@@ -1,4 +1,4 @@
--- Layers whose visits keep chains, as it is seen from their trees alone: literals are numbers, the messages of the
+-- Layers whose visits keep chains, as can be seen from their trees alone: literals are numbers, the messages of the
 -- scope and of queues are used as what they are, and each header that is pushed suits the message after it. Everything
 -- else has a meaning that keeps chains whatever it is.
 use Rattle.std.specs.Prelude.{◌≡◌, ℕ, Bool, true, false, if◌then◌else◌, List, [], ◌∷◌, length, slice_get, slice_set}

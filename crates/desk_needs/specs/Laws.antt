@@ -32,8 +32,8 @@ abbrev pub task_need : Layout → List LayerTree → Task Event → Need
 task_need layout stack t = let m = met t.dir t.event.message in
     visit_need layout (handler_for (layer_at stack t.at) t.dir t.event.kind m.tag) m
 
--- The node of a task has what its visit needs: the slots and, beside them, the join counts of what it sends are within
--- its join count, and the places within its weight.
+-- The node of a task has what its visit needs: the slots, together with the join counts of what it sends, are within
+-- its join count, and the places are within its weight.
 pub record FitsNode (stack : List LayerTree) (s : State) (t : Task Event) (n : Need) : Type 0 where
   pub slots : n.slots + sum_by (task_joins stack) (sent_tasks stack s t) ≤ task_joins stack t
   pub places : n.places ≤ task_weight stack t

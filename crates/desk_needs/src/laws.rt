@@ -8,8 +8,8 @@ pub fn typed_layers_fit()
     ensures { TypedLayersFit }
 {}
 
-/// Where no node of a stack lies on a cycle, the node of a known task has what its visit needs: slots within its join
-/// count, beside the join counts of what it sends, and places within its weight.
+/// Where no node of a stack lies on a cycle, the node of a known task has what its visit needs: slots that, together
+/// with the join counts of what it sends, are within its join count, and places within its weight.
 pub fn nodes_cover_needs()
     ensures { NodesCoverNeeds }
 {}

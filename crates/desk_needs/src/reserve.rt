@@ -19,7 +19,7 @@ pub struct Reserve {
     pub hand: u32,
 }
 
-/// What a desk of this layer has to be made for, beside the rows of its queues.
+/// What a desk of this layer has to be made for, besides the rows of its queues.
 pub fn reserve_for(layer: &TypedLayer) -> Reserve
     ensures { result ≡ layout_reserve (layout_of (layer_tree layer.now) 0) }
 {

@@ -21,7 +21,7 @@ use crate::wanted::{Wanted, allows, may_be, must_be};
 use file_scope::{Found, Scope};
 use layer_ast::{Argument, Built, Expression, Sort};
 
-/// An argument that is a number, but no name of one.
+/// An argument that is a number, but not the name of one.
 #[tactic(auto, using(file_scope::proofs::Finds::finds_both))]
 fn number(found: &mut Found, scope: &Scope, wanted: Wanted, e: &Expression)
     ensures { Finds found.old

@@ -19,7 +19,7 @@ IsTable table words = (word : List ℕ) → get bytes_eq table word ≡ place_of
 abbrev pub HasTable : {S : Type 0} → Option (IndexMap (List ℕ) ℕ S) → List (List ℕ) → Type 0
 HasTable first words = IfSome first (λ table. IsTable table words)
 
--- A table tells what another does, and of a word that this doesn't know that it is at a place.
+-- A table tells what another does and, if the other doesn't know a word, that the word is at a place.
 abbrev pub NotesFirst : {S : Type 0} → IndexMap (List ℕ) ℕ S → List ℕ → ℕ → IndexMap (List ℕ) ℕ S → Type 0
 NotesFirst old word place new = (w : List ℕ) →
     get bytes_eq new w ≡ option_or (get bytes_eq old w) (if bytes_eq word w then Some place else None)

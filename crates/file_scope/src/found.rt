@@ -67,7 +67,7 @@ impl Found {
         self.first.map(|fault| fault.rank)
     }
 
-    /// Takes faults into account that are moved to a place, by the rank of the first of them.
+    /// Takes into account faults that are moved to a place, by the rank of the first of them.
     #[tactic(auto, using(crate::proofs::Moved::none_moved, crate::proofs::Moved::rank_moved))]
     pub fn note_rank(&mut self, rank: Option<u8>, at: At)
         ensures { (faults : List Fault) → rank ≡ first_rank faults →
@@ -78,7 +78,7 @@ impl Found {
         }
     }
 
-    /// Whether it is known that a fault changes nothing: it is found already, or one that comes before it.
+    /// Whether a fault is known to change nothing: it was found already, or one that comes before it was.
     #[tactic(auto, unfolding(crate::specs::Found::Finds))]
     pub fn is_past(&self, fault: Fault) -> bool
         ensures known { result ≡ true → Finds self.now (fault ∷ []) self.now }

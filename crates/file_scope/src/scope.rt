@@ -93,7 +93,7 @@ impl<'a> Scope<'a> {
         }
     }
 
-    /// The sort of a local, where a word is one: of the first, if there are several.
+    /// The sort of the local that has this word as its name, if there is one; of the first, if there are several.
     #[tactic(auto, using(crate::proofs::Scopes::local_at, crate::proofs::Scopes::local_nowhere))]
     pub fn local(&self, word: &Word) -> Option<Sort>
         ensures { result ≡ option_map (λ l. l.sort)

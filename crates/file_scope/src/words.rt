@@ -179,7 +179,7 @@ fn table_of(alloc: Global, words: &[Word]) -> Result<IndexMap<Spelling, usize>, 
     Ok(table)
 }
 
-/// Notes where a word is first that is to come after these, if they have a table or are to have one.
+/// Notes where a word that is to come after these is first, if these have a table or are to have one.
 fn note_next(
     first: &mut Option<IndexMap<Spelling, usize>>,
     words: &Vec<Word>,
@@ -219,7 +219,7 @@ fn note_first(
     Ok(())
 }
 
-/// Forgets where a word is first that stood after these, if they have a table.
+/// Forgets where a word that stood after these is first, if these have a table.
 fn forget_last(first: &mut Option<IndexMap<Spelling, usize>>, words: &Vec<Word>, word: &Word)
     requires { HasTable first.now (words.now.items ++ word.now ∷ []) }
     ensures { HasTable first.new words.now.items }

@@ -1,4 +1,4 @@
--- What a guarded handler is that can't be made simpler.
+-- What holds of a guarded handler that can't be made simpler.
 use Rattle.std.specs.Prelude.{◌==◌, Bool, true, false, not, ◌&&◌, ◌||◌, List, [], ◌∷◌, ◌++◌}
 use Rattle.std.specs.List.{list_all}
 use Rattle.trace_mean.specs.Trace.{number, TraceNumber, atom, element, square, rows, item, size, binary, apply, pick}
@@ -7,7 +7,7 @@ use Rattle.trace_mean.specs.Trace.{push, take, output, Guarded}
 use Rattle.guard_mean.specs.Alike.{same_number, is_among}
 use Rattle.guard_mean.specs.Simplify.{is_comparison, is_equal, is_number}
 
--- Nothing is over numbers alone, and nothing is compared with itself.
+-- No operator, function or choice is over numbers alone, and nothing is compared with itself.
 abbrev mutual
   pub plain : TraceNumber → Bool
   plain (element p c e) = plain e
@@ -48,7 +48,7 @@ abbrev mutual
   clear_message ks (join a b) = clear_message ks a && clear_message ks b
   clear_message ks _ = true
 
--- An entry value after others, and a conjunct after others: no number, and none of them.
+-- An entry value after others, and a conjunct after others: it is no number, and isn't one of those before it.
 abbrev pub is_new : List TraceNumber → TraceNumber → Bool
 is_new es e = plain e && (not (is_number e) && not (is_among es e))
 

@@ -64,7 +64,7 @@ pub record Nothing (a : Around) : Type 0 where
   pub untouched : a.output_after ≡ a.output
   pub unread : a.reads_after ≡ a.reads
 
--- How words end that are no job: they are refused, or memory ran out.
+-- How words that are no job end: they are refused, or memory ran out.
 abbrev pub NoJob : Around → Ended → Type 0
 NoJob a words_refused = Nothing a
 NoJob a no_memory = Nothing a
@@ -109,7 +109,7 @@ pub record Checked (file : List ℕ) (lines : List (List ℕ)) : Type 0 where
   pub means : Means file stack
   pub written : lines ≡ accepted_lines stack
 
--- That of a job that makes bypasses: what is printed of those that are the stack's, those that the definitions make.
+-- That of a job that makes bypasses: what is printed of the stack's bypasses, those that the definitions make.
 pub record Synthesized (print : Lines) (file : List ℕ) (lines : List (List ℕ)) : Type 0 where
   pub stack : List LayerTree
   pub means : Means file stack
@@ -244,7 +244,7 @@ pub record NoThird (job : Job) (told : Option Shelved) : Type 0 where
 abbrev pub Unfound : Job → Option Shelved → Type 0
 Unfound job told = Finds job told None ⊎ NoSecond job told ⊎ NoThird job told
 
--- The whole output was written, in one put a line, and the job ended as its file has it.
+-- The whole output was written, each line in one put, and the job ended as its file has it.
 pub record Whole (job : Job) (a : Around) (end : Ended) : Type 0 where
   pub good : Good job a.told
   pub ends : whole_end job good.file ≡ end
@@ -288,7 +288,7 @@ Comes job a write_failed = CutOff job a
 Comes job a no_memory = (a.output_after ≡ a.output) ⊎ Begun job a
 Comes job a _ = ⊥
 
--- Lines of a job that ends so where all are written: all were, in one put a line; or a put failed, or memory ran out.
+-- Lines of a job that ends like this if all are written: all were, each in one put; or a put failed, or memory ran out.
 abbrev pub Writes : List (List ℕ) → Ended → Tells → Tells → Ended → Type 0
 Writes lines whole old new done = (whole ≡ done) × Gains old new lines
 Writes lines whole old new breached = (whole ≡ breached) × Gains old new lines

@@ -42,7 +42,7 @@ pub(crate) fn traces_line(alloc: Global, line: u32) -> Result<String, AllocError
     format!(in alloc; "bypass: line {line}\n")
 }
 
-/// The line for a file of traces of which one does something else.
+/// The line for a file of traces, one of which does something else.
 pub(crate) fn traces_differ(
     alloc: Global,
     entry: u32,

@@ -6,8 +6,7 @@ ghost use Rattle.audit_mean.specs.declared.law.Law.TheVariants.{Sender, Total, S
 ghost use Rattle.run_mean.specs.Mode.{layered, bypass};
 ghost use Rattle.job_mean.specs.Job.{job_of_words, check, synth, pack, replay, replay_with, explain, load, node, audit};
 
-/// The command is one of which `clap` promises what it finds, and that it refuses just what the definition
-/// refuses.
+/// `clap` promises of this command what it finds, and that it refuses exactly what the definition refuses.
 pub fn simple_command()
     ensures { is_simple_and_free command ≡ true }
 {}

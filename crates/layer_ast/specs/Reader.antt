@@ -1,6 +1,6 @@
--- A reader for texts that are worked out. It guesses the file that a text spells, and that the text spells it is proved
--- of each text: no law speaks of the reader, and it says anything of a text that is no file. Each part of it takes a
--- number of turns, the tokens, and what is to be made of what it reads and of the tokens after that.
+-- A reader for texts that are worked out. It guesses the file that a text spells; that the text does spell this file is
+-- proved for each text. No law speaks of the reader, and of a text that is no file it may say anything. Each part of it
+-- takes a number of turns, the tokens, and what is to be made of what it reads and of the tokens after that.
 use Rattle.std.specs.Prelude.{ℕ, zero, suc, ◌+◌, Bool, true, false, not, List, [], ◌∷◌, ◌++◌, map, filter, take, drop}
 use Rattle.std.specs.Prelude.{get_or, Option, Some, None}
 use Rattle.std.specs.List.{take_while, prefix_len}

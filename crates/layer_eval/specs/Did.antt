@@ -34,7 +34,7 @@ abbrev pub block_does : ℕ → StatementTrees → Laid → Outcome
 block_does place b p = in_order (acts place b) p.state p.scope
 
 -- An outcome came about: its state and its scope lie there, its events were sent after the others, the hand is as
--- before, and whether all went as predicted is now known of its decisions, too.
+-- before, and what is known of whether all went as predicted now includes its decisions.
 pub record Did (o : Outcome) (old new : Laid) (before now : Predicted) : Type 0 where
   pub state : new.state ≡ o.state
   pub scope : new.scope ≡ o.scope

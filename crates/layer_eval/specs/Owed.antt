@@ -22,7 +22,7 @@ sets_number (assign c i e) = true
 sets_number (assign_square c row column e) = true
 sets_number _ = false
 
--- What lies there once it has set it; what another statement does isn't said here.
+-- What lies at a desk once such a statement has set its number; what any other statement does isn't said here.
 abbrev pub number_set : StatementTree → Laid → Laid
 number_set (bind k e) p = bound k (number_of e p) p
 number_set (assign c i e) p = assigned c (number_of i p) (number_of e p) p
@@ -45,7 +45,7 @@ owed_event e p = (
   event_in e.envelope (Some (sent_as e.direction e.header (slice_index_or p.scope.messages e.slot (plain [])))),
 )
 
--- What lies at a desk once it has gone, if there is one.
+-- What was sent once an emission that is owed has gone, if there is one; and what lies at a desk then.
 abbrev pub with_owed : Option Pending → Laid → List (Dir × Event)
 with_owed None p = p.sent
 with_owed (Some e) p = p.sent ++ owed_event e p ∷ []
@@ -53,7 +53,7 @@ with_owed (Some e) p = p.sent ++ owed_event e p ∷ []
 abbrev pub with_debt_paid : Option Pending → Laid → Laid
 with_debt_paid owed p = record p { sent = with_owed owed p }
 
--- How many places it takes, and a need with it.
+-- How many places an emission that is owed takes, and a need with these added.
 abbrev pub owed_places : Option Pending → ℕ
 owed_places None = 0
 owed_places (Some e) = 1
@@ -61,8 +61,8 @@ owed_places (Some e) = 1
 abbrev pub owing : Option Pending → Need → Need
 owing owed n = record n { places = owed_places owed + n.places }
 
--- Where it is done at most this was spent, and what was owed before; what is owed now isn't spent yet. Else there was
--- less than this.
+-- On success, at most this need and what was owed before was spent; what is owed now isn't spent yet. Otherwise there
+-- was less room than this need and what was owed before.
 abbrev pub SpentOwing : {A : Type 0} → Option Pending → Option Pending → Room → Room → Need → Result A NoRoom → Type 0
 SpentOwing before now old new n (Ok a) = SpentAtMost (record old { places = owed_places now + old.places }) new
     (owing before n)
@@ -73,7 +73,7 @@ pub record PutOff (owed : Option Pending) (event : Dir × Event) (p : Laid) : Ty
   pub sent : with_owed owed p ≡ p.sent ++ event ∷ []
   pub places : owed_places owed ≡ 1
 
--- Whether one was put off: else nothing is owed.
+-- Whether an emission was put off; if not, nothing is owed.
 abbrev pub IsPutOff : Bool → Option Pending → Dir × Event → Laid → Type 0
 IsPutOff true owed event p = PutOff owed event p
 IsPutOff false owed event p = owed ≡ None

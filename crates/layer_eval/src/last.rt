@@ -15,8 +15,8 @@ use layer_desk::{Desk, NoRoom, Start};
 use slot_pool::Pool;
 use typed_layer::{Block, Statement};
 
-/// Runs a handler's block of the layer at a place, or a block with which one ends, keeps account of whether all has
-/// gone as predicted, and lets go what the visit leaves, with an emission that is yet to go.
+/// Runs a handler's block, or a block with which one ends, of the layer at a place; keeps account of whether all has
+/// gone as predicted; and lets go what the visit leaves, with an emission that is yet to go.
 #[cycle(last)]
 #[inline(always)]
 pub fn run_last_block<K: Start, D: Desk>(
@@ -133,8 +133,8 @@ fn run_front<K: Start, D: Desk>(
     Ok(())
 }
 
-/// Runs a statement. An emission that was put off waits until one comes that doesn't set a number alone; that may be
-/// put off in its turn.
+/// Runs a statement. An emission that was put off waits until a statement comes that does more than set a number; an
+/// emission may then be put off in its turn.
 #[inline(always)]
 #[tactic(auto, using(crate::proofs::Sets::set_owing))]
 fn run_owing<K: Start, D: Desk>(

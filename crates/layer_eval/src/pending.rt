@@ -1,4 +1,4 @@
-//! Emissions that are yet to go. A message of the scope is sent for least where the visit ends with that; so its
+//! Emissions that are yet to go. Sending a message of the scope costs least where the visit ends with it; so its
 //! emission is put off over statements that don't touch messages.
 
 ghost use Rattle.std.specs.Prelude.{◌≡◌, Some, OnOk};
@@ -69,8 +69,8 @@ impl Owed {
         }
     }
 
-    /// Evaluates an emission that is put off, as those of messages of the scope are and no others, where nothing was
-    /// owed; says whether it is.
+    /// Evaluates an emission and puts it off, if it sends a message of the scope; otherwise does nothing. Nothing may
+    /// be owed before. Says whether it was put off.
     pub fn put_off<K: Start, D: Desk>(
         &mut self,
         place: u8,

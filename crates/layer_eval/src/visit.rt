@@ -46,7 +46,7 @@ pub fn take_event<D: Desk>(
     requires room { Suffices (D.free pool.old desk.old)
         (need_of_visit (D.layout desk.old) (layer_tree layer.now) direction envelope (D.shown pool.old desk.old)) }
 
-    // What lies at the desk, and what it says, is what the definition of a visit has.
+    // What lies at the desk, and what the call says, is what the definition of a visit has.
     ensures visited { Visits (arrived_visit place (layer_tree layer.now) direction envelope (D.shown pool.old desk.old))
         (D.shown pool.old desk.old) (D.shown pool.new desk.new) result }
     ensures spent { SpentAtMost (D.free pool.old desk.old) (D.free pool.new desk.new)
@@ -75,7 +75,7 @@ pub fn take_event<D: Desk>(
     }
 }
 
-/// The same, with what is wanting where the block of a handler wants room.
+/// The same; where a handler's block lacks room, it answers what is lacking.
 fn take_from<K: Start, D: Desk>(
     place: u8,
     layer: &TypedLayer,
@@ -102,7 +102,7 @@ fn take_from<K: Start, D: Desk>(
     }
 }
 
-/// Going up the layer's header is popped: says its tag, 0 where none was popped, and its fields.
+/// Going up, the layer's header is popped. Says its tag, 0 where none was popped, and its fields.
 fn meet<K: Start, D: Desk>(direction: Dir, desk: &mut D, pool: &Pool, fields: &mut Fields) -> u8
     requires ready { D.ready K.begun pool.now desk.old }
     requires none { fields.old ≡ [] }

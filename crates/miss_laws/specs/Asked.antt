@@ -19,7 +19,7 @@ abbrev pub asked_of : Made → Asked
 asked_of (fused trace guarded) = checks (checks_of (hoisted trace))
 asked_of (absent reason) = nothing reason
 
--- In the order of the entries: of each in its first case, and in its second, where that is made.
+-- What is asked of the entries, in their order: of each in its first case, and in its second, where that is made.
 pub record AllAsked : Type 0 where
   pub made : List Asked
   pub second : List (Option Asked)
@@ -27,7 +27,7 @@ pub record AllAsked : Type 0 where
 abbrev pub all_asked : Bypasses → AllAsked
 all_asked b = record { made = map asked_of b.made; second = map (option_map asked_of) b.second }
 
--- What a case lacks, whose checks aren't all passed.
+-- What a case lacks if its checks aren't all passed.
 abbrev pub lack_at : Input → List State → Asked → Lack
 lack_at i states (checks c) = lack.missed (option_map_or (λ k. k) (first_failing i c states) 0)
 lack_at i states (nothing reason) = lack.absent reason

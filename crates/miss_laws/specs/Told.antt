@@ -23,7 +23,7 @@ abbrev pub told_of : List LayerTree → List Plan → AllAsked → Here → List
 told_of stack plans all here states what =
     option_map (λ e. miss_asked all e (step_input plans here what) states) (entry_named plans what)
 
--- A step of a member of a stack that isn't common lacked what the checks of the stack tell, asked on the states before
+-- A step that isn't common, of a member of a stack, lacked what the stack's checks tell when asked on the states before
 -- it.
 abbrev pub MissesAreTold : Type 0
 MissesAreTold = (stack : List LayerTree) (plans : List Plan) (all : AllAsked) (here : Here) (id : ℕ)

@@ -10,7 +10,8 @@ pub fn checks_find_unheld()
     ensures { ChecksFindUnheld }
 {}
 
-/// Of a hoisted trace that is the check at which following it stops.
+/// The first conjunct of a hoisted trace that doesn't hold has the number of the check at which following the trace
+/// stops.
 pub fn unheld_stops()
     ensures { UnheldStops }
 {}

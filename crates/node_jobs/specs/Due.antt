@@ -15,7 +15,7 @@ pub record IsBorne (w : Node) (n : Network) : Type 0 where
   pub listens : flags_of (length w.me) n.listens ≡ replicate (length w.me) false
   pub receives : failures_in (flags_of (w.turns * length w.me) n.recvs) ≤ w.patience
 
--- The network bore the node: so it tells; or, where it doesn't tell, its count of failed listens and receives didn't
+-- The network bore the node: it tells so; or, where it doesn't tell, its count of failed listens and receives didn't
 -- rise, nor does it stand at its last value.
 abbrev pub LinksBear : Node → (told : Option Network) → (faults faults_after : ℕ) → Type 0
 LinksBear w (Some n) faults after = IsBorne w n

@@ -59,7 +59,7 @@ RunsPlan stack plan w a b link_failed = Served stack plan w Lost a b
 RunsPlan stack plan w a b no_memory = (b ≡ a) ⊎ Served stack plan w (Broken sink.Memory) a b
 RunsPlan stack plan w a b _ = ⊥
 
--- How a node ends whose group ran.
+-- How a node ends if its group ran.
 abbrev pub end_of : Result (Unit {0}) NodeError → Ended
 end_of (Ok served) = done
 end_of (Err Link) = link_failed

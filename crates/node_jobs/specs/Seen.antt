@@ -15,8 +15,8 @@ use Rattle.node_loop.specs.Around.{Told}
 use Rattle.node_loop.specs.Passing.{HandedSome}
 use Rattle.node_jobs.specs.Comes.{Beyond, Node, job_of}
 
--- A run of these words that met these files, of which a node has no third, and these surroundings, handed this to the
--- network, wrote this and said this.
+-- A run of these words that met these files (a node has no third) and these surroundings, handed this to the network,
+-- wrote this and said this.
 abbrev pub run_of : List Text → Around → Beyond → Errors → (file second : Option (List ℕ)) → Surroundings →
     List Handed → (written said : List ℕ) → Run
 run_of words a n e file second surroundings sent written said = record {

@@ -1,4 +1,4 @@
-//! How a node ended whose group ran.
+//! How a node whose group ran ended.
 
 ghost use Rattle.std.specs.Prelude.{◌≡◌};
 ghost use Rattle.job_ends.specs.Shown.{shown_end};
@@ -7,7 +7,7 @@ ghost use Rattle.node_jobs.specs.Plan.{end_of};
 use job_ends::Ending;
 use node_loop::NodeError;
 
-/// How a job ends whose run answered this.
+/// How a job ends if its run answered this.
 pub(crate) fn ending(served: Result<(), NodeError>) -> Ending
     ensures { shown_end result ≡ end_of served }
 {

@@ -43,7 +43,7 @@ lost_acts k [] = []
 lost_acts k (true ∷ failed) = puts (lost_line k) ∷ []
 lost_acts k (false ∷ failed) = []
 
--- A packet of this number is handed on; which sendings failed is told one by one.
+-- A packet of this number is handed on; `failed` says of one sending after another whether it failed.
 abbrev pub sending_acts : ℕ → List Handed → List Bool → List Act
 sending_acts k [] failed = []
 sending_acts k (h ∷ handed) failed = sends h ∷ (lost_acts k failed ++ sending_acts k handed (drop 1 failed))
@@ -73,7 +73,7 @@ abbrev pub event_acts : Mode → List LayerTree → List Plan → World → Scri
 event_acts mode stack plans w event failed =
     puts (journal_line event) ∷ did_acts mode stack plans w event (happens stack plans w event).did failed
 
--- All that a node does from a world on; which sendings failed is told event by event.
+-- All that a node does from a world on; `failed` says event by event which sendings failed.
 abbrev pub acts_of : Mode → List LayerTree → List Plan → World → List Doing → List (List Bool) → List Act
 acts_of mode stack plans w [] failed = []
 acts_of mode stack plans w (does event ∷ doings) failed =

@@ -9,14 +9,14 @@ use Rattle.script_mean.specs.declared.plan.NodePlan.{NodePlan}
 use Rattle.run_mean.specs.Journal.{Heard, datagram, silence, failure, Note, fed, deaf, journal, planned_events}
 use Rattle.run_mean.specs.Journal.{notes_from}
 
--- A member takes an event; a member asks the network, and hears something; that it couldn't hear is borne.
+-- A member takes an event; a member asks the network, and hears something; a failure to hear is borne.
 pub data Doing : Type 0 where
   does : ScriptEvent → Doing
   asks : (id : ℕ) → Heard → Doing
   bears : (id : ℕ) → Doing
 
--- What is done as members ask in a turn, and how many failures may still be borne; none where one more came than may
--- be, after which nothing is done.
+-- What is done as members ask in a turn, and how many more failures are borne. A failure that isn't borne leaves None
+-- here, and nothing is done after it.
 pub record Asking : Type 0 where
   pub doings : List Doing
   pub patience : Option ℕ
@@ -32,7 +32,7 @@ asking patience ((id, silence) ∷ rest) = doing (asks id silence ∷ []) (askin
 asking zero ((id, failure) ∷ rest) = record { doings = asks id failure ∷ []; patience = None }
 asking (suc patience) ((id, failure) ∷ rest) = doing (asks id failure ∷ bears id ∷ []) (asking patience rest)
 
--- What goes on where patience is left.
+-- What follows, unless a failure wasn't borne.
 abbrev pub while_patient : Option ℕ → (ℕ → List Doing) → List Doing
 while_patient None next = []
 while_patient (Some left) next = next left

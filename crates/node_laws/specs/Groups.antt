@@ -15,7 +15,7 @@ use Rattle.run_mean.specs.Member.{Member, inside, out}
 use Rattle.run_mean.specs.World.{World, first_world, happens}
 use Rattle.node_laws.specs.Losses.{event_sends}
 
--- A member's view has ids below a number alone.
+-- A member's view has only ids below a number.
 abbrev pub IsWithin : ℕ → Member → Type 0
 IsWithin n (inside view states) = AllByRecursion (λ id. id < n) (ids view)
 IsWithin n out = Unit {0}
@@ -23,7 +23,7 @@ IsWithin n out = Unit {0}
 abbrev pub AreWithin : ℕ → World → Type 0
 AreWithin n w = AllByRecursion (IsWithin n) w.members
 
--- The first view of a group has its members alone, and an event leaves it so.
+-- The first view of a group has only members of the group, and an event leaves views so.
 abbrev pub FirstViewsAreWithin : Type 0
 FirstViewsAreWithin = (stack : List LayerTree) (group stamp n : ℕ) → n ≤ most_members →
     AreWithin n (first_world stack group stamp n)

@@ -1,4 +1,4 @@
--- What a node writes and hands on, event by event, where of each sending it is told whether it failed.
+-- What a node writes and hands on, event by event, given of each sending whether it failed.
 use Rattle.std.specs.Prelude.{◌≡◌, ℕ, ◌+◌, ◌==◌, Bool, List, [], ◌∷◌, ◌++◌, length, take, drop, replicate, count_by}
 use Rattle.std.specs.Prelude.{codes, Option, None}
 use Rattle.std.specs.List.{filter_map}
@@ -35,8 +35,8 @@ deaf_line id = line (codes "deaf" ∷ decimal id ∷ [])
 abbrev pub journal_line : ScriptEvent → List ℕ
 journal_line event = line (codes ">" ∷ event_text event ∷ [])
 
--- The lines of outputs whose packets are numbered from k on: after each packet's line one for each sending of it that
--- failed. Which sendings failed is told one by one; where less is told than was sent, the rest didn't.
+-- The lines of outputs whose packets are numbered from k on: after each packet's line, one for each sending of it that
+-- failed. `failed` says of one sending after another whether it failed; those past its end didn't.
 abbrev pub lossy_lines : List LayerTree → (id k : ℕ) → List (Output × Option ℕ) → List Bool → List (List ℕ)
 lossy_lines stack id k [] failed = []
 lossy_lines stack id k (o ∷ outs) failed =
@@ -88,8 +88,8 @@ following stack plans w (does event ∷ doings) = following stack plans (happens
 following stack plans w (asks id heard ∷ doings) = following stack plans w doings
 following stack plans w (bears id ∷ doings) = following stack plans w doings
 
--- What is written, lost and, in a mode, handed on of what a node does from a world on; which sendings failed is told
--- event by event.
+-- What is written, lost and, in a mode, handed on by what a node does from a world on; `failed` says event by event
+-- which sendings failed.
 abbrev pub written_of : List LayerTree → List Plan → World → List Doing → List (List Bool) → List (List ℕ)
 written_of stack plans w [] failed = []
 written_of stack plans w (does event ∷ doings) failed =

@@ -23,18 +23,18 @@ pub record Course : Type 0 where
 abbrev pub from_turn : Course → (t patience : ℕ) → List ℕ → List Heard → List Doing
 from_turn c t patience clock heard = doings_from c.plan c.me t (c.turns - t) patience clock heard
 
--- In turn t, where these events are planned yet.
+-- In turn t, where these planned events are yet to come.
 abbrev pub from_planned : Course → (t patience : ℕ) → List ScriptEvent → List ℕ → List Heard → List Doing
 from_planned c t patience events clock heard = map does events ++ from_turn c (t + 1) patience clock heard
 
--- In turn t, where these members have to ask yet.
+-- In turn t, where these members have yet to ask.
 abbrev pub from_asking : Course → (t patience : ℕ) → List ℕ → List ℕ → List Heard → List Doing
 from_asking c t patience ids clock heard =
     let a = asking patience (zip ids (take (length ids) heard)) in
     a.doings ++ while_patient a.patience
     (λ left. from_planned c t left (planned_events c.plan c.me t) clock (drop (length ids) heard))
 
--- In turn t of this moment, where these members have to take a tick yet.
+-- In turn t of this moment, where these members have yet to take a tick.
 abbrev pub from_ticks : Course → (t patience moment : ℕ) → List ℕ → List ℕ → List Heard → List Doing
 from_ticks c t patience moment ids clock heard =
     map (λ id. does (Tick id moment)) ids ++ from_asking c t patience c.me clock heard
@@ -107,8 +107,8 @@ is_planned me t entry = (entry.0 == t) && list_any (λ id. member_of entry.1 == 
 abbrev pub planned_in : List ℕ → ℕ → List (ℕ × ScriptEvent) → List ScriptEvent
 planned_in me t entries = map (λ entry. entry.1) (filter (is_planned me t) entries)
 
--- Those of the whole plan are those of the lines after the ones of earlier turns; and from a line of a later turn on
--- there are none.
+-- A turn's events in the whole plan are those in what follows any lines of earlier turns; from a line of a later turn
+-- on there are none.
 abbrev pub PlannedIsLeft : Type 0
 PlannedIsLeft = (plan : NodePlan) (me : List ℕ) (t k : ℕ) → AllByRecursion (λ entry. entry.0 < t) (take k plan.turns) →
     planned_events plan me t ≡ planned_in me t (drop k plan.turns)

@@ -24,7 +24,7 @@ pub fn sends_are_handed()
     ensures { SendsAreHanded }
 {}
 
-/// The first view of a group has its members alone.
+/// The first view of a group has only members of the group.
 pub fn first_views_are_within()
     ensures { FirstViewsAreWithin }
 {}

@@ -40,9 +40,8 @@ pub record Replays (file script_text : List ℕ) (mode : Mode) (wire count : Boo
   pub room : HasRoom stack script.members
   pub written : out ≡ concat (output_in stack (plans_of stack) script mode wire count)
 
--- `explain`: whatever stack the file means and whatever script the other bytes spell, it is told of each step that was
--- taken and wasn't common
--- what it lacked, with the lines of that file.
+-- `explain`: whatever stack the file means and whatever script the other bytes spell, what is written says of each step
+-- that was taken and wasn't common what it lacked, with the lines of that file.
 pub record Explains (file script_text out : List ℕ) : Type 0 where
   pub stack : List LayerTree
   pub means : Means file stack
@@ -68,8 +67,8 @@ pub record IsNode (file plan_text : List ℕ) (me : List ℕ) : Type 0 where
   pub room : HasRoom stack (length plan.peers)
 
 -- `node`: own members of the plan's group run over a network through all turns, each with a moment and an answer for
--- each own member, of
--- which no more failed than are borne. What is written and what is handed to the network are those of the journal.
+-- each own member; no more of these answers are failures than are borne. What is written and what is handed to the
+-- network are those of the journal.
 pub record Serves (file plan_text : List ℕ) (words : NodeWords) (s : Surroundings) (out : List ℕ) (sent : List Handed) :
     Type 0 where
   pub node : IsNode file plan_text words.me

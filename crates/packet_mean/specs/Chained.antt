@@ -6,9 +6,9 @@ use Rattle.msg_core.specs.declared.message.Header.{Header}
 use Rattle.layer_mean.specs.Headers.{header_of_tag}
 use Rattle.layer_mean.specs.Tree.{LayerTree}
 
--- Headers are a chain of these layers, the first of which stands at a place: each layer has one, of a tag that it
--- declares and with as many fields, until one ends the chain or the layers are over (the headers that Hayden's layers
--- push).
+-- Headers are a chain of these layers, the first of which stands at a place: each layer has one, with a tag that it
+-- declares and as many fields as it declares for this tag, until one ends the chain or no layers are left (the headers
+-- that Hayden's layers push).
 abbrev pub IsChain : (layers : List LayerTree) (place : ℕ) → List Header → Type 0
 IsChain [] place headers = headers ≡ []
 IsChain (layer ∷ above) place [] = ⊥

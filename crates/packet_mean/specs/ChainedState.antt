@@ -25,7 +25,7 @@ IsNumber n = n < 2 ^ 32
 abbrev pub Numbers : List ℕ → Type 0
 Numbers ns = AllByRecursion IsNumber ns
 
--- A body: at most n bytes.
+-- A body: at most `longest_body` bytes.
 pub record IsBody (body : List ℕ) : Type 0 where
   pub within : length body ≤ longest_body
   pub bytes : AllByRecursion (λ b. b < 256) body
@@ -36,7 +36,8 @@ pub record IsFrom (stack : List LayerTree) (place : ℕ) (headers : List Header)
   pub chain : IsChain (drop place stack) place headers
   pub fields : AllByRecursion (λ h. Numbers h.fields) headers
 
--- What a layer keeps and is sent is said over what the headers of a message of the layers above are, `Above`.
+-- What a layer keeps and is sent is described in terms of `Above`, which says what the headers of a message of the
+-- layers above are.
 
 -- A message with such headers.
 pub record IsMessage (Above : List Header → Type 0) (m : Content) : Type 0 where
@@ -101,8 +102,8 @@ pub record IsEvent (Chain : List Header → Type 0) (e : Event) : Type 0 where
 abbrev pub IsChainedState : (stack : List LayerTree) (place : ℕ) → State → Type 0
 IsChainedState stack place s = IsState (IsFrom stack (suc place)) (slice_index_or stack place no_layer) s
 
--- The place from which the message of an event comes that arrives at a place: going up it has the place's own header,
--- and going down it doesn't have it yet.
+-- The place from which the message of an arriving event comes. Going up, the message has the header of the place where
+-- it arrives; going down, it doesn't have this header yet.
 abbrev pub from_place : Dir → ℕ → ℕ
 from_place Up place = place
 from_place Down place = suc place

@@ -1,5 +1,5 @@
--- Which packets fit a plan: those whose headers are as it says but for a few numbers (that constant fields are left out
--- of a packet, and a number stands for them, is the SOSP 1999 paper's).
+-- Which packets fit a plan: those whose headers are as it says, except for a few numbers. (Leaving constant fields out
+-- of a packet, with a number in their place, comes from the SOSP 1999 paper.)
 use Rattle.std.specs.Prelude.{ℕ, Bool, true, false, ◌==◌, ◌&&◌, bytes_eq, List, [], ◌∷◌, map, flat_map, position}
 use Rattle.std.specs.Prelude.{Option, Some, None}
 use denote.Enum.Bare.{sameb}
@@ -24,7 +24,7 @@ tags_of message = map (λ h. h.tag) message.headers
 abbrev pub fields_of : Content → List ℕ
 fields_of message = flat_map (λ h. h.fields) message.headers
 
--- Numbers are as many as planned, and the constants among these are the planned ones.
+-- There are as many numbers as planned, and those planned as constants are the planned constants.
 abbrev pub agree : (planned : List (Option ℕ)) (numbers : List ℕ) → Bool
 agree [] [] = true
 agree (Some constant ∷ planned) (v ∷ numbers) = (v == constant) && agree planned numbers

@@ -46,8 +46,8 @@ packet_of p headers body = record {
   message = record { headers = headers; body = body };
 }
 
--- The first cause for which a packet with this preamble isn't meant for a member, if there is one: another group,
--- stamp or view than the member's; a sender that is no other rank of the view; a destination that the member isn't.
+-- The first cause for which a packet with this preamble isn't meant for a member, if there is one: a group, stamp or
+-- view other than the member's; a sender that isn't another rank of the view; a destination that isn't the member.
 abbrev pub meant_for : Here → Preamble → Result (Unit {0}) Stray
 meant_for here p = do
   _ ← unless (p.group == here.group) cause.Group
@@ -57,7 +57,7 @@ meant_for here p = do
   unless (is_for here.rank p.dest) cause.Dest
 
 -- The packet that bytes spell to a member of a stack with these plans, or the first cause for which they are stray:
--- fewer bytes than a preamble; another form than the two; that they aren't meant for the member; a short form without
+-- fewer bytes than a preamble; neither of the two forms; a packet that isn't meant for the member; a short form without
 -- the number of a plan of its kind; headers that are cut off or not declared; a body that is too long.
 unfoldable pub received : List LayerTree → List Plan → Here → List ℕ → Result Packet Stray
 received stack plans here bytes = do
@@ -78,7 +78,7 @@ abbrev pub packet_spelled : List LayerTree → List Plan → Here → List ℕ �
 packet_spelled stack plans here bytes = result_ok (received stack plans here bytes)
 
 -- A packet is for a member: it is of the same group, stamp and view, from another rank of the view, to all or to the
--- own rank.
+-- member's own rank.
 pub record IsFor (here : Here) (packet : Packet) : Type 0 where
   pub group : packet.group ≡ here.group
   pub stamp : packet.stamp ≡ here.stamp

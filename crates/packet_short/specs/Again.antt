@@ -9,8 +9,8 @@ use Rattle.packet_mean.specs.declared.here.Here.{Here}
 use Rattle.stack_mean.specs.Plan.{Plan}
 use Rattle.packet_short.specs.Shortened.{shortened}
 
--- A packet's short form under a plan whose number is a byte is to a member this very packet, or the first cause for
--- which the packet isn't meant for the member.
+-- A member reads a packet's short form, under a plan whose number is a byte, as this very packet, or refuses it for the
+-- first cause for which the packet isn't meant for the member.
 abbrev pub WrittenShortIsRead : Type 0
 WrittenShortIsRead = (stack : List LayerTree) (plans : List Plan) (here : Here) (packet : Packet) (k : ℕ)
     (bytes : List ℕ) →

@@ -4,7 +4,7 @@ use Rattle.std.specs.Option.{option_map_or}
 use Rattle.packet_mean.specs.Plan.{variable}
 use Rattle.stack_mean.specs.Plan.{Plan}
 
--- Of the fields of a packet those that the plan of a number leaves variable; none where there is no plan.
+-- The fields of a packet that the plan of a number leaves variable; none where there is no plan.
 abbrev pub kept_by : List Plan → (number : Option ℕ) → (fields : List ℕ) → List ℕ
 kept_by plans number fields =
     variable (option_map_or (λ plan. plan.fields) (option_and_then (λ k. slice_get plans k) number) []) fields

@@ -1,4 +1,4 @@
--- What it says of a stack and its plans that these are laid out.
+-- What it means that the plans of a stack are laid out.
 use Rattle.std.specs.Prelude.{◌≡◌, ℕ, true, List, [], map, flat_map, length, slice_get, position, Option, Some}
 use Rattle.std.specs.Prelude.{None, Result, Ok, Err}
 use Rattle.layer_ast.specs.declared.tokens.Kind.{Kind}
@@ -33,8 +33,8 @@ looses layout = map loose_tree layout.loose.items
 abbrev pub IsFirst : List Plan → Kind → List Header → (k : ℕ) → Type 0
 IsFirst plans kind headers k = IsNext plans (print_of kind (map (λ h. h.tag) headers)) 0 (Some k)
 
--- The plan of a number is laid out: to fill in its headers is to read the headers that the plan says, one after the
--- other, whatever the bytes are. Where it is told to be the least, no plan before it has its print.
+-- The plan of a number is laid out: whatever the bytes are, filling in its headers is the same as reading the headers
+-- that the plan says, one after the other. Where its layout says that it is the least, no plan before it has its print.
 pub record IsLaidOut (stack : List LayerTree) (plans : List Plan) (k : ℕ) (layout : Layout) : Type 0 where
   pub plan : Plan
   pub listed : slice_get plans k ≡ Some plan
@@ -54,7 +54,7 @@ abbrev pub IsLeastFor : List Plan → Option ℕ → Kind → List Header → Ty
 IsLeastFor plans None kind headers = Unit {0}
 IsLeastFor plans (Some k) kind headers = Some k ≡ position (fits_headers kind headers) plans
 
--- The same; and then those of their fields are kept that this plan leaves variable.
+-- The same; and where this plan is known, the headers' fields that it leaves variable are kept.
 abbrev pub IsReadAs : List Plan → Option ℕ → Kind → List Header → (kept : List ℕ) → Type 0
 IsReadAs plans None kind headers kept = Unit {0}
 IsReadAs plans (Some k) kind headers kept =
@@ -67,7 +67,8 @@ pub record IsNamed (stack : List LayerTree) (plans : List Plan) (dest : Dest) (k
   pub named : plan_named plans dest bytes ≡ Some (laid.plan, following)
   pub kind : laid.plan.kind ≡ kind_of dest
 
--- What reading into a scan answers: the packet that it tells of is the one that is received, or the cause is.
+-- What reading into a scan answers: the scanned packet is the one that is received, or the cause is the one for which
+-- the bytes are stray.
 abbrev pub Reads : Here → List ℕ → Result Packet Stray → Result (Option ℕ) Stray → Scan → Type 0
 Reads here bytes is_received (Ok number) scan = is_received ≡ Ok (packet_scanned here bytes scan)
 Reads here bytes is_received (Err cause) scan = is_received ≡ Err cause

@@ -12,7 +12,7 @@ use Rattle.packet_short.specs.declared.error.NotFitting as refused
 abbrev pub short_under : Plan → (k : ℕ) → Packet → Option (List ℕ)
 short_under plan k packet = if fits plan packet then Some (short_bytes k plan packet) else None
 
--- Under the plan of a number; nothing where there is no such plan, too.
+-- The same under the plan of a number; nothing also where there is no such plan.
 abbrev pub shortened : List Plan → (k : ℕ) → Packet → Option (List ℕ)
 shortened plans k packet = option_and_then (λ plan. short_under plan k packet) (slice_get plans k)
 
@@ -26,7 +26,7 @@ Puts _ old new _ = ⊥
 abbrev pub short_room : Packet → ℕ
 short_room packet = suc (room_needed packet)
 
--- The variable ones of a header's fields were put after bytes, and these are planned after them.
+-- A header's variable fields were put after bytes, and this is what is planned after them.
 abbrev pub PutsVariable : (planned : List (Option ℕ)) (fields : List ℕ) (rest : List (Option ℕ)) (old new : List ℕ) →
     Type 0
 PutsVariable planned fields rest old new = (more : List ℕ) →

@@ -77,8 +77,8 @@ fn laid_out<'a>(known: &Known<'a>, dest: Dest, cursor: &mut Cursor<'_>) -> Optio
     Some((number, layout))
 }
 
-/// The same as `contents`; of a short datagram whose plan is laid out it is told too which is the least plan that the
-/// headers fit, if that is known, and then a vector has the fields that this leaves variable, in place of what it held.
+/// The same as `contents`. For a short datagram whose plan is laid out, it also answers the least plan that the headers
+/// fit, if that is known; `fields` then has the fields that this plan leaves variable, in place of what it held.
 pub(crate) fn known_contents(
     known: &Known<'_>,
     front: &Preamble,

@@ -37,7 +37,7 @@ fn keep_variable(planned: Option<u32>, number: u32, into: &mut Vec<u32>)
     }
 }
 
-/// Puts the variable ones of a header's fields after others, and answers what is planned after them.
+/// Puts the variable fields of a header after others, and answers what is planned after them.
 fn keep_fields<'a>(
     planned: &'a [Option<u32>],
     fields: &Fields,
@@ -121,7 +121,7 @@ fn keep_header<'a>(
     keep_agreeing(planned, &header.fields, into)
 }
 
-/// Whether headers have a plan's tags, and fields as planned; if so, a vector has the variable ones then, in place of
+/// Whether headers have a plan's tags, and fields as planned; if so, `into` then has the variable fields, in place of
 /// what it held.
 pub(crate) fn is_alike_keeping(plan: &Plan, headers: &Headers, into: &mut Vec<u32>) -> bool
     requires { length plan.now.fields.items ≤ vec_capacity into.old }

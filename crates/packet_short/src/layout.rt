@@ -25,8 +25,8 @@ pub(crate) struct Loose {
     pub(crate) own: Vec<Option<u32>>,
 }
 
-/// The headers of a plan, whole but for the fields that the plan leaves variable, and those of them that have such a
-/// field; and whether no plan of a lesser number has the plan's print.
+/// The headers of a plan, whole except for the fields that the plan leaves variable; those of them that have such a
+/// field; and whether no plan of a lesser number has this plan's print.
 #[derive(Drop)]
 pub(crate) struct Layout {
     pub(crate) headers: Headers,
@@ -62,8 +62,8 @@ impl Loose {
 }
 
 impl Layout {
-    /// Reads the headers of a short datagram: a copy of these, into which what varies is filled as it is read. The
-    /// variable fields stand then in place of what a vector held.
+    /// Reads the headers of a short datagram: a copy of these headers, with what varies filled in as it is read. Then
+    /// `fields` has the variable fields, in place of what it held.
     #[inline(never)]
     pub(crate) fn read(
         &self,
@@ -96,7 +96,7 @@ impl Layout {
         Some(())
     }
 
-    /// The number of its plan, if that is known to be the least plan that fits what was read by it.
+    /// The number of the layout's plan, if this is known to be the least plan that fits what was read by it.
     pub(crate) fn known(&self, number: u8) -> Option<u8>
         ensures { result ≡ (if self.now.is_least then Some number else None) }
     {

@@ -18,8 +18,8 @@ use packet_full::{Opened, Scan, close, open};
 use packet_mean::Here;
 use stack_shapes::Plans;
 
-/// Reads what a datagram says to a member of a stack with these plans, in full or short, into `scan`, without memory;
-/// or tells the first cause for which it is refused, and `scan` is of no use then. The headers are whole: the constants
+/// Reads what a datagram, full or short, says to a member of a stack with these plans into `scan`, without memory; or
+/// answers the first cause for which it is refused, and then `scan` is of no use. The headers are whole: the constants
 /// of a plan stand in them.
 pub fn scan_packet(
     stack: &Stack,
@@ -44,9 +44,9 @@ pub fn scan_packet(
     close(bytes, &front, &cursor, scan)
 }
 
-/// The same, by plans that are laid out. Of a short datagram it is told too which is the least plan that its packet
-/// fits, if that is known, and then a vector has the fields that this plan leaves variable, in place of what it held;
-/// else what it holds is of no use. It takes no memory: there must be room for the fields of each plan.
+/// The same, by plans that are laid out. For a short datagram, it also answers the least plan that its packet fits, if
+/// that is known; `fields` then has the fields that this plan leaves variable, in place of what it held, and otherwise
+/// what it holds is of no use. It takes no memory: there must be room for the fields of each plan.
 pub fn scan_known(
     known: &Known<'_>,
     here: &Here,

@@ -36,7 +36,7 @@ fn put_variable(planned: Option<u32>, number: u32, into: &mut Vec<u8>)
     }
 }
 
-/// Puts the variable ones of a header's fields, and answers what is planned after them.
+/// Puts the variable fields of a header, and answers what is planned after them.
 fn put_fields<'a>(
     planned: &'a [Option<u32>],
     fields: &Fields,
@@ -79,8 +79,8 @@ pub fn short_room_of(headers: &Headers, body: &[u8]) -> usize
     headers.len() as usize * HEADER_BYTES + FRONT_BYTES + body.len()
 }
 
-/// Puts in its short form, under a plan and its number, what a member sends to a destination, with these headers and
-/// this body, after what a vector holds, as the plan says and without asking whether it fits. It takes no memory:
+/// Puts the short form of what a member sends to a destination with these headers and this body, under a plan and its
+/// number, after what a vector holds. It is put as the plan says, without asking whether it fits. It takes no memory:
 /// there must be room for 17 bytes of each header, the body and 20 more.
 pub fn put_short(
     plan: &Plan,
@@ -102,7 +102,7 @@ pub fn put_short(
     put_body(body, into);
 }
 
-/// Puts in its short form what fits a plan, as `put_short` does. Err exactly where it doesn't fit the plan; then
+/// Puts the short form of what fits a plan, as `put_short` does. Err exactly where it doesn't fit the plan; then
 /// nothing changes.
 pub fn put_short_of(
     plan: &Plan,

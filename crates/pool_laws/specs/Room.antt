@@ -36,16 +36,16 @@ pub record OwnPool {S : Type 0} (refs : S → List ℕ) (state : List Held → S
   pub slots : length p ≡ rows_of stack most + slots_beyond
   pub within : rows_of stack most ≤ most_rows
 
--- A run that begins with these references, which are all that there are, finds a slot for each of its joins, and no
--- slot has too many references.
+-- A run that begins with these references and no others finds a slot for each of its joins, and no slot has too many
+-- references.
 pub record HasRoom (p : List Held) (xs : List ℕ) : Type 0 where
   pub exact : Exact p xs
   pub covers : Covers p xs
   pub joins : joins_limit ≤ spare p
   pub counts : CountsWithin most_at_first p
 
--- Such a pool isn't full; it has room for a run that begins without a body; and so it has for one that begins with a
--- body, once this is put. (What the run's event refers to stands after the other references.)
+-- Such a pool isn't full; it has room for a run that begins without a body and, once the body is put, for one that
+-- begins with a body. (What the run's event refers to stands after the other references.)
 abbrev pub NotFull : Type 0
 NotFull = (rows : ℕ) (p : List Held) (xs : List ℕ) → IsPoolFor rows p xs → IsFull p → ⊥
 

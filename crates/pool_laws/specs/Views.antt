@@ -1,4 +1,4 @@
--- Views of a run have ever fewer members.
+-- Later views of a run have no more members than earlier ones.
 use Rattle.std.specs.Prelude.{◌≡◌, ℕ, ◌≤◌, Some}
 use Rattle.msg_core.specs.View.{member_count}
 use Rattle.msg_core.specs.declared.packet.View.{View}

@@ -76,7 +76,7 @@ pub data Printing : Type 0 where
   handlers : Printing
   traces : Printing
 
--- The texts of both are told beside this: they are defined with the bypasses.
+-- The texts of both, which are given separately: they are defined with the bypasses.
 abbrev pub Printer : Type 0
 Printer = Printing → List LayerTree → List ℕ
 
@@ -112,7 +112,7 @@ WritesOf print (node name plan turns me patience mode) r file second out =
     Serves file second (node_words turns me patience mode) r.surroundings out r.sent
 WritesOf print (audit name law) r file second out = Audits file law out × HandsNothing r
 
--- How a job ends whose whole output was written: that an audit found a breach is an end of its own.
+-- How a job ends if its whole output was written: an audit that found a breach has an end of its own.
 abbrev pub end_found : Result Finding AuditFault → Ended
 end_found (Ok (Breach first second)) = breached
 end_found _ = done
@@ -130,11 +130,11 @@ OfJob r Holds = IsSomeAnd (job_of_words r.words) (λ job. IsSound r.reads × IsS
 abbrev pub Writes : Printer → Run → List ℕ → Type 0
 Writes print r out = OfJob r (λ job file second. WritesOf print job r file second out)
 
--- Of the network's listens and receives none failed but those receives that are told.
+-- No listen of the network failed, and no receive except those that are told.
 abbrev pub HeardAll : Run → Type 0
 HeardAll r = RoseBy r.links (failures r.surroundings.heard)
 
--- What was written is the whole output of a run's job, whose end this is, and no write failed.
+-- What was written is the whole output of a run's job, this is how the job ends, and no write failed.
 abbrev pub WritesWhole : Printer → Run → Ended → Type 0
 WritesWhole print r end =
     OfJob r (λ job file second. WritesOf print job r file second r.written × (whole_end job file ≡ end)) ×
@@ -147,8 +147,8 @@ gone_on r clock heard sent = record r {
   sent = r.sent ++ sent;
 }
 
--- A run was broken off: what was written is a prefix of a whole output, and what was handed to the network one of what
--- is handed on then, where a node's clock and network, had they been asked further, told this.
+-- A run was broken off: what was written is a prefix of a whole output, and what was handed to the network is a prefix
+-- of what would be handed on with that output, had a node's clock and network been asked further and told this.
 pub record Began (print : Printer) (r : Run) : Type 0 where
   pub clock : List ℕ
   pub heard : List Heard
@@ -163,7 +163,7 @@ pub record WroteNothing (r : Run) : Type 0 where
   pub sent : r.sent ≡ []
   pub sound : IsSound r.links
 
--- The file of a job is a stack file, but for an audit's, which is a report.
+-- The file of a job is a stack file, except that an audit's is a report.
 abbrev pub ReadsStack : Job → Type 0
 ReadsStack (audit name law) = ⊥
 ReadsStack _ = Unit {0}
@@ -190,8 +190,8 @@ pub record RefusesReport (r : Run) (fault : AuditFault) : Type 0 where
   pub refused : OfJob r (λ job file second. IsNoReport job file fault)
   pub nothing : WroteNothing r
 
--- The words are a job whose file is good; its second file, if it has one, was read without a fault; and that or the
--- job's members are refused.
+-- The words are a job whose file is good; its second file, if it has one, was read without a fault; and that file or
+-- the job's members are refused.
 pub record RefusesSecond (r : Run) (fault : SecondFault) : Type 0 where
   pub stack : List LayerTree
   pub refused : OfJob r (λ job file second. Means file stack × (second_fault job stack second ≡ Some fault))
@@ -212,19 +212,19 @@ pub record RefusesTraces (r : Run) (fault : PackFault) : Type 0 where
   pub nothing : WroteNothing r
 
 -- A job's files up to one that couldn't be read: its first; or its second, where the first is good; or its third, where
--- both are.
+-- both others are good.
 abbrev pub Unread : Run → Job → Type 0
 Unread r job = (r.file ≡ None) ⊎ ((second_for job r.second ≡ None) × IsSomeAnd r.file IsGood)
     ⊎ ((third_for job r.third ≡ None) ×
     IsSomeAnd r.file (λ file. IsSomeAnd (second_for job r.second) (AreGood job file)))
 
--- The words are a job of which a read failed: that of its first file, or one after files that are good.
+-- The words are a job, and a read failed: that of its first file, or that of a file after good ones.
 pub record ReadsFailed (r : Run) : Type 0 where
   pub rose : Fails r.reads
   pub unread : IsSomeAnd (job_of_words r.words) (Unread r)
   pub nothing : WroteNothing r
 
--- The words are a node's job whose files are good, and a listen failed, or one more receive than is borne.
+-- The words are a node's job whose files are good, and a listen failed, or one more receive failed than is borne.
 abbrev pub LinksFail : Job → Run → (file second : List ℕ) → Type 0
 LinksFail (node name plan turns me patience mode) r file second = let words = node_words turns me patience mode in
     (CannotListen file second words r.surroundings r.written r.sent × RoseBy r.links 1)

@@ -14,20 +14,19 @@ use Rattle.end_mean.specs.Status.{SecondFault, misspelled, too_many_rows}
 abbrev pub crowd_fault : List LayerTree → ℕ → Option SecondFault
 crowd_fault stack members = if nat_le (rows_of stack members) most_rows then None else Some too_many_rows
 
--- A script is judged before the rows, and so is a plan, after which come a node's own members.
+-- A script or a plan is judged before the rows; a node's own members are judged after the plan and before the rows.
 abbrev pub after_script : List LayerTree → Result Script ScriptFault → Option SecondFault
 after_script stack (Err fault) = Some (misspelled fault)
 after_script stack (Ok script) = crowd_fault stack script.members
 
--- A node's own members that the plan hasn't are refused as if its first line named them.
+-- Own members of a node that the plan doesn't have are refused as if the plan's first line named them.
 abbrev pub after_plan : List LayerTree → List ℕ → Result NodePlan ScriptFault → Option SecondFault
 after_plan stack me (Err fault) = Some (misspelled fault)
 after_plan stack me (Ok plan) =
     if list_all (λ id. nat_lt id (length plan.peers)) me then crowd_fault stack (length plan.peers) else Some
     (misspelled (no_member 1))
 
--- Why a job is refused for its second file or its members, whose stack is accepted and whose second file has these
--- bytes.
+-- Why a job with an accepted stack and a second file of these bytes is refused for that file or for its members.
 abbrev pub second_fault : Job → List LayerTree → List ℕ → Option SecondFault
 second_fault (check file) stack text = None
 second_fault (synth file) stack text = None

@@ -19,7 +19,7 @@ abbrev pub delivery_front : ℕ → (word : List ℕ) → ℕ → List ℕ
 delivery_front id word peer = codes "deliver " ++ decimal id ++ codes " " ++ word ++ codes " " ++ decimal peer ++
     codes " "
 
--- What stands after a packet's number: the member whose it is, and whom it is for.
+-- What stands after a packet's number: the member whose packet it is, and whom it is for.
 abbrev pub address_text : ℕ → (dest : List ℕ) → List ℕ
 address_text id dest = codes " " ++ decimal id ++ codes " " ++ dest ++ codes " "
 

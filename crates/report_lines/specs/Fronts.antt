@@ -33,7 +33,7 @@ below (suc n) = below n ++ n ∷ []
 abbrev pub declared_headers : List LayerTree → ℕ → List Header
 declared_headers stack n = flat_map (headers_at stack) (below n)
 
--- Where each of these pieces begins that lie one after the other from here on, and where the last one ends.
+-- Where each of these pieces begins, if they lie one after the other from here on, and where the last one ends.
 abbrev pub ends_from : {X Y : Type 0} → (X → List Y) → ℕ → List X → List ℕ
 ends_from f from [] = from ∷ []
 ends_from f from (x ∷ xs) = from ∷ ends_from f (from + length (f x)) xs
@@ -48,8 +48,8 @@ abbrev pub AddFronts : List LayerTree → List Header → (texts begins new_text
 AddFronts stack more texts begins new_texts new_begins =
     (hs : List Header) → AreFronts stack hs texts begins → AreFronts stack (hs ++ more) new_texts new_begins
 
--- They are those of the headers of the places below n, and these are the numbers of the first header of each place, and
--- that of all.
+-- These texts and beginnings are those of the headers of the places below n; and these are the number of the first
+-- header of each place and, last, the number of all headers.
 abbrev pub AreAllFronts : List LayerTree → ℕ → (texts begins firsts : List ℕ) → Type 0
 AreAllFronts stack n texts begins firsts =
     AreFronts stack (declared_headers stack n) texts begins × (firsts ≡ ends_from (headers_at stack) 0 (below n))

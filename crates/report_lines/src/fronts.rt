@@ -11,7 +11,7 @@ use msg_core::{Fields, Header, Memory};
 use std::alloc::Global;
 
 /// The texts `LAYER.HEADER(` of the declared headers of a stack, one after the other: where each begins, and where the
-/// last one ends. Of each place the number of its first header, and after the last one that of all.
+/// last one ends. For each place, the number of its first header and, last, the number of all headers.
 #[derive(Drop)]
 pub(crate) struct Fronts {
     pub(crate) texts: Line,

@@ -1,5 +1,5 @@
--- Which steps are common, in which case, and which of their packets are sent short, under which plan. All is told by
--- the layers' texts and by the layered run of the step.
+-- Which steps are common, in which case, and which of their packets are sent short, under which plan. The layers' texts
+-- and the layered run of the step decide all of this.
 use Rattle.std.specs.Prelude.{ℕ, ◌+◌, Bool, true, false, ◌&&◌, nat_le, if◌then◌else◌, List, [], ◌∷◌, slice_get, Option}
 use Rattle.std.specs.Prelude.{Some, None, option_map, is_some, Result, Ok, Err}
 use Rattle.std.specs.Option.{option_and_then, option_map_or}
@@ -40,14 +40,14 @@ abbrev pub is_short : Result Shape NoShape → Bool
 is_short (Ok s) = nat_le s.length longest_shape
 is_short (Err reason) = false
 
--- A step is common in a case where its entry has a shape in it that isn't too long, and its run went as predicted in it
--- in every visit. The form in which a packet came plays no part.
+-- A step is common in a case if its entry has a shape in that case that isn't too long, and every visit of its run went
+-- as predicted in that case. It makes no difference in which form a packet came.
 abbrev pub is_common_in : List LayerTree → List Plan → Step → Case → Bool
 is_common_in stack plans s case =
     option_map_or (λ known. is_short (shape stack known case)) (entry_of plans s.entered) false &&
     is_predicted case s.work
 
--- The case of a step is the first in which it is common; it is common where there is one.
+-- The case of a step is the first in which it is common. A step is common if it has a case.
 abbrev pub case_of : List LayerTree → List Plan → Step → Option Case
 case_of stack plans s =
     if is_common_in stack plans s First then Some First
@@ -57,8 +57,8 @@ case_of stack plans s =
 abbrev pub is_common : List LayerTree → List Plan → Step → Bool
 is_common stack plans s = is_some (case_of stack plans s)
 
--- The number of the first decision of a step that didn't go as predicted in a case, counted from 0 through all its
--- visits, if there is one.
+-- The number of the first decision of a step, if any, that didn't go as predicted in a case, counted from 0 through all
+-- visits of the step.
 abbrev pub first_missed : Case → Step → Option ℕ
 first_missed case s = effect.first_missed case s.work.decided
 
@@ -68,7 +68,7 @@ is_planned (packet p) = true
 is_planned nowhere = true
 is_planned _ = false
 
--- How many groups of plans stand before that of an application's cast or send in a case.
+-- How many groups of plans come before the group of an application's cast or send in a case.
 abbrev pub groups_before : Entered → Case → Option ℕ
 groups_before (app_cast body) First = Some 0
 groups_before (app_send to body) First = Some 1
@@ -80,13 +80,14 @@ groups_before _ case = None
 abbrev pub first_plan : List LayerTree → Entered → Case → Option ℕ
 first_plan stack what case = option_map (plans_before stack) (groups_before what case)
 
--- The number of the plan under which the packets of a step are sent short from the first on, if they are: in bypass
--- mode, where the step is a common one of an application, the first plan of its case.
+-- The number of the first plan under which packets of a step are sent short, if they are: in bypass mode, for an
+-- application's common step, the first plan of its case.
 abbrev pub short_from : Mode → List LayerTree → List Plan → Step → Option ℕ
 short_from layered stack plans s = None
 short_from bypass stack plans s = option_and_then (first_plan stack s.entered) (case_of stack plans s)
 
--- The number of a plan that there is, of an output to which one belongs; each such output takes one number.
+-- The number of an output's plan, if plans belong to such outputs and there is a plan of this number. Each such output
+-- takes one number.
 abbrev pub plan_for : List Plan → Option ℕ → Output → Option ℕ
 plan_for plans next o = if is_planned o then option_and_then (λ k. option_map (λ plan. k) (slice_get plans k)) next else
     None
@@ -94,7 +95,7 @@ plan_for plans next o = if is_planned o then option_and_then (λ k. option_map (
 abbrev pub plan_after : Option ℕ → Output → Option ℕ
 plan_after next o = if is_planned o then option_map (λ k. k + 1) next else next
 
--- Outputs with the plans under which they are sent short, where they are.
+-- Outputs, each with the plan under which it is sent short, if it is.
 abbrev pub with_plans : List Plan → Option ℕ → List Output → List (Output × Option ℕ)
 with_plans plans next [] = []
 with_plans plans next (o ∷ outputs) = (o, plan_for plans next o) ∷ with_plans plans (plan_after next o) outputs

@@ -22,19 +22,19 @@ use Rattle.run_mean.specs.Report.{Annex, lines_of_outputs, Moment, moments, line
 use Rattle.msg_core.specs.View.{ids}
 use Rattle.run_mean.specs.World.{Did, taken, first_world}
 
--- What a member hears when it asks the network: a datagram, nothing, or that it failed.
+-- What a member hears when it asks the network: a datagram, nothing, or a failure.
 pub data Heard : Type 0 where
   datagram : (bytes : List ℕ) → Heard
   silence : Heard
   failure : Heard
 
--- What a node notes as it runs: an event that a member of its own takes, or that a member couldn't hear.
+-- What a node notes as it runs: an event that one of its own members takes, or that a member couldn't hear.
 pub data Note : Type 0 where
   fed : ScriptEvent → Note
   deaf : (id : ℕ) → Note
 
--- What the members heard in a turn, and how many failures may still be borne; none where one more came than may be,
--- after which nothing is heard.
+-- What the members heard in a turn, and how many more failures are borne. A failure that isn't borne leaves None here,
+-- and nothing is heard after it.
 pub record Hearing : Type 0 where
   pub notes : List Note
   pub patience : Option ℕ
@@ -42,7 +42,7 @@ pub record Hearing : Type 0 where
 abbrev pub noting : Note → Hearing → Hearing
 noting note h = record h { notes = note ∷ h.notes }
 
--- What members heard, of which n failures may be borne: a datagram is an event of the member that heard it.
+-- What members heard, where `patience` failures are borne: a datagram is an event of the member that heard it.
 abbrev pub hearing : ℕ → List (ℕ × Heard) → Hearing
 hearing patience [] = record { notes = []; patience = Some patience }
 hearing patience ((id, datagram bytes) ∷ rest) = noting (fed (Raw id bytes)) (hearing patience rest)
@@ -55,14 +55,14 @@ abbrev pub planned_events : NodePlan → List ℕ → ℕ → List ScriptEvent
 planned_events plan me t =
     map (λ x. x.1) (filter (λ x. (x.0 == t) && list_any (λ id. member_of x.1 == id) me) plan.turns)
 
--- What goes on where patience is left.
+-- What follows, unless a failure wasn't borne.
 abbrev pub while_patient : Option ℕ → (ℕ → List Note) → List Note
 while_patient None next = []
 while_patient (Some left) next = next left
 
 -- The notes from a turn on: a tick of the turn's moment at each own member, what the members heard, and the plan's
--- events. They end where there is no moment, and at a failure that isn't borne, before which what was heard earlier in
--- the turn still stands.
+-- events. They end where no moment is left, or at a failure that isn't borne; what was heard earlier in that turn stays
+-- among them.
 abbrev pub notes_from : NodePlan → List ℕ → (t turns patience : ℕ) (moments : List ℕ) (heard : List Heard) → List Note
 notes_from plan me t zero patience clock heard = []
 notes_from plan me t (suc turns) patience [] heard = []
@@ -72,8 +72,8 @@ notes_from plan me t (suc turns) patience (moment ∷ clock) heard =
     ++ while_patient h.patience (λ left.
     map fed (planned_events plan me t) ++ notes_from plan me (t + 1) turns left clock (drop (length me) heard))
 
--- The notes of a node: of its plan, its own members, how many turns it makes and how many failures it bears, what its
--- clock told in each turn and what its members heard.
+-- The notes of a node, from its plan, its own members, the numbers of turns that it makes and of failures that it
+-- bears, what its clock told in each turn, and what its members heard.
 abbrev pub notes_of : NodePlan → List ℕ → (turns patience : ℕ) → List ℕ → List Heard → List Note
 notes_of plan me turns patience clock heard = notes_from plan me 0 turns patience clock heard
 
@@ -96,8 +96,8 @@ pub record Handed : Type 0 where
   pub to : ℕ
   pub bytes : List ℕ
 
--- The members to which a packet goes: a cast to each other one of the sender's view, by ascending id; a send to its
--- rank's.
+-- The members to which a packet goes: a cast to every other member of the sender's view, by ascending id; a send to the
+-- member of its rank.
 abbrev pub receivers : ℕ → View → Dest → List ℕ
 receivers id view All = filter (λ other. not (other == id)) (ids view)
 receivers id view (Rank rank) = option_to_list (slice_get (ids view) rank)
@@ -121,7 +121,7 @@ abbrev pub lost_annex : (failed : ℕ → ℕ) → Annex
 lost_annex failed k (packet p, plan) = replicate (failed k) (line (codes "lost" ∷ decimal k ∷ []))
 lost_annex failed k (_, plan) = []
 
--- What a node writes of an event: after `> ` its line, then its report, with the packets that were lost.
+-- What a node writes of an event: `> ` and the event's line, then its report, with the packets that were lost.
 abbrev pub node_moment_lines : List LayerTree → List Plan → (failed : ℕ → ℕ) → Moment → List (List ℕ)
 node_moment_lines stack plans failed m =
     line (codes ">" ∷ event_text m.event ∷ [])
@@ -130,8 +130,8 @@ node_moment_lines stack plans failed m =
     (with_plans plans None s.outputs))
     m m.happening.did
 
--- What a node writes of its notes, whose events gave these moments: a line for each member that couldn't hear stands
--- in its place.
+-- What a node writes of its notes, whose events gave these moments. A member that couldn't hear has a line of its own
+-- among theirs, in order.
 abbrev pub note_lines : List LayerTree → List Plan → (failed : ℕ → ℕ) → List Note → List Moment → List (List ℕ)
 note_lines stack plans failed (deaf id ∷ notes) run =
     line (codes "deaf" ∷ decimal id ∷ []) ∷ note_lines stack plans failed notes run
@@ -139,6 +139,6 @@ note_lines stack plans failed (fed event ∷ notes) (m ∷ run) =
     node_moment_lines stack plans failed m ++ note_lines stack plans failed notes run
 note_lines stack plans failed _ _ = []
 
--- All that a node writes where it makes all its turns: last how many events there were.
+-- All that a node writes if it makes all its turns; the last line says how many events there were.
 abbrev pub node_lines : List LayerTree → List Plan → (failed : ℕ → ℕ) → List Note → List Moment → List (List ℕ)
 node_lines stack plans failed notes run = note_lines stack plans failed notes run ++ end_line (length run) ∷ []

@@ -32,7 +32,7 @@ pub data Member : Type 0 where
   inside : (view : View) (states : List State) → Member
   out : Member
 
--- A member of this id that has just come into a view: its layers are fresh. One whose id the view hasn't is out.
+-- A member of this id that has just come into a view: its layers are fresh. If the view doesn't have its id, it is out.
 abbrev pub opened_member : List LayerTree → View → ℕ → Member
 opened_member stack view id = option_map_or
     (λ me. inside view (map (λ layer. fresh layer me (member_count view) view.ltime) stack)) (rank view id) out
@@ -52,7 +52,7 @@ pub data Refusal : Type 0 where
   too_big : Refusal
   is_stray : Stray → Refusal
 
--- What an input is once it isn't refused: that of a datagram is the packet that it spells.
+-- What an input that isn't refused enters as: a datagram enters as the packet that it spells.
 pub data Entered : Type 0 where
   app_cast : (body : List ℕ) → Entered
   app_send : (to : ℕ) (body : List ℕ) → Entered
@@ -69,7 +69,7 @@ abbrev pub from_datagram : Result Packet Stray → Result Entered Refusal
 from_datagram (Ok packet) = Ok (from_peer packet)
 from_datagram (Err cause) = Err (is_stray cause)
 
--- An input of a member that is in a view, as far as it isn't refused.
+-- What an input of a member in a view enters as, or why it is refused.
 abbrev pub entered_input : List LayerTree → List Plan → Here → Input → Result Entered Refusal
 entered_input stack plans here (cast body) = fitting body (app_cast body)
 entered_input stack plans here (send to body) = fitting body (app_send to body)
@@ -84,8 +84,8 @@ from_above stack what numbers message = record { at = length stack; dir = Down; 
 abbrev pub from_below : Kind → List ℕ → Option Content → Task Event
 from_below what numbers message = record { at = 1; dir = Up; event = event_of what numbers message }
 
--- The task that a step begins with: an application's cast names the own rank, and its send the rank that it is for; a
--- packet goes up as a cast or a send from its sender.
+-- The task that a step begins with: an application's cast names the member's own rank, and its send the rank to which
+-- it goes; a packet goes up as a cast or a send from its sender.
 abbrev pub first_task : List LayerTree → (me : ℕ) → Entered → Task Event
 first_task stack me (app_cast body) = from_above stack kind.Cast (me ∷ []) (Some (plain body))
 first_task stack me (app_send to body) = from_above stack kind.Send (to ∷ []) (Some (plain body))
@@ -109,7 +109,7 @@ pub data Output : Type 0 where
 abbrev pub content : Event → Content
 content e = option_map_or (λ m. m) e.message (plain [])
 
--- The packet that a member sends: it carries the view of the step's beginning and the own rank.
+-- The packet that a member sends: it carries the view at the beginning of the step and the member's own rank.
 abbrev pub packet_to : Here → Dest → Event → Packet
 packet_to here dest e = record {
   group = here.group;
@@ -142,7 +142,7 @@ abbrev pub output_of : Here → Dir × Event → Output
 output_of here (Up, e) = above e.kind e
 output_of here (Down, e) = below here e.kind e
 
--- The view that an output announces, and the packet that it sends.
+-- The ranks that an output announces for a view, and the packet that it sends.
 abbrev pub announced_ranks : Output → Option ℕ
 announced_ranks (announce ranks) = Some ranks
 announced_ranks _ = None
@@ -151,8 +151,8 @@ abbrev pub packet_in : Output → Option Packet
 packet_in (packet p) = Some p
 packet_in _ = None
 
--- A step that was taken: what it entered as, the work of its run, its outputs in order, and the view that it installed,
--- if it did.
+-- A step that was taken: what entered, the work of its run, its outputs in order, and the view that it installed, if
+-- any.
 pub record Step : Type 0 where
   pub entered : Entered
   pub work : Work

@@ -20,7 +20,7 @@ use Rattle.run_mean.specs.Common.{is_common, with_plans, as_sent, wire}
 use Rattle.run_mean.specs.Lines.{line, deliver_line, number_line, packet_line, wire_line, view_line, out_line}
 use Rattle.run_mean.specs.Lines.{state_out_line, refused_line, absent_line, cell_line, cell_values}
 
--- The lines of an output, a packet having this number.
+-- The lines of an output, where a packet has the number k.
 abbrev pub output_lines : List LayerTree → ℕ → ℕ → Output → List (List ℕ)
 output_lines stack id k (deliver_cast peer body) = deliver_line id (codes "cast") peer body ∷ []
 output_lines stack id k (deliver_send peer body) = deliver_line id (codes "send") peer body ∷ []
@@ -36,12 +36,11 @@ abbrev pub number_following : ℕ → Output → ℕ
 number_following k (packet p) = k + 1
 number_following k _ = k
 
--- What stands after the lines of an output, of which the packet's number is told and the plan under which it is sent
--- short.
+-- What follows the lines of an output, given the packet's number and the plan under which it is sent short.
 abbrev pub Annex : Type 0
 Annex = ℕ → Output × Option ℕ → List (List ℕ)
 
--- The lines of outputs, their packets numbered from k on, with what stands after each.
+-- The lines of outputs, their packets numbered from k on, with what follows each.
 abbrev pub lines_of_outputs : List LayerTree → Annex → ℕ → ℕ → List (Output × Option ℕ) → List (List ℕ)
 lines_of_outputs stack annex id k [] = []
 lines_of_outputs stack annex id k (o ∷ outputs) =
@@ -55,7 +54,7 @@ abbrev pub wire_annex : List Plan → Annex
 wire_annex plans k (packet p, plan) = wire_line k (wire plans p plan) ∷ []
 wire_annex plans k (_, plan) = []
 
--- The lines of a step's outputs; where the packets' bytes are wanted, they are those of a mode.
+-- The lines of a step's outputs, with the packets' bytes as they are sent in a mode, where these are wanted.
 abbrev pub step_lines : List LayerTree → List Plan → Option Mode → ℕ → ℕ → Step → List (List ℕ)
 step_lines stack plans None id k s = lines_of_outputs stack no_annex id k (with_plans plans None s.outputs)
 step_lines stack plans (Some mode) id k s = lines_of_outputs stack (wire_annex plans) id k (as_sent mode stack plans s)
@@ -99,7 +98,7 @@ moments stack plans w (e ∷ events) =
     let h = happens stack plans w e in record { before = w; event = e; happening = h } ∷
     moments stack plans h.world events
 
--- The lines of what an event of a member gave, those of a step's outputs being told.
+-- The lines of what an event of a member gave, given those of a step's outputs.
 abbrev pub lines_of : List LayerTree → (Step → List (List ℕ)) → Moment → Did → List (List ℕ)
 lines_of stack of_step m (taken s) = of_step s ++ map (installed_line (member_of m.event)) (option_to_list s.installs)
 lines_of stack of_step m (refused refusal) = refused_line (member_of m.event) refusal ∷ []
@@ -110,12 +109,12 @@ lines_of stack of_step m shown = member_lines stack (member_of m.event) (member_
 abbrev pub first_number : Moment → ℕ
 first_number m = length m.before.packets + 1
 
--- The lines of a moment; where the packets' bytes are wanted, they are those of a mode.
+-- The lines of a moment, with the packets' bytes as they are sent in a mode, where these are wanted.
 abbrev pub moment_lines : List LayerTree → List Plan → Option Mode → Moment → List (List ℕ)
 moment_lines stack plans wires m =
     lines_of stack (step_lines stack plans wires (member_of m.event) (first_number m)) m m.happening.did
 
--- How many visits a step counts for: in bypass mode a common one counts for none.
+-- How many visits a step counts for: none in bypass mode, if it is common.
 abbrev pub visit_count : Mode → List LayerTree → List Plan → Step → ℕ
 visit_count layered stack plans s = s.work.visits
 visit_count bypass stack plans s = if is_common stack plans s then 0 else s.work.visits
@@ -138,7 +137,7 @@ end_line n = line (codes "end" ∷ decimal n ∷ [])
 abbrev pub visits_line : ℕ → List ℕ
 visits_line v = line (codes "visits" ∷ decimal v ∷ [])
 
--- What is wanted beside the report: the packets' bytes as they are sent in a mode, and the number of visits in a mode.
+-- What is wanted besides the report: the packets' bytes as they are sent in a mode, and the number of visits in a mode.
 pub record Wanted : Type 0 where
   pub wires : Option Mode
   pub count : Option Mode
@@ -150,7 +149,7 @@ wanted_lines stack plans wanted s run =
     ++ end_line (length s.events)
     ∷ map (λ mode. visits_line (sum_by (visits_of mode stack plans) run)) (option_to_list wanted.count)
 
--- The report of a script: it knows of no mode.
+-- The report of a script, which depends on no mode.
 unfoldable pub report_lines : List LayerTree → List Plan → Script → List (List ℕ)
 report_lines stack plans s = wanted_lines stack plans (record { wires = None; count = None }) s (run_of stack plans s)
 
@@ -159,8 +158,8 @@ abbrev pub mode_if : Bool → Mode → Option Mode
 mode_if false mode = None
 mode_if true mode = Some mode
 
--- What the program writes of a script in a mode: the report, where wanted with the packets' bytes and the number of
--- visits.
+-- What the program writes of a script in a mode: the report, with the packets' bytes and the number of visits where
+-- these are wanted.
 unfoldable pub output_in : List LayerTree → List Plan → Script → Mode → (wire count : Bool) → List (List ℕ)
 output_in stack plans s mode wire count =
     wanted_lines stack plans (record { wires = mode_if wire mode; count = mode_if count mode }) s (run_of stack plans s)

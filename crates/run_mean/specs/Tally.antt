@@ -24,7 +24,7 @@ counted_words =
 abbrev pub count_of : List (List ℕ) → List ℕ → ℕ
 count_of lines word = count_by (λ l. starts_with nat_eq l (word ++ codes " ")) lines
 
--- Whether an output is a packet that is sent short; a send that has nowhere to go is none.
+-- Whether an output is a packet that is sent short; a send that has nowhere to go isn't one.
 abbrev pub is_short_packet : Output × Option ℕ → Bool
 is_short_packet (packet p, plan) = is_some plan
 is_short_packet (_, plan) = false
@@ -34,8 +34,8 @@ abbrev pub short_in : Mode → List LayerTree → List Plan → Did → ℕ
 short_in mode stack plans (taken s) = count_by is_short_packet (as_sent mode stack plans s)
 short_in mode stack plans _ = 0
 
--- The lines of each kind that the report has and the number of its events, and in a second line the number of packets
--- that are sent short.
+-- In one line, how many lines of each kind the report has, and how many events; in a second line, how many packets are
+-- sent short.
 abbrev pub tally : List LayerTree → List Plan → Mode → Script → List (List ℕ)
 tally stack plans mode s =
     let run = run_of stack plans s in

@@ -9,11 +9,11 @@ use Rattle.msg_core.specs.declared.packet.View.{View}
 abbrev pub first_view : ℕ → View
 first_view n = record { ltime = 0; mask = 2 ^ n - 1 }
 
--- The mask of those ids of a view whose ranks are set in a number; further bits of the number say nothing.
+-- The mask of the ids of a view whose ranks are set in a number; further bits of the number mean nothing.
 abbrev pub mask_of : View → ℕ → ℕ
 mask_of view ranks = sum_by (λ x. if bit_at ranks x.0 == 1 then 2 ^ x.1 else 0) (enumerate_from 0 (ids view))
 
--- The last moment of the clock that counts views.
+-- The last value of the count of views.
 abbrev pub last_ltime : ℕ
 last_ltime = 4294967295
 

@@ -43,7 +43,7 @@ abbrev pub packet_number : World → ℕ → Option Packet
 packet_number w zero = None
 packet_number w (suc k) = slice_get w.packets k
 
--- What an event gave: a step that was taken, a refusal, a packet that there isn't, or a member that is shown.
+-- What an event gave: a step that was taken, a refusal, that a packet doesn't exist, or a member that is shown.
 pub data Did : Type 0 where
   taken : Step → Did
   refused : Refusal → Did
@@ -62,7 +62,7 @@ abbrev pub here_of : World → View → ℕ → Here
 here_of w view id =
     record { group = w.group; stamp = w.stamp; view = view; rank = option_map_or (λ r. r) (rank view id) 0 }
 
--- The world after a step that a member took: its packets are after all others.
+-- The world after a step that a member took: the packets of the step come after all earlier ones.
 abbrev pub world_after : World → View → ℕ → Step → World
 world_after w view id s = record w {
   members = slice_set w.members id (member_following view s);
@@ -76,7 +76,7 @@ stepped_inside stack w id view states (Ok what) =
     let s = step_from stack (here_of w view id) id states what in
     record { world = world_after w view id s; did = taken s }
 
--- A step of a member; one that is out refuses all.
+-- A step of a member; a member that is out refuses every input.
 abbrev pub stepped_of : List LayerTree → List Plan → World → ℕ → Input → Member → Happening
 stepped_of stack plans w id input out = only w (refused is_out)
 stepped_of stack plans w id input (inside view states) =

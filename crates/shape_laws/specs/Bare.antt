@@ -20,7 +20,7 @@ abbrev pub BareRow : Carried → Option Row → Type 0
 BareRow part row = (message_in part row).headers ≡ []
 BareRow (whole blank) row = Unit {0}
 
--- So has one that a message is made of.
+-- A part of which a message is made has no headers.
 abbrev pub BareMessage : MessageTree → State → Scope → Type 0
 BareMessage (held c i row carried) s l = BareRow carried (row_at s c (val i s l) (val row s l))
 BareMessage (tail m from) s l = BareMessage m s l
@@ -35,7 +35,7 @@ abbrev pub BareContent : Option ContentTree → State → Scope → Type 0
 BareContent None s l = Unit {0}
 BareContent (Some c) s l = BareMessage c.message s l
 
--- So have those that a step takes or sends.
+-- The parts that a step takes or sends have no headers.
 abbrev pub BareStep : Step → Here → Type 0
 BareStep (get c i taken) h = BareTaken taken.message (row_at h.state c (val i h.state h.scope) 0)
 BareStep (send e) h = BareContent e.content h.state h.scope
@@ -45,7 +45,7 @@ abbrev pub BareBeyond : (Here → Type 0) → Option Here → Type 0
 BareBeyond P None = Unit {0}
 BareBeyond P (Some h) = P h
 
--- So have those of the steps of a way, as far as all goes as predicted.
+-- The parts of the steps of a way have no headers, as far as all goes as predicted.
 abbrev pub BareSteps : ℕ → List Step → Here → Type 0
 BareSteps place [] h = Unit {0}
 BareSteps place (x ∷ xs) h = BareStep x h × BareBeyond (BareSteps place xs) (walk_step place x h)
@@ -58,7 +58,7 @@ abbrev pub BareHandled : Case → ℕ → Option HandlerTree → State → Event
 BareHandled case place None s event m = Unit {0}
 BareHandled case place (Some h) s event m = BareWay place (handler_way case h) s (entered_scope h event m)
 
--- So have those of a visit.
+-- The parts of a visit have no headers.
 abbrev pub BareVisit : Case → ℕ → LayerTree → State → Dir → Event → Type 0
 BareVisit case place layer s dir event =
     let m = met dir event.message in BareHandled case place (handler_for layer dir event.kind m.tag) s event m
@@ -69,7 +69,7 @@ BareNext case stack w (t ∷ rest) =
     is_place (length stack) t.at ≡ true →
     BareVisit case (t.at - 1) (layer_at stack t.at) (state_at w t.at) t.dir t.event.event
 
--- So have those of each visit of a run.
+-- The parts of each visit of a run have no headers.
 abbrev pub BareRun : Case → List LayerTree → Line (Log Work Event) (Marked Event) → Type 0
 BareRun case stack r = (k : ℕ) →
     let q = run_for (length stack) (marking_player (layers stack)) k r in BareNext case stack q.world.world q.tasks

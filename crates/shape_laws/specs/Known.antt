@@ -18,12 +18,12 @@ abbrev pub IsKnownAs : Option ℕ → ℕ → Type 0
 IsKnownAs None v = Unit {0}
 IsKnownAs (Some n) v = v ≡ n
 
--- A header has the drawn tag, and as many fields as are drawn, those that are known being so.
+-- A header has the drawn tag and as many fields as are drawn, and its known fields are as drawn.
 pub record HeaderIs (d : DrawnHeader) (h : Header) : Type 0 where
   pub tag : d.tag ≡ h.tag
   pub fields : Pairwise IsKnownAs d.fields h.fields
 
--- So have the headers of a message.
+-- The headers of a message are as drawn.
 abbrev pub HeadersAre : List DrawnHeader → List Header → Type 0
 HeadersAre = Pairwise HeaderIs
 

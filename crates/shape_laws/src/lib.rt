@@ -25,7 +25,7 @@ pub fn logs_tell_runs()
     ensures { LogsTellRuns }
 {}
 
-/// What watches for conditions with two predicted ways draws the first case.
+/// Drawing draws the first case also where it watches for conditions with two predicted ways.
 pub fn watches_the_first_case()
     ensures { WatchesTheFirstCase }
 {}

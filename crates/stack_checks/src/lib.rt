@@ -1,4 +1,4 @@
-//! The checks of a stack's traces, by which it is told what a step lacked.
+//! The checks of a stack's traces, which tell what a step lacked.
 #![tactic(auto)]
 
 mod asked;

@@ -37,7 +37,7 @@ fn second_numbers(asked: &Option<Asked>) -> usize
     }
 }
 
-/// The larger of an entry's both cases.
+/// The larger number of an entry's two cases.
 #[tactic(auto, using(crate::proofs::Within::both_cases))]
 pub(crate) fn case_numbers(checks: &CaseChecks) -> usize
     ensures { EntryWithin result (entry_asked checks.now) }

@@ -73,7 +73,7 @@ impl StackChecks {
         })
     }
 
-    /// What a step lacks that begins with this entry: the first check of each of its cases that isn't passed on the
+    /// What a step that begins with this entry lacks: in each of its cases, the first check that isn't passed on the
     /// layers as they are.
     pub fn miss(
         &mut self,

@@ -7,7 +7,7 @@ use Rattle.typed_layer.specs.View.{cell_tree, layer_tree}
 use Rattle.typed_layer.specs.declared.tree.Cell.{Cell}
 use Rattle.typed_layer.specs.declared.tree.TypedLayer.{TypedLayer}
 
--- The tree of a layer that is borrowed, and of none the layer without a name.
+-- The tree of a borrowed layer; where there is none, the layer without a name.
 abbrev pub layer_or_none : Option (Bor TypedLayer) → LayerTree
 layer_or_none None = no_layer
 layer_or_none (Some layer) = layer_tree layer.now

@@ -167,7 +167,7 @@ fn build_noted(
     build_note(line, &scope, message)
 }
 
-/// Notes a message, and builds the line of the note on an empty line, if it has one: whether it has.
+/// Notes a message, and builds the line of the note on an empty line, if it has one; answers whether it has.
 fn note_message(
     line: &mut Line,
     stack: &Stack,
@@ -193,8 +193,8 @@ fn note_message(
     }
 }
 
-/// Builds the line of an operation on an empty line, if it has one: whether it has. What it binds, takes or notes may
-/// be named from then on.
+/// Builds the line of an operation on an empty line, if it has one; answers whether it has. What it binds, takes or
+/// notes may be named from then on.
 pub(crate) fn build_operation(
     line: &mut Line,
     stack: &Stack,

@@ -119,7 +119,7 @@ fn push_rest(line: &mut Line, scope: &Scope<'_>, chain: u32) -> Result<(), Memor
     }
 }
 
-/// Known headers after what they are of, where there are any.
+/// Known headers after what they belong to, where there are any.
 #[tactic(auto, using(crate::proofs::Chains::after_read, crate::proofs::Chains::after_empty))]
 pub(crate) fn push_after(line: &mut Line, scope: &Scope<'_>, chain: u32) -> Result<(), Memory>
     requires { IsChain (chains_in scope.now) chain }

@@ -274,7 +274,7 @@ pub(crate) fn push_indexed(line: &mut Line, scope: &Scope<'_>, index: u32) -> Re
     line.text(b"]")
 }
 
-/// A cell, with its index but where it is told without one.
+/// A cell, with its index unless it is told without one.
 #[cycle(texts)]
 pub(crate) fn push_cell(
     line: &mut Line,

@@ -196,8 +196,8 @@ fn write_all<O: Sink>(
     write_end(&mut pen.line, bypasses, out)
 }
 
-/// Puts the text of a stack's bypasses, a line a put: each entry with what is made of it, each plan before its entry,
-/// and how many there are. No more than one line is held at a time.
+/// Puts the text of a stack's bypasses, each line in one put: each entry with what is made of it, each plan before its
+/// entry, and how many there are. No more than one line is held at a time.
 pub fn print_bypasses<O: Sink>(
     alloc: Global,
     stack: &Stack,

@@ -245,8 +245,8 @@ fn write_file<O: Sink>(
     write_rest(alloc, stack, plans, bypasses, out)
 }
 
-/// Puts the traces of a stack's bypasses as a file, a line a put: each trace that was made after its entry and case,
-/// with a line for each note. No more than one line is held at a time.
+/// Puts the traces of a stack's bypasses as a file, each line in one put: each trace that was made, after the line of
+/// its entry and case, with a line for each note. No more than one line is held at a time.
 pub fn print_traces<O: Sink>(
     alloc: Global,
     stack: &Stack,
