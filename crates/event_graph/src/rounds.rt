@@ -116,7 +116,7 @@ fn next_costs(
     Ok(costs)
 }
 
-/// The costs after that many rounds; once a round changes nothing, no more are made.
+/// The costs after `most` rounds; once a round changes nothing, no more are made.
 pub fn costs_in(
     alloc: Global,
     measure: Measure,

@@ -130,7 +130,7 @@ impl Search {
         self.see_after(vertices, &last)
     }
 
-    /// Makes that many rounds; once a round sees nothing, no more are made.
+    /// Makes `most` rounds; once a round sees nothing, no more are made.
     fn rounds(&mut self, alloc: Global, vertices: &[Vertex], most: usize) -> Result<(), AllocError>
         ensures { OnOk result
             (search_tree self.new ≡ search.search_after (map vertex_tree vertices.now) most (search_tree self.old)) }
@@ -156,7 +156,7 @@ fn is_met(alloc: Global, vertices: &[Vertex], most: usize, node: Node) -> Result
     Ok(search.has_seen(number))
 }
 
-/// The first of some nodes that a search from the node itself meets, in that many rounds.
+/// The first of `nodes` that a search from the node itself meets, in `most` rounds.
 pub fn first_met(
     alloc: Global,
     vertices: &[Vertex],
