@@ -3,10 +3,11 @@ ghost use Rattle.std.specs.Prelude.{◌≡◌, ◌++◌, IfOk, codes};
 ghost use Rattle.std.specs.String.{string_bytes};
 ghost use Rattle.outside.specs.Said.{errors};
 ghost use Rattle.outside.specs.Tells.{tells_of};
+ghost use Rattle.format_run.specs.Causes.{unread, unwritten};
 ghost use Rattle.format_run.specs.Ends.{Said, token_line};
 
 use layer_ast::At;
-use outside::{Sink, say_line};
+use outside::{ShelfError, Sink, SinkError, say_line};
 use std::alloc::{AllocError, Global};
 
 /// How a run ended.
@@ -26,6 +27,28 @@ pub enum Ending {
     Write,
     /// Memory ran out.
     Memory,
+}
+
+impl From<ShelfError> for Ending {
+    ghost from_gives = { λ cause end. end ≡ unread cause };
+
+    fn from(cause: ShelfError) -> Ending {
+        match cause {
+            ShelfError::Failed => Ending::Read,
+            ShelfError::Memory => Ending::Memory,
+        }
+    }
+}
+
+impl From<SinkError> for Ending {
+    ghost from_gives = { λ cause end. end ≡ unwritten cause };
+
+    fn from(cause: SinkError) -> Ending {
+        match cause {
+            SinkError::Failed => Ending::Write,
+            SinkError::Memory => Ending::Memory,
+        }
+    }
 }
 
 /// The status where a file is refused.

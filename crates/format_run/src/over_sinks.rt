@@ -10,7 +10,7 @@ use crate::ending::{Ending, say};
 use file_format::lay_out;
 use file_lex::cut;
 use layer_ast::{At, LONGEST_FILE};
-use outside::{Got, Shelf, ShelfError, Sink, SinkError};
+use outside::{Got, Shelf, Sink};
 use std::alloc::{AllocError, Global};
 
 /// Lays out the file that the words name, the program's own name left out, and answers the program's status. What is
@@ -87,8 +87,7 @@ fn put_text<O: Sink>(alloc: Global, text: &[u8], out: &mut O) -> Ending
 {
     match lay_out(alloc, text, out) {
         Ok(()) => Ending::Done,
-        Err(SinkError::Failed) => Ending::Write,
-        Err(SinkError::Memory) => Ending::Memory,
+        Err(cause) => Ending::from(cause),
     }
 }
 
@@ -97,11 +96,9 @@ fn fetch<S: Shelf>(alloc: Global, name: &str, shelf: &mut S) -> Result<Vec<u8>, 
     ensures { spec.Fetches name.now (S.told shelf.old) (S.faults shelf.old) (S.faults shelf.new) result }
 {
     let mut text = Vec::new(alloc);
-    match shelf.read(name, &mut text, u64::from(LONGEST_FILE)) {
-        Ok(Got::Whole) => judged(alloc, text),
-        Ok(Got::TooLong) => Err(Ending::TooLarge),
-        Err(ShelfError::Failed) => Err(Ending::Read),
-        Err(ShelfError::Memory) => Err(Ending::Memory),
+    match shelf.read(name, &mut text, u64::from(LONGEST_FILE))? {
+        Got::Whole => judged(alloc, text),
+        Got::TooLong => Err(Ending::TooLarge),
     }
 }
 
