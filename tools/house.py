@@ -54,7 +54,7 @@ def functions(path):
 
 def arguments(text):
     """How many arguments a head has, `self` among them."""
-    start = text.index("(") if "<" not in text.split("(")[0] else text.index("(", text.index("fn "))
+    start = text.index("(", text.index("fn "))
     depth, count, any_word = 0, 0, False
     for sign in text[start:]:
         depth += sign in "([{<"
