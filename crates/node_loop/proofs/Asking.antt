@@ -3,7 +3,7 @@ use Rattle.std.proofs.Common.{◌≡◌, ℕ, suc, ◌+◌, ◌<◌, ◌≤◌, 
 use Rattle.std.proofs.Common.{subst, ◌∙◌, arith, Option, Some, None}
 use Rattle.std.proofs.lemmas.List.{at_drop_more, at_drop_all}
 use Rattle.std.specs.Option.{option_map}
-use Rattle.std.specs.Prelude.{IfSome, OnOk, Result, Ok, Err}
+use Rattle.std.specs.Prelude.{IfSome, Result, Ok, Err}
 use Rattle.outside.specs.Count.{next_count}
 use Rattle.outside.specs.Links.{Network, Met, Broke, Came, Quiet, Receives, after_recv, faults_after_call, next_met}
 use Rattle.outside.specs.declared.links.LinkError.{LinkError}
@@ -21,7 +21,8 @@ use Rattle.node_laws.specs.Losses.{deaf_line}
 use Rattle.node_laws.specs.Network.{Tells}
 use Rattle.node_laws.specs.Stages.{Course, from_asking}
 use Rattle.node_loop.specs.Around.{Around}
-use Rattle.node_loop.specs.Bearing.{Bears, cut_short}
+use Rattle.node_loop.specs.Bearing.{Bears}
+use Rattle.node_loop.specs.Causes.{unwritten}
 use Rattle.node_loop.specs.Course.{Advances, Asked, Begun, CutOff, DeafAt, FedOn, Hears, Now, SoFar, Within}
 use Rattle.node_loop.specs.Course.{nothing_left, now}
 use Rattle.node_loop.specs.Feeding.{IsUp, RestsAgain}
@@ -79,10 +80,10 @@ module _ (id : ℕ) (into : List ℕ) (a a' : Around) (output : a'.output ≡ a.
         told = told.1;
       }
 
-pub on_ok : (P : Type 0) (r : Result (Unit {0}) SinkError) → OnOk r P → OnOk (cut_short r) P
-on_ok P (Ok done) p = p
-on_ok P (Err sink.Failed) p = tt
-on_ok P (Err sink.Memory) p = tt
+-- What writing gave, as a node's end.
+abbrev pub cut_short : Result (Unit {0}) SinkError → Result (Unit {0}) NodeError
+cut_short (Ok wrote) = Ok wrote
+cut_short (Err cause) = Err (unwritten cause)
 
 same_around : (a a' : Around) → a'.output ≡ a.output → a'.faults ≡ a.faults → a'.sends ≡ a.sends → a'.told ≡ a.told →
     a' ≡ a
@@ -99,11 +100,9 @@ module _ (stack : List LayerTree) (plans : List Plan) where
     },
   )
 
-  pub again_on : (g g' : Peopled) (d mid d' : NodeDesk) (r : Result (Unit {0}) SinkError) → IsDesk d mid →
-      OnOk r (RestsAgain stack plans g mid g' d') →
-      OnOk r (RestsAgain stack plans g d g' d')
-  again_on g g' d mid d' (Ok done) same again = again_then stack plans g g g' d mid d' (same_rests g d mid same) again
-  again_on g g' d mid d' (Err e) same again = tt
+  pub again_on : (g g' : Peopled) (d mid d' : NodeDesk) → IsDesk d mid → RestsAgain stack plans g mid g' d' →
+      RestsAgain stack plans g d g' d'
+  again_on g g' d mid d' same again = again_then stack plans g g g' d mid d' (same_rests g d mid same) again
 
   -- What is told as a member asks.
   abbrev pub AskedOn : (id before after : ℕ) → Peopled → Peopled → NodeDesk → NodeDesk → Around → Around →

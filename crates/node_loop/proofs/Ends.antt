@@ -34,7 +34,6 @@ use Rattle.node_laws.specs.Stages.{Course, StoppedGoesOn, from_turn}
 use Rattle.node_laws.proofs.Groups.{first_views_are_within}
 use Rattle.node_laws.proofs.Sendings.{tells_same}
 use Rattle.node_loop.specs.Around.{Around, surrounding}
-use Rattle.node_loop.specs.Bearing.{cut_short}
 use Rattle.node_loop.specs.Course.{Begun, Made, MadeAll, Now, SoFar, now}
 use Rattle.node_loop.specs.Feeding.{IsUp, Rests}
 use Rattle.node_loop.specs.Listening.{Listened, ListenedSome, ListensAll}
@@ -42,6 +41,7 @@ use Rattle.node_loop.specs.Serve.{Serves, Task, after_listens, Whereabouts, firs
 use Rattle.node_loop.specs.declared.desk.NodeDesk.{NodeDesk}
 use Rattle.node_loop.specs.declared.error.NodeError.{NodeError}
 use Rattle.node_loop.specs.declared.error.NodeError.TheVariants.{Link, Write, Memory}
+use Rattle.node_loop.proofs.Asking.{cut_short}
 use Rattle.node_loop.proofs.Served.{IsUntouched, Reaches, begun, broken, last_cut, listens_untouched, made_all}
 use Rattle.node_loop.proofs.Served.{no_moments, not_listened, nothing_done, untouched, went_deaf}
 

@@ -6,16 +6,17 @@ use Rattle.std.proofs.lemmas.Bool.{eqb-true, eqb-false}
 use Rattle.std.proofs.lemmas.List.{length-take-le, map-append, take_more}
 use Rattle.std.specs.List.{AllByRecursion}
 use Rattle.std.specs.Option.{option_map}
-use Rattle.std.specs.Prelude.{◌==◌, replicate, Result, Err, IfSome}
+use Rattle.std.specs.Prelude.{◌==◌, replicate, Err, IfSome}
 use Rattle.outside.specs.Count.{next_count}
 use Rattle.outside.specs.Links.{Listen, Listens, Network, after_listen, faults_after_call, listen_of}
 use Rattle.outside.specs.declared.links.Peer.{Peer}
 use Rattle.outside.specs.declared.links.LinkError.{LinkError}
-use Rattle.outside.specs.declared.links.LinkError.TheVariants.{Failed}
+use Rattle.outside.specs.declared.links.LinkError.TheVariants.{Failed, Memory}
 use Rattle.outside.specs.Shelf.{is_next_to_fail}
 use Rattle.node_laws.specs.Network.{Tells}
 use Rattle.node_laws.proofs.Sendings.{tells_as, tells_same, tells_then}
-use Rattle.node_loop.specs.Listening.{Listened, ListenedNot, ListenedSome}
+use Rattle.node_loop.specs.Causes.{unlinked}
+use Rattle.node_loop.specs.Listening.{Listened, ListenedNot, ListenedSome, ListensAll}
 use Rattle.node_loop.specs.Serve.{after_listens, flags_of, listens_of}
 
 drop_next : (k : ℕ) (flags : List Bool) → drop 1 (drop k flags) ≡ drop (suc k) flags
@@ -163,15 +164,14 @@ listens_more old new peers faults f f' sends s s' a b c k ids lt so f_is s_is ot
       (listen_more old new (length peers) (get_or ids k 0) (take k ids) others listen so.listen);
 }
 
-pub listens_not : (old : ℕ → Option ℕ) (peers : List Peer) (faults f f' sends s : ℕ) (a b c : Option Network) (k : ℕ)
-    (ids : List ℕ)
-    (r : Result (Unit {0}) LinkError) (e : LinkError) → k < length ids →
-    ListensSo old peers faults f sends s a b k ids → r ≡ Err e → e ≡ Failed →
-    f' ≡ faults_after_call f r → Listens (listen_of peers (get_or ids k 0)) b c r →
-    (f' ≡ next_count faults) × Tells (ListenedNot peers ids) a c
-listens_not old peers faults f f' sends s a b c k ids r e lt so is failed f_is listens =
-    let all = is ∙ ap (λ e. Err e) failed in
-    let met = subst (Listens (listen_of peers (get_or ids k 0)) b c) all listens in (
-      f_is ∙ ap (faults_after_call f) all ∙ ap next_count so.faults_are,
-      listened_not peers ids k lt a b c so.so met.0 met.1,
-    )
+-- The next didn't go well.
+pub listens_end : (old : ℕ → Option ℕ) (peers : List Peer) (faults f f' sends s : ℕ) (a b c : Option Network) (k : ℕ)
+    (ids : List ℕ) (e : LinkError) →
+    k < length ids → ListensSo old peers faults f sends s a b k ids →
+    f' ≡ faults_after_call {T = Unit {0}} f (Err e) →
+    Listens {T = Unit {0}} (listen_of peers (get_or ids k 0)) b c (Err e) →
+    ListensAll peers ids faults f' a c (Err (unlinked e))
+listens_end old peers faults f f' sends s a b c k ids Failed lt so f_is listens =
+    (f_is ∙ ap next_count so.faults_are, listened_not peers ids k lt a b c so.so listens.0 listens.1)
+listens_end old peers faults f f' sends s a b c k ids Memory lt so f_is listens =
+    (f_is ∙ so.faults_are, listened_some peers ids k a b c so.so listens)

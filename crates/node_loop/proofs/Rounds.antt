@@ -5,7 +5,7 @@ use Rattle.std.proofs.lemmas.List.{drop-drop}
 use native.Mathlib.Nat.{mul-le-mul_right}
 use Rattle.std.specs.List.{AllByRecursion}
 use Rattle.std.specs.Option.{option_map}
-use Rattle.std.specs.Prelude.{IfSome, OnOk, zip, Result, Ok, Err}
+use Rattle.std.specs.Prelude.{IfSome, zip, Result, Ok, Err}
 use Rattle.outside.specs.Clock.{next_moment}
 use Rattle.outside.specs.declared.sink.SinkError.{SinkError}
 use Rattle.outside.specs.declared.sink.SinkError.TheVariants as sink
@@ -18,13 +18,11 @@ use Rattle.node_laws.specs.Doings.{Doing, asking, does, doings_from, doings_of, 
 use Rattle.node_laws.specs.Stages.{Course, from_asking, from_planned, from_ticks, from_turn, planned_in}
 use Rattle.node_laws.proofs.Stages.{planned_is_left}
 use Rattle.node_loop.specs.Around.{Around, Told, moments_given}
-use Rattle.node_loop.specs.Bearing.{cut_short}
+use Rattle.node_loop.specs.Causes.{unwritten}
 use Rattle.node_loop.specs.Course.{Advances, Begun, Hears, Now, SoFar, Within, now}
-use Rattle.node_loop.specs.Feeding.{RestsAgain}
 use Rattle.node_loop.specs.declared.desk.NodeDesk.{NodeDesk}
 use Rattle.node_loop.specs.declared.error.NodeError.{NodeError}
-use Rattle.node_loop.proofs.Asking.{AskedAll, asked_on, wider}
-use Rattle.node_loop.proofs.Turning.{again_then}
+use Rattle.node_loop.proofs.Asking.{AskedAll, asked_on, cut_short, wider}
 
 -- A clock told one more moment.
 
@@ -55,17 +53,6 @@ told_more (Some moments) at after clock moment told is kept =
       kept = kept ∙ ap (option_map (drop 1)) told.kept ∙
           ap Some (drop-drop 1 n moments ∙ ap (λ n. drop n moments) (more ∙ sym next));
     }
-
--- What went well, by what it gave as a node's end.
-pub well : (r : Result (Unit {0}) SinkError) (x : Unit {0}) → cut_short r ≡ Ok x → r ≡ Ok tt
-well (Ok done) x is = refl
-well (Err sink.Failed) x is = absurd (cc is)
-well (Err sink.Memory) x is = absurd (cc is)
-
-pub on_well : (P : Type 0) (r : Result (Unit {0}) SinkError) (x : Unit {0}) → cut_short r ≡ Ok x → OnOk r P → P
-on_well P (Ok done) x is p = p
-on_well P (Err sink.Failed) x is p = absurd (cc is)
-on_well P (Err sink.Memory) x is p = absurd (cc is)
 
 fewer : (n t turns : ℕ) → t ≤ turns → t * n ≤ turns * n
 fewer n t turns le = mul-le-mul_right n le
@@ -109,15 +96,11 @@ module _ (stack : List LayerTree) (plans : List Plan) (c : Course) (b : Begun) w
 
   -- What was cut short ends the turn.
   pub ends_short : (m k borne least most left : ℕ) (rest : List ℕ → List Heard → List Doing)
-      (next : ℕ → List ℕ → List Heard → List Doing) (at : Now)
-      (r : Result (Unit {0}) SinkError) (e : NodeError) → cut_short r ≡ Err e →
-      Advances stack plans c b m k rest borne at r →
-      Hears stack plans c b m least most next left at (Err e)
-  ends_short m k borne least most left rest next at (Ok done) e is so = absurd (cc is)
-  ends_short m k borne least most left rest next at (Err sink.Failed) e is cut =
-      subst (Hears stack plans c b m least most next left at) is cut
-  ends_short m k borne least most left rest next at (Err sink.Memory) e is cut =
-      subst (Hears stack plans c b m least most next left at) is cut
+      (next : ℕ → List ℕ → List Heard → List Doing) (at : Now) (e : SinkError) →
+      Advances stack plans c b m k rest borne at (Err e) →
+      Hears stack plans c b m least most next left at (Err (unwritten e))
+  ends_short m k borne least most left rest next at sink.Failed cut = cut
+  ends_short m k borne least most left rest next at sink.Memory cut = cut
 
   module _ (t : ℕ) (lt : t < c.turns) where
     begins : (patience moment : ℕ) (later : List ℕ) (more : List Heard) → from_turn c t patience (moment ∷ later) more ≡
@@ -167,14 +150,13 @@ module _ (stack : List LayerTree) (plans : List Plan) (c : Course) (b : Begun) w
           a clock clock'
           (begins patience moment) moment_is kept so)
 
-      pub ticks_end : (left : ℕ) (r : Result (Unit {0}) SinkError) (e : NodeError) → cut_short r ≡ Err e →
-          TickedOn moment patience g g' d d' a a' r →
+      pub ticks_end : (left : ℕ) (e : SinkError) → TickedOn moment patience g g' d d' a a' (Err e) →
           Hears stack plans c b (t + 1) (t * length c.me) ((t + 1) * length c.me) (from_turn c (t + 1)) left
-          (now g' d' a' clock') (Err e)
-      ticks_end left r e is told =
+          (now g' d' a' clock') (Err (unwritten e))
+      ticks_end left e told =
           ends_short (t + 1) (t * length c.me) borne (t * length c.me) ((t + 1) * length c.me) left
           (from_ticks c t patience moment []) (from_turn c (t + 1))
-          (now g' d' a' clock') r e is (ticks r told)
+          (now g' d' a' clock') e (ticks (Err e) told)
 
       module _ (ticked : TickedOn moment patience g g' d d' a a' (Ok tt)) (left : ℕ) (g'' : Peopled) (d'' : NodeDesk)
           (a'' : Around) where
@@ -212,14 +194,3 @@ module _ (stack : List LayerTree) (plans : List Plan) (c : Course) (b : Begun) w
             (subst (λ events. SoFar stack plans c b (t + 1) (t * length c.me + length c.me)
             (from_planned c t left events) here.borne (now g'' d'' a'' clock'))
             (planned_is_left c.plan c.me t next passed) here.so))
-
--- A group rests again after a whole turn.
-pub rests_end : (stack : List LayerTree) (plans : List Plan) (g g' g'' g3 : Peopled) (d d' d'' d3 : NodeDesk)
-    (r : Result (Unit {0}) SinkError) →
-    RestsAgain stack plans g d g' d' → RestsAgain stack plans g' d' g'' d'' →
-    OnOk r (RestsAgain stack plans g'' d'' g3 d3) →
-    OnOk (cut_short r) (RestsAgain stack plans g d g3 d3)
-rests_end stack plans g g' g'' g3 d d' d'' d3 (Ok done) first second third =
-    again_then stack plans g g'' g3 d d'' d3 (again_then stack plans g g' g'' d d' d'' first second) third
-rests_end stack plans g g' g'' g3 d d' d'' d3 (Err sink.Failed) first second third = tt
-rests_end stack plans g g' g'' g3 d d' d'' d3 (Err sink.Memory) first second third = tt

@@ -1,17 +1,10 @@
--- A failed receive, borne or not, and how a node ends whose writing was cut short.
+-- A failed receive, borne or not.
 use Rattle.std.specs.Prelude.{◌≡◌, ℕ, ◌+◌, List, [], ◌∷◌, Result, Ok, Err}
-use Rattle.outside.specs.declared.sink.SinkError.{SinkError}
 use Rattle.outside.specs.declared.sink.SinkError.TheVariants as sink
 use Rattle.outside.specs.Lines.{Wrote}
 use Rattle.outside.specs.Tells.{Tells}
 use Rattle.node_loop.specs.declared.error.NodeError.{NodeError}
 use Rattle.node_loop.specs.declared.error.NodeError.TheVariants.{Link, Write, Memory}
-
--- What writing gave, as a node's end.
-abbrev pub cut_short : Result (Unit {0}) SinkError → Result (Unit {0}) NodeError
-cut_short (Ok wrote) = Ok wrote
-cut_short (Err sink.Failed) = Err Write
-cut_short (Err sink.Memory) = Err Memory
 
 -- A failure was borne, and its line put, or that was cut short; or no more may be borne, and nothing was put.
 abbrev pub Bears : List ℕ → (before after : ℕ) → Tells → Tells → Result (Unit {0}) NodeError → Type 0

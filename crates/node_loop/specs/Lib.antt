@@ -3,6 +3,7 @@ pub mod Passing
 pub mod Sending
 pub mod Feeding
 pub mod Bearing
+pub mod Causes
 pub mod Course
 pub mod Serve
 pub mod Listening

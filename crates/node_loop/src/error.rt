@@ -1,9 +1,9 @@
 //! Why a node ended before its last turn.
 
 ghost use Rattle.std.specs.Prelude.{◌≡◌};
-ghost use Rattle.node_loop.specs.Bearing.{cut_short};
+ghost use Rattle.node_loop.specs.Causes.{unlinked, unwritten};
 
-use outside::SinkError;
+use outside::{LinkError, SinkError};
 use thiserror::Error;
 
 /// Why a node ended before its last turn.
@@ -20,13 +20,24 @@ pub enum NodeError {
     Memory,
 }
 
-/// How writing ended, as a node's end.
-pub(crate) fn cut(wrote: Result<(), SinkError>) -> Result<(), NodeError>
-    ensures { result ≡ cut_short wrote }
-{
-    match wrote {
-        Ok(()) => Ok(()),
-        Err(SinkError::Failed) => Err(NodeError::Write),
-        Err(SinkError::Memory) => Err(NodeError::Memory),
+impl From<SinkError> for NodeError {
+    ghost from_gives = { λ cause end. end ≡ unwritten cause };
+
+    fn from(cause: SinkError) -> NodeError {
+        match cause {
+            SinkError::Failed => NodeError::Write,
+            SinkError::Memory => NodeError::Memory,
+        }
+    }
+}
+
+impl From<LinkError> for NodeError {
+    ghost from_gives = { λ cause end. end ≡ unlinked cause };
+
+    fn from(cause: LinkError) -> NodeError {
+        match cause {
+            LinkError::Failed => NodeError::Link,
+            LinkError::Memory => NodeError::Memory,
+        }
     }
 }

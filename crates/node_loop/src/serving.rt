@@ -18,14 +18,14 @@ ghost use Rattle.msg_core.specs.View.{most_members};
 
 use crate::course::{Course, Progress, number_fits};
 use crate::desk::NodeDesk;
-use crate::error::{NodeError, cut};
+use crate::error::NodeError;
 use crate::tools::Tools;
 use crate::turns::turn;
 use event_graph::Stack;
 use group_feed::Feed;
 use msg_core::Memory;
 use node_laws::stopped_goes_on;
-use outside::{Clock, LONGEST_DATAGRAM, LinkError, Links, Peer, Sink};
+use outside::{Clock, LONGEST_DATAGRAM, Links, Peer, Sink};
 use report_lines::Line;
 use report_text::{Pen, write_end};
 use std::alloc::{AllocError, Global};
@@ -68,11 +68,7 @@ fn listen_all<N: Links>(peers: &[Peer], me: &[u8], links: &mut N) -> Result<(), 
     ensures listening { OnOk result (AllByRecursion (λ id. N.listening links.new id ≡ Some (length peers.now)) me.now) }
 {
     for id in me {
-        match links.listen(*id, peers) {
-            Ok(()) => {}
-            Err(LinkError::Failed) => return Err(NodeError::Link),
-            Err(LinkError::Memory) => return Err(NodeError::Memory),
-        }
+        links.listen(*id, peers)?;
     }
     Ok(())
 }
@@ -157,5 +153,6 @@ pub fn serve<F: Feed, O: Sink, N: Links, C: Clock>(
     listen_all(course.plan.peers.slice(), course.me, links)?;
     make_turns(feed, course, &mut desk, patience, out, links, clock)?;
     let events = desk.events;
-    cut(write_end(&mut desk.tools.pen, events, out))
+    write_end(&mut desk.tools.pen, events, out)?;
+    Ok(())
 }

@@ -21,7 +21,7 @@ ghost use Rattle.msg_core.specs.View.{most_members};
 
 use crate::course::{Course, Progress, number_fits};
 use crate::desk::NodeDesk;
-use crate::error::{NodeError, cut};
+use crate::error::NodeError;
 use crate::feeding::feed_on;
 use group_feed::Feed;
 use outside::{Clock, LONGEST_DATAGRAM, LinkError, Links, Sink, SinkError, put_line};
@@ -79,7 +79,8 @@ fn bear<O: Sink>(line: &mut Line, id: u8, patience: &mut u32, out: &mut O) -> Re
         return Err(NodeError::Link);
     }
     *patience -= 1;
-    cut(write_deaf(line, id, out))
+    write_deaf(line, id, out)?;
+    Ok(())
 }
 
 /// Feeds the datagram that was received, which stands in the first bytes of the room, to the member that heard it.
@@ -143,7 +144,10 @@ fn ask<F: Feed, O: Sink, N: Links>(
     ensures listening { (m : ℕ) → N.listening links.new m ≡ N.listening links.old m }
 {
     match links.recv(id, &mut desk.room) {
-        Ok(Some(count)) => cut(feed_datagram(feed, course, desk, id, count, out, links)),
+        Ok(Some(count)) => {
+            feed_datagram(feed, course, desk, id, count, out, links)?;
+            Ok(())
+        }
         Ok(None) => Ok(()),
         Err(LinkError::Failed) => bear(&mut desk.tools.line, id, patience, out),
         Err(LinkError::Memory) => Err(NodeError::Memory),
@@ -309,8 +313,9 @@ pub(crate) fn turn<F: Feed, O: Sink, N: Links, C: Clock>(
     let t = progress.turn;
     number_fits(t);
     let moment = clock.now();
-    cut(tick_all(feed, course, desk, moment, out, links))?;
+    tick_all(feed, course, desk, moment, out, links)?;
     ask_all(feed, course, desk, &mut progress.patience, out, links)?;
     let next = &mut progress.next;
-    cut(feed_planned(feed, course, desk, t, next, out, links))
+    feed_planned(feed, course, desk, t, next, out, links)?;
+    Ok(())
 }

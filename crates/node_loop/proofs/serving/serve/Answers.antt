@@ -4,12 +4,11 @@ use Rattle.std.specs.Prelude.{Ok, Err}
 use Rattle.std.proofs.lemmas.Result.{err_from_is_err_and}
 use Rattle.packet_laws.specs.Strays.{AreNumbered}
 use Rattle.member_laws.proofs.Numbered.{plans_are_numbered}
-use Rattle.group_mean.specs.Node.{node_words}
 use Rattle.outside.specs.Tells.{tells_of}
-use Rattle.node_loop.specs.Around.{around, surrounding}
+use Rattle.node_loop.specs.Around.{around}
 use Rattle.node_loop.specs.Course.{now, plans_in, stack_in}
 use Rattle.node_loop.specs.Listening.{ListensAll}
-use Rattle.node_loop.specs.Serve.{Serves, whereabouts}
+use Rattle.node_loop.specs.Serve.{whereabouts}
 use Rattle.node_loop.proofs.Ends.{all_served, made_first, not_all_listen, not_all_made, not_begun, reached, rests_first}
 use Rattle.node_loop.proofs.Ends.{up_first}
 use Rattle.node_loop.proofs.serving.serve.Goals as goal
@@ -101,6 +100,45 @@ returns-in_err-make_turns g c =
     clock at
     (Err c.in_err-make_turns.field-0.0) c.in_err-make_turns.ensures.told))
 
+pub returns-in_err-write_end : goal.returns-in_err-write_end
+returns-in_err-write_end g c =
+    let stack = stack_in c.args.course in
+    let plan = c.args.course.plan.now in
+    let me = c.args.course.me.now in
+    let turns = c.args.course.turns in
+    let patience = c.args.patience in
+    let plans = plans_in c.args.course in
+    let group = g.F.Feed.group c.args.feed.now in
+    let mode = group.mode in
+    let desk = c.in-Ok.desk in
+    let out = c.args.out.now in
+    let links = c.args.links.now in
+    let listening = c.listen_all.new.links in
+    let before = around g.O.Sink g.N.Links out links in
+    let from = around g.O.Sink g.N.Links out listening in
+    let clock = g.C.Clock.told c.args.clock.now in
+    let on = c.make_turns.new in
+    let at = now (g.F.Feed.group on.feed) on.desk
+    (around g.O.Sink g.N.Links on.out on.links) (g.C.Clock.told on.clock) in
+    let last = tells_of g.O.Sink c.write_end.new.out in
+    let p = err_from_is_err_and c.from_residual-in_err-write_end.result c.from_residual-in_err-write_end.ensures.1 in
+    rw (p.1, p.2) (all_served stack plan me turns patience mode c.stopped_goes_on.ensures (whereabouts before clock)
+    from
+    (reached before.output plan.peers me (g.N.Links.faults links) (g.N.Links.faults listening)
+    (g.N.Links.send_faults links) (g.N.Links.send_faults listening)
+    (g.N.Links.told links) (g.N.Links.told listening)
+    (subst (λ peers. ListensAll peers me (g.N.Links.faults links) (g.N.Links.faults listening) (g.N.Links.told links)
+    (g.N.Links.told listening) (Ok tt)) c.slice.ensures c.in_ok-listen_all.ensures.told)
+    c.in_ok-listen_all.ensures.sends) at
+    (made_first stack plan me turns patience mode plans group desk
+    (rests_first stack plan me turns patience mode plans group desk c.requires.typed c.number_fits.ensures
+    c.number_fits-2.ensures c.requires.few_peers
+    refl c.requires.stack c.requires.group_plans c.requires.group
+    (rw (c.deref.ensures, c.stack.ensures) at c.in-Ok.ensures.places)) c.in-Ok.ensures.none c.requires.plans from
+    clock at (Ok tt)
+    c.in_ok-make_turns.ensures.told)
+    last (Err c.in_err-write_end.field-0.0) c.in_err-write_end.ensures)
+
 pub returns : goal.returns
 returns g c =
     let stack = stack_in c.args.course in
@@ -122,10 +160,7 @@ returns g c =
     let at = now (g.F.Feed.group on.feed) on.desk
     (around g.O.Sink g.N.Links on.out on.links) (g.C.Clock.told on.clock) in
     let last = tells_of g.O.Sink c.write_end.new.out in
-    subst (Serves (record { stack = stack; plan = plan; words = node_words turns me patience mode })
-    (whereabouts before clock)
-    (whereabouts (surrounding last at.around.faults at.around.sends at.around.told) at.clock)) (sym c.cut.ensures)
-    (all_served stack plan me turns patience mode c.stopped_goes_on.ensures (whereabouts before clock) from
+    all_served stack plan me turns patience mode c.stopped_goes_on.ensures (whereabouts before clock) from
     (reached before.output plan.peers me (g.N.Links.faults links) (g.N.Links.faults listening)
     (g.N.Links.send_faults links) (g.N.Links.send_faults listening)
     (g.N.Links.told links) (g.N.Links.told listening)
@@ -139,4 +174,4 @@ returns g c =
     (rw (c.deref.ensures, c.stack.ensures) at c.in-Ok.ensures.places)) c.in-Ok.ensures.none c.requires.plans from
     clock at (Ok tt)
     c.in_ok-make_turns.ensures.told)
-    last c.write_end.result c.write_end.ensures)
+    last (Ok tt) c.in_ok-write_end.ensures

@@ -1,14 +1,15 @@
-use Rattle.std.proofs.Common.{ap₂, take, refl, rules}
+use Rattle.std.proofs.Common.{Ok, Err, ap₂, take, refl, rules}
+use Rattle.std.proofs.lemmas.Result.{err_from_is_err_and}
 use Rattle.node_loop.specs.Course.{FedOn, plans_in, stack_in}
 use Rattle.node_loop.specs.Around.{around}
 use Rattle.std_alloc.proofs.VecSteps.Gaps.{with_items_is}
 use Rattle.std_alloc.specs.Vec.{with_items}
 use Rattle.script_mean.specs.declared.event.ScriptEvent.TheVariants.{Raw}
-use Rattle.node_loop.proofs.Asking.{again_on, came, failed, met_broke, met_came, met_quiet, on_ok, quiet, wanted}
+use Rattle.node_loop.proofs.Asking.{again_on, came, failed, met_broke, met_came, met_quiet, quiet, wanted}
 use Rattle.node_loop.proofs.turns.ask.Goals as goal
 
-pub returns-in-Ok-Some-clause-told : goal.returns-in-Ok-Some-clause-told
-returns-in-Ok-Some-clause-told g c =
+pub returns-in_err-feed_datagram-in-Ok-Some-clause-told : goal.returns-in_err-feed_datagram-in-Ok-Some-clause-told
+returns-in_err-feed_datagram-in-Ok-Some-clause-told g c =
     let told : FedOn (stack_in c.args.course) (plans_in c.args.course)
     (Raw c.args.id (take _ (with_items c.args.desk.now.room c.recv.new.into).items))
     (g.F.Feed.group c.args.feed.now) (g.F.Feed.group c.feed_datagram.new.feed)
@@ -16,12 +17,12 @@ returns-in-Ok-Some-clause-told g c =
     c.feed_datagram.new.desk
     (around g.O.Sink g.N.Links c.args.out.now c.recv.new.self)
     (around g.O.Sink g.N.Links c.feed_datagram.new.out c.feed_datagram.new.links)
-    c.feed_datagram.result = c.feed_datagram.ensures.told in
-    rw c.cut.ensures
-    (came (stack_in c.args.course) (plans_in c.args.course) c.args.id c.args.patience.now
+    (Err c.in_err-feed_datagram-in-Ok-Some.field-0.0) = c.in_err-feed_datagram-in-Ok-Some.ensures.told in
+    let p = err_from_is_err_and c.from_residual.result c.from_residual.ensures.1 in
+    rw (p.1, p.2) (came (stack_in c.args.course) (plans_in c.args.course) c.args.id c.args.patience.now
     (g.F.Feed.group c.args.feed.now) c.args.desk.now _
     (take c.in-Ok-Some.count c.recv.new.into) _ (g.F.Feed.group c.feed_datagram.new.feed) _
-    c.feed_datagram.new.desk _ _ c.feed_datagram.result
+    c.feed_datagram.new.desk _ _ (Err c.in_err-feed_datagram-in-Ok-Some.field-0.0)
     (record { outputs = refl; events = refl })
     (met_came c.args.id c.recv.new.into _ _ refl c.recv.ensures.sends c.in-Ok-Some.count c.in-Ok-Some.field-0
     c.in-Ok-Some.field-0-is
@@ -29,11 +30,31 @@ returns-in-Ok-Some-clause-told g c =
     (ap₂ take c.in-Ok-Some.count-is (with_items_is c.args.desk.now.room c.recv.new.into (search rules)))
     told)
 
-pub returns-in-Ok-Some-clause-rests : goal.returns-in-Ok-Some-clause-rests
-returns-in-Ok-Some-clause-rests g c =
-    rw c.cut.ensures (on_ok _ c.feed_datagram.result
-    (again_on (stack_in c.args.course) (plans_in c.args.course) _ _ _ _ _ c.feed_datagram.result
-    (record { outputs = refl; events = refl }) c.feed_datagram.ensures.rests))
+pub returns-in_ok-feed_datagram-in-Ok-Some-clause-told : goal.returns-in_ok-feed_datagram-in-Ok-Some-clause-told
+returns-in_ok-feed_datagram-in-Ok-Some-clause-told g c =
+    let told : FedOn (stack_in c.args.course) (plans_in c.args.course)
+    (Raw c.args.id (take _ (with_items c.args.desk.now.room c.recv.new.into).items))
+    (g.F.Feed.group c.args.feed.now) (g.F.Feed.group c.feed_datagram.new.feed)
+    (record c.args.desk.now { room = with_items c.args.desk.now.room c.recv.new.into; room_size = _ })
+    c.feed_datagram.new.desk
+    (around g.O.Sink g.N.Links c.args.out.now c.recv.new.self)
+    (around g.O.Sink g.N.Links c.feed_datagram.new.out c.feed_datagram.new.links)
+    (Ok tt) = c.in_ok-feed_datagram-in-Ok-Some.ensures.told in
+    came (stack_in c.args.course) (plans_in c.args.course) c.args.id c.args.patience.now
+    (g.F.Feed.group c.args.feed.now) c.args.desk.now _
+    (take c.in-Ok-Some.count c.recv.new.into) _ (g.F.Feed.group c.feed_datagram.new.feed) _
+    c.feed_datagram.new.desk _ _ (Ok tt)
+    (record { outputs = refl; events = refl })
+    (met_came c.args.id c.recv.new.into _ _ refl c.recv.ensures.sends c.in-Ok-Some.count c.in-Ok-Some.field-0
+    c.in-Ok-Some.field-0-is
+    c.in-Ok-Some.ensures.counted c.in-Ok-Some.ensures.told)
+    (ap₂ take c.in-Ok-Some.count-is (with_items_is c.args.desk.now.room c.recv.new.into (search rules)))
+    told
+
+pub returns-in_ok-feed_datagram-in-Ok-Some-clause-rests : goal.returns-in_ok-feed_datagram-in-Ok-Some-clause-rests
+returns-in_ok-feed_datagram-in-Ok-Some-clause-rests g c =
+    again_on (stack_in c.args.course) (plans_in c.args.course) _ _ _ _ _ (record { outputs = refl; events = refl })
+    c.in_ok-feed_datagram-in-Ok-Some.ensures.rests
 
 pub returns-in-Ok-None-clause-told : goal.returns-in-Ok-None-clause-told
 returns-in-Ok-None-clause-told g c =

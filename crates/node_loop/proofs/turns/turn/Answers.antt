@@ -1,7 +1,7 @@
-use Rattle.std.proofs.Common.{◌∙◌, ap, arith, length, subst, sym}
+use Rattle.std.proofs.Common.{Ok, Err, ◌∙◌, ap, arith, length}
 use Rattle.std.proofs.lemmas.Result.{err_from_is_err_and}
 use Rattle.node_loop.specs.Course.{course_of, plans_in, stack_in}
-use Rattle.node_loop.proofs.Rounds.{TickedOn, asks_end, on_well, rests_end, ticks_end, turn_end, well}
+use Rattle.node_loop.proofs.Rounds.{asks_end, ticks_end, turn_end}
 use Rattle.node_loop.proofs.Turning.{again_then, up_on}
 use Rattle.node_loop.proofs.turns.turn.Goals as goal
 
@@ -15,8 +15,8 @@ tick_all-requires-clause-few g c =
     let t = c.number_fits.ensures in
     omega (arith, few, next, turns.0, turns.1, entries, members, t)
 
-pub returns-in_err-cut-clause-told : goal.returns-in_err-cut-clause-told
-returns-in_err-cut-clause-told g c =
+pub returns-in_err-tick_all-clause-told : goal.returns-in_err-tick_all-clause-told
+returns-in_err-tick_all-clause-told g c =
     let p = err_from_is_err_and c.from_residual.result c.from_residual.ensures.1 in
     rw (p.1, p.2) (λ b borne sum so.
     ticks_end (stack_in c.args.course) (plans_in c.args.course) (course_of c.args.course) b c.args.progress.now.turn
@@ -25,14 +25,14 @@ returns-in_err-cut-clause-told g c =
     c.tick_all.new.desk _ _
     (g.C.Clock.told c.args.clock.now) (g.C.Clock.told c.now-moment.new.self) c.now-moment.ensures.moment
     c.now-moment.ensures.kept so
-    c.args.progress.now.patience c.tick_all.result _ (sym c.cut.ensures ∙ c.in_err-cut.was)
-    (λ m k borne clock within so. c.tick_all.ensures.told (course_of c.args.course) b m k c.args.progress.now.turn
-    c.args.progress.now.patience borne clock within so))
+    c.args.progress.now.patience c.in_err-tick_all.field-0.0
+    (λ m k borne clock within so. c.in_err-tick_all.ensures.told (course_of c.args.course) b m k
+    c.args.progress.now.turn c.args.progress.now.patience borne clock within so))
 
 pub ask_all-requires-clause-up : goal.ask_all-requires-clause-up
 ask_all-requires-clause-up g c =
     up_on (stack_in c.args.course) (plans_in c.args.course) _ _ _ _ _ _ c.args.course.me.now c.requires.up
-    (on_well _ c.tick_all.result _ (sym c.cut.ensures ∙ c.in_ok-cut.was) c.tick_all.ensures.rests)
+    c.in_ok-tick_all.ensures.rests
     c.tick_all.ensures.listening
 
 pub ask_all-requires-clause-few : goal.ask_all-requires-clause-few
@@ -43,7 +43,7 @@ ask_all-requires-clause-few g c =
     let entries = ap length c.slice-entries.ensures in
     let members = c.requires.members in
     let t = c.number_fits.ensures in
-    let ticks = on_well _ c.tick_all.result _ (sym c.cut.ensures ∙ c.in_ok-cut.was) c.tick_all.ensures.counted in
+    let ticks = c.in_ok-tick_all.ensures.counted in
     omega (arith, few, next, turns.0, turns.1, entries, members, t, ticks)
 
 pub returns-in_err-ask_all-clause-told : goal.returns-in_err-ask_all-clause-told
@@ -56,13 +56,8 @@ returns-in_err-ask_all-clause-told g c =
     c.tick_all.new.desk _ _
     (g.C.Clock.told c.args.clock.now) (g.C.Clock.told c.now-moment.new.self) c.now-moment.ensures.moment
     c.now-moment.ensures.kept so
-    (subst (TickedOn (stack_in c.args.course) (plans_in c.args.course) (course_of c.args.course) b
-    c.args.progress.now.turn c.requires.turns c.now-moment.result
-    c.args.progress.now.patience (g.F.Feed.group c.args.feed.now) (g.F.Feed.group c.tick_all.new.feed) c.args.desk.now
-    c.tick_all.new.desk _ _)
-    (well c.tick_all.result _ (sym c.cut.ensures ∙ c.in_ok-cut.was))
-    (λ m k borne clock within so. c.tick_all.ensures.told (course_of c.args.course) b m k c.args.progress.now.turn
-    c.args.progress.now.patience borne clock within so))
+    (λ m k borne clock within so. c.in_ok-tick_all.ensures.told (course_of c.args.course) b m k
+    c.args.progress.now.turn c.args.progress.now.patience borne clock within so)
     c.ask_all.new.patience (g.F.Feed.group c.ask_all.new.feed) c.ask_all.new.desk _ _
     (λ c' b m k t borne clock sum within so. c.in_err-ask_all.ensures.told c' b m k t borne clock sum within so))
 
@@ -72,7 +67,7 @@ feed_planned-requires-clause-up g c =
     c.args.course.me.now c.requires.up
     (again_then (stack_in c.args.course) (plans_in c.args.course) _ (g.F.Feed.group c.tick_all.new.feed) _ _
     c.tick_all.new.desk _
-    (on_well _ c.tick_all.result _ (sym c.cut.ensures ∙ c.in_ok-cut.was) c.tick_all.ensures.rests)
+    c.in_ok-tick_all.ensures.rests
     c.in_ok-ask_all.ensures.rests) (λ m. c.ask_all.ensures.listening m ∙ c.tick_all.ensures.listening m)
 
 pub feed_planned-requires-clause-few : goal.feed_planned-requires-clause-few
@@ -83,36 +78,55 @@ feed_planned-requires-clause-few g c =
     let entries = ap length c.slice-entries.ensures in
     let members = c.requires.members in
     let t = c.number_fits.ensures in
-    let ticks = on_well _ c.tick_all.result _ (sym c.cut.ensures ∙ c.in_ok-cut.was) c.tick_all.ensures.counted in
+    let ticks = c.in_ok-tick_all.ensures.counted in
     let asks = c.in_ok-ask_all.ensures.counted in
     omega (arith, few, next, turns.0, turns.1, entries, members, t, ticks, asks)
 
-pub returns-clause-rests : goal.returns-clause-rests
-returns-clause-rests g c = rw c.cut-2.ensures
-    (rests_end (stack_in c.args.course) (plans_in c.args.course) _ (g.F.Feed.group c.tick_all.new.feed)
-    (g.F.Feed.group c.ask_all.new.feed) _
-    _ c.tick_all.new.desk c.ask_all.new.desk _ c.feed_planned.result
-    (on_well _ c.tick_all.result _ (sym c.cut.ensures ∙ c.in_ok-cut.was) c.tick_all.ensures.rests)
-    c.in_ok-ask_all.ensures.rests c.feed_planned.ensures.rests)
-
-pub returns-clause-told : goal.returns-clause-told
-returns-clause-told g c = rw c.cut-2.ensures (λ b borne sum so.
+pub returns-in_err-feed_planned-clause-told : goal.returns-in_err-feed_planned-clause-told
+returns-in_err-feed_planned-clause-told g c =
+    let p = err_from_is_err_and c.from_residual-in_err-feed_planned.result
+    c.from_residual-in_err-feed_planned.ensures.1 in
+    rw (p.1, p.2) (λ b borne sum so.
     turn_end (stack_in c.args.course) (plans_in c.args.course) (course_of c.args.course) b c.args.progress.now.turn
     c.requires.turns c.args.progress.now.patience
     borne c.now-moment.result sum (g.F.Feed.group c.args.feed.now) (g.F.Feed.group c.tick_all.new.feed) c.args.desk.now
     c.tick_all.new.desk _ _
     (g.C.Clock.told c.args.clock.now) (g.C.Clock.told c.now-moment.new.self) c.now-moment.ensures.moment
     c.now-moment.ensures.kept so
-    (subst (TickedOn (stack_in c.args.course) (plans_in c.args.course) (course_of c.args.course) b
-    c.args.progress.now.turn c.requires.turns c.now-moment.result
-    c.args.progress.now.patience (g.F.Feed.group c.args.feed.now) (g.F.Feed.group c.tick_all.new.feed) c.args.desk.now
-    c.tick_all.new.desk _ _)
-    (well c.tick_all.result _ (sym c.cut.ensures ∙ c.in_ok-cut.was))
-    (λ m k borne clock within so. c.tick_all.ensures.told (course_of c.args.course) b m k c.args.progress.now.turn
-    c.args.progress.now.patience borne clock within so))
+    (λ m k borne clock within so. c.in_ok-tick_all.ensures.told (course_of c.args.course) b m k
+    c.args.progress.now.turn c.args.progress.now.patience borne clock within so)
     c.ask_all.new.patience (g.F.Feed.group c.ask_all.new.feed) c.ask_all.new.desk _ c.args.progress.now.next
     c.requires.passed
     (λ c' b m k t borne clock sum within so. c.in_ok-ask_all.ensures.told c' b m k t borne clock sum within so)
-    (g.F.Feed.group c.feed_planned.new.feed) c.feed_planned.new.desk _ c.feed_planned.result
-    (λ m k borne clock within so. c.feed_planned.ensures.told (course_of c.args.course) b m k c.ask_all.new.patience
-    borne clock within so))
+    (g.F.Feed.group c.feed_planned.new.feed) c.feed_planned.new.desk _ (Err c.in_err-feed_planned.field-0.0)
+    (λ m k borne clock within so. c.in_err-feed_planned.ensures.told (course_of c.args.course) b m k
+    c.ask_all.new.patience borne clock within so))
+
+pub returns-clause-rests : goal.returns-clause-rests
+returns-clause-rests g c =
+    let stack = stack_in c.args.course in
+    let plans = plans_in c.args.course in
+    let begun = g.F.Feed.group c.args.feed.now in
+    let asked = g.F.Feed.group c.ask_all.new.feed in
+    again_then stack plans begun asked (g.F.Feed.group c.feed_planned.new.feed) c.args.desk.now c.ask_all.new.desk
+    c.feed_planned.new.desk
+    (again_then stack plans begun (g.F.Feed.group c.tick_all.new.feed) asked c.args.desk.now c.tick_all.new.desk
+    c.ask_all.new.desk c.in_ok-tick_all.ensures.rests c.in_ok-ask_all.ensures.rests)
+    c.in_ok-feed_planned.ensures.rests
+
+pub returns-clause-told : goal.returns-clause-told
+returns-clause-told g c = λ b borne sum so.
+    turn_end (stack_in c.args.course) (plans_in c.args.course) (course_of c.args.course) b c.args.progress.now.turn
+    c.requires.turns c.args.progress.now.patience
+    borne c.now-moment.result sum (g.F.Feed.group c.args.feed.now) (g.F.Feed.group c.tick_all.new.feed) c.args.desk.now
+    c.tick_all.new.desk _ _
+    (g.C.Clock.told c.args.clock.now) (g.C.Clock.told c.now-moment.new.self) c.now-moment.ensures.moment
+    c.now-moment.ensures.kept so
+    (λ m k borne clock within so. c.in_ok-tick_all.ensures.told (course_of c.args.course) b m k
+    c.args.progress.now.turn c.args.progress.now.patience borne clock within so)
+    c.ask_all.new.patience (g.F.Feed.group c.ask_all.new.feed) c.ask_all.new.desk _ c.args.progress.now.next
+    c.requires.passed
+    (λ c' b m k t borne clock sum within so. c.in_ok-ask_all.ensures.told c' b m k t borne clock sum within so)
+    (g.F.Feed.group c.feed_planned.new.feed) c.feed_planned.new.desk _ (Ok tt)
+    (λ m k borne clock within so. c.in_ok-feed_planned.ensures.told (course_of c.args.course) b m k
+    c.ask_all.new.patience borne clock within so)
