@@ -19,8 +19,8 @@ use Rattle.script_mean.specs.declared.script.Script.{Script}
 use Rattle.stack_mean.specs.Acceptance.{largest_weight}
 use Rattle.stack_mean.specs.Plans.{plans_of}
 use Rattle.stack_shapes.specs.Trees.{plans_tree}
-use Rattle.play_jobs.specs.Play.{Plays, cut_short}
-use Rattle.play_jobs.proofs.Opened.{plays}
+use Rattle.play_jobs.specs.Play.{Plays}
+use Rattle.play_jobs.proofs.Opened.{cut_short, plays}
 
 module _ (stack : List LayerTree) (e : Examination) (s : Script) (is : IsExamination stack s.group s.stamp s.members e)
   where

@@ -11,7 +11,13 @@ use Rattle.group_mean.specs.Room.{HasRoom}
 use Rattle.stack_mean.specs.Plan.{Plan}
 use Rattle.outside.specs.Lines.{Wrote}
 use Rattle.outside.specs.Tells.{Tells}
-use Rattle.play_jobs.specs.Play.{Plays, cut_short}
+use Rattle.play_jobs.specs.Play.{Plays, unwritten}
+use Rattle.play_jobs.specs.declared.error.PlayError.{PlayError}
+
+-- The result of a run, from that of putting its lines.
+abbrev pub cut_short : Result (Unit {0}) SinkError → Result (Unit {0}) PlayError
+cut_short (Ok wrote) = Ok wrote
+cut_short (Err cause) = Err (unwritten cause)
 
 -- Lines that were written in a mode over a stack whose members have room, as another mode, stack and plans that are the
 -- same see it.

@@ -26,8 +26,7 @@ abbrev pub not_opened : OpenError → PlayError
 not_opened opening.TooLarge = TooManyRows
 not_opened opening.Memory = Memory
 
--- The result of a run, from that of putting its lines.
-abbrev pub cut_short : Result (Unit {0}) SinkError → Result (Unit {0}) PlayError
-cut_short (Ok wrote) = Ok wrote
-cut_short (Err sink.Failed) = Err Failed
-cut_short (Err sink.Memory) = Err Memory
+-- The error of a run that couldn't put all lines.
+abbrev pub unwritten : SinkError → PlayError
+unwritten sink.Failed = Failed
+unwritten sink.Memory = Memory

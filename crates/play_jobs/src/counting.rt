@@ -12,7 +12,7 @@ ghost use Rattle.script_text.specs.Course.{script_for};
 ghost use Rattle.stack_mean.specs.Plans.{plans_of};
 ghost use Rattle.stack_play.specs.Turns.{most_events};
 
-use crate::error::{PlayError, unopened, with_room};
+use crate::error::{PlayError, unopened};
 use event_graph::Stack;
 use group_mean::Mode;
 use group_open::{Opened, open};
@@ -62,7 +62,8 @@ pub(crate) fn play_load<O: Sink>(
                 out,
             );
             group.close();
-            with_room(wrote)
+            wrote?;
+            Ok(())
         }
         Err(error) => Err(unopened(error)),
     }

@@ -1,7 +1,7 @@
 //! Why not all lines of a run were written.
 
 ghost use Rattle.std.specs.Prelude.{◌≡◌};
-ghost use Rattle.play_jobs.specs.Play.{cut_short, not_opened};
+ghost use Rattle.play_jobs.specs.Play.{not_opened, unwritten};
 
 use bypass_member::OpenError;
 use outside::SinkError;
@@ -21,6 +21,17 @@ pub enum PlayError {
     Memory,
 }
 
+impl From<SinkError> for PlayError {
+    ghost from_gives = { λ cause error. error ≡ unwritten cause };
+
+    fn from(cause: SinkError) -> PlayError {
+        match cause {
+            SinkError::Failed => PlayError::Failed,
+            SinkError::Memory => PlayError::Memory,
+        }
+    }
+}
+
 /// How the job ends whose group wasn't opened.
 pub(crate) fn unopened(error: OpenError) -> PlayError
     ensures { result ≡ not_opened error }
@@ -28,16 +39,5 @@ pub(crate) fn unopened(error: OpenError) -> PlayError
     match error {
         OpenError::TooLarge => PlayError::TooManyRows,
         OpenError::Memory => PlayError::Memory,
-    }
-}
-
-/// How lines ended whose members have room.
-pub(crate) fn with_room(wrote: Result<(), SinkError>) -> Result<(), PlayError>
-    ensures { result ≡ cut_short wrote }
-{
-    match wrote {
-        Ok(()) => Ok(()),
-        Err(SinkError::Failed) => Err(PlayError::Failed),
-        Err(SinkError::Memory) => Err(PlayError::Memory),
     }
 }

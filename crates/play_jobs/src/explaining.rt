@@ -11,7 +11,7 @@ ghost use Rattle.play_jobs.specs.Play.{Plays};
 ghost use Rattle.stack_mean.specs.Plans.{plans_of};
 ghost use Rattle.stack_play.specs.Turns.{most_events};
 
-use crate::error::{PlayError, unopened, with_room};
+use crate::error::{PlayError, unopened};
 use event_graph::Stack;
 use group_open::{Examination, open_examined};
 use layer_ast::File;
@@ -53,7 +53,8 @@ pub(crate) fn explain_steps<O: Sink>(
             };
             let wrote = explain(alloc, &mut group, texts, script, &mut outputs, out);
             group.close();
-            with_room(wrote)
+            wrote?;
+            Ok(())
         }
         Err(error) => Err(unopened(error)),
     }

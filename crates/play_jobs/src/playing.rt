@@ -19,7 +19,7 @@ ghost use Rattle.stack_play.specs.Turns.{most_events};
 ghost use Rattle.stack_shapes.specs.Trees.{plans_tree};
 ghost use Rattle.trace_core.specs.Bypasses.{bypasses_tree};
 
-use crate::error::{PlayError, unopened, with_room};
+use crate::error::{PlayError, unopened};
 use event_graph::Stack;
 use group_mean::Mode;
 use group_open::{Opened, open, open_with};
@@ -56,7 +56,10 @@ pub fn play<O: Sink>(
         script.stamp,
         script.members,
     ) {
-        Ok(opened) => with_room(play_opened(alloc, opened, script, wire, count, out)),
+        Ok(opened) => {
+            play_opened(alloc, opened, script, wire, count, out)?;
+            Ok(())
+        }
         Err(error) => Err(unopened(error)),
     }
 }
@@ -87,7 +90,10 @@ pub(crate) fn play_with<O: Sink>(
         script.stamp,
         script.members,
     ) {
-        Ok(opened) => with_room(play_opened(alloc, opened, script, wire, count, out)),
+        Ok(opened) => {
+            play_opened(alloc, opened, script, wire, count, out)?;
+            Ok(())
+        }
         Err(error) => Err(unopened(error)),
     }
 }
