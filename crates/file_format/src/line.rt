@@ -47,13 +47,9 @@ impl LineCursor {
         let class = class_of(spelling);
         let feeds = feeds_before(is_bare(&self.bytes), self.stand, class, feeds);
         end_line(&mut self.bytes, feeds, out)?;
-        match put_after(&mut self.bytes, self.stand, class, spelling) {
-            Ok(()) => {
-                self.stand = following(self.stand, class);
-                Ok(())
-            }
-            Err(AllocError) => Err(SinkError::Memory),
-        }
+        put_after(&mut self.bytes, self.stand, class, spelling)?;
+        self.stand = following(self.stand, class);
+        Ok(())
     }
 
     /// Puts the last line.
