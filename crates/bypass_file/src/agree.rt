@@ -5,7 +5,7 @@ ghost use Rattle.bypass_file.specs.Filling.{Agrees};
 
 use crate::error::BypassError;
 use layer_mean::Case;
-use std::alloc::{AllocError, Global};
+use std::alloc::Global;
 use symbol_table::first_difference;
 use trace_core::Trace;
 
@@ -19,9 +19,8 @@ pub(crate) fn agree(
 ) -> Result<(), BypassError>
     ensures { Agrees entry case (trace_tree trace.now) (trace_tree own.now) result }
 {
-    match first_difference(alloc, trace, own) {
-        Ok(None) => Ok(()),
-        Ok(Some(act)) => Err(BypassError::Differs { entry, case, act }),
-        Err(AllocError) => Err(BypassError::Memory),
+    match first_difference(alloc, trace, own)? {
+        None => Ok(()),
+        Some(act) => Err(BypassError::Differs { entry, case, act }),
     }
 }

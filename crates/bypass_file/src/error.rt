@@ -5,6 +5,7 @@ ghost use Rattle.bypass_file.specs.declared.error.BypassError.TheVariants.{Memor
 ghost use Rattle.bypass_file.specs.Unread.{unread};
 
 use layer_mean::Case;
+use msg_core::Memory as NoMemory;
 use std::alloc::{AllocError, AllocFailed};
 use thiserror::Error;
 use trace_file::ReadError;
@@ -42,12 +43,21 @@ impl<T: Drop> From<AllocFailed<T>> for BypassError {
     }
 }
 
-/// What a file that can't be read is refused for.
-pub(crate) fn unread(error: ReadError) -> BypassError
-    ensures { result ≡ unread error }
-{
-    match error {
-        ReadError::Line(line) => BypassError::Line(line),
-        ReadError::Memory => BypassError::Memory,
+impl From<NoMemory> for BypassError {
+    ghost from_gives = { λ _ e. e ≡ Memory };
+
+    fn from(_: NoMemory) -> BypassError {
+        BypassError::Memory
+    }
+}
+
+impl From<ReadError> for BypassError {
+    ghost from_gives = { λ error e. e ≡ unread error };
+
+    fn from(error: ReadError) -> BypassError {
+        match error {
+            ReadError::Line(line) => BypassError::Line(line),
+            ReadError::Memory => BypassError::Memory,
+        }
     }
 }

@@ -15,9 +15,8 @@ ghost use Rattle.bypass_file.specs.Judged.{Judges, JudgesInto};
 
 use crate::cases::fill_all;
 use crate::due::all_due;
-use crate::error::{BypassError, unread};
+use crate::error::BypassError;
 use event_graph::Stack;
-use msg_core::Memory;
 use stack_shapes::{Plan, StackShapes};
 use std::alloc::Global;
 use std::collections::VecDeque;
@@ -36,10 +35,8 @@ pub fn read_bypasses(alloc: Global, stack: &Stack, text: &[u8]) -> Result<Bypass
     if text.len() > LONGEST_FILE {
         return Err(BypassError::TooLarge);
     }
-    match StackShapes::of(alloc, stack) {
-        Ok(shapes) => read_with(alloc, stack, &shapes, text),
-        Err(Memory) => Err(BypassError::Memory),
-    }
+    let shapes = StackShapes::of(alloc, stack)?;
+    read_with(alloc, stack, &shapes, text)
 }
 
 /// The same where the stack's shapes are drawn.
@@ -74,8 +71,6 @@ fn read_into(
     ensures { JudgesInto (stack_tree stack.now) text.now own.new result }
 {
     let due = all_due(alloc, plans, own)?;
-    match read_traces(alloc, stack, due.as_slice(), text) {
-        Ok(traces) => fill_all(alloc, own, &mut VecDeque::from_vec(traces)),
-        Err(error) => Err(unread(error)),
-    }
+    let traces = read_traces(alloc, stack, due.as_slice(), text)?;
+    fill_all(alloc, own, &mut VecDeque::from_vec(traces))
 }

@@ -1,4 +1,5 @@
 use Rattle.std.proofs.Common.{◌≡◌, ◌≤◌, ◌∙◌, map, sym, ap, subst, Ok}
+use Rattle.std.proofs.lemmas.Result.{err_from_is_err_and}
 use Rattle.event_graph.specs.Answer.{stack_tree}
 use Rattle.stack_shapes.specs.declared.types.TheConstants.{MOST_PLANS}
 use Rattle.trace_core.specs.Trees.{trace_tree}
@@ -21,23 +22,24 @@ fill_all-requires-clause-few c =
 pub fill_all-requires-clause-simple : goal.fill_all-requires-clause-simple
 fill_all-requires-clause-simple c = simple_known (stack_tree c.args.stack.now) c.args.own.now c.requires.own
 
-pub returns-in-Ok : goal.returns-in-Ok
-returns-in-Ok c =
-    let stack = stack_tree c.args.stack.now in
-    let due : map bare (due_of stack) ≡ map due_tree c.as_slice.result.now =
-    ap (map bare) (sym (due_known stack c.args.own.now c.requires.own c.args.plans.now c.requires.plans))
-    ∙ sym c.in_ok-due.ensures ∙ ap (map due_tree) (sym c.as_slice.ensures.value) in
-    let read : traces_in stack c.args.text.now ≡ Ok (map trace_tree c.from_vec.result.items) =
-    c.in-Ok.ensures (due_of stack) due ∙ ap (λ ts. Ok (map trace_tree ts)) (sym c.from_vec.ensures.items) in
-    judged stack c.args.own.now c.requires.own c.args.text.now c.requires.short (map trace_tree c.from_vec.result.items)
-    read
-    (map trace_tree c.fill_all.new.traces.items) c.fill_all.new.own c.fill_all.result c.fill_all.ensures
-
 pub returns : goal.returns
 returns c =
     let stack = stack_tree c.args.stack.now in
     let due : map bare (due_of stack) ≡ map due_tree c.as_slice.result.now =
     ap (map bare) (sym (due_known stack c.args.own.now c.requires.own c.args.plans.now c.requires.plans))
     ∙ sym c.in_ok-due.ensures ∙ ap (map due_tree) (sym c.as_slice.ensures.value) in
-    rw c.unread.ensures (unreadable stack c.args.text.now c.args.own.now c.requires.short c.in-Err.error
-    (c.in-Err.ensures (due_of stack) due))
+    let read : traces_in stack c.args.text.now ≡ Ok (map trace_tree c.from_vec.result.items) =
+    c.in_ok-traces.ensures (due_of stack) due ∙ ap (λ ts. Ok (map trace_tree ts)) (sym c.from_vec.ensures.items) in
+    judged stack c.args.own.now c.requires.own c.args.text.now c.requires.short (map trace_tree c.from_vec.result.items)
+    read
+    (map trace_tree c.fill_all.new.traces.items) c.fill_all.new.own c.fill_all.result c.fill_all.ensures
+
+pub returns-in_err-traces : goal.returns-in_err-traces
+returns-in_err-traces c =
+    let stack = stack_tree c.args.stack.now in
+    let due : map bare (due_of stack) ≡ map due_tree c.as_slice.result.now =
+    ap (map bare) (sym (due_known stack c.args.own.now c.requires.own c.args.plans.now c.requires.plans))
+    ∙ sym c.in_ok-due.ensures ∙ ap (map due_tree) (sym c.as_slice.ensures.value) in
+    let p = err_from_is_err_and c.from_residual-in_err-traces.result c.from_residual-in_err-traces.ensures.1 in
+    rw (p.1, p.2) (unreadable stack c.args.text.now c.args.own.now c.requires.short _
+    (c.in_err-traces.ensures (due_of stack) due))
