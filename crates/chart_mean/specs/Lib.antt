@@ -6,6 +6,7 @@ pub mod Row
 pub mod Style
 pub mod Picture
 pub mod Words
+pub mod Causes
 pub mod Ends
 pub mod Runs
 pub mod Through

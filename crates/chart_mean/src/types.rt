@@ -1,4 +1,8 @@
 //! The types of pictures.
+ghost use Rattle.std.specs.Prelude.{◌≡◌};
+ghost use Rattle.chart_mean.specs.Causes.{unread, unwritten};
+
+use outside::{ShelfError, SinkError};
 
 /// The lines of a report that a picture shows, by the numbers of the first and the last, counted from 1.
 #[derive(Clone, Copy, Debug, PartialEq, Eq)]
@@ -48,4 +52,26 @@ pub enum Ending {
     Write,
     /// Memory ran out.
     Memory,
+}
+
+impl From<ShelfError> for Ending {
+    ghost from_gives = { λ cause end. end ≡ unread cause };
+
+    fn from(cause: ShelfError) -> Ending {
+        match cause {
+            ShelfError::Failed => Ending::Read,
+            ShelfError::Memory => Ending::Memory,
+        }
+    }
+}
+
+impl From<SinkError> for Ending {
+    ghost from_gives = { λ cause end. end ≡ unwritten cause };
+
+    fn from(cause: SinkError) -> Ending {
+        match cause {
+            SinkError::Failed => Ending::Write,
+            SinkError::Memory => Ending::Memory,
+        }
+    }
 }

@@ -12,7 +12,7 @@ use crate::picture::chart;
 use crate::saying::say;
 use crate::words::{Request, asked_for};
 use chart_mean::Ending;
-use outside::{Got, Shelf, ShelfError, Sink, SinkError, put_line};
+use outside::{Got, Shelf, Sink, put_line};
 use std::alloc::Global;
 
 /// The most bytes of a report.
@@ -75,10 +75,8 @@ fn fetch<S: Shelf>(alloc: Global, request: Request<'_>, shelf: &mut S) -> Result
     ensures { Fetches (request_shown request.entry) (S.told shelf.old) (S.faults shelf.old) (S.faults shelf.new)
         result }
 {
-    match fetch_text(alloc, request, shelf) {
-        Ok(text) => chart(alloc, &text, request.range),
-        Err(ending) => Err(ending),
-    }
+    let text = fetch_text(alloc, request, shelf)?;
+    chart(alloc, &text, request.range)
 }
 
 /// Reads a report, or finds how the program ends.
@@ -91,11 +89,9 @@ fn fetch_text<S: Shelf>(
         result }
 {
     let mut text = Vec::new(alloc);
-    match shelf.read(request.file, &mut text, LONGEST_REPORT) {
-        Ok(Got::Whole) => Ok(text),
-        Ok(Got::TooLong) => Err(Ending::TooLarge),
-        Err(ShelfError::Failed) => Err(Ending::Read),
-        Err(ShelfError::Memory) => Err(Ending::Memory),
+    match shelf.read(request.file, &mut text, LONGEST_REPORT)? {
+        Got::Whole => Ok(text),
+        Got::TooLong => Err(Ending::TooLarge),
     }
 }
 
@@ -105,7 +101,6 @@ fn write<O: Sink>(picture: &[u8], out: &mut O) -> Ending
 {
     match put_line(picture, out) {
         Ok(()) => Ending::Done,
-        Err(SinkError::Failed) => Ending::Write,
-        Err(SinkError::Memory) => Ending::Memory,
+        Err(cause) => Ending::from(cause),
     }
 }

@@ -2,6 +2,6 @@ use Rattle.std.proofs.Common.{rules}
 use Rattle.run_chart.proofs.Ran.{large}
 use Rattle.run_chart.proofs.over_sinks.fetch_text.Goals as goal
 
-pub returns-in-Ok-TooLong : goal.returns-in-Ok-TooLong
-returns-in-Ok-TooLong g c = large _ _ _ _ (rw c.in-Ok-TooLong.field-0-is at c.in-Ok-TooLong.ensures.answered)
+pub returns-in-TooLong : goal.returns-in-TooLong
+returns-in-TooLong g c = large _ _ _ _ (rw c.in-TooLong.is at c.in_ok-read.ensures.answered)
     (search rules)
