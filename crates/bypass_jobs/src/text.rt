@@ -13,10 +13,9 @@ ghost use Rattle.bypass_jobs.specs.Printing.{own_lines, printing};
 
 use crate::printing::Printing;
 use event_graph::Stack;
-use msg_core::Memory;
 use outside::{Sink, SinkError};
 use stack_shapes::{Plans, StackShapes};
-use std::alloc::{AllocError, Global};
+use std::alloc::Global;
 use std::mem::forget;
 use synth::synth;
 use synth_print::{print_bypasses, print_traces};
@@ -31,14 +30,10 @@ pub(crate) fn put_text<O: Sink>(
 ) -> Result<(), SinkError>
     ensures { Wrote (own_lines what (stack_tree stack.now)) (tells_of O.Sink out.old) (tells_of O.Sink out.new) result }
 {
-    match StackShapes::of(alloc, stack) {
-        Ok(shapes) => {
-            let wrote = put_bypasses(alloc, what, stack, &shapes, out);
-            forget(shapes);
-            wrote
-        }
-        Err(Memory) => Err(SinkError::Memory),
-    }
+    let shapes = StackShapes::of(alloc, stack)?;
+    let wrote = put_bypasses(alloc, what, stack, &shapes, out);
+    forget(shapes);
+    wrote
 }
 
 /// Prints the bypasses of a stack whose shapes are drawn.
@@ -53,14 +48,10 @@ fn put_bypasses<O: Sink>(
     requires entries { shapes.now.entries ≡ short_shapes (stack_tree stack.now) (plans_of (stack_tree stack.now)) }
     ensures { Wrote (own_lines what (stack_tree stack.now)) (tells_of O.Sink out.old) (tells_of O.Sink out.new) result }
 {
-    match synth(alloc, stack, shapes) {
-        Ok(bypasses) => {
-            let wrote = put(alloc, what, stack, &shapes.plans, &bypasses, out);
-            forget(bypasses);
-            wrote
-        }
-        Err(AllocError) => Err(SinkError::Memory),
-    }
+    let bypasses = synth(alloc, stack, shapes)?;
+    let wrote = put(alloc, what, stack, &shapes.plans, &bypasses, out);
+    forget(bypasses);
+    wrote
 }
 
 /// Prints bypasses.
