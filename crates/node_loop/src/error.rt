@@ -2,7 +2,9 @@
 
 ghost use Rattle.std.specs.Prelude.{◌≡◌};
 ghost use Rattle.node_loop.specs.Causes.{unlinked, unwritten};
+ghost use Rattle.node_loop.specs.declared.error.NodeError.TheVariants as node_error;
 
+use msg_core::Memory;
 use outside::{LinkError, SinkError};
 use thiserror::Error;
 
@@ -39,5 +41,13 @@ impl From<LinkError> for NodeError {
             LinkError::Failed => NodeError::Link,
             LinkError::Memory => NodeError::Memory,
         }
+    }
+}
+
+impl From<Memory> for NodeError {
+    ghost from_gives = { λ _ end. end ≡ node_error.Memory };
+
+    fn from(_: Memory) -> NodeError {
+        NodeError::Memory
     }
 }

@@ -146,10 +146,7 @@ pub fn serve<F: Feed, O: Sink, N: Links, C: Clock>(
     stopped_goes_on();
     number_fits(course.plan.group);
     number_fits(course.plan.stamp);
-    let mut desk = match desk(alloc, course.stack.stack()) {
-        Ok(desk) => desk,
-        Err(Memory) => return Err(NodeError::Memory),
-    };
+    let mut desk = desk(alloc, course.stack.stack())?;
     listen_all(course.plan.peers.slice(), course.me, links)?;
     make_turns(feed, course, &mut desk, patience, out, links, clock)?;
     let events = desk.events;

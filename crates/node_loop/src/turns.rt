@@ -106,10 +106,7 @@ fn feed_datagram<F: Feed, O: Sink, N: Links>(
     ensures counted { OnOk result (desk.new.events ≡ desk.old.events + 1) }
     ensures listening { (m : ℕ) → N.listening links.new m ≡ N.listening links.old m }
 {
-    let bytes = match desk.room[..count].to_vec(desk.alloc) {
-        Ok(bytes) => bytes,
-        Err(_) => return Err(SinkError::Memory),
-    };
+    let bytes = desk.room[..count].to_vec(desk.alloc)?;
     let event = ScriptEvent::Raw(id, Bytes::of(bytes));
     feed_on(feed, course, desk, &event, out, links)
 }

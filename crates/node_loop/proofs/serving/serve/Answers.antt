@@ -13,11 +13,13 @@ use Rattle.node_loop.proofs.Ends.{all_served, made_first, not_all_listen, not_al
 use Rattle.node_loop.proofs.Ends.{up_first}
 use Rattle.node_loop.proofs.serving.serve.Goals as goal
 
-pub returns-in-Err : goal.returns-in-Err
-returns-in-Err g c =
-    not_begun (stack_in c.args.course) c.args.course.plan.now c.args.course.me.now c.args.course.turns c.args.patience
+pub returns-in_err-desk : goal.returns-in_err-desk
+returns-in_err-desk g c =
+    let p = err_from_is_err_and c.from_residual.result c.from_residual.ensures.1 in
+    rw (p.1, p.2) (not_begun (stack_in c.args.course) c.args.course.plan.now c.args.course.me.now c.args.course.turns
+    c.args.patience
     (g.F.Feed.group c.args.feed.now).mode c.stopped_goes_on.ensures
-    (whereabouts (around g.O.Sink g.N.Links c.args.out.now c.args.links.now) (g.C.Clock.told c.args.clock.now))
+    (whereabouts (around g.O.Sink g.N.Links c.args.out.now c.args.links.now) (g.C.Clock.told c.args.clock.now)))
 
 pub listen_all-requires-clause-members : goal.listen_all-requires-clause-members
 listen_all-requires-clause-members g c =
@@ -26,7 +28,7 @@ listen_all-requires-clause-members g c =
 
 pub returns-in_err-listen_all : goal.returns-in_err-listen_all
 returns-in_err-listen_all g c =
-    let p = err_from_is_err_and c.from_residual.result c.from_residual.ensures.1 in
+    let p = err_from_is_err_and c.from_residual-in_err-listen_all.result c.from_residual-in_err-listen_all.ensures.1 in
     let links = c.args.links.now in
     let listening = c.listen_all.new.links in
     rw (p.1, p.2) (not_all_listen (stack_in c.args.course) c.args.course.plan.now c.args.course.me.now
@@ -50,14 +52,14 @@ make_turns-requires-clause-up g c =
     let plans = plans_in c.args.course in
     let group = g.F.Feed.group c.args.feed.now in
     let mode = group.mode in
-    let desk = c.in-Ok.desk in
+    let desk = c.in_ok-desk.desk in
     up_first stack plan me turns patience mode plans group desk (g.N.Links.listening c.listen_all.new.links)
     c.requires.typed
     (subst AreNumbered (sym c.requires.plans) (plans_are_numbered stack c.requires.typed))
     (rests_first stack plan me turns patience mode plans group desk c.requires.typed c.number_fits.ensures
     c.number_fits-2.ensures c.requires.few_peers
     refl c.requires.stack c.requires.group_plans c.requires.group
-    (rw (c.deref.ensures, c.stack.ensures) at c.in-Ok.ensures.places)) c.requires.members
+    (rw (c.deref.ensures, c.stack.ensures) at c.in_ok-desk.ensures.places)) c.requires.members
     (subst (λ peers. AllByRecursion (λ id. g.N.Links.listening c.listen_all.new.links id ≡ Some (length peers)) me)
     c.slice.ensures
     c.in_ok-listen_all.ensures.listening)
@@ -72,7 +74,7 @@ returns-in_err-make_turns g c =
     let plans = plans_in c.args.course in
     let group = g.F.Feed.group c.args.feed.now in
     let mode = group.mode in
-    let desk = c.in-Ok.desk in
+    let desk = c.in_ok-desk.desk in
     let out = c.args.out.now in
     let links = c.args.links.now in
     let listening = c.listen_all.new.links in
@@ -96,7 +98,8 @@ returns-in_err-make_turns g c =
     (rests_first stack plan me turns patience mode plans group desk c.requires.typed c.number_fits.ensures
     c.number_fits-2.ensures c.requires.few_peers
     refl c.requires.stack c.requires.group_plans c.requires.group
-    (rw (c.deref.ensures, c.stack.ensures) at c.in-Ok.ensures.places)) c.in-Ok.ensures.none c.requires.plans from
+    (rw (c.deref.ensures, c.stack.ensures) at c.in_ok-desk.ensures.places)) c.in_ok-desk.ensures.none c.requires.plans
+    from
     clock at
     (Err c.in_err-make_turns.field-0.0) c.in_err-make_turns.ensures.told))
 
@@ -110,7 +113,7 @@ returns-in_err-write_end g c =
     let plans = plans_in c.args.course in
     let group = g.F.Feed.group c.args.feed.now in
     let mode = group.mode in
-    let desk = c.in-Ok.desk in
+    let desk = c.in_ok-desk.desk in
     let out = c.args.out.now in
     let links = c.args.links.now in
     let listening = c.listen_all.new.links in
@@ -134,7 +137,8 @@ returns-in_err-write_end g c =
     (rests_first stack plan me turns patience mode plans group desk c.requires.typed c.number_fits.ensures
     c.number_fits-2.ensures c.requires.few_peers
     refl c.requires.stack c.requires.group_plans c.requires.group
-    (rw (c.deref.ensures, c.stack.ensures) at c.in-Ok.ensures.places)) c.in-Ok.ensures.none c.requires.plans from
+    (rw (c.deref.ensures, c.stack.ensures) at c.in_ok-desk.ensures.places)) c.in_ok-desk.ensures.none c.requires.plans
+    from
     clock at (Ok tt)
     c.in_ok-make_turns.ensures.told)
     last (Err c.in_err-write_end.field-0.0) c.in_err-write_end.ensures)
@@ -149,7 +153,7 @@ returns g c =
     let plans = plans_in c.args.course in
     let group = g.F.Feed.group c.args.feed.now in
     let mode = group.mode in
-    let desk = c.in-Ok.desk in
+    let desk = c.in_ok-desk.desk in
     let out = c.args.out.now in
     let links = c.args.links.now in
     let listening = c.listen_all.new.links in
@@ -171,7 +175,8 @@ returns g c =
     (rests_first stack plan me turns patience mode plans group desk c.requires.typed c.number_fits.ensures
     c.number_fits-2.ensures c.requires.few_peers
     refl c.requires.stack c.requires.group_plans c.requires.group
-    (rw (c.deref.ensures, c.stack.ensures) at c.in-Ok.ensures.places)) c.in-Ok.ensures.none c.requires.plans from
+    (rw (c.deref.ensures, c.stack.ensures) at c.in_ok-desk.ensures.places)) c.in_ok-desk.ensures.none c.requires.plans
+    from
     clock at (Ok tt)
     c.in_ok-make_turns.ensures.told)
     last (Ok tt) c.in_ok-write_end.ensures
