@@ -5,7 +5,6 @@ use Rattle.file_numbers.specs.Scope.{names_of}
 use Rattle.file_layers.proofs.Rows.{message_row_fits, numbers_row_fits, row_fits}
 use Rattle.file_layers.proofs.row.take_row.Goals as goal
 
--- src/row.rt:195:17
 pub taken_row-requires-clause-numbers : goal.taken_row-requires-clause-numbers
 taken_row-requires-clause-numbers c =
     row_fits c.args.names.now.numbers.taken c.taken.result c.numbers_of-count.result c.len.result
@@ -14,7 +13,6 @@ taken_row-requires-clause-numbers c =
     c.in_ok-new.ensures (search rules)
     c.numbers_of-count.ensures
 
--- src/row.rt:196:5
 pub bring_row-requires-clause-numbers : goal.bring_row-requires-clause-numbers
 bring_row-requires-clause-numbers c =
     numbers_row_fits c.args.names.now.numbers.taken c.taken.result c.has_message-has_message.result _ c.deref.result.now
@@ -22,7 +20,6 @@ bring_row-requires-clause-numbers c =
     c.requires.numbers c.taken.ensures.is c.taken.ensures.few c.has_message-has_message.ensures
     (c.deref.ensures.value ∙ c.in_ok-new.ensures)
 
--- src/row.rt:196:5
 pub bring_row-requires-clause-message : goal.bring_row-requires-clause-message
 bring_row-requires-clause-message c =
     message_row_fits c.args.names.now.messages.taken c.taken-2.result

@@ -3,7 +3,6 @@ use Rattle.layer_ast.specs.declared.syntax.Layer.{Layer}
 use Rattle.file_layers.proofs.Stacks.{layer_called, layer_found}
 use Rattle.file_layers.proofs.stack.layer_at.Goals as goal
 
--- src/stack.rt:27:1
 pub returns-in-Some : goal.returns-in-Some
 returns-in-Some c =
     let search_in : List Layer →
@@ -11,7 +10,6 @@ returns-in-Some c =
     layer_found c.args.file.now c.args.place.now c.named.result c.in-Some.layer c.in-Some.is
     (c.named.ensures ∙ ap search_in c.deref.ensures.value)
 
--- src/stack.rt:27:1
 pub returns-in-None : goal.returns-in-None
 returns-in-None c =
     let search_in : List Layer →

@@ -3,14 +3,12 @@ use Rattle.layer_ast.specs.View.{file_tree}
 use Rattle.file_layers.proofs.Stacks.{place_holds, places_more, stack_made}
 use Rattle.file_layers.proofs.stack.placed_layers.Goals as goal
 
--- src/stack.rt:67:21
 pub placed_layer-requires-clause-holds : goal.placed_layer-requires-clause-holds
 placed_layer-requires-clause-holds c =
     place_holds c.args.file.now c.loop-place.place-index c.len-number.result c.place-item.result (search rules)
     (search rules)
     (search rules) c.requires
 
--- src/stack.rt:65:5
 pub loop-place-preserved : goal.loop-place-preserved
 loop-place-preserved c = record {
   count = search rules;
@@ -21,7 +19,6 @@ loop-place-preserved c = record {
       c.in_ok-placed_layer.ensures c.loop-place.invariant.layers c.in_ok-push.ensures.items;
 }
 
--- src/stack.rt:60:1
 pub returns : goal.returns
 returns c = stack_made c.args.file.now c.loop-place.place-index c.loop-place.layers.items (search rules)
     c.loop-place.invariant.layers

@@ -3,7 +3,6 @@ use Rattle.file_numbers.specs.Place.{placed_of}
 use Rattle.file_numbers.proofs.Places.{cell_at, cell_nowhere, cell_small}
 use Rattle.file_numbers.proofs.placed_layer.PlacedLayer.cell.Goals as goal
 
--- src/place.rt:106:24
 pub overflow_cast-result : goal.overflow_cast-result
 overflow_cast-result c =
     let small = cell_small (placed_of c.args.self.now) c.args.name.now c.args.self.now.cells c.in-Some.k
@@ -11,13 +10,11 @@ overflow_cast-result c =
     c.args.self.now.few_cells (search rules) in
     search (rules, small)
 
--- src/place.rt:100:5
 pub returns-in-None : goal.returns-in-None
 returns-in-None c =
     cell_nowhere (placed_of c.args.self.now) c.args.name.now c.args.self.now.cells c.args.self.now.cells_are
     (search rules)
 
--- src/place.rt:100:5
 pub returns-in-Some : goal.returns-in-Some
 returns-in-Some c =
     cell_at (placed_of c.args.self.now) c.args.name.now c.args.self.now.cells c.in-Some.k c.args.self.now.cells_are

@@ -2,7 +2,6 @@ use Rattle.file_numbers.specs.Place.{placed_of}
 use Rattle.file_numbers.proofs.Places.{holds_found}
 use Rattle.file_numbers.proofs.placed_layer.PlacedLayer.declaration.Goals as goal
 
--- src/place.rt:67:5
 pub returns-clause-holds : goal.returns-clause-holds
 returns-clause-holds c = holds_found (placed_of c.args.self.now) c.args.word.now _ c.args.self.now.held
     c.declaration.ensures

@@ -7,7 +7,6 @@ use Rattle.fault_mean.specs.Scope.{Scope}
 use Rattle.file_numbers.specs.Placed.{HoldDeclarations, placement, words_of}
 use Rattle.file_numbers.proofs.placed_layer.PlacedLayer.of.Goals as goal
 
--- src/place.rt:57:9
 pub invariant_of-result : goal.invariant_of-result
 invariant_of-result c =
     let same : layer_tree c.args.layer.now ≡ layer_tree c.of.result.layer.now =

@@ -3,7 +3,6 @@ use Rattle.layer_ast.specs.View.{declaration_tree, layer_tree}
 use Rattle.file_numbers.proofs.Finds.{param_is}
 use Rattle.file_numbers.proofs.placed_layer.PlacedLayer.param.Goals as goal
 
--- src/place.rt:76:5
 pub returns-in-Some-declared_value : goal.returns-in-Some-declared_value
 returns-in-Some-declared_value c =
     let is = param_is (layer_tree c.args.self.now.scope.layer.now) c.args.self.now.given.now c.args.word.now

@@ -3,7 +3,6 @@ use Rattle.file_numbers.specs.Place.{placed_of}
 use Rattle.file_numbers.proofs.Places.{tag_at, tag_nowhere, tag_small}
 use Rattle.file_numbers.proofs.placed_layer.PlacedLayer.tag.Goals as goal
 
--- src/place.rt:118:24
 pub overflow_cast-result : goal.overflow_cast-result
 overflow_cast-result c =
     let small = tag_small (placed_of c.args.self.now) c.args.name.now c.args.self.now.headers c.in-Some.k
@@ -11,7 +10,6 @@ overflow_cast-result c =
     c.args.self.now.few_headers (search rules) in
     search (rules, small)
 
--- src/place.rt:118:24
 pub overflow_add-result : goal.overflow_add-result
 overflow_add-result c =
     let small = tag_small (placed_of c.args.self.now) c.args.name.now c.args.self.now.headers c.in-Some.k
@@ -19,19 +17,16 @@ overflow_add-result c =
     c.args.self.now.few_headers (search rules) in
     search (rules, small)
 
--- src/place.rt:111:5
 pub returns-in-None-clause-is : goal.returns-in-None-clause-is
 returns-in-None-clause-is c =
     tag_nowhere (placed_of c.args.self.now) c.args.name.now c.args.self.now.headers c.args.self.now.headers_are
     (search rules)
 
--- src/place.rt:111:5
 pub returns-in-Some-clause-is : goal.returns-in-Some-clause-is
 returns-in-Some-clause-is c =
     tag_at (placed_of c.args.self.now) c.args.name.now c.args.self.now.headers c.in-Some.k c.args.self.now.headers_are
     (search rules)
 
--- src/place.rt:111:5
 pub returns-in-Some-clause-few : goal.returns-in-Some-clause-few
 returns-in-Some-clause-few c =
     let small = tag_small (placed_of c.args.self.now) c.args.name.now c.args.self.now.headers c.in-Some.k

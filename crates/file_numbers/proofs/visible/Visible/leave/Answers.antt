@@ -4,7 +4,6 @@ use Rattle.file_numbers.specs.Visible.{Shown, entries}
 use Rattle.file_numbers.proofs.Slots.{entries_take}
 use Rattle.file_numbers.proofs.visible.Visible.leave.Goals as goal
 
--- src/visible.rt:101:5
 pub returns : goal.returns
 returns c =
     let shows : List (Word × ℕ) → Shown = λ names. record { names = names; taken = c.self.inside.taken } in

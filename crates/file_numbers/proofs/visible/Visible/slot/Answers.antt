@@ -3,14 +3,12 @@ use Rattle.file_numbers.specs.Visible.{Shown}
 use Rattle.file_numbers.proofs.Slots.{slot_found, slot_nowhere}
 use Rattle.file_numbers.proofs.visible.Visible.slot.Goals as goal
 
--- src/visible.rt:73:5
 pub returns-in-None : goal.returns-in-None
 returns-in-None c =
     slot_nowhere c.self.inside.slots.items c.args.self.now.names c.args.word.now
     (ap (λ (v : Shown). v.names) c.self.view_is)
     (search rules)
 
--- src/visible.rt:73:5
 pub returns-in-Some : goal.returns-in-Some
 returns-in-Some c =
     slot_found c.self.inside.slots.items c.args.self.now.names c.args.word.now c.in-Some.s.now
