@@ -39,7 +39,7 @@ last_is : {A : Type 0} (o : Option A) (x : A) (xs : List A) → option_to_list (
 last_is o x [] = refl
 last_is o x (y ∷ xs) = last_is (Some x) y xs
 
--- the things that stand for numbers are in front, and the one for a message is after them
+-- the things that stand for numbers come first, and the one for a message after them
 pub numbers_are : {A : Type 0} (has : Bool) (xs : List A) (n : ℕ) → n ≡ (if has then length xs - 1 else length xs) →
     take n xs ≡ numbers_among has xs
 numbers_are true xs n is = ap (λ k. take k xs) is
