@@ -1,4 +1,4 @@
--- What is due of a stack is what is due of that which is made of its entries.
+-- What is due of a stack is what is due of the cases that are made of its entries.
 use Rattle.std.proofs.Common.{◌≡◌, ℕ, suc, Bool, true, false, nat_le, List, [], ◌∷◌, ◌++◌, map, option_to_list, Option}
 use Rattle.std.proofs.Common.{Some, None, option_map, Result, Ok, Err, refl, ◌∙◌}
 use Rattle.std.specs.Prelude.{if◌then◌else◌}
@@ -62,7 +62,7 @@ module _ (stack : List LayerTree) where
       second_is_due n e (has_second_case stack e.known) in
       λ i. first i ++ second i ++ due_are (suc n) es i
 
--- and these have the own traces of the same
+-- what is due has the stack's own traces of the cases that are made
 made_own : (n fields : ℕ) (case : Case) (own : Made) → map own_case (made_due n fields case own) ≡ made_owned n case own
 made_own n fields case (fused own guarded) = refl
 made_own n fields case (absent reason) = refl

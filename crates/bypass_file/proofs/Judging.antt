@@ -1,4 +1,4 @@
--- What a file of traces gives.
+-- What judging a file of traces yields.
 use Rattle.std.proofs.Common.{◌≡◌, ℕ, ◌≤◌, List, length, Result, Ok, Err}
 use Rattle.std.specs.Prelude.{IfOk}
 use Rattle.layer_mean.specs.Tree.{LayerTree}

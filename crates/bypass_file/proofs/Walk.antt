@@ -143,7 +143,7 @@ differs_in (d ∷ due) (t ∷ ts) entry case act (inr h) =
       differ = k.differ;
     }
 
--- what is cut short in the front, or after what was made
+-- where filling the first part fails, or the second after the first, filling both fails so
 cut_before : {A B : Type 0} (os more : List Owned) (w : A × Traces) (v : B × Traces) (old mid new : Traces) (x : A)
     (y : B) (e : BypassError) →
     Fills os w old mid x (Err e) → Fills (os ++ more) v old new y (Err e)

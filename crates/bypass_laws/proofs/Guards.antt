@@ -1,4 +1,4 @@
--- Hoisting gives guarded handlers of all traces.
+-- Hoisting yields guarded handlers of all traces that are well formed.
 use Rattle.std.proofs.Common.{◌≡◌, Bool, true, List, [], ◌∷◌, Some, None, refl, sym, ap, ◌∙◌, arith}
 use Rattle.std.specs.Prelude.{if◌then◌else◌}
 use Rattle.std.specs.List.{list_all}
@@ -28,7 +28,7 @@ use Rattle.guard_laws.proofs.Same.{hoisted_is_same}
 use Rattle.bypass_laws.specs.Stack.{IsGuard}
 use Rattle.bypass_laws.specs.Making.{HoistingGuards, SimplifyingGuards}
 
--- what is left of operations without checks
+-- no check is left among operations without checks
 no_checks : (os : List Operation) → list_all is_done (unchecked os) ≡ true
 no_checks [] = refl
 no_checks (bind e ∷ os) = no_checks os
@@ -76,7 +76,7 @@ followed_safe stack i os states b x same held safe =
       go (on u) is reaches = (checks_can_go stack i os states u is safe).safe
       go (stopped_at n) is reaches = absurd (cc reaches)
 
--- hoisting gives a guarded handler of any trace that is well formed
+-- hoisting yields a guarded handler of any trace that is well formed
 pub hoisted_guards : (stack : List LayerTree) (e : Entry) (trace : List Operation) →
     IsWellFormed stack e.known e.fields trace →
     IsGuard stack e trace (hoist trace)
@@ -98,7 +98,7 @@ hoisted_guards stack e trace formed =
       outputs = omega (arith, many.outputs);
     }
 
--- and simplifying one of any that has one
+-- and simplifying a guarded handler of a trace yields another of it
 pub simplified_guards : (stack : List LayerTree) (e : Entry) (trace : List Operation) (g : Guarded) →
     IsGuard stack e trace g →
     IsGuard stack e trace (simplified g)

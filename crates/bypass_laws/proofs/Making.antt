@@ -43,7 +43,7 @@ off_cycles stack h = go (first_on_cycle stack) refl h where
   go (Some n) is e = absurd (cc e)
   go None is e = is
 
--- writes count
+-- a trace has at most as many writes as its length
 writes_count : (os : List Operation) → trace_writes os ≤ trace_length os
 writes_count [] = omega arith
 writes_count (o ∷ os) =

@@ -39,7 +39,7 @@ abbrev pub from_top : List LayerTree → Content → Envelope → Task Event
 from_top stack content envelope =
     carrying_task (record { at = length stack; direction = dir.Down; envelope = envelope }) content
 
--- after none it is the only one
+-- a task that is put where there was none is the only one
 pub only_task : (old new : Buffer PoolTask) (task : PoolTask) → old.items ≡ [] →
     new ≡ buffer (old.items ++ task ∷ []) old.capacity →
     new ≡ buffer (task ∷ []) old.capacity

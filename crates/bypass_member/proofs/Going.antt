@@ -23,7 +23,7 @@ use Rattle.bypass_member.specs.declared.works.Works.{Works}
 use Rattle.bypass_member.proofs.Playing.{members_stay}
 use Rattle.bypass_member.proofs.Same.{same_states, same_taken}
 
--- where no plan comes next, none does
+-- where the first packet has no plan, all outputs are in full
 
 no_plan : (b : Bool) → ◌≡◌ {A = Option ℕ} (if b then None else None) None
 no_plan true = refl

@@ -7,7 +7,7 @@ use Rattle.layer_mean.specs.Visit.{fresh}
 use Rattle.trace_mean.specs.Worth.{Input}
 use Rattle.trace_laws.specs.Members.{AreOf}
 
--- they are of a view of as many members
+-- they count as many members as the input does
 pub counts_are : (i : Input) (stack : List LayerTree) (states : List State) → AreOf i stack states →
     AllByRecursion (λ (s : State). s.count ≡ i.count) states
 counts_are i [] [] are = tt

@@ -56,7 +56,7 @@ module _ (stack : List LayerTree) (plans : List Plan) (s : Step) (un : case_of s
       (entry_named plans s.entered)) not_common
       ∙ ap (option_map (miss_by stack s (entry_of plans s.entered))) (none_of (entry_named plans s.entered) none)
 
--- what has an entry is told by it
+-- what has an entry is told by the one that `entry_for` finds
 named : (plans : List Plan) (what : Entered) → is_some (entry_named plans what) ≡ true →
     entry_named plans what ≡ Some (entry_meant (entry_for plans what))
 named plans (app_cast body) is = refl

@@ -42,7 +42,7 @@ module _ (me count ltime : ℕ) where
     moved = moved-same p (flat_map refs_of olds);
   }
 
-  -- the next layer is as it was, before the others
+  -- the next layer is as it was, and so are those after it
   pub record Next (k : ℕ) (p : List Held) (olds news : List FileLayer) (x : FileLayer) : Type 0 where
     pub front : drop k olds ≡ x ∷ drop (suc k) olds
     pub old : get_or olds k x ≡ x

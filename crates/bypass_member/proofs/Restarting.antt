@@ -30,7 +30,7 @@ use Rattle.bypass_member.specs.declared.member.Member.TheInside.{Inside}
 use Rattle.bypass_member.specs.declared.works.Works.{Works}
 use Rattle.bypass_member.proofs.Viewing.{fresh_own, opened_is}
 
--- one layer more has as many members
+-- the next layer has at least `count` members too
 pub among_next : (count : ℕ) (layers : List FileLayer) (k : ℕ) (s : FileLayer) (now : ℕ) → k < length layers →
     s ≡ get_or layers k s →
     AreAmong count (take k layers) → ((p : List Held) → now ≡ (state_in p s).count) → count ≤ now →

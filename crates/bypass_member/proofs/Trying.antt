@@ -93,7 +93,7 @@ module _ (g : Ground) (w : Works) (what : Entered) (ground : IsGround g)
       (record { typed = ground.typed; at = ground.here; states_are = is_in.inside_is.states_are; input = is_entered })
       own)
 
--- places stay
+-- places of the same sizes serve the same codes
 pub serves_on : (codes : CodesTree) (v v' : Values) → ServesAll codes v → IsEmpty v' → SamePlaces v v' →
     ServesAll codes v'
 serves_on codes v v' serves empty same = record {
@@ -159,7 +159,7 @@ module _ (case : Case) (g : Ground) (old : Works) (what : Entered) (code : Code)
       EndsAs case (stack_of g) (plans_in g) (step_over g (states_in old) what) e
   ends e is = handled.passes e (ap (λ (j : Input). run_code j code (states_in old)) (sym same) ∙ is)
 
-  -- what it gives
+  -- code that was performed to its end has made the step
   made : (v v' : Values) (new : Works) (last : Gathered) → new.tasks ≡ old.tasks → new.outs ≡ old.outs →
       HasPerformed code i old.pool old.layers.items v out new.pool new.layers.items v' last →
       HasPassed case g old what new last
@@ -221,7 +221,7 @@ handled_at case g states what t r tried handles at =
     subst (λ (o : Option Code). IsHandled case (stack_of g) (plans_in g) g.here.now g.id states what o)
     (sym (at ∙ ap (λ (e : EntryOf). code_at t.codes.now e case) tried.entry)) handles
 
--- the layers are performed on as they are lent
+-- what code does to layers that are lent it does to the layers that these equal
 pub performs_at : (code : Code) (i : Input) (p : List Held) (v : Values) (out : Gathered) (q : List Held) (v' : Values)
     (last : Gathered)
     (passed : Bool) (lent olds news those : List FileLayer) → lent ≡ olds → news ≡ those →
