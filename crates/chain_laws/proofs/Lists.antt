@@ -105,7 +105,7 @@ zip_set R (w ∷ xs) [] k x y h i = absurd h
 zip_set R (w ∷ xs) (z ∷ ys) zero x y h i = (i, h.1)
 zip_set R (w ∷ xs) (z ∷ ys) (suc k) x y h i = (h.0, zip_set R xs ys k x y h.1 i)
 
--- a place's first list is put back, where what stood there asks less
+-- x may stand at its place again, where z stood for it, if all that is related to z is related to x
 pub zip_back : {A B : Type 0} (R : A → B → Type 0) (xs : List A) (ys : List B) (k : ℕ) (x z : A) →
     slice_get xs k ≡ Some x →
     ((y : B) → R z y → R x y) → AllZip R (slice_set xs k z) ys → AllZip R xs ys

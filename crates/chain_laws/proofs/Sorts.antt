@@ -38,7 +38,7 @@ pub kept_sort : (P : List Header → Type 0) (carried : Carried) (hs : List Head
 kept_sort P part hs h = h
 kept_sort P (whole blank) hs h = h
 
--- a message of the sort of what is carried, where another of the same sort is
+-- headers that a row keeps for a are those of a message of b's sort, if the sorts are the same
 pub same_kept : (P : List Header → Type 0) (a b : Carried) (hs : List Header) → sort_of a ≡ sort_of b →
     KeptHeaders P a hs →
     HeadersOf P (sort_of b) hs

@@ -1,4 +1,4 @@
--- The numbers of expressions are numbers, and messages have bodies and the headers of their sorts.
+-- The values of expressions are below 2^32, and messages have bodies and the headers of their sorts.
 use Rattle.std.proofs.Common.{◌≡◌, ℕ, Bool, true, false, List, [], ◌++◌, ◌+◌, length, map, Option, Some, None, refl}
 use Rattle.std.proofs.Common.{sym, subst, arith}
 use Rattle.std.specs.Prelude.{nat_le, if◌then◌else◌, option_map}

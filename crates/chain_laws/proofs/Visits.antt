@@ -44,7 +44,7 @@ abbrev pub come_headers : (P Q : List Header → Type 0) → Dir → List Header
 come_headers P Q Up headers = Q headers
 come_headers P Q Down headers = P headers
 
--- the arguments of an event are numbers
+-- the arguments of an event are below 2^32
 pub arguments_small : (C : List Header → Type 0) (kind : Kind) (e : Event) → IsEvent C e →
     Numbers (arguments_for kind e)
 arguments_small C Cast e h = (h.peer, tt)

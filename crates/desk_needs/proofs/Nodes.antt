@@ -51,14 +51,14 @@ emission_any stack node e None = tt
 emission_any stack node e (Some c) = content_any stack node e.direction c
 
 module _ (f : Node → ℕ) (worth : (n : Node) → 1 ≤ f n) where
-  -- what one of some tags leads to is worth 1
+  -- what one of some tags leads to is worth at least 1
   tags_worth : (node : ℕ → Node) (tags : List ℕ) → Any tags → 1 ≤ largest (map f (map node tags))
   tags_worth node [] any = absurd any
   tags_worth node (t ∷ ts) any =
       let first = worth (node t) in let rest = largest_from (max 0 (f (node t))) (map f (map node ts)) in
       omega (arith, first, rest)
 
-  -- what some emissions lead to is worth as much as there are
+  -- what emissions lead to is worth at least their number
   emissions_worth : (stack : List LayerTree) (node : Node) (rs : List Repeated) →
       sum_by (λ (r : Repeated). r.times) rs ≤ after_arrows f (map (emission_arrow stack node) rs)
   emissions_worth stack node [] = omega arith

@@ -98,7 +98,7 @@ module _ {F : Type 0} (key : F → List ℕ) where
       by Equal e = refl
       by Greater e = refl
 
-  -- none of two comes before the earlier one
+  -- neither of two comes before the earlier one
   not-first : (x y : F) → (precedes key x (earlier_of key x y) ≡ false) × (precedes key y (earlier_of key x y) ≡ false)
   not-first x y = by (precedes key y x) refl
     where

@@ -24,7 +24,7 @@ use Rattle.file_laws.proofs.Slots.{agree_numbers, locals_are_numbers, Free, free
 use Rattle.file_laws.proofs.Takes.{take_is}
 use Rattle.file_laws.proofs.Growth.{grows, grows_all}
 
--- a statement without faults, of which all numbers are
+-- a statement without faults, in which every written number is below 2^32
 pub record Good (s : Standing) : Type 0 where
   pub types : statement_type_faults s.scope s.statement ≡ []
   pub named : statement_name_faults s ≡ []

@@ -1,4 +1,4 @@
--- How long lists are that no fault is beyond, and the rows and headers of what a layer declares.
+-- How long lists are that have no fault for their length, and the rows and headers of what a layer declares.
 use Rattle.std.proofs.Common.{◌≡◌, ℕ, zero, suc, ◌+◌, ◌≤◌, Bool, true, false, List, [], ◌∷◌, length, Option, Some, None}
 use Rattle.std.proofs.Common.{refl, ap, arith}
 use Rattle.std.specs.Prelude.{drop, is_some, if◌then◌else◌, option_and_then, option_map, option_to_list, unwrap_or}

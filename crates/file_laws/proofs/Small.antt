@@ -16,7 +16,7 @@ use Rattle.chain_laws.proofs.Lists.{Where, each_map, each_take}
 use Rattle.file_laws.specs.Literals.{Literal, LiteralArgument, LiteralSize, LiteralDeclaration}
 use Rattle.file_laws.proofs.Lists.{find_where}
 
--- a layer at a place, of which all numbers are
+-- a layer at a place, whose written and given numbers are below 2^32
 pub record LiteralPlaced (p : Placed) : Type 0 where
   pub declarations_are : AllByRecursion LiteralDeclaration p.layer.declarations
   pub given_are : AllByRecursion (λ g. IsNumber g.value) p.given

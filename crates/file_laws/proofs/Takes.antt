@@ -190,7 +190,7 @@ carries_some p items carried (Some i) last is = (i, last, go i.sort refl) where
   go Msg e = rw e refl
   go Part e = rw e refl
 
--- what a take gives
+-- what a take yields
 pub record Taken (names : Names) (locals : List Local) (sorts : List Sort) (q : ast.QueueTree) (new : List Name) : Type
     0 where
   pub takes : Takes (layer_of names.place) names.place.blank sorts (queue_cell names q) (taken_row names q new).message

@@ -47,7 +47,7 @@ too_high first (suc n) past low =
     wide blank (ap (λ b. nat_le (length blank) 23 && b) (beyond n first (omega arith)) ∙
     neither (nat_le (length blank) 23))
 
--- Headers that are not too many stand in.
+-- A message without bytes stands in for a missing one, if its headers can.
 pub blank_stands : (carried : Carried) (blank : Blank) (m : PoolMessage) → carried ≡ Whole blank → CanStandIn carried →
     m ≡ bodiless (map none_header (range_with_len blank.first blank.count)) → StandsIn (carried_tree carried) m
 blank_stands carried blank m at can is =

@@ -19,7 +19,7 @@ use Rattle.file_layer.proofs.Lists.{all-append, all-front, all-following, last_f
 use Rattle.file_layer.proofs.Parts.{hand_out}
 use Rattle.file_layer.proofs.Steps.{rest_stays, stepped}
 
--- The newest message in hand is the one in front.
+-- The newest message in hand is the first.
 pub laid_top : (q : List Held) (s : Stock) (rest : List PoolMessage) (m : PoolMessage) →
     laid q (record s { hand = rest ++ m ∷ [] }) ≡ lifted (content_seen q m) (laid q (record s { hand = rest }))
 laid_top q s rest m = ap (λ hand. record (laid q (record s { hand = rest })) { hand = hand })
@@ -68,7 +68,7 @@ module _ (b : Begun) (p q : List Held) (s : Stock) (is : InPool b p s) where
       (stays.0, tt) in
       (step.0, laid_top q s s.hand m ∙ (λ k. lifted (stays.1 k) (step.1 k)))
 
-  -- Two messages in front are joined.
+  -- The first two messages in hand are joined.
   pub joined_step : (rest : List PoolMessage) (part m x : PoolMessage) → s.hand ≡ (rest ++ part ∷ []) ++ m ∷ [] →
       Made p q (refs part ++ refs m) (parts.join (content_seen p part) (content_seen p m)) x →
       InPool b q (record s { hand = rest ++ x ∷ [] }) ×
@@ -87,7 +87,7 @@ module _ (b : Begun) (p q : List Held) (s : Stock) (is : InPool b p s) where
       ap (lifted (content_seen p m)) (laid_top p s rest part) in
       (step.0, laid_top q s rest x ∙ (λ k. lifted (made.shows k) (step.1 k)) ∙ ap front_joined (sym before))
 
-  -- Two messages in front are given back.
+  -- The first two messages in hand are given back.
   pub gone_step : (rest : List PoolMessage) (part m : PoolMessage) → s.hand ≡ (rest ++ part ∷ []) ++ m ∷ [] →
       Returned p q (refs part ++ refs m) →
       InPool b q (record s { hand = rest })
@@ -109,7 +109,7 @@ module _ (b : Begun) (p : List Held) (s : Stock) (is : InPool b p s) where
       (subst (Moved p p []) one (moved-same p [])) (lies, tt) in
       (step.0, laid_top p s s.hand m)
 
-  -- The message in front becomes another of the same slot.
+  -- The first message in hand becomes another of the same slot.
   pub changed_step : (f : Content → Content) (rest : List PoolMessage) (x y : PoolMessage) → s.hand ≡ rest ++ x ∷ [] →
       Derived f x y →
       InPool b p (record s { hand = rest ++ y ∷ [] }) ×

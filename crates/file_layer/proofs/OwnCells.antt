@@ -184,7 +184,7 @@ module _ (layer : LayerTree) (p : List Held) (d : FileDesk) (is : IsAtRest layer
               queue.short;
         }))
 
-    -- A row that is there has a message, if any, that it may have.
+    -- A row that is there has no message, or one that a row may have.
     pub row_own : (r : ℕ) (o : Option PoolRow) → o ≡ kept_row d.cells c i r → IfSome o (λ row. CanBeOwn p row.message)
     row_own r None there = tt
     row_own r (Some row) there = record {

@@ -48,7 +48,7 @@ join_headers x y = go (nat_le (length x.body + length y.body) longest_body)
     go false = refl
 
 module _ (b : Begun) (p q : List Held) (s : Stock) (is : InPool b p s) (fits : StockFits b.layout s) where
-  -- The message in front becomes another with no more headers.
+  -- The first message in hand becomes another with no more headers.
   pub changed_fits : (f : Content → Content) (rest : List PoolMessage) (x y : PoolMessage) (hand : List PoolMessage) →
       s.hand ≡ rest ++ x ∷ [] →
       hand ≡ rest ++ y ∷ [] → Derived f x y → length (f (content_seen [] x)).headers ≤ length x.headers →
@@ -113,7 +113,7 @@ module _ (b : Begun) (p q : List Held) (s : Stock) (is : InPool b p s) (fits : S
       ap (λ c. lifted c (laid p s)) (sym (seen_none (content_seen p) s.messages k (plain []) there))
 
   module _ (rest : List PoolMessage) (part m : PoolMessage) (at : s.hand ≡ (rest ++ part ∷ []) ++ m ∷ []) where
-    -- The two in front lie in the pool, and are covered.
+    -- The first two in hand lie in the pool, and are covered.
     pub two_covered : Covers p (refs part ++ refs m)
     two_covered = record {
       covers = λ i.

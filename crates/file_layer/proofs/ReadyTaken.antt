@@ -60,7 +60,7 @@ pub one_found : (p : List Held) (s : Stock) (c i : ℕ) (row : PoolRow) → firs
     is_found (row_at (laid p s).state c i 0) ≡ true
 one_found p s c i row one = ap is_found (row_at_seen (row_seen p) s.kept c i 0 ∙ ap (option_map (row_seen p)) one)
 
--- ---- a queue with a row in front
+-- ---- a queue with a row
 
 row_rest : (rows : List PoolRow) (row : PoolRow) → slice_get rows 0 ≡ Some row → rows ≡ row ∷ drop 1 rows
 row_rest [] row one = absurd (cc)

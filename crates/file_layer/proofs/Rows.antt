@@ -1,4 +1,4 @@
--- Rows of the queues of a desk: one more at the back, and one less in front.
+-- Rows of the queues of a desk: one is put at the back, and the front one is taken.
 use Rattle.std.proofs.Common.{◌≡◌, ℕ, ◌+◌, ◌<◌, List, [], ◌∷◌, ◌++◌, inl, inr, length, drop, get_or, flat_map, ap}
 use Rattle.std.proofs.Common.{arith}
 use Rattle.std.specs.List.{AllByRecursion}

@@ -80,7 +80,7 @@ last_taken Down header (x ∷ y ∷ xs) some =
     one_more (sent_after Down header) x (y ∷ xs) (with_header_last header (y ∷ xs)) (some_headed header y xs)
     (last_taken Down header (y ∷ xs) (omega arith))
 
--- a hand that isn't empty gives it
+-- from a hand that isn't empty the last one is taken, as it is sent
 some_there : (xs : List PoolMessage) → (length xs == 0) ≡ false → 0 < length xs
 some_there [] some = absurd (cc)
 some_there (x ∷ xs) some = omega arith

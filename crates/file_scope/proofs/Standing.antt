@@ -29,7 +29,7 @@ standing_more scope (y ∷ xs) x =
 unchanged : (scope : Scope) → scope ≡ with_locals scope []
 unchanged scope = ap (λ (m : List Local). record { layer = scope.layer; locals = m }) (sym (append-nil scope.locals))
 
--- what a block leaves is what was there before, and its locals
+-- the scope after statements is the one before them with further locals
 following-more : (scope : Scope) (x : StatementTree) →
     (more : List Local) × (scope_after scope x ≡ with_locals scope more)
 following-more scope (ast.bind at name value) = (locals_as [] (name ∷ []), refl)
