@@ -63,7 +63,7 @@ sign_cases P remark opening closing parenthesis bracket dot semicolon comma clos
     four : P b (cond (nat_eq b 44 || (nat_eq b 41 || (nat_eq b 93 || nat_eq b 58))) class.Tight class.Apart)
     four = tight (nat_eq b 44) (nat_eq b 41) (nat_eq b 93) (nat_eq b 58) refl refl refl refl
 
--- what nothing stands apart after is no word, and no equals sign goes on with it
+-- a token after which nothing stands apart is no word, and no sign that an equals sign may continue
 abbrev Closed : ℕ → Class → Type 0
 Closed b c = holds_next c ≡ true → (is_word_byte b ≡ false) × (doubles b ≡ false)
 
@@ -77,7 +77,7 @@ closed b bs = by_word (is_word_byte b)
         (λ h. cc) (λ h. cc)
         (λ h. cc) (λ h. cc) (λ h. cc) (λ b h. cc) b
 
--- what stands apart from nothing, or is a parenthesis, goes on with no word and no sign
+-- a token that stands apart from nothing, or a parenthesis, continues no word and no sign
 abbrev follows : Class → Bool
 follows class.Parenthesis = true
 follows c = holds_last c
@@ -115,7 +115,7 @@ pub seen_holds : (x c : Class) → holds_next (seen_after x c) ≡ holds_next c
 seen_holds class.Queueing class.Plain = refl
 seen_holds x c = refl
 
--- a token that stands apart from nothing after one that holds nothing follows it at once
+-- a token that stands apart from nothing, or the parenthesis of a call, follows at once
 joined_follows : (last next : Class) → (holds_last next || calls last next) ≡ true → follows next ≡ true
 joined_follows last class.Parenthesis is = refl
 joined_follows class.Plain c is = by_next c is
@@ -152,7 +152,7 @@ blank_stops b rest none = by_tests (nat_eq b 35) (is_word_byte b) (doubles b) no
     by_tests false false true is = refl
     by_tests false false false is = refl
 
--- whether two tokens are joined so that one stops where the other begins
+-- a token that is joined to the next stops where that begins
 pub joined_stops : (b : ℕ) (bs : List ℕ) (c : ℕ) (cs : List ℕ) (x : Class) (rest : List ℕ) → nat_eq b 35 ≡ false →
     are_joined (seen_after x (class_of (b ∷ bs))) (class_of (c ∷ cs)) ≡ true → stops b ((c ∷ cs) ++ rest) ≡ true
 joined_stops b bs c cs x rest none is =

@@ -70,7 +70,7 @@ no_feed : (n : ℕ) → 0 ≡ at_least_one n → ⊥
 no_feed zero is = absurd (cc is)
 no_feed (suc n) is = absurd (cc is)
 
--- where no line feed comes, none has to
+-- where no line feed comes, the piece doesn't begin a line
 goes_on : (t : Begun) (p : Piece) → is_bare t.line ≡ false → 0 ≡ feeds_before t p →
     begins_line t.stand (class_of p.spelling) ≡ false
 goes_on t p has none = by_tests (is_bare t.line) (begins_line t.stand (class_of p.spelling)) has none

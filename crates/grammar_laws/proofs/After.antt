@@ -1,4 +1,4 @@
--- A part of a layer goes on before what what follows it goes on before.
+-- Where printed tokens k go on to l, a part of a layer before k goes on to it before l.
 use Rattle.std.proofs.Common.{◌≡◌, ℕ, zero, suc, List, [], ◌∷◌, ◌++◌, Option, Some, None, refl, sym, subst}
 use Rattle.layer_ast.specs.declared.names.Name.{Name}
 use Rattle.layer_ast.specs.declared.tokens.Dir.{Dir}
@@ -79,7 +79,7 @@ size_flat (fixed at n) room = refl
 size_flat (sized n) room = refl
 
 module _ (following : List Lexed) where
-  -- after one token there is what there is after it without one in front
+  -- what goes on, goes on in the room that a token before it leaves
   past : (k l : List Printed) (tokens : List Lexed) (left : Option ℕ) →
       IfRoom left (λ room. GoesOn following room k l) →
       Fits k tokens → WithRoom left (λ room. IsWithin room (tokens_in tokens)) →
@@ -117,7 +117,7 @@ module _ (following : List Lexed) where
       GoesOn following (suc room) k l → GoesOn following room (p ∷ k) (p ∷ l)
   shut p room k l is h = one p room k l (subst (λ o. IfRoom o (λ left. GoesOn following left k l)) (sym is) h)
 
-  -- a bracket that opens, where what is inside it goes on before what goes on after it
+  -- a bracket that opens, where what is inside goes on if what follows the closing one does
   inside : (room : ℕ) (k l x y : List Printed) → GoesOn following room k l →
       ((left : ℕ) → GoesOn following (suc left) k l → GoesOn following left x y) →
       IfRoom (room_inside room) (λ left. GoesOn following left x y)
@@ -130,7 +130,7 @@ module _ (following : List Lexed) where
   opens p room k l x y is h go =
       one p room x y (subst (λ o. IfRoom o (λ left. GoesOn following left x y)) (sym is) (inside room k l x y h go))
 
-  -- what goes on itself does so in brackets
+  -- what goes on by itself goes on in brackets too
   bracketed : (f : List Printed → List Printed) (room : ℕ) (k l : List Printed) →
       ((left : ℕ) (x y : List Printed) → GoesOn following left x y → GoesOn following left (f x) (f y)) →
       GoesOn following room k l →
@@ -480,7 +480,7 @@ module _ (following : List Lexed) where
   layers_on [] room k l h = h
   layers_on (t ∷ ts) room k l h = layer_on t room _ _ (layers_on ts room k l h)
 
-  -- after nothing stand these tokens alone
+  -- after no tokens stand the following ones alone
   none_on : (room : ℕ) (l : List Printed) (tokens : List Lexed) → Stands room l following → Fits [] tokens →
       Stands room l (tokens ++ following)
   unfolding Fits

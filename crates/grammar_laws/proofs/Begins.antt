@@ -14,8 +14,8 @@ use Rattle.layer_ast.specs.Tree as tree
 use Rattle.layer_ast.specs.Tree.{ExpressionTree, BuiltTree, StatementTree, DeclarationTree}
 use Rattle.grammar_laws.proofs.Together.{Together}
 
--- what begins: a number or a message that is no bare name, a statement, a declaration, an index, an other way, or none
--- of these
+-- what begins: a number or a message that is no bare name, a statement, a declaration, an index, the other way of a
+-- condition, or none of these
 pub data Form : Type 0 where
   a_number : Form
   a_message : Form
@@ -74,7 +74,7 @@ begins_together (p ∷ s) (q ∷ t) (e, _, _) = ap form_of e
 begins_together [] (q ∷ t) h = absurd h
 begins_together (p ∷ s) [] h = absurd h
 
--- what doesn't go on a name or a queue, which an index does
+-- what doesn't continue a name or a queue, as an index does
 abbrev pub NoIndex : Form → Type 0
 NoIndex an_index = ⊥
 NoIndex _ = Unit {0}
@@ -83,12 +83,12 @@ NoIndex _ = Unit {0}
 abbrev pub Ends : List Printed → Type 0
 Ends k = NoIndex (begins k)
 
--- what doesn't go on a condition, which an other way does
+-- what doesn't continue a condition, as its other way does
 abbrev pub NoOtherwise : Form → Type 0
 NoOtherwise an_otherwise = ⊥
 NoOtherwise _ = Unit {0}
 
--- what follows a statement, which a condition without an other way may be
+-- what follows a statement, which may be a condition without another way
 abbrev pub Over : List Printed → Type 0
 Over k = NoOtherwise (begins k)
 

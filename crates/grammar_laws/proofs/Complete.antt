@@ -322,7 +322,7 @@ pushed_drives None stack k = refl
 pushed_drives (Some p) stack k =
     some_arguments_drive p.fields (one sign.RightParen ∷ stack) (plain sign.Semicolon ∷ k)
 
--- what says which way a condition is predicted to go
+-- an expression doesn't begin as a prediction of a condition does
 expression_unlikely : (e : ExpressionTree) (k : List Printed) → IsLeftOut a_likely (print.expression e k)
 expression_unlikely (apply at f x) k = function_unlikely f
 expression_unlikely (number at n) k = tt

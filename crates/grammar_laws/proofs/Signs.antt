@@ -58,7 +58,7 @@ operator_once BitOr BitOr h = refl
 operator_once BitXor BitXor h = refl
 operator_once _ _ h = cc h
 
--- an operator doesn't go on a name
+-- an operator doesn't continue a name
 pub operator_ends : (o : Operator) → NoIndex (form_of (token.Sign (operator_sign o)))
 operator_ends Add = tt
 operator_ends Subtract = tt

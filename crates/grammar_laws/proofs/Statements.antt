@@ -74,13 +74,13 @@ likely_once Two First c d k l h =
 likely_once Else Two c d k l h = absurd (cc h.0)
 likely_once Two Else c d k l h = absurd (cc h.0)
 
--- what follows a statement isn't an other way, where it is a statement or a brace
+-- a statement, or the brace after the last one, isn't another way of the condition before it
 over : (s : StatementTrees) (k : List Printed) → Over (print.statements s (plain sign.RightBrace ∷ k))
 over none k = tt
 over (more s rest) k =
     subst NoOtherwise (sym (statement_begins s (print.statements rest (plain sign.RightBrace ∷ k)))) tt
 
--- what follows a statement isn't an other way
+-- what follows a statement isn't another way
 no_otherwise : (k l : List Printed) → Over k → Together k (plain sign.Else ∷ l) → ⊥
 no_otherwise k l ok h = subst NoOtherwise (begins_together k (plain sign.Else ∷ l) h) ok
 
@@ -98,7 +98,7 @@ over_not s k l h = cc (begins_together (plain sign.RightBrace ∷ k) (print.stat
 abbrev inside : StatementTrees → List Printed → List Printed
 inside b k = print.statements b (plain sign.RightBrace ∷ k)
 
--- an other way, with the brace after it
+-- the other way of a condition, with the brace after it
 abbrev otherwise : StatementTrees → List Printed → List Printed
 otherwise b k = plain sign.Else ∷ plain sign.LeftBrace ∷ inside b k
 

@@ -164,7 +164,7 @@ front_may tokens n may =
       within = within_less (take n tokens) (drop n tokens) 100 (subst (IsWithin 100) (sym parts) may.within);
     }
 
--- of two numbers of which none is below the other
+-- two numbers of which neither is below the other are equal
 antisym : (a b : ℕ) → (a < b → ⊥) → (b < a → ⊥) → a ≡ b
 antisym a b f g = omega (arith, f, g)
 
@@ -185,7 +185,7 @@ module _ (text : List ℕ) where
     within = is.spelled.within;
   }
 
-  -- of two tokens that each are the first with which the tokens no longer go on, none stands before the other
+  -- of two tokens that are each the first with which the tokens no longer go on, neither is before the other
   not_before : (a b : At) (h : StopsInside text a) (i : StopsInside text b) → h.number < i.number → ⊥
   not_before a b h i before =
       h.following (subst MayGoOn (take-take (h.number + 1) i.number (tokens_of text) (omega (arith, before)))

@@ -28,7 +28,7 @@ use Rattle.guard_laws.specs.Closed.{HoistedIsClosed, SimplifiedIsClosed}
 use Rattle.guard_laws.proofs.Grows.{Grown, grown_same, grown_then, name_grows, back_grows, size_grows, all_grows}
 use Rattle.guard_laws.proofs.Grows.{put_grows}
 
--- what holds of closed terms: a Bool that is true
+-- a number that is closed over the first n entry values
 abbrev Closed : ℕ → TraceNumber → Type 0
 Closed n e = closed_number n e ≡ true
 

@@ -66,7 +66,7 @@ is_square _ = false
 abbrev pub squares_of : List LayerTree → ℕ → ℕ → Bool
 squares_of stack p c = is_square (form_at shape_in (layer_of stack p) c)
 
--- what is named as it is fits
+-- what names cells as they are reads square ones by two indices and others by one
 module _ (stack : List LayerTree) where
   no_square : (p c : ℕ) (e : TraceNumber) → HasNumber (layer_of stack p) c e → squares_of stack p c ≡ false
   no_square p c e (inl one) = ap is_square one.0

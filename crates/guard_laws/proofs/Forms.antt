@@ -109,7 +109,7 @@ module _ (So : Name → Type 0) (literal : (n : ℕ) → So (a_number (number n)
   operation_named (take p c e) h = (queue p c e h.0, number_named e h.1)
   operation_named (output dir kind ns m) h = h
 
--- what was made before
+-- a reduced operation makes what the operation made
 reaches_same : (stack : List LayerTree) (r : Reach) (o : Operation) → reaching stack r (reduced_operation o) ≡
     reaching stack r o
 reaches_same stack r (bind e) = refl

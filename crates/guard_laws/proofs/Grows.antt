@@ -111,7 +111,7 @@ pub conjuncts_grow : (h : Hoisting) (o : Operation) → Grown h.conjuncts (hoist
 conjuncts_grow h (check e) = grown_one h.conjuncts _
 conjuncts_grow h o = grown_same h.conjuncts
 
--- more values are worth more numbers after the same ones
+-- more entry values are worth the same numbers, and more after them
 module _ (i : Input) (ss : List State) where
   fold_grows : (es : List TraceNumber) (vs : List ℕ) → Grown vs (fold (with_value i ss) vs es)
   fold_grows [] vs = grown_same vs

@@ -138,7 +138,7 @@ module _ (i : Input) (kept : Kept) (ss : List State) where
       (is_true (number_of i kept ss a) && is_true (number_of i kept ss b))
   both_worth a b = true_of _
 
-  -- is inside, by the extent and by n
+  -- an index is within n exactly where it is within the extent
   inside : (n many : ℕ) (d : TraceNumber) (x : ℕ) → 0 < n → fits_extent n many d ≡ true → x ≡ number_of i kept ss d →
       nat_lt x n ≡ nat_lt x many
   inside n many d x some fits is = go (or_cases (many == n) ((many == 1) && is_zero d) fits) where

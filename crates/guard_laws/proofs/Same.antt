@@ -1,4 +1,4 @@
--- A hoisted guard is the same as its trace.
+-- A hoisted guarded handler does the same as its trace.
 use Rattle.std.proofs.Common.{◌≡◌, ℕ, ◌+◌, Bool, true, false, if◌then◌else◌, List, [], ◌∷◌, Some, None, fold, refl, sym}
 use Rattle.std.proofs.Common.{ap, ◌∙◌, subst}
 use Rattle.layer_mean.specs.State.{State}

@@ -114,12 +114,12 @@ later_then k u v a b = record {
 }
 
 module _ (i : Input) (ss : List State) where
-  -- numbers that are known to be those of these readings, from one on
+  -- the numbers from a first one on are those of these readings, now and later
   abbrev Known : Kept → Registers → Type 0
   Known k known = (j : ℕ) (r : Reading) → slice_get known.readings j ≡ Some r → (u : Kept) → Later k u →
       reading_of i u ss r ≡ slice_index u.numbers (known.first + j)
 
-  -- what names stand for, where so much is kept; and what is kept by the trace
+  -- names stand for what the trace keeps, as long as what the code keeps only grows
   pub record Stand (t : Kept) (n : Names) (k : Kept) (known : Registers) : Type 0 where
     rows : k.rows ≡ t.rows
     many : length k.numbers ≡ made_count known
