@@ -36,7 +36,7 @@ Finds P (Some Msg) = P Msg
 Finds P (Some Part) = P Part
 Finds P _ = ⊥
 
--- where a local is known, and where its slot is
+-- the sort of a local, and the slot of a message
 abbrev pub sort_among : List Local → Word → Option Sort
 sort_among locals word = option_map (λ l. l.sort) (find (λ l. bytes_eq l.name.word word) locals)
 
@@ -52,7 +52,7 @@ Slot sorts _ k = Unit {0}
 abbrev pub Agree : List Sort → List Local → List (Word × ℕ) → Type 0
 Agree sorts locals messages = (word : Word) → Slot sorts (sort_among locals word) (slot_among messages word)
 
--- rows: a message is the last item alone
+-- no item of a row but the last is a message
 abbrev pub IsLastMessage : List ast.ItemTree → Type 0
 IsLastMessage items = messages_inside items ≡ []
 

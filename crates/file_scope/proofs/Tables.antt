@@ -167,7 +167,7 @@ forgot_one old new word place is updates w = updates.0 w ∙ go (bytes_eq word w
       ap (λ (b : Bool). if b then None else get bytes_eq old w)
       (sym (ap (λ v. is_at place (get bytes_eq old v)) (sym same) ∙ is))
 
--- fewer words, and the first of fewer
+-- a list without its last word, which begins as the list did
 pub all_but_last : (xs ys : List (List ℕ)) (x : List ℕ) → xs ≡ ys ++ x ∷ [] → ys ≡ take (length xs - 1) xs
 all_but_last xs ys x is =
     sym (ap (λ l. take (length l - 1) l) is

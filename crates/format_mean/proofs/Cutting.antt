@@ -109,7 +109,7 @@ module _ (p q : ℕ → Bool) (weaker : (c : ℕ) → q c ≡ true → p c ≡ t
       by_tests false true v_is imp first second = absurd (true≢false (sym (imp v_is)))
       by_tests false false v_is imp first second = (refl, refl)
 
--- what a word byte is
+-- a word byte is a letter, a digit or an underscore
 word_kind : (b : ℕ) → is_word_byte b ≡ true → is_ascii_alphabetic b ≡ false → is_ascii_digit b ≡ false →
     nat_eq b 95 ≡ true
 word_kind b word letter digit =

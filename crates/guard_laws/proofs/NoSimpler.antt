@@ -54,7 +54,7 @@ right_false true b is = is
 right_false false b is = refl
 
 module _ (ks : List TraceNumber) where
-  -- a test of expressions that the parts of these make true: plain, and clear
+  -- what is made of plain parts is plain, and what is made of clear parts is clear
   binary_plain : (o : Operator) (a b : TraceNumber) → plain a ≡ true → plain b ≡ true → plain (make_binary ks o a b) ≡
       true
   binary_plain o a b pa pb = go (written_number a) (written_number b) refl refl where

@@ -89,7 +89,7 @@ seen_after f ss q d held p c = ap f (cell_after ss q d held p c) ∙ go (is_here
 pub here : (p c q d : ℕ) → is_here p c q d ≡ true → (p ≡ q) × (c ≡ d)
 here p c q d is = let parts = and_parts (p == q) (c == d) is in (eqb-true p q parts.0, eqb-true c d parts.1)
 
--- what no change of a cell changes stays everywhere
+-- what the change of a cell doesn't change there stays everywhere
 pub same_after : {A : Type 0} (f : Contents → A) (ss : List State) (q d : ℕ) (held : Contents) (p c : ℕ) →
     f held ≡ f (cell_in ss q d) →
     f (cell_in (celled ss q d held) p c) ≡ f (cell_in ss p c)
