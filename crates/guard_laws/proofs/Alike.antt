@@ -146,7 +146,7 @@ module _ (i : Input) (kept : Kept) (ss : List State) where
         (message_alike b d x.1)
     message_alike _ _ is = absurd (false≢true is)
 
-  -- what is among numbers that all hold holds
+  -- a number among those that all hold holds too
   pub among_holds : (ks : List TraceNumber) (e : TraceNumber) → list_all (holds_at i kept ss) ks ≡ true →
       is_among ks e ≡ true →
       is_true (number_of i kept ss e) ≡ true
