@@ -16,7 +16,7 @@ use Rattle.trace_laws.specs.Right.{answer_for}
 use Rattle.guard_mean.specs.Perform.{End, answer_end}
 use Rattle.bypass_laws.specs.Stack.{lack_of}
 
--- a shape that nothing lacks is short, and none is that lacks something
+-- a shape that lacks nothing is short, and one that lacks something isn't
 pub nothing_lacks : (r : Result Shape NoShape) → lack_of r ≡ None → is_short r ≡ true
 nothing_lacks (Err reason) is = absurd (cc is)
 nothing_lacks (Ok s) is = go (nat_le s.length longest_shape) is where
@@ -45,7 +45,7 @@ none_from case (d ∷ ds) n = one (went_as case d) (none_from case ds (n + 1)) w
 none_missed : (case : Case) (ds : List Decision) → list_all (went_as case) ds ≡ is_none (first_missed case ds)
 none_missed case ds = none_from case ds 0 ∙ ap is_none (sym (position_from-zero (λ d. not (went_as case d)) ds))
 
--- what a run is to give tells whether it went as predicted
+-- a run went as predicted exactly where its answer has an end, and that has the run's states and outputs
 pub record Came (case : Case) (w : Work) (e : End) : Type 0 where
   pub predicted : is_predicted case w ≡ true
   pub states : e.states ≡ w.states

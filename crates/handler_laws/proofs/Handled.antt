@@ -59,7 +59,7 @@ held : (b c : Bool) (x y : End) → b ≡ true → (if b then Some x else None) 
 held b true x y passed same = refl
 held b false x y passed same = absurd (cc (ap (λ d. if d then Some x else None) (sym passed) ∙ same))
 
--- where an entry has a short shape or none, a step is common as its run decided, or isn't
+-- a step is common in a case exactly where its entry has a short shape there and its run went as predicted
 module _ (case : Case) (stack : List LayerTree) (plans : List Plan) (s : Step) where
   by_shape : (k : Known) (b : Bool) → entry_of plans s.entered ≡ Some k → is_short (shape stack k case) ≡ b →
       is_common_in stack plans s case ≡ (b && is_predicted case s.work)

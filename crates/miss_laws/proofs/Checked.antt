@@ -31,7 +31,7 @@ same_choice true false x y same = absurd (cc same)
 same_choice false true x y same = absurd (cc same)
 same_choice false false x y same = refl
 
--- the tests of conjuncts stand after those before them
+-- the tests of a conjunct are put after those that are there
 one_grows : (g : Guarding) (e : TraceNumber) → Grown g.tests (one_test g e).tests
 one_grows g e = grown_then g.tests _ _ (_, refl) (_, refl)
 
@@ -50,7 +50,7 @@ grown_longer xs ys g = let both = length-append xs g.0 in let same = ap length g
 abbrev ends_before : ℕ → List ℕ → ℕ
 ends_before n ends = count_by (λ end. nat_le end n) ends
 
--- later ends stand after it
+-- ends that are added later stand after each test that is there
 later_ends : (es : List TraceNumber) (c : Checking) (n : ℕ) → n < length c.guarding.tests →
     ends_before n (fold one_check c es).ends ≡ ends_before n c.ends
 later_ends [] c n less = refl
@@ -82,7 +82,7 @@ module _ (i : Input) (ss : List State) where
   stays_failed (require_operand a ∷ ts) t is =
       stays_failed ts (tests i ss t (require_operand a)) (ap (λ b. b && is_true (operand_at i t.kept a)) is)
 
-  -- tests that are passed are gone by
+  -- the search for the first test that fails skips tests that are passed
   passed_by : (ts us : List Test) (n : ℕ) (k : Kept) → (passing k ts).passes ≡ true →
       failing_from i ss n k (ts ++ us) ≡ failing_from i ss (n + length ts) (passing k ts).kept us
   passed_by [] us n k passed = let here : n ≡ n + 0 = omega arith in ap (λ m. failing_from i ss m k us) here

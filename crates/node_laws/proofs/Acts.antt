@@ -193,7 +193,7 @@ module _ (mode : Mode) (stack : List LayerTree) (plans : List Plan) where
   acts_sends_are w (asks id heard ∷ doings) failed = acts_sends_are w doings failed
   acts_sends_are w (bears id ∷ doings) failed = acts_sends_are w doings failed
 
-  -- Acts in parts: which sendings failed is told for each event in front.
+  -- The acts of two parts are those of each, where it is told which sendings failed of each event of the first.
   pub acts_append : (w : World) (xs ys : List Doing) (f g : List (List Bool)) → length f ≡ length (events_of xs) →
       acts_of mode stack plans w (xs ++ ys) (f ++ g) ≡ acts_of mode stack plans w xs f ++
       acts_of mode stack plans (following stack plans w xs) ys g

@@ -11,7 +11,7 @@ use Rattle.run_mean.specs.Journal.{while_patient, notes_from}
 use Rattle.node_laws.specs.Doings.{Doing, does, note_in, asking, doings_from, NotesAreOfDoings}
 use Rattle.node_laws.specs.Doings.{while_patient as going_on}
 
--- members that ask note what they hear, and bear as much
+-- members that ask note what those that hear note, and are left with as much patience
 notes_asked : (patience : ℕ) (heard : List (ℕ × Heard)) → filter_map note_in (asking patience heard).doings ≡
     (hearing patience heard).notes
 notes_asked patience [] = refl

@@ -40,7 +40,7 @@ module _ (stack : List LayerTree) (plans : List Plan) where
   after_append w (asks id heard ∷ xs) ys = after_append w xs ys
   after_append w (bears id ∷ xs) ys = after_append w xs ys
 
-  -- Which sendings failed is told for each event in front.
+  -- Two parts write what each writes, where it is told which sendings failed of each event of the first.
   pub written_append : (w : World) (xs ys : List Doing) (f g : List (List Bool)) → length f ≡ length (events_of xs) →
       written_of stack plans w (xs ++ ys) (f ++ g) ≡ written_of stack plans w xs f ++
       written_of stack plans (following stack plans w xs) ys g

@@ -79,7 +79,7 @@ mapped : {A B C : Type 0} (f : A → B) (o : Option A) (y : B) → option_map f 
 mapped f None y is k = absurd (cc is)
 mapped f (Some x) y is k = k x refl (some_same (f x) y is)
 
--- the turn of a line is no earlier than the turn in front
+-- the turn of a line is no earlier than the turn of the line before it
 
 at_least : (low high : ℕ) (word : Word) (n : ℕ) → number_within low high word ≡ Some n → low ≤ n
 at_least low high word n is = plain (is_plain word) is where

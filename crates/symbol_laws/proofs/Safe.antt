@@ -23,7 +23,7 @@ use Rattle.symbol_laws.proofs.Stands.{Stands, stands_bound, stands_noted, stands
 use Rattle.symbol_laws.proofs.Same.{course, checked, worth_is, set_is, set_square_is, row_is, push_is, take_is}
 use Rattle.symbol_laws.proofs.Same.{event_is, output_is, first_cells, first_stands}
 
--- each of two words gives the other
+-- each of two propositions yields the other
 record Both (P Q : Type 0) : Type 0 where
   there : P → Q
   back : Q → P
