@@ -1,4 +1,4 @@
--- What a trace has to be that it can be read as it was written, beside that it names what was made and what is there.
+-- What a trace has to be so that it can be read as it was written, besides naming what was made and what is there.
 use Rattle.std.specs.Prelude.{◌≡◌, ℕ, suc, ◌+◌, ◌<◌, ◌≤◌, List, [], ◌∷◌, length, slice_index_or, Option, Some, None}
 use Rattle.std.specs.Prelude.{option_map, is_some, true}
 use Rattle.std.specs.List.{AllByRecursion}

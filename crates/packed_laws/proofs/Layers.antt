@@ -51,7 +51,7 @@ abbrev mutual
   MessageFits layer (suc n) (join first m) = MessageFits layer n first × MessageFits layer n m
   MessageFits layer _ _ = ⊥
 
--- How many brackets a layer's own expressions may have; what a trace checks has up to four more.
+-- How many brackets may be open at once in a layer's own expressions; in what a trace checks, up to four more.
 abbrev pub most_nested : ℕ
 most_nested = 196
 

@@ -42,7 +42,7 @@ use Rattle.packed_laws.proofs.Front.{Stops, run_back, Leads, leads_not, decimal_
 use Rattle.packed_laws.proofs.Names.{all_at, place_back, IsSmall, atom_names, core_names, cell_names, rows_told}
 use Rattle.packed_laws.proofs.Names.{finds_name, finds_word}
 
--- what stands in brackets, before what follows; the signs are any
+-- what stands in brackets, whatever signs these are, before what follows
 one_any : (f o a c rest : List ℕ) → f ++ (o ++ (a ++ []) ++ c) ++ rest ≡ f ++ (o ++ (a ++ (c ++ rest)))
 one_any f o a c rest = simp (append_assoc, append-nil) refl
 

@@ -36,7 +36,7 @@ use Rattle.program_laws.specs.OneEnd.{TracesAreDue, ThirdMissesAreDue}
 use Rattle.program_laws.proofs.Files.{one_meaning, one_refusal, good_or_refused}
 use Rattle.program_laws.proofs.Traces.{one_traces_fault, accepted_or_refused}
 
--- What is some, and known.
+-- A value that is there, with what is known of it, may be taken.
 known : {A : Type 0} (o : Option A) (P : A → Type 0) (C : Type 0) → IsSomeAnd o P → ((x : A) → o ≡ Some x → P x → C) → C
 known None P C h go = absurd h
 known (Some x) P C h go = go x refl h
@@ -69,7 +69,7 @@ met r Holds h = known (job_of_words r.words) _ (Met r Holds) h (λ job is_job x.
       holds = z;
     })))
 
--- What two words say of a run's job and files.
+-- Two facts of a run's job and files are of the same job and files.
 both_of : (r : Run) (P Q : Job → (file second : List ℕ) → Type 0) → Met r P → Met r Q →
     Met r (λ job file second. P job file second × Q job file second)
 both_of r P Q m n =
@@ -91,7 +91,7 @@ both_of r P Q m n =
       );
     }
 
--- What holds of a run's job and files, held against what else holds of them.
+-- What follows from two facts of one job and its files follows for a run that has both.
 against : (r : Run) (P Q : Job → (file second : List ℕ) → Type 0) (C : Type 0) → Met r P → Met r Q →
     ((job : Job) (file second : List ℕ) → P job file second → Q job file second → C) → C
 against r P Q C m n go = let b = both_of r P Q m n in go b.job b.file b.second b.holds.0 b.holds.1
@@ -453,7 +453,7 @@ others_good r a h = let m = met r _ h.others in record {
   holds = record { stack = h.stack; means = m.holds.1; fine = m.holds.2 };
 }
 
--- A refused file isn't met as good, and nor is a refused second file.
+-- A refused file isn't met as good, nor is a refused second file.
 file_or_fine : (r : Run) (a : FileFault) → RefusesFile r a → Met r AreGood → ⊥
 file_or_fine r a h n = known r.file (λ file. Refuses file a) ⊥ h.refused (λ file is refuses.
     let same : n.file ≡ file = some_once n.file file (sym n.is_file ∙ is) in
@@ -766,7 +766,7 @@ no_links (explain name script) r file second alone fails = fails
 no_links (load name seed events members raw mode) r file second alone fails = fails
 no_links (audit name law) r file second alone fails = fails
 
--- A third file that a job has, and that is there.
+-- Where a job's files are good, its third file is there.
 third_there : (third : Option (List ℕ)) (job : Job) (file second : List ℕ) → Good third job file second →
     third_for job third ≡ None → ⊥
 third_there None (replay_with name script given wire count) file second good none = good.1.accepted
@@ -938,7 +938,7 @@ second_misses_are_due print r job file stack ran is_job is_file means none =
       go end (went_on h m) came = absurd (met_none (Good r.third) m)
       go end (wanted is) came = want_of r end 4 is came
 
--- A run over first files that are good, and not at its end over all: what may have stopped it before its third.
+-- A run whose first two files are good isn't refused for either.
 module _ (r : Run) (job : Job) (file second : List ℕ) (stack : List LayerTree)
     (is_job : job_of_words r.words ≡ Some job) (is_file : r.file ≡ Some file)
     (is_second : second_for job r.second ≡ Some second) (means : Means file stack)
@@ -1001,7 +1001,7 @@ traces_are_due print r job file second third stack fault ran is_job reads is_fil
       go end (went_on h m) came = absurd (reached m)
       go end (wanted is) came = want_of r end 9 is came
 
--- A job whose third file isn't there has one.
+-- A job whose third file isn't there reads traces, and found none.
 has_third : (third : Option (List ℕ)) (job : Job) → third_for job third ≡ None → ReadsTraces job × (third ≡ None)
 has_third third (replay_with name script given wire count) none = (tt, none)
 has_third third (check name) none = absurd (cc none)

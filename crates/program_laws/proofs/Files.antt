@@ -68,7 +68,7 @@ one_verdict text a b x y = let d = each_decided text in d.only a x ∙ sym (d.on
 no_stop : (text : List ℕ) (f : FileTree) (v : Verdict) → IsFile text f → Holds text v → a_file ≡ v
 no_stop text f v is holds = one_verdict text a_file v (spells text f is) holds
 
--- The causes for which a file is refused that a text spells.
+-- The causes for which a file that a text spells is refused.
 condemns_not_means : (text : List ℕ) (s : List run.LayerTree) (fault : FileFault) → Means text s → Condemns text fault →
     ⊥
 condemns_not_means text s fault m c =

@@ -21,7 +21,7 @@ same_before (suc n) k (x ∷ xs) [] less same = absurd (cc same)
 same_before (suc n) zero (x ∷ xs) (y ∷ ys) less same = let heads : x ≡ y = cc same in ap Some heads
 same_before (suc n) (suc k) (x ∷ xs) (y ∷ ys) less same = same_before n k xs ys (omega (arith, less)) (cc same)
 
--- Two lists differ at one place first.
+-- Two lists first differ at one place at most.
 differ_once : {X : Type 0} (xs ys : List X) (k n : ℕ) → DifferAt xs ys k → DifferAt xs ys n → k ≡ n
 differ_once xs ys k n a b = go (cases_order k n) where
   go : (k ≡ n) ⊎ ((k < n) ⊎ (n < k)) → k ≡ n
@@ -35,7 +35,7 @@ same_or_differ : (d x : Due) (trace other : List Operation) (k : ℕ) → d ≡ 
 same_or_differ d x trace other k dues traces same differ =
     differ.other (ap (λ acts. slice_get acts k) (ap symbolic traces ∙ same ∙ ap (λ due. symbolic due.own) (sym dues)))
 
--- The first case that differs is one, and so is the act.
+-- One case at most is the first that differs, and one act the first at which it does.
 first_once : (before : List Due) (d : Due) (following : List Due) (bs : List (List Operation)) (t : List Operation)
     (cs : List (List Operation))
     (front : List Due) (e : Due) (back : List Due) (fs : List (List Operation)) (u : List Operation)

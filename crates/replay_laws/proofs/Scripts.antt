@@ -41,7 +41,7 @@ number_bounds low high word = go (is_plain word) where
   go true = within_bounds low high (digits_value 10 word)
   go false = tt
 
--- what holds of a value holds by less
+-- what follows from a fact of a value holds where the fact does
 so : {A : Type 0} (P Q : A → Type 0) → ((x : A) → P x → Q x) → (o : Option A) → Where P o → Where Q o
 so P Q f None h = tt
 so P Q f (Some x) h = f x h
