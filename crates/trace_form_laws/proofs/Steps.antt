@@ -157,7 +157,7 @@ module _ (stack : List LayerTree) (f : Node → ℕ) (n : Node) where
             (subst (λ j. LinksFit (drop j stack) chain) above h),
       )
 
-  -- how far a visit has come: what it sent is worth no more than so much, and the notes join no more than so often
+  -- how far a visit has come: what it sent is worth at most `sends`, and its notes join at most `joins` times
   pub record Comes (sends joins : ℕ) (z : Tracing) : Type 0 where
     pub names : NamesFit stack n z.names
     pub each : AllByRecursion (SentFits stack n.at) z.sent

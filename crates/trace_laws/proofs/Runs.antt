@@ -381,7 +381,7 @@ both_next i f case z (t ∷ tasks) (u ∷ us) w n usual both fit =
     })
     (λ k later. ap (λ (x : Task Shown). x.event) (parts k later).0) (λ k later. (parts k later).1) fit)
 
--- which tasks pend says which pend
+-- the next turn keeps them in step, whatever came before
 next_in_step : (i : Input) (f : Start) (case : Case) (z : TracedLine) (r : RunLine) →
     InStep i f z.world z.tasks (tally case r.world.decided 0) r → FitNext case f.stack r.world r.tasks →
     let y = made_next case f.stack z.tasks z.world in

@@ -17,7 +17,7 @@ use Rattle.trace_mean.specs.Scope.{Named, Names, no_number, no_message, Worded, 
 use Rattle.trace_laws.specs.Members.{IsOf}
 use Rattle.trace_mean.specs.Worth.{Input, Kept, atom_at, core_at, state_of, number_of, message_of, header_at}
 
--- a message apart: whether its headers are known, those in front, and the message after these
+-- a message apart: whether all its headers are known, its first headers, and the message after these
 pub record Apart : Type 0 where
   pub known : Bool
   pub headers : List Header
@@ -26,7 +26,7 @@ pub record Apart : Type 0 where
 abbrev pub together : Apart → Content
 together a = record { headers = a.headers ++ a.following.headers; body = a.following.body }
 
--- a message that is known: all its headers in front
+-- a message that is known, with all its headers first
 abbrev pub told_apart : Content → Apart
 told_apart m = record { known = true; headers = m.headers; following = plain m.body }
 
@@ -110,7 +110,7 @@ together_is (tree.join q m) s l =
     (ap (λ x. x.body) (together_is q s l))
     ∙ ap (parts.join (mval q s (scope_of l))) (together_is m s l)
 
--- what is known has no headers after those in front
+-- what is known has no headers after its first ones
 abbrev pub Plain : List Apart → Type 0
 Plain [] = Unit {0}
 Plain (x ∷ xs) = (x.known ≡ true → x.following.headers ≡ []) × Plain xs

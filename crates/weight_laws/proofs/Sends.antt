@@ -20,7 +20,7 @@ use Rattle.stack_mean.specs.Emissions.{Repeated, emissions, emissions_in}
 use Rattle.weight_laws.specs.Orderly.{KeepsMessage, IsOrderlyStatement, IsOrderlyBlock}
 
 abbrev mutual
-  -- what a statement sends at most, where each emission costs so much
+  -- what a statement sends at most, where `bound` tells what an emission costs
   pub total : (EmissionTree → ℕ) → StatementTree → ℕ
   total bound (push c i capacity row otherwise) = total_in bound otherwise
   total bound (take c i taken block otherwise) = total_in bound block + total_in bound otherwise
