@@ -56,12 +56,12 @@ longer (Some shelf) name most h = found (found_in shelf name) h where
   found None h = absurd h
   found (Some file) h = (file, refl, h)
 
--- What is printed of bypasses that are made is what is printed of its stack's.
+-- What is printed of the bypasses that are made of a file is what is printed of its stack's.
 printed : (print : Lines) (file : List ℕ) (lines : List (List ℕ)) (o : Synthesized print file lines) →
     lines ≡ print o.stack (plans_of o.stack) (bypasses_of simplest o.stack)
 printed print file lines o = o.written ∙ ap (print o.stack (plans_of o.stack)) o.simplest
 
--- It is one.
+-- What is printed of a file's bypasses is unique.
 printed_once : (print : Lines) (file : List ℕ) (one other : List (List ℕ)) → Synthesized print file one →
     Synthesized print file other → one ≡ other
 printed_once print file one other x y = printed print file one x
@@ -165,7 +165,7 @@ output_once (audit name law) file second third one other x y =
     let same : x.finding ≡ y.finding = cc (both) in
     x.written ∙ ap (λ f. finding_line f ∷ []) same ∙ sym y.written
 
--- What a read finds is one.
+-- What the reads of a job's first and second files find on a shelf is unique.
 pub found_once : (job : Job) (shelf : Shelved) (one other : Option (List ℕ)) → Finds job (Some shelf) one →
     Finds job (Some shelf) other → one ≡ other
 found_once job shelf one other x y = sym x ∙ y
@@ -230,7 +230,7 @@ next_second (load name seed events members raw mode) told = (None, refl)
 next_second (node name plan turns me patience mode) told = found_at (option_map after_read told) plan
 next_second (audit name law) told = (None, refl)
 
--- So it is of its third file.
+-- What the read of a job's third file finds is unique, too.
 pub after_once : (job : Job) (shelf : Shelved) (one other : Option (List ℕ)) → After job (Some shelf) one →
     After job (Some shelf) other →
     one ≡ other

@@ -161,7 +161,7 @@ module _ (words : List Text) (job : Job) (a : Around) (e : Errors) (is : job_of_
     due read_failed u = unfound_due u
     due _ c = absurd c
 
-    -- what a shelf finds has one output
+    -- what a job finds on a shelf has one output
     lines_once : (one other : Good job (Some shelf)) → one.lines ≡ other.lines
     lines_once one other =
         let files : Some one.file ≡ Some other.file = sym one.found ∙ other.found in

@@ -63,7 +63,7 @@ module _ (stack : List LayerTree) (plan : NodePlan) (turns : ℕ) (me : List ℕ
       Tells (HandedSome (handed_by stack plan (node_words turns me patience mode) s) s.heard) told told_after
   handed_on told told_after t = tells_as told told_after t ran_over
 
--- a network after listens or after nothing
+-- a network after listens, or after no call, was handed nothing and told nothing
 pub handed_nothing : (n n' : Network) → n'.handed ≡ n.handed → n'.met ≡ n.met → HandedSome [] [] n n'
 handed_nothing n n' handed met =
     record { handed = handed ∙ sym (append-nil n.handed); met = met ∙ sym (append-nil n.met) }
@@ -125,7 +125,7 @@ fewer_fail (suc few) (suc more) flags le =
     let rest = fewer_fail few more (drop 1 flags) (omega (arith, le)) in
     omega (arith, one, other, rest)
 
--- where all of some calls go well, none in front fails
+-- where the next calls all go well, none of them is the first that fails
 pub none_before : (count more : ℕ) (flags : List Bool) → count < more → flags_of more flags ≡ replicate more false →
     flags_of (count + 1) flags ≡ replicate count false ++ true ∷ [] → ⊥
 none_before zero zero flags lt well fails = omega (arith, lt)

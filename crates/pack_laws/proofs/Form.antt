@@ -1,4 +1,4 @@
--- What a line says names only what may be named: in any sense in which the names that lines spell are such.
+-- What a line says names only what may be named: what holds of all names that lines spell holds of each name in it.
 use Rattle.std.proofs.Common.{◌≡◌, ℕ, zero, suc, ◌<◌, List, [], ◌∷◌, length, Option, Some, None, option_map, codes}
 use Rattle.std.proofs.Common.{bytes_eq, refl}
 use Rattle.std.specs.Prelude.{take}
@@ -35,7 +35,7 @@ FormNames stack So p c (Some (queues capacity items)) =
     (e : TraceNumber) → So (a_queue p c e) × ((k : ℕ) → k < length (items_at stack p c).numbers → So (an_item p c e k))
 FormNames stack So p c None = Unit {0}
 
--- the names that lines spell are such
+-- `So` holds of the names that lines spell
 pub record Spelled (stack : List LayerTree) (s : Named) (So : Name → Type 0) : Type 0 where
   pub zero_is : So (a_number (number 0))
   pub atom_is : (name : List (List ℕ)) (a : Atom) → atom_named s name ≡ Some a → So (a_number a)

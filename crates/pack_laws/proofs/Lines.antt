@@ -31,7 +31,7 @@ use Rattle.pack_laws.proofs.Writing.{writes_each, in_brackets, parted_more, push
 use Rattle.pack_laws.proofs.Words.{tag_written, kind_written, direction_written, atom_written, core_written}
 use Rattle.pack_laws.proofs.Said.{QueueText, InnerWrites, cell_is, queue_is, number_is, message_is, inside_is}
 
--- as many of one list as of another, as far as it is told whether there are any
+-- of two lists, both are empty or neither is
 abbrev Alike : {A B : Type 0} → List A → List B → Type 0
 Alike [] [] = Unit {0}
 Alike (x ∷ xs) (y ∷ ys) = Unit {0}

@@ -20,7 +20,7 @@ use Rattle.pack_mean.specs.Named.{atom_named, core_named, cell_named}
 use Rattle.pack_laws.proofs.Readers.{through, some_same}
 use Rattle.pack_laws.proofs.Form.{FormNames, Spelled, some_mapped, place_below}
 
--- what there is, where so much may be named
+-- the reach of what may be named
 abbrev pub reach_of : Named → Reach
 reach_of s = record {
   fields = s.fields;

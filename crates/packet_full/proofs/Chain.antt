@@ -163,7 +163,7 @@ module _ (stack : List LayerTree) (place at : ℕ) (headers : List Header) (whol
       ∙ ap (λ o. with_front (take (at - place) headers) o) (last_header stack at bytes h ends rest below closes read)
       ∙ ap (λ hs. Some (hs, rest)) (sym (are ∙ set_next h below))
 
-  -- there is none of a layer
+  -- where a layer's header can't be read, no headers are
   pub none_read : (bytes : List ℕ) → at < length stack → header_read (slice_index_or stack at no_layer) at bytes ≡
       None → So bytes → whole ≡ None
   none_read bytes below none so_far =

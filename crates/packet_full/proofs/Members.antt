@@ -1,4 +1,4 @@
--- The ids of a view are as many as its mask has ones.
+-- A view has as many ids as its mask has ones.
 use Rattle.std.proofs.Common.{◌≡◌, ℕ, zero, suc, ◌+◌, ◌/◌, ◌%◌, ◌^◌, ◌<◌, Bool, true, false, refl, sym, ap, ◌∙◌, subst}
 use Rattle.std.proofs.Common.{arith, add-one, List, ◌∷◌, length}
 use Rattle.std.specs.Prelude.{◌==◌, cond}

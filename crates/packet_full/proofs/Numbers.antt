@@ -4,7 +4,7 @@ use Rattle.std.specs.Prelude.{option_and_then}
 use Rattle.packet_mean.specs.Reading.{value_reader, number, numbers}
 use Rattle.packet_full.specs.Taking.{with_front}
 
--- one more number is in front
+-- one more number was read before the others
 one_more : (front : List ℕ) (n : ℕ) (read : Option (List ℕ × List ℕ)) →
     with_front (front ++ n ∷ []) read ≡ with_front front (option_and_then (λ r. value_reader (n ∷ r.0) r.1) read)
 one_more front n None = refl

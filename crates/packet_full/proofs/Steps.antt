@@ -22,7 +22,7 @@ use Rattle.packet_full.specs.Steps.{Closes, opened, contents, closed}
 use Rattle.packet_full.specs.Scanned.{Scans, packet_scanned}
 use Rattle.packet_full.specs.Taking.{IsOwn, preamble_tree}
 
--- the headers and the body after what stands in front
+-- the headers and the body after a preamble
 abbrev inside : List LayerTree → List Plan → reading.Preamble × List ℕ → Result Packet Stray
 inside stack plans q = contents stack plans q.0 q.1 >>= closed q.0
 
@@ -86,7 +86,7 @@ pub not_opened : (stack : List LayerTree) (plans : List Plan) (here : Here) (byt
     received stack plans here bytes ≡ Err e
 not_opened stack plans here bytes e is = in_steps stack plans here bytes ∙ ap (λ r. r >>= inside stack plans) is
 
--- one that is opened is what is after
+-- one that is opened is received as its headers and body are read
 pub after_opened : (stack : List LayerTree) (plans : List Plan) (here : Here) (bytes : List ℕ) (p : reading.Preamble)
     (following : List ℕ) →
     opened here bytes ≡ Ok (p, following) → received stack plans here bytes ≡
@@ -116,7 +116,7 @@ not_leb : (a b : ℕ) (le : Bool) → nat_le a b ≡ le → b < a → le ≡ fal
 not_leb a b true is more = let less = leb-true a b is in absurd (omega arith)
 not_leb a b false is more = refl
 
--- one whose headers are read is what its close says
+-- one whose headers are read is taken or refused by the length of its body
 pub closed_scan : (stack : List LayerTree) (plans : List Plan) (here : Here) (bytes : List ℕ) (front : Preamble)
     (following : List ℕ)
     (hs : List Header) (body : List ℕ) (result : Result (Unit {0}) Stray) (scan : Scan) →

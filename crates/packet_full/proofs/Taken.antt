@@ -57,7 +57,7 @@ pub no_full_contents : (stack : List LayerTree) (plans : List Plan) (p : Preambl
 unfolding contents
 no_full_contents stack plans p following full none = rw (full, none) refl
 
--- a short datagram names none of no plans
+-- where there are no plans, a short datagram is refused for its plan
 pub no_plans : (stack : List LayerTree) (p : Preamble) (following : List ℕ) → p.form ≡ short_form →
     contents stack [] p following ≡ Err cause.Plan
 unfolding contents

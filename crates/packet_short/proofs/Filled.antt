@@ -45,7 +45,7 @@ a_layout stack plans k plan layout hs zs r listed read headers_are are within fi
       (dealing_agrees stack 0 plan.tags plan.fields zs hs r read).tagged (first is);
 }
 
--- one more item of a list whose items are as is said
+-- what holds of each item at its place, and of one more, holds of each item of the longer list
 pub one_more_so : {X : Type 0} (P : ℕ → X → Type 0) (xs : List (Option X)) (x : Option X) →
     ((k : ℕ) (y : X) → slice_get xs k ≡ Some (Some y) → P k y) → IfSome x (λ y. P (length xs) y) →
     (k : ℕ) (y : X) → slice_get (xs ++ x ∷ []) k ≡ Some (Some y) → P k y

@@ -27,7 +27,7 @@ pub fields_go_on : (front : List ℕ) (n k j : ℕ) (planned : List (Option ℕ)
 fields_go_on front n k j planned p ps bytes rest count is read =
     rw (count, is, read) (one_more front n (fields j ps rest))
 
--- headers with one in front
+-- a header before those that are read after it
 abbrev pub with_first : Header → Option (List Header × List ℕ) → Option (List Header × List ℕ)
 with_first h read = option_and_then (λ r. value_reader (h ∷ r.0) r.1) read
 
