@@ -73,7 +73,7 @@ begins_all a b lines gained = begins_after a b b (concat lines) [] (concat lines
     (sym (append-nil (concat lines)))
 
 module _ (file : FileTree) (stack : List LayerTree) (plans : List Plan) where
-  -- what happened and is missed may be told
+  -- what is missed in what happened may be told
   happened_told : (did : world.Did) (m : Miss) → missed_in stack plans did ≡ Some m → IsTold stack plans m
   happened_told (world.taken s) m is = told stack plans s m is
   happened_told (world.refused refusal) m is = absurd (cc is)

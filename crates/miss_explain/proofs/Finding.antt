@@ -22,12 +22,12 @@ found_stays [] line = refl
 found_stays (x ∷ lines) line = found_stays lines line
 
 module _ {S : Type 0} where
-  -- An item of the rest is sought, so far after.
+  -- What is sought is the item of the rest that is this many places ahead.
   abbrev pub Seeks : List S → Option S → Search → Type 0
   Seeks rest sought (Ahead left) = sought ≡ slice_get rest left
   Seeks rest sought (Found line) = ⊥
 
-  -- It is sought on, or it is what is made of this line.
+  -- It is still sought so, or it is what is made of the line that was found.
   abbrev pub Sought : (ℕ → S) → List S → Option S → Search → Type 0
   Sought made rest sought (Ahead left) = sought ≡ slice_get rest left
   Sought made rest sought (Found line) = sought ≡ Some (made line)

@@ -1,4 +1,4 @@
--- What is kept of an entry's shapes tells where the decisions stand of which one is told.
+-- The shapes that are kept of an entry tell where a decision stands that is told.
 use Rattle.std.proofs.Common.{◌≡◌, ℕ, true, if◌then◌else◌, List, [], slice_get, Option, Some, None, option_map, refl}
 use Rattle.std.proofs.Common.{sym, ap, subst, ◌∙◌}
 use Rattle.std.proofs.lemmas.Option.{slice_get-map}

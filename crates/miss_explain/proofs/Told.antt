@@ -20,7 +20,7 @@ use Rattle.stack_mean.specs.Shape.{Known, Shape, has_second_case, shape}
 use Rattle.miss_explain.specs.Told.{HasShape, HaveShape, IsTold}
 
 module _ (stack : List LayerTree) (plans : List Plan) (s : Step) where
-  -- a case that lacks a decision has a shape that isn't too long
+  -- a case in which a step lacked a decision has a shape that isn't too long
   case_told : (case : Case) (known : Known) → HasShape stack case (Some known) (lack_of case s (shape stack known case))
   case_told case known = go (shape stack known case) refl where
     within : (b : Bool) (k : ℕ) → (b ≡ true → is_short (shape stack known case) ≡ true) →

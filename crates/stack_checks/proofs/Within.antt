@@ -48,7 +48,7 @@ pub both_cases : (e : EntryAsked) (a b n : ℕ) → IsWithin a e.first → IfWit
 both_cases e a b n first second le more =
     record { first = case_more a n e.first le first; second = second_more b n e.second more second }
 
--- The next entry's, with those of the entries in front.
+-- What the next entry asks is within the larger limit, with what the entries before it ask.
 pub next_within : (all : List CaseChecks) (k : ℕ) (c : CaseChecks) (old one new : ℕ) → k < length all →
     c ≡ get_or all k c → old ≤ new → one ≤ new →
     AllByRecursion (EntryWithin old) (map entry_asked (take k all)) → EntryWithin one (entry_asked c) →
@@ -61,7 +61,7 @@ next_within all k c old one new within is le more before next =
     (each_so (EntryWithin old) (EntryWithin new) (entry_more old new le) (map entry_asked (take k all)) before)
     (entry_more one new more (entry_asked c) next))
 
--- Those of all entries.
+-- What all entries ask is within the limit.
 pub all_within : (cast send : CaseChecks) (plans : List CaseChecks) (a b apps c n most : ℕ) →
     EntryWithin a (entry_asked cast) →
     EntryWithin b (entry_asked send) → AllByRecursion (EntryWithin c) (map entry_asked plans) → a ≤ apps → b ≤ apps →

@@ -185,7 +185,7 @@ set_entry f (suc n) a (suc i) v = ap2 (λ x xs. x ∷ xs) (miss (a + suc i) a (o
         map (λ j. if (a + suc i) == j then v else f j) (range_with_len (a + 1) n)
     moved = ap (λ x. map (λ j. if x == j then v else f j) (range_with_len (a + 1) n)) (sums a i)
 
--- The table of one more handler in front.
+-- The table with one more handler before the others.
 pub table_grows : (k : ℕ) (h : Handler) (rest : List Handler) →
     slice_set (table_from (suc k) rest) (handler_code h) k ≡ table_from k (h ∷ rest)
 unfolding table_from
