@@ -1,4 +1,4 @@
--- Lists of what has references: what lies in a pool stays as it is while others move, and a front one goes.
+-- Lists of items with references: the items stay as they are while other references move, and the first may go.
 use Rattle.std.proofs.Common.{◌≡◌, ℕ, List, [], ◌∷◌, ◌++◌, Some, map, drop, slice_get, flat_map, refl, sym, subst}
 use Rattle.std.proofs.Common.{arith}
 use Rattle.std.specs.List.{AllByRecursion}
@@ -43,7 +43,7 @@ module _ {A : Type 0} (f : A → List ℕ) where
       moved-chain s p q from (f y ++ flat_map f xs) (flat_map f xs) moved
       (moved-beside p q (f y) [] (flat_map f xs) went)
 
-  -- What holds of each item, beside the references that move, holds of all.
+  -- What each item keeps while other references move, all items keep.
   pub each_stays : {B : Type 0} (P Q : A → Type 0) (v w : A → B) (p : List Held) (a : List ℕ) →
       ((x : A) → Covers p (a ++ f x) → P x → Q x × (w x ≡ v x)) →
       (xs : List A) → Covers p (a ++ flat_map f xs) → AllByRecursion P xs → AllByRecursion Q xs × (map w xs ≡ map v xs)

@@ -260,7 +260,7 @@ pub number_of_none : (order : List ℕ) → slice_get order 0 ≡ None → 0 ≡
 number_of_none [] at = refl
 number_of_none (i ∷ order) at = absurd (cc)
 
--- a number more after some, of which there is none, or is one
+-- with one more number after an order, the first is that number where there was none, and stays where there was one
 pub first_alone : (order : List ℕ) (k : ℕ) → length order ≡ 0 → IsFirst k (order ++ k ∷ [])
 first_alone [] k none = λ some. refl
 first_alone (i ∷ order) k none = absurd (omega (arith, none))
