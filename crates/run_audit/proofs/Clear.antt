@@ -214,7 +214,7 @@ stand n group rises =
 parted_members : (m n : ℕ) → not (m == n) ≡ true → m ≡ n → ⊥
 parted_members m n h e = grind (arith, nat_tests)
 
--- a segment in front lacks nothing of one in its group
+-- a segment before the line lacks nothing of one in its group
 nothing_of : (line : Option ℕ) (group : List Known) (one other : Known) → is_before one.line line ≡ true →
     Stands group one → IsRanked one → Stands group other → Shown line group other → is_other one other ≡ true →
     lacks one other ≡ []

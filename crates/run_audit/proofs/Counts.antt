@@ -94,7 +94,7 @@ pub all_placed : (lists : Lists) (f : ListKey → Option ℕ) (done : List coded
 all_placed lists f done entries i past so_far = so_far.placed ∙ ap (λ es. placed_after lists [] (map entry_shown es))
     (take_all i entries past)
 
--- no list is longer than the deliveries are many
+-- no list is longer than there are deliveries, so its length is below the largest number
 pub few : (lists : Lists) (f : ListKey → Option ℕ) (done : List coded.Placed) (entries : List code.Entry) (i : ℕ)
     (e : Entry) → i < length entries → length entries < 4294967296 →
     IsPlaced lists f done (map entry_shown (take i entries)) → unwrap_or (f (list_key lists e)) 0 < 4294967295

@@ -104,7 +104,7 @@ unguarded mark group member line above = rw (apart mark.front line above) refl
 same_line : (line : ℕ) → (line == line) ≡ true
 same_line line = grind (arith, nat_tests)
 
--- with one more segment in front that has the item, the first that lacks it stays
+-- with one more segment before the others that has the item, the first that lacks it stays
 still_lacking : (mark : Option Mark) (group : Option Group) (member line : ℕ) → Above line mark →
     lacking (Some (mark_with mark group member line)) (Some (group_with group member line)) ≡ lacking mark group
 still_lacking None group member line above = rw (same_line line) refl

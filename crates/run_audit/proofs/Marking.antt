@@ -128,7 +128,7 @@ pub all_marked : (old f : Item → Option Mark) (following : Option Group) (one 
     length ds ≤ j → IsMarkedBy old f following one (take j ds) → IsMarkedBy old f following one ds
 all_marked old f following one ds j past so_far = subst (IsMarkedBy old f following one) (take_all j ds past) so_far
 
--- the segments with one more in front
+-- the segments with one more before them
 pub one_more : (items_old items_new : Item → Option Mark) (groups_old groups_new : Way → Option Group) (one : Ended)
     (rest : List Known) (following : Option Group) (group : Group) → Marked items_old groups_old rest →
     following ≡ groups_old one.way → group ≡ group_with following one.member one.line →

@@ -110,7 +110,7 @@ pub all_counted : (f : Content → Option ℕ) (deliveries : List Ranked) (i : �
 all_counted f deliveries i past counts e = counts e ∙
     ap (λ ds. count_by (same_content (entry_shown e)) (shown_entries ds)) (take_all i deliveries past)
 
--- no content comes more often than there are deliveries in front
+-- no content comes more often than there are deliveries before this one
 pub few_ranked : (f : Content → Option ℕ) (deliveries : List Ranked) (i : ℕ) (d : Ranked) (content : Content) →
     i < length deliveries → length deliveries < 18446744073709551616 → Counts f (shown_entries (take i deliveries)) →
     content ≡ content_of (get_or deliveries i d).entry → unwrap_or (f content) 0 < 18446744073709551615

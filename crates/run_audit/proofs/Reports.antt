@@ -40,7 +40,7 @@ pub no_place : (front : List ReportLine) (stage : Stage) (number : ℕ) (line : 
     whole → whole ≡ Err number
 no_place front stage number line said all following whole split reads stands e = sym (rw (split, reads, stands) at e)
 
--- nothing in front changes nothing
+-- with no lines before, the whole stays as it is
 nothing : (whole : Result (List ReportLine) ℕ) → with_front [] whole ≡ whole
 nothing (Ok lines) = refl
 nothing (Err number) = refl

@@ -142,7 +142,7 @@ order_split n (y ∷ xs) x ys order =
     let rest = order_split y.entry.line xs x ys order.1 in
     ((order.0, rest.0), rest.1)
 
--- the first delivery that clashes with one in front, and the first of those, are the least clash
+-- the first delivery that clashes with one before it, and the first of those, are the least clash
 pub first_is_least : (lists : Lists) (xs : List Placed) (x : Placed) (ys : List Placed) → IsInOrder 0 (xs ++ x ∷ ys) →
     clashes_after lists [] xs ≡ [] → list_any (clashes lists x) xs ≡ true →
     option_map (lines_at x) (find (clashes lists x) xs) ≡ least (clashes_after lists [] (xs ++ x ∷ ys))
