@@ -1,4 +1,4 @@
--- Spellings are unique.
+-- Bytes spell one packet at most; a packet has one full spelling, and one short one under each plan that it fits.
 use Rattle.std.proofs.Common.{◌≡◌, ℕ, ◌⊎◌, inl, inr, List, Option, Some, refl, sym, ap, ◌∙◌, subst, arith}
 use Rattle.std.specs.Prelude.{slice_get, option_and_then}
 use Rattle.msg_core.specs.declared.packet.Packet.{Packet}
