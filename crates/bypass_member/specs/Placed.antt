@@ -66,7 +66,8 @@ taken_at p out what = p.taken
 taken_at p (inside view states) what = taken_after p.stack states (first_task p.stack (here_in p view).rank what)
     p.taken
 
--- All but where a member is, and what lies in its pool, stays.
+-- The stack, the plans, the mode, the group, the stamp, the id and `most` stay. Where the member is, its pool, the
+-- slots to which its layers refer and the counts of events that they took may change.
 pub record SamePlace (old new : Placed) : Type 0 where
   pub stack : new.stack ≡ old.stack
   pub plans : new.plans ≡ old.plans

@@ -39,7 +39,8 @@ placed_member m = record {
   taken = taken_in m.works;
 }
 
--- A member's rank in the view that it is in; a member in no view has none.
+-- In a view the rank that a member keeps is that of its id there, and less than `most_members`; in no view it may be
+-- any number.
 abbrev pub IsRankIn : Option View → ℕ → ℕ → Type 0
 IsRankIn None id r = Unit {0}
 IsRankIn (Some view) id r = (r ≡ rank_of view id) × (r < most_members)

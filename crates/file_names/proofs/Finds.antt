@@ -10,7 +10,7 @@ use Rattle.file_scope.specs.declared.found.Found.{Found}
 use Rattle.file_scope.proofs.Lists.{drop_all}
 use Rattle.file_names.specs.Found.{Finds, name_shown}
 
--- nothing is beyond the last
+-- of few names none is beyond the limit
 pub none_beyond : (most : ℕ) (names : List Name) (a : Found) → length names ≤ most → Finds a (too_many_of most names) a
 none_beyond most names a few =
     subst (λ l. Finds a (map (λ (n : Name). too_many n.at) l) a) (sym (drop_all names most few))

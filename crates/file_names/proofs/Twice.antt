@@ -62,7 +62,7 @@ repeated_more {A} same earlier (y ∷ xs) x =
       go false true c = refl
       go false false c = refl
 
--- of a name that isn't known, or that is
+-- one more name, which is known or isn't
 once_more : (earlier xs : List Name) (x : Name) (known : Bool) →
     known ≡ (list_any (λ name. bytes_eq name.word x.word) earlier || list_any (λ name. bytes_eq name.word x.word) xs) →
     twice_among earlier (xs ++ x ∷ []) ≡ twice_among earlier xs ++ unless (not known) (twice x.at)
@@ -87,7 +87,7 @@ alone a [] few = finds_none name_shown a
 alone a (x ∷ []) few = finds_none name_shown a
 alone a (x ∷ y ∷ names) few = absurd (omega (arith, few))
 
--- one of some names more
+-- one more of some names, which is judged
 pub twice_next : (a b c : Found) (xs : List Name) (i : ℕ) (x : Name) (seen : List (List ℕ)) (known : Bool) →
     i < length xs → x ≡ get_or xs i x → seen ≡ map (λ n. n.word) (take i xs) → known ≡ is_some (place_of x.word seen) →
     Finds a (twice_among [] (take i xs)) b → Finds b (unless (not known) (twice x.at)) c →

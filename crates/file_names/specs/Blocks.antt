@@ -16,7 +16,7 @@ statement_faults scope statement =
     statement_name_faults (record { scope = scope; statement = statement })
     ++ flat_map statement_name_faults (standing_inside scope statement)
 
--- Those of what a statement declares, and of the statements inside it.
+-- Those of what a statement declares, of its maximum, if it has one, and of the statements inside it.
 abbrev pub inner_faults : Scope → StatementTree → List NameFault
 inner_faults scope statement =
     twice_among (visible scope) (declared_names statement)

@@ -7,8 +7,8 @@ use Rattle.layer_ast.specs.contracts.tokens.Kind as kind_row
 use Rattle.layer_ast.specs.Tree.{HandlerTree, PoppedTree}
 use Rattle.indexmap.specs.IndexSet.{IndexSet, contains}
 
--- The header that a handler takes off, if it does, and what the handler takes: the numbers of direction and kind before
--- that.
+-- The header that a handler takes off, if it does; and what the handler takes: the numbers of its direction and its
+-- kind, and after them that header.
 abbrev pub popped_code : Option PoppedTree → List ℕ
 popped_code None = []
 popped_code (Some popped) = 1 ∷ popped.name.word

@@ -23,11 +23,11 @@ abbrev mutual
   statements_in none = []
   statements_in (more statement rest) = statement ∷ (statements_inside statement ++ statements_in rest)
 
--- Words with another one, unless it is there.
+-- Words with one more, unless it is among them.
 abbrev pub noted_words : List (List ℕ) → List ℕ → List (List ℕ)
 noted_words words word = if is_some (place_of word words) then words else words ++ word ∷ []
 
--- The names of those sizes that are names.
+-- The words of those sizes that are names.
 abbrev pub size_words : SizeTree → List (List ℕ)
 size_words (fixed at value) = []
 size_words (sized name) = name.word ∷ []
@@ -44,7 +44,7 @@ maximum_words statement = words_of (maximum_in statement)
 abbrev pub maxima_of : HandlerTree → List (List ℕ)
 maxima_of handler = flat_map maximum_words (statements_in handler.block)
 
--- What statements add to names and to words: the names that they declare, and the names of their maxima.
+-- What statements add to names and to words: the names that they declare, and the words of their maxima.
 unfoldable pub Gathers : List Name → List (List ℕ) → List StatementTree → List Name → List (List ℕ) → Type 0
 Gathers names maxima statements names' maxima' =
     (names' ≡ names ++ flat_map declared_names statements) ×

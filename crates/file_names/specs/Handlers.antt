@@ -8,7 +8,7 @@ use Rattle.fault_mean.specs.Scope.{head_names, head_scope, layer_scope, visible}
 use Rattle.fault_mean.specs.Uses.{of_name}
 use Rattle.file_names.specs.Blocks.{block_faults}
 
--- Those of its head: the popped header's name is used, and the names of the head are declared.
+-- Those of its head, which uses the popped header's name and declares its own names.
 abbrev pub head_part : LayerTree → HandlerTree → List NameFault
 head_part layer handler =
     uses_faults (layer_scope layer) (option_map_or (λ p. of_name p.name ∷ []) handler.popped [])

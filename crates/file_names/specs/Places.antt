@@ -9,10 +9,10 @@ use Rattle.fault_mean.specs.Forms.{declared_as}
 use Rattle.fault_mean.specs.NameFaults.{layer_name_faults}
 use Rattle.fault_mean.specs.Places.{called_at, faults_of_judged}
 
--- What is given is a param of the layer.
+-- The fault of a value that is given to no param of the layer.
 abbrev pub given_faults : LayerTree → GivenTree → List NameFault
 given_faults layer g = unless (declared_as is_param layer g.name.word) (unknown g.name.at)
 
--- The faults of the layer of the library that a place names, if it does, at this place.
+-- The faults of the library's layer that a place names, if it names one, moved to this place.
 abbrev pub called_faults : FileTree → PlaceTree → List NameFault
 called_faults file place = option_map_or (faults_of_judged name_fault_at layer_name_faults) (called_at file place) []

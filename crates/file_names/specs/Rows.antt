@@ -5,6 +5,6 @@ use Rattle.fault_mean.specs.Earliest.{unless}
 use Rattle.fault_mean.specs.Faults.{NameFault, too_many}
 use Rattle.fault_mean.specs.Kinds.{a_number, allows}
 
--- An item that others follow is a number.
+-- The fault of an item that others follow, if it is no number.
 abbrev pub followed_faults : ItemTree → List NameFault
 followed_faults i = unless (allows a_number i.sort) (too_many i.name.at)

@@ -15,7 +15,7 @@ use file_scope::row_locals;
 use layer_ast::{Block, Sort, Statement};
 use std::alloc::{AllocError, Global};
 
-/// The statements of a block, whose locals are visible in it alone.
+/// Judges the statements of a block, whose locals are visible in it alone.
 #[cycle(blocks)]
 pub fn block(
     alloc: Global,
@@ -32,7 +32,7 @@ pub fn block(
     Ok(())
 }
 
-/// Statements one after the other.
+/// Judges statements, one after the other.
 #[cycle(blocks)]
 fn statements(
     alloc: Global,
@@ -49,7 +49,7 @@ fn statements(
     Ok(())
 }
 
-/// A statement.
+/// Judges a statement.
 #[cycle(blocks)]
 fn statement(
     alloc: Global,
@@ -65,7 +65,7 @@ fn statement(
     Ok(())
 }
 
-/// What a statement declares, and the statements in its blocks.
+/// Judges what a statement declares, its maximum, if it has one, and the statements in its blocks.
 #[cycle(blocks)]
 fn inside(
     alloc: Global,
@@ -129,7 +129,7 @@ fn inside(
     }
 }
 
-/// A block in which these locals are visible, too.
+/// Judges these locals, and a block in which they are visible, too.
 #[cycle(blocks)]
 fn with_locals(
     alloc: Global,

@@ -22,7 +22,7 @@ use std::alloc::{AllocError, Global};
 /// The most fields of a header.
 const MOST_FIELDS: usize = 4;
 
-/// The names that a declaration uses.
+/// Judges the names that a declaration uses.
 #[tactic(auto, using(file_scope::proofs::Finds::finds_none))]
 fn used(found: &mut Found, scope: &Scope, d: &Declaration)
     ensures { Finds found.old (uses_faults (scope_of scope.now) (declaration_uses (declaration_tree d.now))) found.new }
@@ -36,7 +36,7 @@ fn used(found: &mut Found, scope: &Scope, d: &Declaration)
     }
 }
 
-/// The capacity of a queue.
+/// Judges the capacity of a queue.
 #[tactic(auto, using(file_scope::proofs::Finds::finds_none, file_scope::proofs::Finds::finds_both))]
 fn capacity(found: &mut Found, d: &Declaration)
     ensures { Finds found.old (flat_map size_faults (capacity_in (declaration_tree d.now))) found.new }
@@ -49,7 +49,7 @@ fn capacity(found: &mut Found, d: &Declaration)
     }
 }
 
-/// The items of a queue's rows.
+/// Judges the items of a queue's rows.
 #[tactic(auto, using(file_scope::proofs::Finds::finds_none))]
 fn rows(alloc: Global, found: &mut Found, d: &Declaration) -> Result<(), AllocError>
     ensures { OnOk result (Finds found.old (row_faults (items_of (declaration_tree d.now))) found.new) }
@@ -62,7 +62,7 @@ fn rows(alloc: Global, found: &mut Found, d: &Declaration) -> Result<(), AllocEr
     }
 }
 
-/// The fields of a header.
+/// The names of a header's fields.
 fn fields(alloc: Global, d: &Declaration) -> Result<Vec<Name>, AllocError>
     ensures { IfOk result (λ all. all.items ≡ labels_of (declaration_tree d.now)) }
 {
@@ -72,7 +72,7 @@ fn fields(alloc: Global, d: &Declaration) -> Result<Vec<Name>, AllocError>
     }
 }
 
-/// The fields of a header: of these there are few, and none is there twice.
+/// Judges the fields of a header: none may be there twice, and there may be `MOST_FIELDS` of them.
 #[tactic(auto, using(file_scope::proofs::Finds::finds_both))]
 fn few_fields(alloc: Global, found: &mut Found, d: &Declaration) -> Result<(), AllocError>
     ensures { OnOk result
@@ -85,7 +85,7 @@ fn few_fields(alloc: Global, found: &mut Found, d: &Declaration) -> Result<(), A
     Ok(())
 }
 
-/// A declaration, in the scope of its layer's own names.
+/// Judges a declaration, in the scope of its layer's own names.
 #[tactic(auto, using(file_scope::proofs::Finds::finds_both, file_scope::proofs::Finds::finds_join))]
 fn declaration(
     alloc: Global,
@@ -103,7 +103,7 @@ fn declaration(
     Ok(())
 }
 
-/// Declarations, in the scope of their layer's own names.
+/// Judges declarations, in the scope of their layer's own names.
 #[tactic(auto, using(file_scope::proofs::Finds::finds_none, file_scope::proofs::Finds::part_more))]
 pub fn declarations(
     alloc: Global,

@@ -86,7 +86,7 @@ fn event_of(alloc: Global, handler: &Handler) -> Result<Event, AllocError>
     Ok(Event(code))
 }
 
-/// Handlers, no two of which may be of one event.
+/// Judges handlers, no two of which may be of one event.
 #[tactic(auto, using(file_scope::proofs::Finds::finds_none, crate::proofs::SameEvents::event_next))]
 pub fn handlers_twice(
     alloc: Global,

@@ -25,7 +25,7 @@ const MOST_LAYERS: usize = 64;
 /// The most places of a file.
 const MOST_PLACES: usize = 24;
 
-/// The names of layers, none of which may be there twice; of these there are few.
+/// Judges the names of layers: none may be there twice, and there may be `MOST_LAYERS` of them.
 #[tactic(auto, using(file_scope::proofs::Finds::finds_both))]
 fn names(alloc: Global, found: &mut Found, layers: &[Layer]) -> Result<(), AllocError>
     ensures { OnOk result
@@ -38,7 +38,7 @@ fn names(alloc: Global, found: &mut Found, layers: &[Layer]) -> Result<(), Alloc
     Ok(())
 }
 
-/// Places, of which there are few.
+/// Judges the number of places, of which there may be `MOST_PLACES`.
 fn few(alloc: Global, found: &mut Found, places: &[Place]) -> Result<(), AllocError>
     ensures { OnOk result
         (Finds found.old (too_many_of most_places (map (λ place. place.name) (map place_tree places.now))) found.new) }
@@ -48,7 +48,7 @@ fn few(alloc: Global, found: &mut Found, places: &[Place]) -> Result<(), AllocEr
     Ok(())
 }
 
-/// A file, with the tables of its layers.
+/// Judges a file, with the tables of its layers.
 fn all(alloc: Global, found: &mut Found, file: &File, tables: &Tables) -> Result<(), AllocError>
     requires { IsTables tables.now (file_tree file.now) }
     ensures { OnOk result (Finds found.old (name_faults (file_tree file.now)) found.new) }

@@ -23,7 +23,7 @@ use std::alloc::{AllocError, Global};
 /// The most names that a handler declares.
 const MOST_NAMES: usize = 64;
 
-/// The head of a handler in the scope of its layer's own names, which gets the locals of the head.
+/// Judges the head of a handler, in the scope of its layer's own names, to which the locals of the head are added.
 fn head(
     alloc: Global,
     found: &mut Found,
@@ -40,7 +40,7 @@ fn head(
     Ok(())
 }
 
-/// The condition and the block of a handler, in the scope of its layer's own names.
+/// Judges the head, the condition and the block of a handler, in the scope of its layer's own names.
 fn inside(
     alloc: Global,
     found: &mut Found,
@@ -57,7 +57,7 @@ fn inside(
     Ok(())
 }
 
-/// A handler, in the scope of its layer's own names. The names of its maxima are added to those of its layer.
+/// Judges a handler, in the scope of its layer's own names. The names of its maxima are added to those of its layer.
 fn handler(
     alloc: Global,
     found: &mut Found,
@@ -76,7 +76,7 @@ fn handler(
     Ok(())
 }
 
-/// The handlers of a layer, in the scope of its own names, and the names of their maxima.
+/// Judges the handlers of a layer, in the scope of its own names, and answers the names of their maxima.
 #[tactic(auto, using(file_scope::proofs::Finds::finds_none))]
 pub fn handlers(
     alloc: Global,

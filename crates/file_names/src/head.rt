@@ -13,7 +13,7 @@ use crate::uses;
 use file_scope::Scope;
 use layer_ast::{Expected, Popped};
 
-/// The use of the name of a popped header.
+/// Judges the use of the name of a popped header.
 #[tactic(auto, using(file_scope::proofs::Finds::finds_none, file_scope::proofs::Finds::finds_both))]
 pub fn popped(found: &mut Found, scope: &Scope, popped: &Option<Popped>)
     ensures { Finds found.old
@@ -26,7 +26,7 @@ pub fn popped(found: &mut Found, scope: &Scope, popped: &Option<Popped>)
     }
 }
 
-/// The uses in the condition of a handler.
+/// Judges the uses in the condition of a handler.
 #[tactic(auto, using(file_scope::proofs::Finds::finds_none))]
 pub fn expected(found: &mut Found, scope: &Scope, expected: &Expected)
     ensures { Finds found.old (uses_faults (scope_of scope.now) (expected_uses (expected_tree expected.now)))

@@ -37,7 +37,8 @@ pub struct Judged<'a> {
     ghost library_is: { library.items ≡ map called_of (file_tree file.now).library },
 }
 
-/// The layers that a file writes, each with the table of its own words.
+/// Judges the layers that a file writes, each with the table of its own words, and answers the names that are sizes in
+/// each.
 #[tactic(auto, using(file_scope::proofs::Finds::finds_none, crate::proofs::Rules::made_row))]
 fn written(
     alloc: Global,
@@ -61,7 +62,7 @@ fn written(
     Ok(all)
 }
 
-/// Judges the layers that a file writes. Those of the library are judged as places name them.
+/// Judges the layers that a file writes, and those of the library, whose faults count only where places name them.
 pub fn judge<'a>(
     alloc: Global,
     found: &mut Found,

@@ -85,7 +85,7 @@ fn all_names(alloc: Global, declarations: &[Declaration]) -> Result<Vec<Name>, A
     Ok(all)
 }
 
-/// The declarations of a form, of which there may be `most`.
+/// Judges the number of declarations of a form, of which there may be `most`.
 fn few(
     alloc: Global,
     found: &mut Found,
@@ -101,7 +101,7 @@ fn few(
     Ok(())
 }
 
-/// The declarations of a layer, none of which may be there twice.
+/// Judges the names that a layer declares, none of which may be there twice.
 fn each_once(alloc: Global, found: &mut Found, layer: &Layer) -> Result<(), AllocError>
     ensures { OnOk result
         (Finds found.old (twice_among [] (map spec.declared_name (layer_tree layer.now).declarations)) found.new) }
@@ -111,7 +111,7 @@ fn each_once(alloc: Global, found: &mut Found, layer: &Layer) -> Result<(), Allo
     Ok(())
 }
 
-/// The declarations of a layer.
+/// Judges the declarations of a layer.
 fn declared(alloc: Global, found: &mut Found, worded: &WordedLayer<'_>) -> Result<(), AllocError>
     ensures { OnOk result (Finds found.old (declared_faults (layer_tree worded.now.layer.now)) found.new) }
 {
@@ -125,7 +125,7 @@ fn declared(alloc: Global, found: &mut Found, worded: &WordedLayer<'_>) -> Resul
     Ok(())
 }
 
-/// One handler too many for each of these.
+/// Notes each of these handlers as one too many.
 #[tactic(auto, using(file_scope::proofs::Finds::finds_none))]
 fn all_too_many(found: &mut Found, handlers: &[Handler])
     ensures { Finds found.old (map (λ h. fault.too_many h.at) (map handler_tree handlers.now)) found.new }
@@ -135,7 +135,7 @@ fn all_too_many(found: &mut Found, handlers: &[Handler])
     }
 }
 
-/// The handlers of a layer, of which there may be `MOST_HANDLERS`.
+/// Judges the number of handlers of a layer, of which there may be `MOST_HANDLERS`.
 #[tactic(auto, using(crate::proofs::Layers::none_beyond))]
 fn few_handlers(found: &mut Found, handlers: &[Handler])
     ensures { Finds found.old (map (λ h. fault.too_many h.at) (drop most_handlers (map handler_tree handlers.now)))
@@ -146,7 +146,7 @@ fn few_handlers(found: &mut Found, handlers: &[Handler])
     }
 }
 
-/// A layer, and the names that are sizes in it.
+/// Judges a layer, and answers the names that are sizes in it.
 pub fn layer(
     alloc: Global,
     found: &mut Found,

@@ -1,4 +1,4 @@
-//! What the names of a layer file stand for, and the first fault of a file's names.
+//! The first fault of a file's names; or the file, with tables of the words that its layers declare.
 #![tactic(auto)]
 
 mod answer;

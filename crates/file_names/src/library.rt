@@ -21,7 +21,7 @@ pub struct Called {
     pub rank: Option<u8>,
 }
 
-/// A layer of the library.
+/// Judges a layer of the library.
 fn judge(alloc: Global, of_library: &WordedLayer<'_>) -> Result<Called, AllocError>
     ensures { IfOk result (λ called. called ≡ called_of (layer_tree of_library.now.layer.now)) }
 {
@@ -33,7 +33,7 @@ fn judge(alloc: Global, of_library: &WordedLayer<'_>) -> Result<Called, AllocErr
     })
 }
 
-/// The layers of the library, each with the table of its own words.
+/// Judges the layers of the library, each with the table of its own words.
 #[tactic(auto, using(crate::proofs::Rules::made_row))]
 pub fn library(alloc: Global, layers: &[Layer], tables: &[Words]) -> Result<Vec<Called>, AllocError>
     requires { tables.now ≡ map own_words (map layer_tree layers.now) }

@@ -32,7 +32,7 @@ pub fn is_within(most: u32, number: u32) -> bool
     1 <= number && number <= most
 }
 
-/// A size, which as a number must be within a limit.
+/// Judges a size, which must be within a limit if it is a number.
 #[tactic(auto, using(file_scope::proofs::Finds::finds_none, crate::proofs::Finds::size_fault))]
 pub fn size(found: &mut Found, most: u32, size: &Size)
     ensures { Finds found.old (size_faults (record { size = size_tree size.now; most = most })) found.new }
@@ -78,7 +78,7 @@ fn numbers(alloc: Global, items: &[Item]) -> Result<Vec<Name>, AllocError>
     Ok(all)
 }
 
-/// Items after which others follow: none may be a message.
+/// Judges items that others follow: each must be a number.
 #[tactic(auto, using(file_scope::proofs::Finds::finds_none, file_scope::proofs::Finds::part_more))]
 fn front(found: &mut Found, items: &[Item])
     ensures { Finds found.old (flat_map followed_faults (map item_tree items.now)) found.new }
@@ -89,7 +89,7 @@ fn front(found: &mut Found, items: &[Item])
     }
 }
 
-/// The messages of a row, of which only the last item may be one.
+/// Judges the items of a row but the last, which alone may be other than a number.
 #[tactic(auto, using(crate::proofs::Rows::none_inside, crate::proofs::Rows::front_is))]
 fn messages(found: &mut Found, items: &[Item])
     ensures { Finds found.old (map (λ i. fault.too_many i.name.at) (spec.messages_inside (map item_tree items.now)))
@@ -100,7 +100,7 @@ fn messages(found: &mut Found, items: &[Item])
     }
 }
 
-/// The items of a row.
+/// Judges the items of a row.
 #[tactic(auto, using(file_scope::proofs::Finds::finds_both, crate::proofs::Rows::row_parts))]
 pub fn row(alloc: Global, found: &mut Found, row: &Items) -> Result<(), AllocError>
     ensures { OnOk result (Finds found.old (row_faults (items_in (items_tree row.now))) found.new) }

@@ -10,7 +10,7 @@ use file_scope::Words;
 use layer_ast::Name;
 use std::alloc::{AllocError, Global};
 
-/// Names, none of which may be there twice.
+/// Judges names, none of which may be there twice.
 #[tactic(auto, using(file_scope::proofs::Finds::finds_none, crate::proofs::Twice::alone))]
 pub fn twice(alloc: Global, found: &mut Found, names: &[Name]) -> Result<(), AllocError>
     ensures { OnOk result (Finds found.old (twice_among [] names.now) found.new) }
@@ -27,7 +27,7 @@ pub fn twice(alloc: Global, found: &mut Found, names: &[Name]) -> Result<(), All
     Ok(())
 }
 
-/// One name too many for each of these.
+/// Notes each of these names as one too many.
 #[tactic(auto, using(file_scope::proofs::Finds::finds_none, file_scope::proofs::Finds::one_more))]
 fn all_too_many(found: &mut Found, names: &[Name])
     ensures { Finds found.old (map (λ name. fault.too_many name.at) names.now) found.new }
@@ -37,7 +37,7 @@ fn all_too_many(found: &mut Found, names: &[Name])
     }
 }
 
-/// Names, of which there may be `most`.
+/// Judges the number of names, of which there may be `most`.
 #[tactic(auto, using(file_scope::proofs::Finds::finds_none, crate::proofs::Finds::none_beyond))]
 pub fn too_many(found: &mut Found, most: usize, names: &[Name])
     ensures { Finds found.old (too_many_of most names.now) found.new }

@@ -22,7 +22,7 @@ use file_scope::Scope;
 use layer_ast::{Given, Place};
 use std::alloc::{AllocError, Global};
 
-/// The params that a place gives, none of which may be there twice.
+/// Judges the params that a place gives, none of which may be there twice.
 fn each_once(alloc: Global, found: &mut Found, given: &[Given]) -> Result<(), AllocError>
     ensures { OnOk result (Finds found.old (twice_among [] (map (λ g. g.name) (map given_tree given.now))) found.new) }
 {
@@ -31,7 +31,7 @@ fn each_once(alloc: Global, found: &mut Found, given: &[Given]) -> Result<(), Al
     Ok(())
 }
 
-/// The params that a place gives, which must be params of its layer.
+/// Judges the names that a place gives values, which must be params of its layer.
 #[tactic(auto, using(file_scope::proofs::Finds::finds_none, file_scope::proofs::Finds::part_more))]
 fn are_params(found: &mut Found, scope: &Scope, given: &[Given])
     ensures { Finds found.old (flat_map (given_faults (scope_of scope.now).layer) (map given_tree given.now))
@@ -43,8 +43,8 @@ fn are_params(found: &mut Found, scope: &Scope, given: &[Given])
     }
 }
 
-/// The sizes that are params, which must be within their limits. They aren't looked at where a fault comes before this
-/// place.
+/// Judges the sizes that are params, which must be within their limits. They aren't looked at where a fault that was
+/// found comes before this place.
 fn sizes(
     alloc: Global,
     found: &mut Found,
@@ -65,7 +65,7 @@ fn sizes(
     Ok(())
 }
 
-/// A place, in the scope of the own names of the layer that it names.
+/// Judges a place, in the scope of the own names of the layer that it names.
 #[tactic(auto, using(file_scope::proofs::Finds::finds_both))]
 pub fn place_in(
     alloc: Global,

@@ -19,7 +19,7 @@ use file_scope::Scope;
 use layer_ast::Place;
 use std::alloc::{AllocError, Global};
 
-/// The layer of the library that a place names, if it does: its faults stand at this place.
+/// Takes into account the faults of the library's layer that a place names, if it names one: they stand at this place.
 #[tactic(auto, using(file_scope::proofs::Layers::within_made))]
 fn called(found: &mut Found, judged: &Judged, place: &Place)
     ensures { Finds found.old (called_faults (file_tree judged.now.file.now) (place_tree place.now)) found.new }
@@ -33,7 +33,7 @@ fn called(found: &mut Found, judged: &Judged, place: &Place)
     }
 }
 
-/// The layers of the library, for each place that names one.
+/// Takes into account the faults of the library's layers, for each place that names one.
 #[tactic(auto, using(file_scope::proofs::Finds::finds_none, crate::proofs::Calls::called_more))]
 pub fn calls(found: &mut Found, judged: &Judged, places: &[Place])
     ensures { Finds found.old
@@ -45,7 +45,7 @@ pub fn calls(found: &mut Found, judged: &Judged, places: &[Place])
     }
 }
 
-/// A place of this layer.
+/// Judges a place of this layer.
 fn place_at(
     alloc: Global,
     found: &mut Found,
@@ -62,7 +62,7 @@ fn place_at(
     Ok(())
 }
 
-/// A place: its layer is one of the file, or else of the library.
+/// Judges a place, whose layer is one of the file, or else of the library.
 #[tactic(auto, using(crate::proofs::Rules::of_place))]
 fn place(alloc: Global, found: &mut Found, judged: &Judged, place: &Place) -> Result<(), AllocError>
     ensures { OnOk result
@@ -89,7 +89,7 @@ fn place(alloc: Global, found: &mut Found, judged: &Judged, place: &Place) -> Re
     Ok(())
 }
 
-/// The places, one by one.
+/// Judges the places, one by one.
 #[tactic(auto, using(file_scope::proofs::Finds::finds_none, file_scope::proofs::Finds::part_more))]
 pub fn places(
     alloc: Global,

@@ -9,7 +9,7 @@ pub use file_scope::{Local, Scope};
 use layer_ast::{Name, Sort};
 use std::alloc::AllocError;
 
-/// Makes a local of this name visible, which may not be there already.
+/// Makes a local of this name visible, which must not be visible already.
 #[tactic(auto, using(crate::proofs::Twice::declares_one))]
 pub fn bring(found: &mut Found, scope: &mut Scope, name: Name, sort: Sort) -> Result<(), AllocError>
     ensures { OnOk result
@@ -22,7 +22,7 @@ pub fn bring(found: &mut Found, scope: &mut Scope, name: Name, sort: Sort) -> Re
     Ok(())
 }
 
-/// Makes locals visible, none of which may be there already.
+/// Makes locals visible, none of which may be visible already.
 #[tactic(auto, using(file_scope::proofs::Finds::finds_none, crate::proofs::Twice::declares_next))]
 pub fn declare(found: &mut Found, scope: &mut Scope, locals: &[Local]) -> Result<(), AllocError>
     ensures { OnOk result

@@ -19,7 +19,7 @@ use layer_ast::{
     Argument, Arguments, Built, Expression, MessageExpression, Name, Pushed, Queue, Size, Statement,
 };
 
-/// The use of a name, which must be visible.
+/// Judges the use of a name, which must be visible.
 pub fn name(found: &mut Found, scope: &Scope, name: &Name)
     ensures { Finds found.old (use_faults (scope_of scope.now) (of_name name.now)) found.new }
 {
@@ -36,7 +36,8 @@ fn is_label(scope: &Scope, queue: &Name, label: &Name) -> bool
     }
 }
 
-/// The use of a label, which must be that of an item of its queue. A row has few items where no fault comes before.
+/// Judges the use of a label, which must be that of an item of its queue. It isn't looked for where a fault that was
+/// found comes before it; elsewhere a row has few items.
 #[tactic(auto, using(file_scope::proofs::Again::unless_past))]
 fn label(found: &mut Found, scope: &Scope, queue: &Name, label: &Name)
     ensures { Finds found.old (use_faults (scope_of scope.now) (of_label queue.now label.now)) found.new }
@@ -47,7 +48,7 @@ fn label(found: &mut Found, scope: &Scope, queue: &Name, label: &Name)
     }
 }
 
-/// The uses in an expression.
+/// Judges the uses in an expression.
 #[cycle(uses)]
 #[tactic(auto, using(crate::proofs::Rules::three_found))]
 pub fn expression(found: &mut Found, scope: &Scope, e: &Expression)
@@ -104,7 +105,7 @@ pub fn expression(found: &mut Found, scope: &Scope, e: &Expression)
     }
 }
 
-/// The uses in the mention of a queue.
+/// Judges the uses in the mention of a queue.
 #[cycle(uses)]
 #[tactic(auto, using(crate::proofs::Rules::three_found))]
 pub fn queue(found: &mut Found, scope: &Scope, q: &Queue)
@@ -117,7 +118,7 @@ pub fn queue(found: &mut Found, scope: &Scope, q: &Queue)
     }
 }
 
-/// The uses in a message.
+/// Judges the uses in a message.
 #[cycle(uses)]
 #[tactic(auto, using(crate::proofs::Rules::three_found))]
 pub fn message(found: &mut Found, scope: &Scope, m: &MessageExpression)
@@ -129,7 +130,7 @@ pub fn message(found: &mut Found, scope: &Scope, m: &MessageExpression)
     }
 }
 
-/// The uses in a message that is no bare name.
+/// Judges the uses in a message that is no bare name.
 #[cycle(uses)]
 #[tactic(auto, using(crate::proofs::Rules::three_found))]
 pub fn built(found: &mut Found, scope: &Scope, b: &Built)
@@ -170,7 +171,7 @@ pub fn built(found: &mut Found, scope: &Scope, b: &Built)
     }
 }
 
-/// The uses in an argument.
+/// Judges the uses in an argument.
 fn argument(found: &mut Found, scope: &Scope, a: &Argument)
     ensures { Finds found.old (uses_faults (scope_of scope.now) (used.argument_uses (argument_tree a.now))) found.new }
 {
@@ -180,7 +181,7 @@ fn argument(found: &mut Found, scope: &Scope, a: &Argument)
     }
 }
 
-/// The uses in arguments.
+/// Judges the uses in arguments.
 #[tactic(auto, using(file_scope::proofs::Finds::finds_none, file_scope::proofs::Finds::nested_more))]
 fn each_argument(found: &mut Found, scope: &Scope, all: &[Argument])
     ensures { Finds found.old
@@ -191,7 +192,7 @@ fn each_argument(found: &mut Found, scope: &Scope, all: &[Argument])
     }
 }
 
-/// The uses in a list of arguments.
+/// Judges the uses in a list of arguments.
 #[tactic(auto, using(file_scope::proofs::Finds::finds_row))]
 fn arguments(found: &mut Found, scope: &Scope, all: &Arguments)
     ensures { Finds found.old (uses_faults (scope_of scope.now) (used.arguments_uses (Some (arguments_tree all.now))))
@@ -201,7 +202,7 @@ fn arguments(found: &mut Found, scope: &Scope, all: &Arguments)
     each_argument(found, scope, &all.rest);
 }
 
-/// The uses in the header that an emission puts on.
+/// Judges the uses in the header that an emission puts on.
 #[tactic(auto, using(file_scope::proofs::Finds::finds_none, file_scope::proofs::Finds::finds_both))]
 fn pushed(found: &mut Found, scope: &Scope, p: &Pushed)
     ensures { Finds found.old (uses_faults (scope_of scope.now) (used.pushed_uses (pushed_tree p.now))) found.new }
@@ -213,7 +214,7 @@ fn pushed(found: &mut Found, scope: &Scope, p: &Pushed)
     }
 }
 
-/// The uses in a size.
+/// Judges the uses in a size.
 #[tactic(auto, using(file_scope::proofs::Finds::finds_none, file_scope::proofs::Finds::finds_both))]
 pub fn size(found: &mut Found, scope: &Scope, s: &Size)
     ensures { Finds found.old (uses_faults (scope_of scope.now) (used.size_uses (size_tree s.now))) found.new }
@@ -224,7 +225,7 @@ pub fn size(found: &mut Found, scope: &Scope, s: &Size)
     }
 }
 
-/// The uses in an expression that may be missing.
+/// Judges the uses in an expression that may be missing.
 #[tactic(auto, using(file_scope::proofs::Finds::finds_none))]
 pub fn optional(found: &mut Found, scope: &Scope, e: &Option<Expression>)
     ensures { Finds found.old
@@ -236,7 +237,7 @@ pub fn optional(found: &mut Found, scope: &Scope, e: &Option<Expression>)
     }
 }
 
-/// The uses in a statement, without those in its blocks.
+/// Judges the uses in a statement, without those in its blocks.
 #[tactic(auto, using(crate::proofs::Rules::row_found))]
 pub fn statement(found: &mut Found, scope: &Scope, s: &Statement)
     ensures { Finds found.old (uses_faults (scope_of scope.now) (used.statement_uses (statement_tree s.now)))

@@ -28,7 +28,7 @@ zero_done ending.Write e s is =
 zero_done ending.Memory e s is =
     absurd (⊎_elim (λ due. omega (arith, due, is)) (λ due. omega (arith, due, is)) (status_said ending.Memory e s))
 
--- after the stream it was whole before, and the stream got all
+-- a text that is whole after the delivery was so before it, and the stream got all
 got_all : (whole : Bool) (end : Ending) → end_after_delivery whole end ≡ ending.Done →
     (whole ≡ true) × (end ≡ ending.Done)
 got_all true ending.Done is = (refl, refl)

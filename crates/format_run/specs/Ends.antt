@@ -37,7 +37,7 @@ around s o shelf shelf_after out out_after = record {
   output_after = tells_of o out_after;
 }
 
--- A word that doesn't begin with a hyphen, as an option does.
+-- A word, unless it begins with a hyphen, as an option does.
 abbrev pub no_option : List ℕ → Option (List ℕ)
 no_option [] = Some []
 no_option (b ∷ bs) = if nat_eq b 45 then None else Some (b ∷ bs)
@@ -65,11 +65,11 @@ abbrev pub end_for : Option (List ℕ) → Ending
 end_for None = ending.Read
 end_for (Some file) = verdict file
 
--- The read found this file.
+-- As far as the shelf tells, it has this under the name: a file, or none.
 abbrev pub Finds : List ℕ → Option Shelved → Option (List ℕ) → Type 0
 Finds name told found = IfSome told (λ shelf. found_in shelf name ≡ found)
 
--- The read found a file that is laid out.
+-- The read found a file that can be laid out.
 pub record IsGood (name : List ℕ) (told : Option Shelved) (reads reads_after : ℕ) (file : List ℕ) : Type 0 where
   pub found : Finds name told (Some file)
   pub good : verdict file ≡ ending.Done
@@ -119,7 +119,7 @@ Writes file old new ending.Write = Fails old new (formatted_lines file)
 Writes file old new ending.Memory = Begins old new (formatted file)
 Writes file old new _ = ⊥
 
--- A file that is laid out was found, and its lines were written, or those before the end.
+-- A file that can be laid out was found, and its lines were written, or those before the end.
 pub record Wrote (name : List ℕ) (a : Around) (end : Ending) : Type 0 where
   pub file : List ℕ
   pub found : IsGood name a.told a.reads a.reads_after file
@@ -142,7 +142,7 @@ pub record Nothing (a : Around) : Type 0 where
   pub untouched : a.output_after ≡ a.output
   pub unread : a.reads_after ≡ a.reads
 
--- How words end that name no file.
+-- How a run ends whose words name no file.
 abbrev pub NoName : Around → Ending → Type 0
 NoName a ending.Words = Nothing a
 NoName a _ = ⊥
@@ -187,7 +187,7 @@ abbrev pub NoPutFailed : Around → Type 0
 NoPutFailed a = Rose a.output.faults a.output_after.faults → ⊥
 
 -- Where the shelf tells and no put failed, the status is the one that what is found calls for, or memory ran out; and a
--- file that is laid out was written whole then.
+-- file that can be laid out was written whole, or memory ran out.
 pub record Exact (name : List ℕ) (a : Around) (status : ℕ) : Type 0 where
   pub due : (shelf : Shelved) → a.told ≡ Some shelf → NoPutFailed a →
       Due (status_of (end_for (found_in shelf name))) status

@@ -10,7 +10,8 @@ use Rattle.format_run.specs.declared.ending.Ending.{Ending}
 use Rattle.format_run.specs.declared.ending.Ending.TheVariants as ending
 use Rattle.format_run.specs.Ends.{Around, IsGood, Comes, Said}
 
--- How a run ended whose stream got all or lacks something: then a whole text is a fault of writing.
+-- How a run ended, by whether the output's stream got all that was put: a whole text that it lacks is a fault of
+-- writing.
 abbrev pub end_after_delivery : Bool → Ending → Ending
 end_after_delivery false ending.Done = ending.Write
 end_after_delivery whole end = end
@@ -38,7 +39,7 @@ pub record RunsThrough (name : Option (List ℕ)) (told : Option Shelved) (reads
   pub heard : Bool
   pub told_on : HandsOn closing err.after err.holds heard
 
--- A file that is laid out was found, and the output's stream gained the whole text.
+-- A file that can be laid out was found, and the output's stream gained the whole text.
 pub record DeliversText (name : List ℕ) (told : Option Shelved) (reads reads_after : ℕ) (out : Stream) : Type 0 where
   pub file : List ℕ
   pub found : IsGood name told reads reads_after file

@@ -19,7 +19,7 @@ pub enum Ending {
     Words,
     /// The file has over 1,048,576 bytes.
     TooLarge,
-    /// The file has a bad token, the first of which stands here.
+    /// The file has bad tokens, and the first of them stands here.
     BadToken(At),
     /// The file couldn't be read.
     Read,

@@ -16,9 +16,9 @@ use std::alloc::{AllocError, Global};
 /// Lays out the file that the words name, the program's own name left out, and answers the program's status. What is
 /// laid out goes to `out`, one line a put; where the run ends with another status than 0, one line on `err` says why.
 ///
-/// With status 0 `out` gained the whole text of the definitions, byte for byte; 1 and 2 come exactly where the file or
-/// the words are refused, 4 and 5 only where the shelf or `out` counted a fault in this call, and 7 where memory ran
-/// out.
+/// With status 0 `out` gained the whole text of the definitions, byte for byte; 1 comes only where the file is refused,
+/// 2 only where the words are, 4 and 5 only where the shelf or `out` counted a fault in this call, and 7 where memory
+/// ran out. Where the shelf tells what it has and no put of `out` failed, the status is the one that is due, or 7.
 pub fn run<S: Shelf, O: Sink, E: Sink>(
     alloc: Global,
     words: &[String],
@@ -50,7 +50,7 @@ pub(crate) fn perform<S: Shelf, O: Sink>(
     }
 }
 
-/// The name of the file that is the one word, if it doesn't begin as an option does, or stands after `--`.
+/// The name of the file: the only word, if it doesn't begin as an option does, or the one word after `--`.
 fn name_of(words: &[String]) -> Option<&str>
     ensures { option_map (λ name. name.now) result ≡ spec.name_of (map string_bytes words.now) }
 {
@@ -61,7 +61,7 @@ fn name_of(words: &[String]) -> Option<&str>
     }
 }
 
-/// A word that doesn't begin as an option does.
+/// A word, unless it begins as an option does.
 fn no_option(word: &str) -> Option<&str>
     ensures { option_map (λ name. name.now) result ≡ spec.no_option word.now }
 {
@@ -81,7 +81,7 @@ fn format_file<S: Shelf, O: Sink>(alloc: Global, name: &str, shelf: &mut S, out:
     }
 }
 
-/// Puts a text that is laid out, and answers how the run ended.
+/// Lays out a text on `out`, and answers how the run ended.
 fn put_text<O: Sink>(alloc: Global, text: &[u8], out: &mut O) -> Ending
     ensures { spec.Writes text.now (tells_of O.Sink out.old) (tells_of O.Sink out.new) result }
 {
@@ -91,7 +91,7 @@ fn put_text<O: Sink>(alloc: Global, text: &[u8], out: &mut O) -> Ending
     }
 }
 
-/// Reads a file without a bad token, or finds how the run ends.
+/// Reads a file that can be laid out, or answers how the run ends.
 fn fetch<S: Shelf>(alloc: Global, name: &str, shelf: &mut S) -> Result<Vec<u8>, Ending>
     ensures { spec.Fetches name.now (S.told shelf.old) (S.faults shelf.old) (S.faults shelf.new) result }
 {

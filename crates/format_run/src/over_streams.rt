@@ -40,7 +40,8 @@ pub fn run_through<S: Shelf, O: Write + Drop, E: Write + Drop>(
     status
 }
 
-/// How a run ended whose stream got all that was put or didn't: then a whole text is a fault of writing.
+/// How a run ended, by whether the output's stream got all that was put: a whole text that it lacks is a fault of
+/// writing.
 fn end_after_delivery(whole: bool, ending: Ending) -> Ending
     ensures { result ≡ end_after_delivery whole ending }
 {

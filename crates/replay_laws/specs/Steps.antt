@@ -20,9 +20,9 @@ use Rattle.member_laws.specs.Steps.{IsStep}
 use Rattle.replay_laws.specs.Scripts.{IsGivenScript}
 use Rattle.replay_laws.specs.Standing.{StandIn, IsStandingWorld, IsStandingMoment}
 
--- The step that an event's member took: it was in a view, with chained states that stand in this view, and something
--- entered in range; the step is that of the definition from there, and the world after it is the one that the step
--- leaves.
+-- A step is that of a moment: before the moment its event's member is in a view, with states that have its rank, its
+-- count of members and its ltime (`StandIn`); the states are chained and what entered is in range (`IsStep`); the step
+-- is the definition's from there; and the world after the moment is the one before it, after this step.
 pub record IsStepOf (stack : List LayerTree) (m : Moment) (s : Step) : Type 0 where
   pub view : View
   pub states : List State
@@ -32,7 +32,8 @@ pub record IsStepOf (stack : List LayerTree) (m : Moment) (s : Step) : Type 0 wh
   pub is : s ≡ step_from stack (here_of m.before view (member_of m.event)) (member_of m.event) states s.entered
   pub world : m.happening.world ≡ world_after m.before view (member_of m.event) s
 
--- What is refused, isn't there or is shown leaves the world as it was.
+-- What an event did is so: a step that was taken is the moment's (`IsStepOf`); a refusal, a packet that doesn't exist
+-- and a member that is shown leave the world as it was.
 abbrev pub ComesTo : List LayerTree → Moment → Did → Type 0
 ComesTo stack m (taken s) = IsStepOf stack m s
 ComesTo stack m _ = m.happening.world ≡ m.before
@@ -54,7 +55,7 @@ pub record IsReplay (file script_text : List ℕ) (stack : List LayerTree) (scri
   pub spelled : script_of script_text ≡ Ok script
 
 -- Then the stack is accepted and typed, the script is made of bytes and numbers, and along its run each world is
--- chained, each member stands in its view, and each moment is such a step.
+-- chained, each member stands in its view, and each moment is such a step or leaves the world as it was.
 pub record IsPlayed (stack : List LayerTree) (script : Script) : Type 0 where
   pub accepts : acceptance stack ≡ Ok stack
   pub typed : TypedStack stack

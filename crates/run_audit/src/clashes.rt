@@ -14,7 +14,8 @@ use crate::segments::Entry;
 use std::alloc::{AllocError, Global};
 use std::collections::HashMap;
 
-/// What tells a place of the lists of segments of one name from the others.
+/// The key of a delivery's place, by which deliveries of several members are compared: the view that names its segment,
+/// if one does; the peer whose list it is in, where each peer has a list; and its place in that list.
 #[derive(Clone, Copy, PartialEq, Eq, Hash)]
 struct PlaceKey {
     view: Option<(u32, u32)>,

@@ -30,7 +30,7 @@ well Read e said is = absurd (not_said _ 4 e said (λ z. omega (arith, z)) is)
 well Write e said is = absurd (not_said _ 5 e said (λ z. omega (arith, z)) is)
 well Memory e said is = absurd (not_said _ 7 e said (λ z. omega (arith, z)) is)
 
--- an end that is well after the stream was well before, and the stream got all
+-- an end that is well after the delivery was so before it, and the stream got all
 got_all : (whole : Bool) (end : Ending) → end_after_delivery whole end ≡ Done → (whole ≡ true) × (end ≡ Done)
 got_all true end is = (refl, is)
 got_all false Done is = absurd (cc is)

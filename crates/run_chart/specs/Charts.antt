@@ -57,7 +57,7 @@ pub record IsMissed (r : Request) (told : Option Shelved) (reads reads_after : �
   pub none : IfSome told (λ shelf. found_in shelf r.file ≡ None)
   pub rose : Rose reads reads_after
 
--- the program ends so at its file
+-- how the program ends at its file, without a picture
 abbrev pub StopsAt : Request → Option Shelved → (reads reads_after : ℕ) → Ending → Type 0
 StopsAt r told reads reads_after TooLarge = IsRefused r told reads reads_after too_large
 StopsAt r told reads reads_after (Line number) = IsRefused r told reads reads_after (bad_line number)

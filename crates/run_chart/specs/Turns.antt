@@ -4,7 +4,7 @@ use Rattle.chart_mean.specs.Place.{Line}
 use Rattle.chart_mean.specs.Row.{turn_at, stays}
 use Rattle.chart_mean.specs.declared.types.Turn.{Turn}
 
--- after a line a text lacks the stays from the next turn on, where it lacked those from a turn on before it
+-- before a line a text lacks the stays from this turn on, and after the line those from the next turn on
 abbrev pub TurnsTo : (member : ℕ) → Turn → Line → (old new : List ℕ) → Turn → Type 0
 TurnsTo member turn line old new next =
     (end : ℕ) (turns : List Turn) → new ++ stays member end next turns ≡ old ++

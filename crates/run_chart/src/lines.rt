@@ -75,7 +75,7 @@ fn line_at<'a>(first: u32, place: usize, text: &'a [u8]) -> DrawnLine<'a>
     }
 }
 
-/// The rows of a picture.
+/// The number of rows of a picture.
 #[tactic(auto, using(crate::proofs::Loops::rows_more))]
 pub(crate) fn count_rows(lines: &[DrawnLine<'_>]) -> u32
     ensures { result ≡ spec.rows (map line_shown lines.now) }

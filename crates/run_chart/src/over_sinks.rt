@@ -21,10 +21,10 @@ const LONGEST_REPORT: u64 = 67_108_864;
 /// Draws the picture that the words ask for, the program's own name left out, on `out`, and answers the program's
 /// status. Where it ends with another status than 0, one line on `err` says why.
 ///
-/// With status 0 `out` gained the picture of the definitions, byte for byte, in one put; 1 and 2 come exactly where the
-/// file is no report and the words ask for no picture, 4 and 5 only where the shelf or `out` counted a fault in this
-/// call, and 7 where memory ran out. A picture of a report that the shelf holds, on which no put of `out` failed, ends
-/// with 0 or 7.
+/// With status 0 `out` gained the picture of the definitions, byte for byte, in one put; 1 comes only where the file is
+/// no report or too large, 2 only where the words ask for no picture, 4 and 5 only where the shelf or `out` counted a
+/// fault in this call, and 7 where memory ran out. Where the shelf tells that it has a report and no put of `out`
+/// failed, the status is 0 or 7.
 pub fn run<S: Shelf, O: Sink, E: Sink>(
     alloc: Global,
     words: &[String],
@@ -70,7 +70,7 @@ fn draw_report<S: Shelf, O: Sink>(
     }
 }
 
-/// Reads a report and draws its picture, or finds how the program ends.
+/// Reads a report and draws its picture, or answers how the program ends.
 fn fetch<S: Shelf>(alloc: Global, request: Request<'_>, shelf: &mut S) -> Result<Vec<u8>, Ending>
     ensures { Fetches (request_shown request.entry) (S.told shelf.old) (S.faults shelf.old) (S.faults shelf.new)
         result }
@@ -79,7 +79,7 @@ fn fetch<S: Shelf>(alloc: Global, request: Request<'_>, shelf: &mut S) -> Result
     chart(alloc, &text, request.range)
 }
 
-/// Reads a report, or finds how the program ends.
+/// Reads a file, which is to be a report, or answers how the program ends.
 fn fetch_text<S: Shelf>(
     alloc: Global,
     request: Request<'_>,

@@ -27,7 +27,7 @@ pub(crate) fn chart(alloc: Global, text: &[u8], range: Range) -> Result<Vec<u8>,
     }
 }
 
-/// Finds whether a text is a report, or how the program ends.
+/// Whether a text is a report; if it isn't, how the program ends.
 fn report(alloc: Global, text: &[u8]) -> Result<(), Ending>
     ensures { (range : Range) → IsReport range text.now result }
 {

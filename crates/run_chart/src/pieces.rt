@@ -12,7 +12,7 @@ use crate::kinds::is_kind;
 use msg_core::LAST_MEMBER;
 use script_text::{cut, number_within};
 
-/// What is left of a text, which is cut at a byte. An empty rest is an empty piece, and no rest is none.
+/// What is left of a text, which is cut at a byte. An empty rest is one empty piece, and no rest is no piece.
 #[derive(Clone, Copy)]
 pub(crate) struct Pieces<'a> {
     at: u8,
@@ -44,7 +44,7 @@ impl<'a> Pieces<'a> {
         }
     }
 
-    /// A member.
+    /// The next word, as a member.
     pub(crate) fn member(&mut self) -> Option<u8>
         ensures { Takes (audit.a_member (pieces_left self.old)) result (pieces_left self.new) }
     {
@@ -53,7 +53,7 @@ impl<'a> Pieces<'a> {
         Some(member as u8)
     }
 
-    /// A number.
+    /// The next word, as a number.
     pub(crate) fn number(&mut self) -> Option<u32>
         ensures { Takes (form.a_number (pieces_left self.old)) result (pieces_left self.new) }
     {
@@ -61,14 +61,14 @@ impl<'a> Pieces<'a> {
         number_within(0, u32::MAX, word)
     }
 
-    /// Any word.
+    /// The next word, whatever it is.
     pub(crate) fn word(&mut self) -> Option<&'a [u8]>
         ensures { TakesWord (form.a_word (pieces_left self.old)) result (pieces_left self.new) }
     {
         self.next()
     }
 
-    /// The kind of a delivery.
+    /// The next word, as the kind of a delivery.
     pub(crate) fn kind(&mut self) -> Option<&'a [u8]>
         ensures { TakesWord (spec.a_word_of spec.kinds (pieces_left self.old)) result (pieces_left self.new) }
     {

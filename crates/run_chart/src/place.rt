@@ -8,7 +8,7 @@ pub(crate) const LEFT: u64 = 40;
 /// The row of the lines that are beside the members.
 pub(crate) const AXIS: u64 = 24;
 
-/// A line, by its place from 0 on.
+/// How far to the right a line stands, by its place from 0 on.
 pub(crate) fn across(place: usize) -> u64
     requires { place ≤ 67108865 }
     ensures is { result ≡ spec.across place }
@@ -17,7 +17,7 @@ pub(crate) fn across(place: usize) -> u64
     52 + 12 * place as u64
 }
 
-/// A member's row.
+/// How far down a member's row stands.
 pub(crate) fn down(member: u32) -> u64
     ensures is { result ≡ spec.down member }
     ensures inside { (72 ≤ result) × (result ≤ 206158430232) }

@@ -51,7 +51,7 @@ impl<'a> Says<'a> {
         }
     }
 
-    /// The rows up to the member.
+    /// The number of rows up to the member's.
     pub(crate) fn rows(&self) -> u32
         ensures { result ≡ rows_to (says_shown self.now) }
     {

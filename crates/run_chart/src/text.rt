@@ -70,7 +70,7 @@ impl Text {
         self.number(number)
     }
 
-    /// Appends what begins an element, and the place where that stands.
+    /// Appends the beginning of an element, and the place where it stands.
     pub(crate) fn put_at(&mut self, opening: &[u8], x: u64, y: u64) -> Result<(), AllocError>
         ensures { OnOk result
             (self.new ≡ self.old ++ (opening.now ++ numbered (codes "x") x ++ numbered (codes "y") y)) }
@@ -80,7 +80,7 @@ impl Text {
         self.attribute(b"y", y)
     }
 
-    /// Appends a line.
+    /// Appends the element of a line that is drawn.
     pub(crate) fn put_line(
         &mut self,
         opening: &[u8],

@@ -32,7 +32,7 @@ pub(crate) fn asked_for<'w>(
     }
 }
 
-/// What `clap` found, by name.
+/// The request in what `clap` found, by name.
 fn request_in<'w>(matches: &ArgMatches<'w>) -> Option<Request<'w>>
     ensures { option_map request_shown result ≡ spec.request_in (rows_found matches.now) }
 {
@@ -43,7 +43,7 @@ fn request_in<'w>(matches: &ArgMatches<'w>) -> Option<Request<'w>>
     Some(Request { file, range })
 }
 
-/// The number of a line, if one is given.
+/// The number of a line that is given, or else the default.
 fn line_number(default: u32, given: Option<&str>) -> Option<u32>
     ensures { result ≡ spec.line_number default (word_shown given.entry) }
 {

@@ -7,7 +7,10 @@ use Rattle.script_mean.specs.Words.{hex_digit, hex_bytes}
 abbrev pub digit_value : ℕ → ℕ
 digit_value byte = unwrap_or (hex_digit byte) 16
 
--- a block's bytes are written after those before it, or what spells it isn't all digits
+-- what writing the 16 bytes at a place answers. True: the old bytes before the place, followed by those that the digits
+-- from twice the place on spell, are the new bytes before the block's end, followed by those that the digits after its
+-- 32 spell; the ones spell bytes exactly if the others do. False: the digits from twice the place on spell no bytes. In
+-- both cases the length stays.
 abbrev pub WritesBlock : ℕ → (digits old new : List ℕ) → Bool → Type 0
 WritesBlock at digits old new true = (length new ≡ length old) ×
     (option_map (λ more. take at old ++ more) (hex_bytes (drop (2 * at) digits))
