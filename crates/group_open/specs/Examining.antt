@@ -14,8 +14,8 @@ use Rattle.bypass_member.specs.declared.error.OpenError.TheVariants.{TooLarge, M
 use Rattle.group_feed.specs.Beginning.{IsAtFirst}
 use Rattle.group_open.specs.declared.run.Examination.{Examination}
 
--- A group is where it begins by bypasses, and its members have room; the shapes of its stack's entries are those that
--- aren't too long.
+-- A group that runs by bypasses is where it begins, with its stack's plans and those shapes of the stack's entries that
+-- aren't too long, and its members have room.
 pub record IsExamination (stack : List LayerTree) (group stamp members : ℕ) (e : Examination) : Type 0 where
   pub stack_is : stack_tree e.stack ≡ stack
   pub plans_are : plans_tree (rc_value e.plans) ≡ plans_of stack
@@ -23,7 +23,7 @@ pub record IsExamination (stack : List LayerTree) (group stamp members : ℕ) (e
   pub first : IsAtFirst bypass stack (plans_of stack) group stamp members e.group e.outputs.places
   pub room : HasRoom stack members
 
--- It is open, or its members would keep too many rows, or memory ran out.
+-- It is open, or its members may keep too many rows, or memory ran out.
 abbrev pub OpensExamined : List LayerTree → (group stamp members : ℕ) → Result Examination OpenError → Type 0
 OpensExamined stack group stamp members (Ok e) = IsExamination stack group stamp members e
 OpensExamined stack group stamp members (Err TooLarge) = most_rows < rows_of stack members

@@ -1,4 +1,4 @@
--- What opening a run gives.
+-- What opening a group yields.
 use Rattle.std.specs.Prelude.{◌≡◌, ℕ, ◌<◌, List, Option, option_map, Result, Ok, Err}
 use Rattle.std.specs.Rc.{rc_value}
 use Rattle.bypass_codes.specs.Codes.{CodesTree}
@@ -55,7 +55,7 @@ pub record IsPrepared (mode : Mode) (stack : List LayerTree) (p : Parts) : Type 
   pub codes_are : CodesFor mode stack (option_map rc_value p.codes)
   pub places : p.outputs.places ≡ largest_weight stack
 
--- It is made of a stack that is drawn and of this code.
+-- These parts are made of a stack that is drawn and of this code.
 pub record ArePartsOf (d : Drawn) (codes : Option CodesTree) (p : Parts) : Type 0 where
   pub maker : making p.maker ≡ making d.maker
   pub stack_is : stack_tree p.stack ≡ stack_tree d.stack
@@ -75,7 +75,7 @@ pub record IsExaminable (stack : List LayerTree) (p : Parts) (checks : AllAsked)
   pub parts : IsPrepared bypass stack p
   pub checks_are : AreChecksOf stack checks
 
--- A group begins in a mode, whose members have room.
+-- A group is where it begins, in a mode, and its members have room.
 pub record IsOpen (mode : Mode) (stack : List LayerTree) (group stamp members : ℕ) (o : Opened) : Type 0 where
   pub stack_is : stack_tree o.stack ≡ stack
   pub plans_are : plans_tree (rc_value o.plans) ≡ plans_of stack
@@ -83,7 +83,7 @@ pub record IsOpen (mode : Mode) (stack : List LayerTree) (group stamp members : 
   pub first : IsAtFirst mode stack (plans_of stack) group stamp members o.group o.outputs.places
   pub room : HasRoom stack members
 
--- It is open, or its members would keep too many rows, or memory ran out.
+-- It is open, or its members may keep too many rows, or memory ran out.
 abbrev pub Opens : Mode → List LayerTree → (group stamp members : ℕ) → Result Opened OpenError → Type 0
 Opens mode stack group stamp members (Ok o) = IsOpen mode stack group stamp members o
 Opens mode stack group stamp members (Err TooLarge) = most_rows < rows_of stack members

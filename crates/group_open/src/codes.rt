@@ -27,7 +27,7 @@ use std::rc::Rc;
 use synth::synth;
 use trace_core::Bypasses;
 
-/// The code of bypasses, where members share it.
+/// The code of bypasses, for members to share.
 fn code_of(alloc: Global, bypasses: &Bypasses) -> Result<Rc<Codes>, AllocError>
     ensures { IfOk result (λ codes. rc_value codes ≡ codes_of (bypasses_tree bypasses.now)) }
 {
@@ -47,7 +47,7 @@ pub(crate) fn given_code(
     code_of(alloc, bypasses)
 }
 
-/// That of the bypasses that are made of a stack.
+/// The code of the bypasses that are made of a stack.
 fn stack_code(alloc: Global, stack: &Stack, shapes: &StackShapes) -> Result<Rc<Codes>, AllocError>
     requires sound { IsSound (stack_tree stack.now) }
     requires plans { plans_tree shapes.now.plans ≡ plans_of (stack_tree stack.now) }
@@ -58,7 +58,7 @@ fn stack_code(alloc: Global, stack: &Stack, shapes: &StackShapes) -> Result<Rc<C
     given_code(alloc, &bypasses, stack)
 }
 
-/// The same, if members run by it.
+/// The same if members run by bypasses, and else none.
 pub(crate) fn codes_for(
     alloc: Global,
     mode: Mode,
@@ -89,7 +89,7 @@ fn code_and_checks(
     Ok((codes, checks))
 }
 
-/// Those of a stack's bypasses.
+/// The same of the bypasses that are made of a stack.
 pub(crate) fn examining_codes(
     alloc: Global,
     stack: &Stack,

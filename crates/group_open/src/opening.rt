@@ -22,7 +22,7 @@ use std::alloc::Global;
 use trace_core::Bypasses;
 use world_core::World;
 
-/// Opens a group of n members with what it is made of.
+/// Opens a group of n members, of these parts.
 pub(crate) fn begin(
     alloc: Global,
     parts: Parts,

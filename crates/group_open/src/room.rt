@@ -9,8 +9,8 @@ use event_graph::Stack;
 /// The most rows with messages that a member's layers may keep.
 const MOST_ROWS: u32 = 8192;
 
-/// Whether each member of a view of this many keeps no more rows with messages than a member may; else no such group
-/// is opened.
+/// Whether each member of a view of this many may keep `MOST_ROWS` rows with messages at most; if not, no such group is
+/// opened.
 pub fn has_room(stack: &Stack, members: u8) -> bool
     ensures { result ≡ nat_le (rows_of (stack_tree stack.now) members) most_rows }
 {

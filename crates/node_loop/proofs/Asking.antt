@@ -1,4 +1,4 @@
--- What comes of it as a member asks the network.
+-- What follows as a member asks the network.
 use Rattle.std.proofs.Common.{◌≡◌, ℕ, suc, ◌+◌, ◌<◌, ◌≤◌, List, [], ◌∷◌, length, get_or, take, drop, refl, sym, ap}
 use Rattle.std.proofs.Common.{subst, ◌∙◌, arith, Option, Some, None}
 use Rattle.std.proofs.lemmas.List.{at_drop_more, at_drop_all}
@@ -41,7 +41,7 @@ tells_met id met None after met_is is = subst (Tells (λ n n'. (next_met id n �
 tells_met id met (Some n) after met_is is =
     subst (Tells (λ n n'. (next_met id n ≡ met) × (n' ≡ after_recv id n)) (Some n)) (sym is) (met_is, refl)
 
--- A desk at which nothing but the room and the tools are others.
+-- A desk at which only the room and the tools may have changed.
 pub record IsDesk (d d' : NodeDesk) : Type 0 where
   pub outputs : d'.outputs ≡ d.outputs
   pub events : d'.events ≡ d.events

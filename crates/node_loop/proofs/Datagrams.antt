@@ -90,7 +90,7 @@ lost_handled k h a b c r p wrote faults sendings told =
     handles_then a b c (sends h ∷ []) (λ g. puts (lost_line k) ∷ []) (sending_acts k (h ∷ [])) (true ∷ []) r p
     (lines_handled b c (lost_line k ∷ []) r (omega arith) wrote faults sendings told) (λ g few. refl)
 
--- Datagrams in parts: which sendings failed is told for each in front.
+-- Datagrams in two parts: which sendings failed is told for each of the first part.
 
 lost_same : (k : ℕ) (x : Bool) (f g : List Bool) → lost_acts k (x ∷ f) ≡ lost_acts k (x ∷ g)
 lost_same k true f g = refl

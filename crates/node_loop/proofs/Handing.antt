@@ -106,7 +106,7 @@ module _ (stack : List LayerTree) (plans : List Plan) (id : ℕ) where
       (passes_lines a b (output_lines stack id k o.0) wrote faults sendings told) h
       (λ g few. ap (λ hs. map puts (output_lines stack id k o.0) ++ sending_acts k hs g) are)
 
-  -- Outputs in parts: which sendings failed is told for each in front.
+  -- Outputs in two parts: which sendings failed is told for each of the first part.
   no_more : {A : Type 0} (xs : List A) → length xs ≤ 0 → xs ≡ []
   no_more [] few = refl
   no_more (x ∷ xs) few = absurd (omega (arith, few))

@@ -197,7 +197,7 @@ breaks_first a b acts e stopped faults sendings told = record {
   told = subst (Tells (WentOn [] [] []) a.told) (sym told) (tells_same (WentOn [] [] []) a.told asked_nothing);
 }
 
--- Acts follow those in front, and may have more after.
+-- The whole is acts that were done, then a part, and then perhaps more acts.
 pub record Follows (front : List Act) (f : List Bool) (part whole : List Bool → List Act) : Type 0 where
   pub more : (g : List Bool) → List Act
   pub are : (g : List Bool) → length g ≤ length (sends_in (part g)) → whole (f ++ g) ≡ front ++ (part g ++ more g)
@@ -210,7 +210,7 @@ fits part e b c q =
     let l = length-append (sends_in q.done) (sends_in q.rest) in
     let k = q.few in omega (arith, n, m, l, k)
 
--- Acts in front, and then acts that were broken off.
+-- Acts that were done, and then acts that were broken off.
 pub breaks_then : (a b c : Around) (xs : List Act) (part whole : List Bool → List Act) (f : List Bool) (e : SinkError) →
     Passes xs f a b → Breaks part e b c → Follows xs f part whole → Breaks whole e a c
 breaks_then a b c xs part whole f e p q follow =

@@ -68,7 +68,7 @@ run_length : (stack : List LayerTree) (plans : List Plan) (w : World) (events : 
 run_length stack plans w [] = refl
 run_length stack plans w (event ∷ events) = ap suc (run_length stack plans (happens stack plans w event).world events)
 
--- Surroundings that went no further than their links.
+-- Surroundings of which the network alone may have changed, as is said of it.
 pub record Reaches (OverNetwork : Network → Network → Type 0) (a b : Around) : Type 0 where
   pub output : b.output ≡ a.output
   pub faults : b.faults ≡ a.faults

@@ -262,7 +262,7 @@ module _ (stack : List LayerTree) (plans : List Plan) (c : Course) (b : Begun) w
     abbrev front : List Act
     front = acts_of b.mode stack plans b.first so.done so.failed
 
-    -- The acts of what is left begin so, where it is told which of their sendings failed, in a number of events.
+    -- The acts of what is left begin with those that were done, given which of their sendings failed, event by event.
     pub cut : (flags : List (List Bool)) (done after_them : List Act) (a' : Around) (e : SinkError) →
         acts_of b.mode stack plans so.world left flags ≡ done ++ after_them →
         Stops e done after_them at.around.output a'.output →

@@ -27,7 +27,7 @@ each_at P [] i d lt h = absurd (omega (arith, lt))
 each_at P (y ∷ ys) zero d lt h = h.0
 each_at P (y ∷ ys) (suc i) d lt h = each_at P ys i d (omega (arith, lt)) h.1
 
--- a test of all, the one way round and the other
+-- a test of two numbers, the other way round
 eqb_turned : (x y : ℕ) → (x == y) ≡ (y == x)
 eqb_turned x y = go (x == y) refl where
   go : (b : Bool) → (x == y) ≡ b → (x == y) ≡ (y == x)

@@ -167,13 +167,13 @@ plans_in c = plans_tree c.plans.now
 abbrev pub course_of : code.Course → Course
 course_of c = record { plan = c.plan.now; me = c.me.now; turns = c.turns }
 
--- All turns were made, or the node went deaf in one of them, or it was broken off.
+-- All turns were made, and no more receives failed than are borne.
 pub record MadeAll (stack : List LayerTree) (plans : List Plan) (c : Course) (b : Begun) (at : Now) : Type 0 where
   pub borne : ℕ
   pub few : borne ≤ b.patience
   pub so : SoFar stack plans c b c.turns (c.turns * length c.me) nothing_left borne at
 
--- The failure that isn't borne comes in the turn of the last moment.
+-- The node went deaf: the failure that isn't borne came in the turn of the last moment.
 pub record MadeSome (stack : List LayerTree) (plans : List Plan) (c : Course) (b : Begun) (at : Now) : Type 0 where
   pub moments : ℕ
   pub answers : ℕ
@@ -182,6 +182,7 @@ pub record MadeSome (stack : List LayerTree) (plans : List Plan) (c : Course) (b
   pub begun : moments * length c.me < answers + length c.me
   pub deaf : DeafAt stack plans c b moments answers at
 
+-- All turns were made, or the node went deaf in one of them, or it was broken off.
 abbrev pub Made : List LayerTree → List Plan → Course → Begun → Now → Result (Unit {0}) NodeError → Type 0
 Made stack plans c b at (Ok done) = MadeAll stack plans c b at
 Made stack plans c b at (Err Link) = MadeSome stack plans c b at

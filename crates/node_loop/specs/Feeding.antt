@@ -19,7 +19,7 @@ use Rattle.node_loop.specs.Around.{Around}
 use Rattle.node_loop.specs.Passing.{Breaks, PassesAll}
 use Rattle.node_loop.specs.declared.desk.NodeDesk.{NodeDesk}
 
--- A group in this mode stands at a world of n members, whose packets can be spelled.
+-- A group in this mode, of n members, stands at a chained world whose views have members of the group alone.
 pub record Somewhere (mode : Mode) (stack : List LayerTree) (plans : List Plan) (n : ℕ) (c : Peopled) (w : World) : Type
     0 where
   pub mode_is : c.mode ≡ mode

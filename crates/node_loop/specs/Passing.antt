@@ -43,12 +43,13 @@ pub record StopsAtPut (done rest : List Act) (a b : sink.Tells) : Type 0 where
   pub put : Gains a mid (lines_in done)
   pub fails : Fails mid b (line ∷ [])
 
--- They were put, and memory ran out in the next act.
+-- The line of the next act, if this puts one; else no bytes.
 abbrev pub next_line : List Act → List ℕ
 next_line [] = []
 next_line (puts line ∷ acts) = line
 next_line (sends handed ∷ acts) = []
 
+-- The lines of the acts that were done were put, and memory ran out in the next act, of whose line a part may be put.
 pub record StopsForMemory (done rest : List Act) (a b : sink.Tells) : Type 0 where
   pub mid : sink.Tells
   pub put : Gains a mid (lines_in done)
@@ -70,11 +71,12 @@ pub record Breaks (acts : List Bool → List Act) (e : SinkError) (a b : Around)
   pub sendings : b.sends ≡ count_on a.sends (failures_in failed)
   pub told : Tells (WentOn [] (sends_in done) []) a.told b.told
 
--- They were done, or broken off.
+-- Acts, which depend on the sendings that failed, were done.
 pub record PassesAll (acts : List Bool → List Act) (a b : Around) : Type 0 where
   pub failed : List Bool
   pub passed : Passes (acts failed) failed a b
 
+-- They were done, or broken off.
 abbrev pub Handles : (List Bool → List Act) → Around → Around → Result (Unit {0}) SinkError → Type 0
 Handles acts a b (Ok done) = PassesAll acts a b
 Handles acts a b (Err e) = Breaks acts e a b

@@ -99,7 +99,7 @@ pub record ListenFailed (task : Task) (n n' : Network) : Type 0 where
   pub listens : flags_of (count + 1) n.listens ≡ replicate count false ++ true ∷ []
   pub is : n' ≡ after_listens task.plan.peers (take (count + 1) task.words.me) n
 
--- Then nothing was done.
+-- A member couldn't listen, and nothing else was done.
 pub record CouldNotListen (task : Task) (a b : Whereabouts) : Type 0 where
   pub untouched : b.around.output ≡ a.around.output
   pub faults : RoseBy a.around.faults b.around.faults 1
@@ -107,8 +107,8 @@ pub record CouldNotListen (task : Task) (a b : Whereabouts) : Type 0 where
   pub clock : b.clock ≡ a.clock
   pub network : Tells (ListenFailed task) a.around.told b.around.told
 
--- One more receive failed than is borne: the last answer, in the turn of the last moment. What was written before is
--- the whole journal's.
+-- One more receive failed than is borne: the last answer, in the turn of the last moment. What was written is the whole
+-- journal up to there, without the last line.
 pub record WentDeaf (task : Task) (a b : Whereabouts) : Type 0 where
   pub s : Surroundings
   pub before : List Heard

@@ -111,7 +111,7 @@ fn feed_datagram<F: Feed, O: Sink, N: Links>(
     feed_on(feed, course, desk, &event, out, links)
 }
 
-/// Lets a member ask the network: a datagram is an event of the member's.
+/// Lets a member ask the network: a datagram that it receives is an event of the member's.
 fn ask<F: Feed, O: Sink, N: Links>(
     feed: &mut F,
     course: Course<'_>,

@@ -19,8 +19,8 @@ abbrev pub cut_short : Result (Unit {0}) SinkError → Result (Unit {0}) PlayErr
 cut_short (Ok wrote) = Ok wrote
 cut_short (Err cause) = Err (unwritten cause)
 
--- Lines that were written in a mode over a stack whose members have room, as another mode, stack and plans that are the
--- same see it.
+-- Lines that were written in a mode over a stack whose members have room are those of a mode, a stack and plans that
+-- equal these.
 pub plays : (lines : Mode → List LayerTree → List Plan → List (List ℕ)) (mode own_mode : Mode)
     (stack own : List LayerTree) (plans own_plans : List Plan)
     (members : ℕ) (a b : Tells) (r : Result (Unit {0}) SinkError) → own_mode ≡ mode → own ≡ stack → own_plans ≡ plans →
@@ -35,7 +35,7 @@ plays lines mode own_mode stack own plans own_plans members a b r same_mode same
       go (Err Failed) w = (room, w)
       go (Err Memory) w = inr (room, w)
 
--- A group that begins in a mode does so in its own.
+-- A group that begins in a mode begins in the mode that it has.
 pub first_as_it_is : (mode : Mode) (stack : List LayerTree) (plans : List Plan) (group stamp members : ℕ) (c : Peopled)
     (places : ℕ) →
     IsAtFirst mode stack plans group stamp members c places → IsAtFirst c.mode stack plans group stamp members c places

@@ -130,7 +130,7 @@ load_comes name seed events members raw mode a stack f = played (load name seed 
     (λ room. record { stack = stack; means = f.means; room = room; written = refl })
     refl refl f.sound
 
--- A replay by traces ended as what followed its stack and its script.
+-- A replay by traces ended as what followed the reads of its stack and its script did.
 module _ (name script given : Text) (wire count : Bool) (a : Around) (between middle : ℕ) (stack : List LayerTree)
     (s : Script)
     (f : IsStack name a.told a.reads between stack)

@@ -1,4 +1,4 @@
--- What the read of a file of traces gives, and a replay by these.
+-- What the read of a file of traces answers, and what a replay by these does.
 use Rattle.std.specs.Prelude.{◌≡◌, ◌⊎◌, ℕ, ◌<◌, Bool, List, Option, Some, IfSome, Result, Ok, Err}
 use Rattle.std.specs.List.{concat}
 use Rattle.clap.specs.Walk.{Text}
@@ -31,12 +31,13 @@ refused_as (Line line) = traces_refused (bad_line line)
 refused_as (Differs entry case act) = traces_refused (differs entry case act)
 refused_as Memory = no_memory
 
--- The bypasses of the traces that a text holds for a stack, or why it is refused.
+-- Why a text holds no traces that are accepted for a stack; want of memory says nothing of it.
 abbrev pub RefusedTraces : List LayerTree → List ℕ → Ended → Type 0
 RefusedTraces stack text (traces_refused fault) = IsFault stack text fault
 RefusedTraces stack text no_memory = Unit {0}
 RefusedTraces stack text _ = ⊥
 
+-- The bypasses of the traces that a text holds for a stack, or why it is refused.
 abbrev pub JudgesTraces : List LayerTree → List ℕ → Result Bypasses Ending → Type 0
 JudgesTraces stack text (Ok b) = Accepts stack text × AreOfStack stack (bypasses_tree b)
 JudgesTraces stack text (Err ending) = RefusedTraces stack text (shown_end ending)
@@ -57,7 +58,7 @@ pub record AreRefused (stack : List LayerTree) (name : Text) (told : Option Shel
   pub refused : IsFault stack text fault
   pub sound : reads_after ≡ reads
 
--- A job ends so at its file of traces.
+-- How a job ends at its file of traces.
 abbrev pub StopsAtTraces : List LayerTree → Text → Option Shelved → (reads reads_after : ℕ) → Ended → Type 0
 StopsAtTraces stack name told reads reads_after (traces_refused fault) =
     AreRefused stack name told reads reads_after fault
@@ -73,7 +74,7 @@ FetchesTraces stack name told reads reads_after (Ok b) = AreTraces stack name to
 FetchesTraces stack name told reads reads_after (Err ending) =
     StopsAtTraces stack name told reads reads_after (shown_end ending)
 
--- A script was played by accepted traces over a stack whose members have room, and the end is that of what was put out.
+-- A script was played by accepted traces over a stack whose members have room, and `Came` is so of what was put out.
 pub record PlayedSo (Came : Type 0) (stack : List LayerTree) (s : Script) (name : Text) (a : Around) : Type 0 where
   pub room : HasRoom stack s.members
   pub traces : AreTraces stack name a.told a.reads a.reads_after

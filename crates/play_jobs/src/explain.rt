@@ -15,7 +15,7 @@ use std::alloc::Global;
 use std::mem::forget;
 
 /// Plays a script over a stack file by bypasses, and writes why its steps weren't common. The memory of the file's tree
-/// goes back with that of the program.
+/// isn't given back before the program ends.
 pub fn explain_script<S: Shelf, O: Sink>(
     alloc: Global,
     explain: &Explain<'_>,

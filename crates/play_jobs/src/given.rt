@@ -45,7 +45,7 @@ pub fn replay_with<S: Shelf, O: Sink>(
 }
 
 /// The same over a stack and a script that are read. The rows of the members are judged before the traces are read. The
-/// memory of bypasses goes back with that of the program.
+/// memory of the bypasses isn't given back before the program ends.
 fn play_traces<S: Shelf, O: Sink>(
     alloc: Global,
     replay: &ReplayWith<'_>,

@@ -1,6 +1,6 @@
 //! The jobs that run a stack: `replay` over a script, by a stack's own bypasses or by those whose traces a file holds,
 //! `explain`, which tells why its steps weren't common, and `load` over a script that is made from a seed. Each opens a
-//! group, has the script played in it, and lets it go.
+//! group, has the script played in it, and lets go of it.
 #![tactic(auto)]
 
 mod counting;

@@ -64,7 +64,7 @@ pub fn play<O: Sink>(
     }
 }
 
-/// Plays a script by bypasses that are given, and are the stack's: to the same report as `play` in bypass mode.
+/// Plays a script by bypasses that are given, and are the stack's: with the same report as `play` in bypass mode.
 pub(crate) fn play_with<O: Sink>(
     alloc: Global,
     bypasses: &Bypasses,
@@ -98,7 +98,7 @@ pub(crate) fn play_with<O: Sink>(
     }
 }
 
-/// Plays a script in a group that begins, and lets the group go.
+/// Plays a script in a group that begins, and lets go of the group.
 fn play_opened<O: Sink>(
     alloc: Global,
     opened: Opened,

@@ -13,7 +13,7 @@ use script_mean::Script;
 use script_text::read_script;
 use std::alloc::Global;
 
-/// Reads a script, or finds how the job ends.
+/// Reads a script, or answers how the job ends.
 pub(crate) fn fetch_script<S: Shelf>(
     alloc: Global,
     name: &str,

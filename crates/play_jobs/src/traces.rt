@@ -16,7 +16,7 @@ use trace_core::Bypasses;
 /// The most bytes of a file of traces.
 const LONGEST_TRACES: u64 = 33_554_432;
 
-/// Reads a file of traces, and makes a stack's bypasses of these; or finds how the job ends.
+/// Reads a file of traces, and makes a stack's bypasses of these; or answers how the job ends.
 pub(crate) fn fetch_traces<S: Shelf>(
     alloc: Global,
     stack: &Stack,

@@ -39,7 +39,7 @@ part_at bytes from (end ∷ ends) zero lt = refl
 part_at bytes from (end ∷ ends) (suc zero) lt = part_at bytes end ends zero (omega arith)
 part_at bytes from (end ∷ ends) (suc (suc k)) lt = part_at bytes end ends (suc k) (omega arith)
 
--- a part that lies in front stays, whatever comes after
+-- a part stays, whatever bytes come after it
 range_stays : (bytes more : List ℕ) (from end : ℕ) → from ≤ end → end ≤ length bytes →
     slice_range (bytes ++ more) from end ≡ slice_range bytes from end
 range_stays bytes more from end le within =

@@ -7,7 +7,7 @@ use Rattle.view_core.specs.Steps.{input_meant}
 use Rattle.world_core.specs.declared.asked.Asked.{Asked}
 use Rattle.world_core.specs.declared.asked.Asked.TheVariants.{Step, Absent, Shown}
 
--- An input is given to this member.
+-- If an input is given, it is given to this member.
 abbrev pub IsFor : ℕ → Asked → Type 0
 IsFor member (Step id input) = id ≡ member
 IsFor member _ = Unit {0}

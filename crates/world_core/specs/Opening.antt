@@ -1,4 +1,4 @@
--- What opening a group gives.
+-- What opening a group yields.
 use Rattle.std.specs.Prelude.{◌≡◌, ℕ, ◌+◌, ◌*◌, ◌<◌, ◌≤◌, List, map, length, Result, Ok, Err}
 use Rattle.std.specs.List.{range_with_len}
 use Rattle.std.specs.declared.alloc.Global.{Global}
@@ -37,7 +37,7 @@ pub record AreOpen (o : Opening) (n : ℕ) (before after : Making) (members : Li
   pub same : after.stack ≡ before.stack
   pub made : after.made ≡ before.made + n * length (stack_in o)
 
--- The members may keep too many rows, or there is no memory, and as many layers were made as all have, or fewer.
+-- Members may keep too many rows, and no layer was made; or memory ran out, and at most the layers of all were made.
 abbrev pub IsNotOpen : Opening → (n : ℕ) → (before after : Making) → OpenError → Type 0
 IsNotOpen o n before after TooLarge = (most_rows < rows_of (stack_in o) n) × (after ≡ before)
 IsNotOpen o n before after Memory = MadeAtMost (n * length (stack_in o)) before after

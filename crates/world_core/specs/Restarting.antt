@@ -17,7 +17,7 @@ pub record AreAgain (view : View) (olds news : List Placed) : Type 0 where
   pub members : map member_of news ≡ map (opened_in view) olds
   pub seats : map seat_of news ≡ map seat_of olds
 
--- They all have in the first view of as many, or each sits where it sat.
+-- They all have begun again in the first view of as many, or each sits where it sat.
 abbrev pub RestartsAll : List Placed → List Placed → Bool → Type 0
 RestartsAll olds news true = AreAgain (first_view (length olds)) olds news
 RestartsAll olds news false = map seat_of news ≡ map seat_of olds

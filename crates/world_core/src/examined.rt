@@ -1,4 +1,4 @@
-//! Groups that tell of events why these are no common steps.
+//! Groups that tell why events are no common steps.
 
 ghost use Rattle.std.specs.Prelude.{◌≡◌};
 ghost use Rattle.world_core.specs.Examining.{IsExamined};
@@ -14,7 +14,7 @@ use step_outputs::Outputs;
 use view_core::Did;
 
 /// The members of a group, and the checks of their stack: those of the bypasses that are made of it. It is fed as its
-/// members are, and can't be let go: it is closed.
+/// world is, and can't be dropped: it is closed.
 pub struct Examined {
     world: World,
     checks: StackChecks,
@@ -45,7 +45,7 @@ impl Examined {
         Examined { world, checks }
     }
 
-    /// Lets the members go.
+    /// Lets go of the members and of the checks.
     pub fn close(self) {
         let Examined { world, checks } = self;
         world.close();

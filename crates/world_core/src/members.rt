@@ -24,7 +24,7 @@ fn first_view(n: u8) -> View
     }
 }
 
-/// Opens the members of a group, in the first view. On an error none is left.
+/// Opens the members of a group, in the first view. On an error none is left open.
 pub fn open_all(
     alloc: Global,
     maker: &mut Maker,
@@ -69,7 +69,7 @@ pub fn restart_all(members: &mut Vec<Member>) -> bool
     true
 }
 
-/// Lets members go.
+/// Lets go of members.
 pub fn close_all(mut members: Vec<Member>) {
     while let Some(member) = members.pop() {
         member.close();

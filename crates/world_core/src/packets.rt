@@ -18,7 +18,7 @@ use std::alloc::Global;
 use std::marker::Model;
 use step_outputs::{OutputView, Outputs, PacketView};
 
-/// For how many bytes more room is made at least.
+/// The least number of bytes for which more room is made.
 const LEAST_ROOM: usize = 1_048_576;
 
 /// Every packet ever sent, as the datagram in which it was sent, in the order of output: the bytes of all, one after
@@ -48,7 +48,7 @@ fn start(ends: &[usize], index: usize) -> usize
     if index == 0 { 0 } else { ends[index - 1] }
 }
 
-/// A part of bytes that has an end.
+/// The part of a number among those whose ends these are.
 #[tactic(auto, using(crate::proofs::Rules::of_part))]
 fn part<'b>(bytes: &'b [u8], ends: &[usize], index: usize) -> &'b [u8]
     requires there { index < length ends.now }
@@ -60,7 +60,7 @@ fn part<'b>(bytes: &'b [u8], ends: &[usize], index: usize) -> &'b [u8]
     &bytes[from..end]
 }
 
-/// Makes room for `more` bytes, and where there is too little, for many at once.
+/// Makes room for `more` bytes; where there is too little, for `LEAST_ROOM` bytes at least.
 fn make_room(bytes: &mut Vec<u8>, more: usize) -> Result<(), Memory>
     ensures items { bytes.new.items ≡ bytes.old.items }
     ensures ok { OnOk result (vec_len bytes.new + more ≤ vec_capacity bytes.new) }

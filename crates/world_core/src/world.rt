@@ -115,7 +115,7 @@ impl World {
         }
     }
 
-    /// An event is taken: its member steps by the input that it is given, if it is given one.
+    /// Takes an event: its member steps by the input that it is given, if it is given one.
     #[inline(always)]
     fn take(
         &mut self,
@@ -191,7 +191,7 @@ impl World {
     }
 
     /// Begins again, in the memory that it has, and answers whether it did: all its members are in the first view, and
-    /// no packet was sent. Where a member doesn't begin again it answers so, and may only be let go.
+    /// no packet was sent. Where a member doesn't begin again, the answer is false, and the group may only be closed.
     pub fn restart(&mut self) -> bool
         ensures again { Restarts self.old self.new result }
         ensures stays { Stays self.old self.new }
@@ -203,7 +203,7 @@ impl World {
         false
     }
 
-    /// Lets the members go.
+    /// Lets go of the members.
     pub fn close(self) {
         let World {
             bypasses: _,
