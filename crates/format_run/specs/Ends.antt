@@ -1,4 +1,4 @@
--- What a run of the program gives: what its read found, what was written, why it ended so, and what is said.
+-- What a run of the program does: what its read found, what was written, why it ended so, and what is said.
 use Rattle.std.specs.Prelude.{◌≡◌, ◌⊎◌, ℕ, ◌<◌, ◌≤◌, nat_eq, nat_lt, if◌then◌else◌, List, [], ◌∷◌, ◌++◌, length, Option}
 use Rattle.std.specs.Prelude.{Some, None, IfSome, IsSomeAnd, Result, Ok, Err, codes}
 use Rattle.std.specs.Fmt.{decimal}
@@ -92,7 +92,7 @@ pub record IsMissed (name : List ℕ) (told : Option Shelved) (reads reads_after
   pub none : Finds name told None
   pub rose : Rose reads reads_after
 
--- The run stops at its read.
+-- How a run stops at its read.
 abbrev pub StopsAt : List ℕ → Option Shelved → (reads reads_after : ℕ) → Ending → Type 0
 StopsAt name told reads reads_after (ending.BadToken at) = IsBad name told reads reads_after at
 StopsAt name told reads reads_after ending.TooLarge = IsLarge name told reads reads_after
@@ -105,7 +105,7 @@ abbrev pub Fetches : List ℕ → Option Shelved → (reads reads_after : ℕ) �
 Fetches name told reads reads_after (Ok text) = IsGood name told reads reads_after text.items
 Fetches name told reads reads_after (Err end) = StopsAt name told reads reads_after end
 
--- A small file has no bad token, or its first one is here.
+-- The text of a small file, which has no bad token; or where its first one stands; or memory ran out.
 abbrev pub Judges : List ℕ → Result (Vec ℕ Global) Ending → Type 0
 Judges file (Ok text) = (text.items ≡ file) × (None ≡ (text_tokens file).bad_at)
 Judges file (Err (ending.BadToken at)) = Some at ≡ (text_tokens file).bad_at
@@ -178,7 +178,7 @@ abbrev pub Said : Ending → Errors → Type 0
 Said ending.Done e = Silent e
 Said end e = SaysLine (said_line end) (status_of end) e
 
--- The status that is due came, or memory ran out.
+-- The status is the one that is due, or that of want of memory.
 abbrev pub Due : ℕ → ℕ → Type 0
 Due due status = (status ≡ due) ⊎ (status ≡ 7)
 

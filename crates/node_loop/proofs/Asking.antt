@@ -80,7 +80,7 @@ module _ (id : ℕ) (into : List ℕ) (a a' : Around) (output : a'.output ≡ a.
         told = told.1;
       }
 
--- What writing gave, as a node's end.
+-- What writing answered, as a node's end.
 abbrev pub cut_short : Result (Unit {0}) SinkError → Result (Unit {0}) NodeError
 cut_short (Ok wrote) = Ok wrote
 cut_short (Err cause) = Err (unwritten cause)

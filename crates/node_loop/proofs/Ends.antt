@@ -130,7 +130,7 @@ module _ (stack : List LayerTree) (plan : NodePlan) (me : List ℕ) (turns patie
     clock_told = no_moments clock;
   }
 
-  -- What the turns of a node that begins give.
+  -- What the turns of a node that begins lead to.
   pub made_first : (plans : List Plan) (c : Peopled) (d : NodeDesk) →
       Rests mode stack plans (length plan.peers) c d (first_of_plan stack plan) → d.events ≡ 0 →
       plans ≡ plans_of stack → (from : Around) (clock : Option (List ℕ)) (at : Now) (r : Result (Unit {0}) NodeError) →

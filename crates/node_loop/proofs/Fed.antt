@@ -1,4 +1,4 @@
--- What an event that a node feeds gives.
+-- What follows from an event that a node feeds.
 use Rattle.std.proofs.Common.{◌≡◌, ℕ, ◌+◌, Bool, List, [], ◌∷◌, ◌++◌, length, map, refl, sym, ap, subst, ◌∙◌}
 use Rattle.std.proofs.Common.{append-nil, Option, Some}
 use Rattle.std.specs.List.{AllByRecursion, flat_map}

@@ -1,4 +1,4 @@
--- What a run gives: all turns, a member that went deaf, or one that was broken off.
+-- How a node's run ends: all turns were made, the node went deaf, or it was broken off.
 use Rattle.std.proofs.Common.{◌≡◌, ◌⊎◌, inl, inr, ℕ, zero, suc, ◌+◌, ◌*◌, ◌≤◌, Bool, true, false, List, [], ◌∷◌, ◌++◌}
 use Rattle.std.proofs.Common.{length, map, take, refl, sym, ap, subst, ◌∙◌, append-nil, arith, Option, Some, None}
 use Rattle.std.proofs.lemmas.Bool.{eqb-true}
@@ -68,7 +68,7 @@ run_length : (stack : List LayerTree) (plans : List Plan) (w : World) (events : 
 run_length stack plans w [] = refl
 run_length stack plans w (event ∷ events) = ap suc (run_length stack plans (happens stack plans w event).world events)
 
--- Surroundings of which the network alone may have changed, as is said of it.
+-- Surroundings of which the network alone may have changed, as `OverNetwork` says.
 pub record Reaches (OverNetwork : Network → Network → Type 0) (a b : Around) : Type 0 where
   pub output : b.output ≡ a.output
   pub faults : b.faults ≡ a.faults
@@ -256,7 +256,7 @@ module _ (stack : List LayerTree) (plan : NodePlan) (me : List ℕ) (turns patie
         told = run_told a from listened t k all.borne at so out;
       }
 
-  -- A member went deaf.
+  -- The node went deaf.
   pub went_deaf : (a : Whereabouts) (from : Around) → Reaches (Listened plan.peers me) a.around from → (at : Now) →
       MadeSome stack plans course (begun from a.clock) at → WentDeaf task a (whereabouts at.around at.clock)
   went_deaf a from listened at some =

@@ -374,7 +374,7 @@ module _ (stack : List LayerTree) (plans : List Plan) (c : Course) (b : Begun) w
       (sendings ∙ ap (λ ls. count_on a.sends (length ls)) (sym (lost_none stack plans so.world after_it)))
       (subst (Tells (WentOn [] [] []) a.told) (sym told) (tells_same (WentOn [] [] []) a.told asked_nothing))
 
-  -- What a fed event gives.
+  -- What follows from an event that was fed.
   pub feeds_so : (m k borne : ℕ) (rest : List ℕ → List Heard → List Doing) (event : ScriptEvent) (g g' : Peopled)
       (d d' : NodeDesk) (a a' : Around)
       (clk : Option (List ℕ)) (r : Result (Unit {0}) SinkError) → Within c b m k borne →

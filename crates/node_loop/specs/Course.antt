@@ -109,7 +109,7 @@ abbrev pub Advances : List LayerTree → List Plan → Course → Begun → (mom
 Advances stack plans c b moments answers rest borne at (Ok done) = SoFar stack plans c b moments answers rest borne at
 Advances stack plans c b moments answers rest borne at (Err e) = CutOff stack plans c b e at.around at.clock
 
--- What feeding an event gives, where that is the next thing to do.
+-- What feeding an event leads to, where that is the next thing to do.
 abbrev pub FedOn : List LayerTree → List Plan → ScriptEvent → Peopled → Peopled → NodeDesk → NodeDesk → Around →
     Around →
     Result (Unit {0}) SinkError → Type 0

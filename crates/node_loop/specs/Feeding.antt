@@ -1,4 +1,4 @@
--- What an event that a node feeds gives.
+-- What follows from an event that a node feeds.
 use Rattle.std.specs.Prelude.{◌≡◌, ℕ, ◌+◌, ◌<◌, List, length, Option, Some, Result, Ok, Err}
 use Rattle.std.specs.List.{AllByRecursion}
 use Rattle.outside.specs.declared.sink.SinkError.{SinkError}

@@ -1,4 +1,4 @@
--- What the listens of a node's members give.
+-- How the listens of a node's members end.
 use Rattle.std.specs.Prelude.{◌≡◌, ℕ, ◌+◌, ◌<◌, true, false, List, [], ◌∷◌, ◌++◌, length, take, replicate, Option}
 use Rattle.std.specs.Prelude.{Result, Ok, Err}
 use Rattle.outside.specs.Count.{next_count}

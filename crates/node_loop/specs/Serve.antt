@@ -46,7 +46,7 @@ whereabouts around clock = record { around = around; clock = clock }
 abbrev pub listens_of : List Peer → List ℕ → List Listen
 listens_of peers me = map (listen_of peers) me
 
--- A network after them.
+-- A network after these listens.
 abbrev pub after_listens : List Peer → List ℕ → Network → Network
 after_listens peers me n =
     record n { listened = n.listened ++ listens_of peers me; listens = drop (length me) n.listens }

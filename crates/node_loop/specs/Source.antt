@@ -1,4 +1,4 @@
--- What a member's outputs give, and when they may be passed on.
+-- The acts of a member's outputs, and when these may be passed on.
 use Rattle.std.specs.Prelude.{ℕ, ◌+◌, ◌^◌, ◌<◌, Bool, List, length, Option, IsSomeAnd}
 use Rattle.std.specs.List.{AllByRecursion}
 use Rattle.event_graph.specs.Answer.{stack_tree}

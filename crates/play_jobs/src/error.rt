@@ -10,7 +10,7 @@ use thiserror::Error;
 /// Why not all lines of a run were written.
 #[derive(Clone, Copy, Debug, PartialEq, Eq, Error)]
 pub enum PlayError {
-    /// A member would keep over 8,192 rows with messages.
+    /// A member may keep over 8,192 rows with messages.
     #[error("too many rows")]
     TooManyRows,
     /// A put failed.

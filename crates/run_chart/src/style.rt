@@ -2,7 +2,7 @@
 ghost use Rattle.std.specs.Prelude.{◌≡◌};
 ghost use Rattle.chart_mean.specs.Style as spec;
 
-/// Fonts and colours, the sign of each kind of line, and a white ground.
+/// Fonts and colours, the sign of each kind of line, and a white background.
 const STYLE: &[u8] = b"<style>
 text { font: 10px 'DejaVu Sans', Verdana, Arial, sans-serif; fill: #241f31 }
 .member { font-size: 14px; font-weight: bold; text-anchor: end }

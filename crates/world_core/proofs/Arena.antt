@@ -13,7 +13,7 @@ pub count_of : (bytes : List ℕ) (from : ℕ) (ends : List ℕ) → length (par
 count_of bytes from [] = refl
 count_of bytes from (end ∷ ends) = ap suc (count_of bytes end ends)
 
--- no part ends after the bytes
+-- parts begin within the bytes, and none ends after them
 pub within : (total from : ℕ) (ends : List ℕ) → EndAt total from ends → from ≤ total
 within total from [] is = omega arith
 within total from (end ∷ ends) is = let more = within total end ends is.1 in let le = is.0 in omega arith

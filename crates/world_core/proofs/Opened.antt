@@ -81,14 +81,14 @@ module _ (o : Opening) (n id : ℕ) (view : View) (before now new : Making) (mem
         omega (arith, next, one, all);
   }
 
-  -- there is no member where the first has too many rows
+  -- no member is open yet where members may keep too many rows
   first_one : AreBelow o n id before now members → most_rows < rows_of (stack_in o) n → id ≡ 0
   first_one below large = go id below.few where
     go : (k : ℕ) → (0 < k → rows_of (stack_in o) n ≤ most_rows) → k ≡ 0
     go zero few = refl
     go (suc k) few = let le = few (omega arith) in absurd (omega arith)
 
-  -- it isn't
+  -- the next isn't opened
   pub open_fails : (e : OpenError) → AreBelow o n id before now members → id < n → view ≡ first_view n → n ≤ 32 →
       Opens o view id now new (Err e) → IsNotOpen o n before new e
   open_fails TooLarge below lt first most is =
@@ -103,7 +103,7 @@ module _ (o : Opening) (n id : ℕ) (view : View) (before now new : Making) (mem
         omega (arith, within, one, all);
   }
 
--- all of them
+-- all of them are open
 pub all_open : (o : Opening) (n id : ℕ) (before now : Making) (members : List Placed) →
     AreBelow o n id before now members → id ≡ n → 1 ≤ n →
     AreOpen o n before now members

@@ -80,7 +80,7 @@ module _ (view : View) (k : ℕ) (olds news : List Placed) (p : Placed) (is : Ar
     pub seats_left : (p' : Placed) → p' ≡ p → map seat_of (set news k p') ≡ map seat_of olds
     seats_left p' same = map-set_same seat_of news k p' p (ap seat_of (same ∙ read)) ∙ is.seats
 
--- all of them have
+-- all of them have begun again
 pub all_again : (view : View) (n k : ℕ) (olds news : List Placed) → AreAgainTo view k olds news → length olds ≤ k →
     view ≡ first_view n → n ≡ length olds →
     AreAgain (first_view (length olds)) olds news

@@ -42,7 +42,7 @@ abbrev pub IsNotOpen : Opening → (n : ℕ) → (before after : Making) → Ope
 IsNotOpen o n before after TooLarge = (most_rows < rows_of (stack_in o) n) × (after ≡ before)
 IsNotOpen o n before after Memory = MadeAtMost (n * length (stack_in o)) before after
 
--- The members of a group are opened, or none is left.
+-- The members of a group are opened, or none is left open.
 abbrev pub OpensAll : Opening → (n : ℕ) → (before after : Making) → Result (Vec Placed Global) OpenError → Type 0
 OpensAll o n before after (Ok members) = AreOpen o n before after members.items
 OpensAll o n before after (Err e) = IsNotOpen o n before after e
