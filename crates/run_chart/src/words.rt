@@ -43,7 +43,7 @@ fn request_in<'w>(matches: &ArgMatches<'w>) -> Option<Request<'w>>
     Some(Request { file, range })
 }
 
-/// The number of a line that is given, or else the default.
+/// The number of a line that is given, or else the default; none where what is given is no such number.
 fn line_number(default: u32, given: Option<&str>) -> Option<u32>
     ensures { result ≡ spec.line_number default (word_shown given.entry) }
 {

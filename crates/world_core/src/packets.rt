@@ -48,7 +48,7 @@ fn start(ends: &[usize], index: usize) -> usize
     if index == 0 { 0 } else { ends[index - 1] }
 }
 
-/// The part of a number among those whose ends these are.
+/// A part of bytes by its number, where each part ends as `ends` says.
 #[tactic(auto, using(crate::proofs::Rules::of_part))]
 fn part<'b>(bytes: &'b [u8], ends: &[usize], index: usize) -> &'b [u8]
     requires there { index < length ends.now }
