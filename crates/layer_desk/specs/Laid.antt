@@ -1,5 +1,6 @@
 -- What lies on a desk while a layer takes an event, and what each operation makes of it.
 use Rattle.std.specs.Prelude.{ℕ, List, [], ◌∷◌, ◌++◌, Bool, true, false, Option, Some, None, option_map, option_to_list}
+use Rattle.std.specs.Prelude.{slice_index_or}
 use Rattle.msg_core.specs.Chain.{Content, plain, popped, first_of}
 use Rattle.msg_core.specs.Parts as parts
 use Rattle.msg_core.specs.declared.message.Header.{Header}
@@ -86,6 +87,11 @@ sends dir event p = record p { sent = p.sent ++ (dir, event) ∷ [] }
 
 abbrev pub sends_first : Dir → Envelope → Header → Laid → Laid
 sends_first dir e header p = with_first (λ m q. sends dir (event_in e (Some (sent_as dir header m))) q) p.hand p
+
+-- An event is sent with the message in a slot of the scope, which stays there; a slot without one has no bytes.
+abbrev pub sends_local : Dir → Envelope → Header → ℕ → Laid → Laid
+sends_local dir e header slot p =
+    sends dir (event_in e (Some (sent_as dir header (slice_index_or p.scope.messages slot (plain []))))) p
 
 -- The first header of the message that arrived, and the message without it.
 abbrev pub first_header : Option Content → Option Header

@@ -9,11 +9,11 @@ ghost use Rattle.msg_core.specs.Parts as parts;
 ghost use Rattle.layer_ast.specs.declared.syntax.Shape.{Shape};
 ghost use Rattle.layer_mean.specs.State.{number_at, flat_index, rows_at, row_at, has_room};
 ghost use Rattle.layer_mean.specs.Value.{number_in, message_in};
-ghost use Rattle.layer_mean.specs.Effect.{sent_as};
 ghost use Rattle.typed_layer.specs.View.{carried_tree, taken_tree};
 ghost use Rattle.layer_desk.specs.Laid.{Laid, bound, assigned, assigned_square, lifted, front_changed, front_joined};
 ghost use Rattle.layer_desk.specs.Laid.{queued};
-ghost use Rattle.layer_desk.specs.Laid.{queued_first, is_found, taken_row, sends, sends_first, first_header};
+ghost use Rattle.layer_desk.specs.Laid.{queued_first, is_found, taken_row, sends, sends_first, sends_local};
+ghost use Rattle.layer_desk.specs.Laid.{first_header};
 ghost use Rattle.layer_desk.specs.Laid.{header_popped, enters, passes_on, left};
 ghost use Rattle.layer_mean.specs.Envelope.{event_in};
 ghost use Rattle.layer_mean.specs.Headers.{said_tag, said_fields};
@@ -22,12 +22,13 @@ ghost use Rattle.layer_desk.specs.Need.{room_need, taken_need, entry_need, passi
 ghost use Rattle.layer_desk.specs.Spent.{Begun, SpentAtMost, Spent, Lifted, Suffices};
 
 use crate::no_room::NoRoom;
+use crate::places::{Queue, RowAt, Sending, Square};
 use layer_ast::Dir;
 use layer_mean::Envelope;
-use msg_core::{Fields, Header};
+use msg_core::Fields;
 use slot_pool::Pool;
 use std::marker::Brand;
-use typed_layer::{Carried, Taken};
+use typed_layer::{Carried, Handler, Taken};
 
 /// How a visit began; contracts alone read it.
 pub trait Start {
@@ -106,14 +107,14 @@ pub trait Desk {
         ensures { result ≡ length (rows_at (shown pool.now self.now).state cell index) };
 
     /// A number of a row.
-    fn item<K: Start>(&self, pool: &Pool, cell: u8, index: u32, row: u32, number: u8) -> u32
+    fn item<K: Start>(&self, pool: &Pool, at: RowAt, number: u8) -> u32
         requires { ready K.begun pool.now self.now }
-        ensures { result ≡ number_in number (row_at (shown pool.now self.now).state cell index row) };
+        ensures { result ≡ number_in number (row_at (shown pool.now self.now).state at.cell at.index at.row) };
 
     /// Whether a queue is there and has fewer rows than its capacity.
-    fn has_room<K: Start>(&self, pool: &Pool, cell: u8, index: u32, capacity: u8) -> bool
+    fn has_room<K: Start>(&self, pool: &Pool, queue: Queue) -> bool
         requires { ready K.begun pool.now self.now }
-        ensures { result ≡ has_room (shown pool.now self.now).state cell index capacity };
+        ensures { result ≡ has_room (shown pool.now self.now).state queue.cell queue.index queue.capacity };
 
     /// The number of bytes of a message of the scope.
     fn local_size<K: Start>(&self, pool: &Pool, slot: u8) -> u32
@@ -121,17 +122,10 @@ pub trait Desk {
         ensures { result ≡ length (slice_index_or (shown pool.now self.now).scope.messages slot (plain [])).body };
 
     /// The number of bytes of a row's message.
-    fn row_size<K: Start>(
-        &self,
-        pool: &Pool,
-        cell: u8,
-        index: u32,
-        row: u32,
-        carried: Carried,
-    ) -> u32
+    fn row_size<K: Start>(&self, pool: &Pool, at: RowAt, carried: Carried) -> u32
         requires { ready K.begun pool.now self.now }
-        ensures { result ≡ length
-            (message_in (carried_tree carried) (row_at (shown pool.now self.now).state cell index row)).body };
+        ensures { result ≡ length (message_in (carried_tree carried)
+            (row_at (shown pool.now self.now).state at.cell at.index at.row)).body };
 
     /// Sets a number of the scope.
     fn bind<K: Start>(&mut self, pool: &Pool, slot: u8, value: u32)
@@ -148,10 +142,11 @@ pub trait Desk {
         ensures free { free pool.now self.new ≡ free pool.now self.old };
 
     /// Sets a number of a square cell.
-    fn assign_square<K: Start>(&mut self, pool: &Pool, cell: u8, row: u32, column: u32, value: u32)
+    fn assign_square<K: Start>(&mut self, pool: &Pool, square: Square, value: u32)
         requires { ready K.begun pool.now self.old }
         ensures ready { ready K.begun pool.now self.new }
-        ensures shown { shown pool.now self.new ≡ assigned_square cell row column value (shown pool.now self.old) }
+        ensures shown { shown pool.now self.new ≡
+            assigned_square square.cell square.row square.column value (shown pool.now self.old) }
         ensures free { free pool.now self.new ≡ free pool.now self.old };
 
     /// Takes a message of the scope into the hand; the scope keeps it.
@@ -174,15 +169,13 @@ pub trait Desk {
     fn lift_row<K: Start>(
         &mut self,
         pool: &mut Pool,
-        cell: u8,
-        index: u32,
-        row: u32,
+        at: RowAt,
         carried: Carried,
     ) -> Result<(), NoRoom>
         requires { ready K.begun pool.old self.old }
         ensures ready { ready K.begun pool.new self.new }
-        ensures shown { OnOk result (shown pool.new self.new ≡
-            lifted (message_in (carried_tree carried) (row_at (shown pool.old self.old).state cell index row))
+        ensures shown { OnOk result (shown pool.new self.new ≡ lifted
+            (message_in (carried_tree carried) (row_at (shown pool.old self.old).state at.cell at.index at.row))
             (shown pool.old self.old)) }
         ensures spent { Lifted (free pool.old self.old) (free pool.new self.new) (held_need (carried_tree carried))
             result };
@@ -209,39 +202,30 @@ pub trait Desk {
         ensures shown { OnOk result (shown pool.new self.new ≡ front_joined (shown pool.old self.old)) }
         ensures spent { Spent (free pool.old self.old) (free pool.new self.new) one_slot result };
 
-    /// Puts a row of numbers alone at the back of a queue of this capacity.
-    fn push<K: Start>(
-        &mut self,
-        pool: &Pool,
-        cell: u8,
-        index: u32,
-        capacity: u8,
-        numbers: Fields,
-    ) -> Result<(), NoRoom>
+    /// Puts a row of numbers alone at the back of a queue.
+    fn push<K: Start>(&mut self, pool: &Pool, queue: Queue, numbers: Fields) -> Result<(), NoRoom>
         requires ready { ready K.begun pool.now self.old }
-        requires room { has_room (shown pool.now self.old).state cell index capacity ≡ true }
+        requires room { has_room (shown pool.now self.old).state queue.cell queue.index queue.capacity ≡ true }
         ensures ready { ready K.begun pool.now self.new }
         ensures shown { OnOk result (shown pool.now self.new ≡
-            queued cell index (record { numbers = numbers; message = None }) (shown pool.now self.old)) }
-        ensures spent { Spent (free pool.now self.old) (free pool.now self.new) (room_need K.begun.layout cell capacity)
-            result };
+            queued queue.cell queue.index (record { numbers = numbers; message = None }) (shown pool.now self.old)) }
+        ensures spent { Spent (free pool.now self.old) (free pool.now self.new)
+            (room_need K.begun.layout queue.cell queue.capacity) result };
 
-    /// Puts a row with the newest message in hand at the back of a queue of this capacity.
+    /// Puts a row with the newest message in hand at the back of a queue.
     fn push_first<K: Start>(
         &mut self,
         pool: &Pool,
-        cell: u8,
-        index: u32,
-        capacity: u8,
+        queue: Queue,
         numbers: Fields,
     ) -> Result<(), NoRoom>
         requires ready { ready K.begun pool.now self.old }
-        requires room { has_room (shown pool.now self.old).state cell index capacity ≡ true }
+        requires room { has_room (shown pool.now self.old).state queue.cell queue.index queue.capacity ≡ true }
         ensures ready { ready K.begun pool.now self.new }
         ensures shown { OnOk result
-            (shown pool.now self.new ≡ queued_first cell index numbers (shown pool.now self.old)) }
-        ensures spent { Spent (free pool.now self.old) (free pool.now self.new) (room_need K.begun.layout cell capacity)
-            result };
+            (shown pool.now self.new ≡ queued_first queue.cell queue.index numbers (shown pool.now self.old)) }
+        ensures spent { Spent (free pool.now self.old) (free pool.now self.new)
+            (room_need K.begun.layout queue.cell queue.capacity) result };
 
     /// Takes the front row of a queue into the scope, and says whether there was one. Messages that stood there go
     /// back.
@@ -274,17 +258,11 @@ pub trait Desk {
         ensures spent { Spent (free pool.now self.old) (free pool.now self.new) one_place result };
 
     /// Sends an event with the newest message in hand, going down after a header.
-    fn send_first<K: Start>(
-        &mut self,
-        pool: &Pool,
-        direction: Dir,
-        envelope: Envelope,
-        header: Header,
-    ) -> Result<(), NoRoom>
+    fn send_first<K: Start>(&mut self, pool: &Pool, sending: &Sending) -> Result<(), NoRoom>
         requires { ready K.begun pool.now self.old }
         ensures ready { ready K.begun pool.now self.new }
-        ensures shown { OnOk result
-            (shown pool.now self.new ≡ sends_first direction envelope header (shown pool.now self.old)) }
+        ensures shown { OnOk result (shown pool.now self.new ≡
+            sends_first sending.now.direction sending.now.envelope sending.now.header (shown pool.now self.old)) }
         ensures spent { Spent (free pool.now self.old) (free pool.now self.new) one_place result };
 
     /// Sends an event with a message of the scope, which the scope keeps, going down after a header. It doesn't go
@@ -292,16 +270,13 @@ pub trait Desk {
     fn send_local<K: Start>(
         &mut self,
         pool: &mut Pool,
-        direction: Dir,
-        envelope: Envelope,
-        header: Header,
+        sending: &Sending,
         slot: u8,
     ) -> Result<(), NoRoom>
         requires { ready K.begun pool.old self.old }
         ensures ready { ready K.begun pool.new self.new }
-        ensures shown { OnOk result (shown pool.new self.new ≡ sends direction
-            (event_in envelope (Some
-            (sent_as direction header (slice_index_or (shown pool.old self.old).scope.messages slot (plain [])))))
+        ensures shown { OnOk result (shown pool.new self.new ≡
+            sends_local sending.now.direction sending.now.envelope sending.now.header slot
             (shown pool.old self.old)) }
         ensures spent { Spent (free pool.old self.old) (free pool.new self.new) one_place result };
 
@@ -310,16 +285,13 @@ pub trait Desk {
     fn send_local_and_leave<K: Start>(
         &mut self,
         pool: &mut Pool,
-        direction: Dir,
-        envelope: Envelope,
-        header: Header,
+        sending: &Sending,
         slot: u8,
     ) -> Result<(), NoRoom>
         requires { ready K.begun pool.old self.old }
         ensures ready { ready K.begun pool.new self.new }
-        ensures shown { OnOk result (shown pool.new self.new ≡ left (sends direction
-            (event_in envelope (Some
-            (sent_as direction header (slice_index_or (shown pool.old self.old).scope.messages slot (plain [])))))
+        ensures shown { OnOk result (shown pool.new self.new ≡ left
+            (sends_local sending.now.direction sending.now.envelope sending.now.header slot
             (shown pool.old self.old))) }
         ensures spent { Spent (free pool.old self.old) (free pool.new self.new) one_place result };
 
@@ -333,38 +305,31 @@ pub trait Desk {
         ensures shown { shown pool.now self.new ≡ header_popped (shown pool.now self.old) }
         ensures free { free pool.now self.new ≡ free pool.now self.old };
 
-    /// Makes the scope in which a block is entered: the event's numbers, the fields of the popped header and the
-    /// message that arrived, and after these `numbers` numbers and `messages` messages more, for which there is room. A
-    /// scope that was there is let go.
+    /// Makes the scope in which a handler's block is entered: the event's numbers, the fields of the popped header and
+    /// the message that arrived, and after these the numbers and messages that the block declares, for which there is
+    /// room. A scope that was there is let go.
     fn enter<K: Start>(
         &mut self,
         pool: &mut Pool,
         envelope: Envelope,
         fields: &Fields,
-        numbers: u8,
-        messages: u8,
+        handler: &Handler,
     )
         requires ready { ready K.begun pool.old self.old }
         requires room { Suffices (free pool.old self.old)
-            (entry_need K.begun.layout numbers messages (shown pool.old self.old).arrived) }
+            (entry_need K.begun.layout handler.now.numbers handler.now.messages (shown pool.old self.old).arrived) }
         ensures ready { ready K.begun pool.new self.new }
         ensures shown { shown pool.new self.new ≡
-            enters envelope fields.now numbers messages (shown pool.old self.old) }
+            enters envelope fields.now handler.now.numbers handler.now.messages (shown pool.old self.old) }
         ensures spent { SpentAtMost (free pool.old self.old) (free pool.new self.new)
-            (entry_need K.begun.layout numbers messages (shown pool.old self.old).arrived) };
+            (entry_need K.begun.layout handler.now.numbers handler.now.messages (shown pool.old self.old).arrived) };
 
     /// Sends an event with the message that arrived, if one did, going down after a header.
-    fn pass_on<K: Start>(
-        &mut self,
-        pool: &Pool,
-        direction: Dir,
-        envelope: Envelope,
-        header: Header,
-    ) -> Result<(), NoRoom>
+    fn pass_on<K: Start>(&mut self, pool: &Pool, sending: &Sending) -> Result<(), NoRoom>
         requires { ready K.begun pool.now self.old }
         ensures ready { ready K.begun pool.now self.new }
-        ensures shown { OnOk result
-            (shown pool.now self.new ≡ passes_on direction envelope header (shown pool.now self.old)) }
+        ensures shown { OnOk result (shown pool.now self.new ≡
+            passes_on sending.now.direction sending.now.envelope sending.now.header (shown pool.now self.old)) }
         ensures spent { Spent (free pool.now self.old) (free pool.now self.new)
             (passing_need (shown pool.now self.old).arrived) result };
 

@@ -5,7 +5,9 @@
 mod desk;
 mod laws;
 mod no_room;
+mod places;
 
 pub use desk::{Desk, Start};
 pub use laws::places_are_of_emissions;
 pub use no_room::NoRoom;
+pub use places::{Queue, RowAt, Sending, Square};
