@@ -19,7 +19,7 @@ use crate::message::make;
 use crate::predicted::Predicted;
 use crate::value::{fields, fill, nth_number, number};
 use layer_ast::Kind;
-use layer_desk::{Desk, NoRoom, Start};
+use layer_desk::{Desk, NoRoom, Queue, Square, Start};
 use layer_mean::Envelope;
 use msg_core::{Fields, Header};
 use slot_pool::Pool;
@@ -167,8 +167,13 @@ pub fn run_statement<K: Start, D: Desk>(
             otherwise,
         } => {
             let index = number::<K, D>(index, desk, pool);
-            if desk.has_room::<K>(pool, *cell, index, *capacity) {
-                push::<K, D>(*cell, index, *capacity, row, desk, pool)
+            let queue = Queue {
+                cell: *cell,
+                index,
+                capacity: *capacity,
+            };
+            if desk.has_room::<K>(pool, queue) {
+                push::<K, D>(queue, row, desk, pool)
             } else {
                 run_block::<K, D>(place, otherwise, desk, pool, predicted)?;
                 *predicted = Predicted::unusual();
@@ -337,34 +342,32 @@ fn set_square<K: Start, D: Desk>(
     let row = number::<K, D>(row, desk, pool);
     let column = number::<K, D>(column, desk, pool);
     let value = number::<K, D>(value, desk, pool);
-    desk.assign_square::<K>(pool, cell, row, column, value);
+    desk.assign_square::<K>(pool, Square { cell, row, column }, value);
 }
 
 /// Puts a row at the back of a queue that has room for it.
 #[inline(never)]
 fn push<K: Start, D: Desk>(
-    cell: u8,
-    index: u32,
-    capacity: u8,
+    queue: Queue,
     row: &Row,
     desk: &mut D,
     pool: &mut Pool,
 ) -> Result<(), NoRoom>
     requires ready { D.ready K.begun pool.old desk.old }
-    requires room { has_room (D.shown pool.old desk.old).state cell index capacity ≡ true }
+    requires room { has_room (D.shown pool.old desk.old).state queue.cell queue.index queue.capacity ≡ true }
     ensures ready { D.ready K.begun pool.new desk.new }
-    ensures shown { OnOk result (D.shown pool.new desk.new ≡ queued cell index
+    ensures shown { OnOk result (D.shown pool.new desk.new ≡ queued queue.cell queue.index
         (row_of (row_tree row.now) (D.shown pool.old desk.old).state (D.shown pool.old desk.old).scope)
         (D.shown pool.old desk.old)) }
     ensures spent { Spent (D.free pool.old desk.old) (D.free pool.new desk.new)
-        (push_need K.begun.layout cell capacity (row_tree row.now)) result }
+        (push_need K.begun.layout queue.cell queue.capacity (row_tree row.now)) result }
 {
     let numbers = fields::<K, D>(&row.numbers, desk, pool);
     match &row.message {
-        None => desk.push::<K>(pool, cell, index, capacity, numbers),
+        None => desk.push::<K>(pool, queue, numbers),
         Some(message) => {
             make::<K, D>(message, desk, pool)?;
-            desk.push_first::<K>(pool, cell, index, capacity, numbers)
+            desk.push_first::<K>(pool, queue, numbers)
         }
     }
 }

@@ -10,4 +10,4 @@ mod value;
 mod visit;
 
 pub use predicted::Predicted;
-pub use visit::take_event;
+pub use visit::{Visit, take_event};

@@ -8,7 +8,7 @@ ghost use Rattle.layer_desk.specs.Spent.{Lifted};
 ghost use Rattle.layer_eval.specs.Worth.{message_of, bare, bare_need};
 
 use crate::value::number;
-use layer_desk::{Desk, NoRoom, Start};
+use layer_desk::{Desk, NoRoom, RowAt, Start};
 use slot_pool::Pool;
 use typed_layer::{Carried, MessageExpression};
 
@@ -37,7 +37,12 @@ pub fn make<K: Start, D: Desk>(
         } => {
             let index = number::<K, D>(index, desk, pool);
             let row = number::<K, D>(row, desk, pool);
-            desk.lift_row::<K>(pool, *cell, index, row, *carried)
+            let at = RowAt {
+                cell: *cell,
+                index,
+                row,
+            };
+            desk.lift_row::<K>(pool, at, *carried)
         }
         MessageExpression::Cut {
             message: whole,
@@ -92,7 +97,12 @@ fn make_bare<K: Start, D: Desk>(
         } => {
             let index = number::<K, D>(index, desk, pool);
             let row = number::<K, D>(row, desk, pool);
-            desk.lift_row::<K>(pool, *cell, index, row, Carried::Part)
+            let at = RowAt {
+                cell: *cell,
+                index,
+                row,
+            };
+            desk.lift_row::<K>(pool, at, Carried::Part)
         }
         MessageExpression::Cut {
             message: whole,

@@ -23,14 +23,20 @@ use slot_pool::Pool;
 use std::marker::Brand;
 use typed_layer::{Expected, Handler, TypedLayer};
 
-/// The layer at a place takes an event, whose message has arrived at its desk: the handler for its direction, kind and
-/// popped header runs its block; without one the event passes, or is dropped. Says whether that went as predicted. No
-/// memory is taken.
+/// An event that a layer takes: the layer's place, the direction, and the event without its message.
+#[derive(Clone, Copy)]
+pub struct Visit {
+    pub place: u8,
+    pub direction: Dir,
+    pub envelope: Envelope,
+}
+
+/// A layer takes an event, whose message has arrived at its desk: the handler for its direction, kind and popped header
+/// runs its block; without one the event passes, or is dropped. Says whether that went as predicted. No memory is
+/// taken.
 pub fn take_event<D: Desk>(
-    place: u8,
+    visit: &Visit,
     layer: &TypedLayer,
-    direction: Dir,
-    envelope: Envelope,
     desk: &mut D,
     pool: &mut Pool,
 ) -> Predicted
@@ -44,17 +50,23 @@ pub fn take_event<D: Desk>(
               D.forms desk.old;
         }) pool.old desk.old }
     requires room { Suffices (D.free pool.old desk.old)
-        (need_of_visit (D.layout desk.old) (layer_tree layer.now) direction envelope (D.shown pool.old desk.old)) }
+        (need_of_visit (D.layout desk.old) (layer_tree layer.now) visit.now.direction visit.now.envelope
+        (D.shown pool.old desk.old)) }
 
     // What lies at the desk, and what the call says, is what the definition of a visit has.
-    ensures visited { Visits (arrived_visit place (layer_tree layer.now) direction envelope (D.shown pool.old desk.old))
+    ensures visited { Visits
+        (arrived_visit visit.now.place (layer_tree layer.now) visit.now.direction visit.now.envelope
+        (D.shown pool.old desk.old))
         (D.shown pool.old desk.old) (D.shown pool.new desk.new) result }
     ensures spent { SpentAtMost (D.free pool.old desk.old) (D.free pool.new desk.new)
-        (need_of_visit (D.layout desk.old) (layer_tree layer.now) direction envelope (D.shown pool.old desk.old)) }
+        (need_of_visit (D.layout desk.old) (layer_tree layer.now) visit.now.direction visit.now.envelope
+        (D.shown pool.old desk.old)) }
 
     // Each event that was sent has taken one place.
     ensures places { (D.free pool.new desk.new).places
-        + length (arrived_visit place (layer_tree layer.now) direction envelope (D.shown pool.old desk.old)).sent ≡
+        + length
+        (arrived_visit visit.now.place (layer_tree layer.now) visit.now.direction visit.now.envelope
+        (D.shown pool.old desk.old)).sent ≡
         (D.free pool.old desk.old).places }
     ensures moved { Moved pool.old pool.new (D.refs desk.old) (D.refs desk.new) }
     ensures layout { D.layout desk.new ≡ D.layout desk.old }
@@ -69,7 +81,7 @@ pub fn take_event<D: Desk>(
               D.forms desk.old;
         }) pool.new desk.new }
 {
-    match take_from::<Brand, D>(place, layer, direction, envelope, desk, pool) {
+    match take_from::<Brand, D>(visit, layer, desk, pool) {
         Ok(says) => says,
         Err(_) => unreachable!(),
     }
@@ -77,28 +89,33 @@ pub fn take_event<D: Desk>(
 
 /// The same; where a handler's block lacks room, it answers what is lacking.
 fn take_from<K: Start, D: Desk>(
-    place: u8,
+    visit: &Visit,
     layer: &TypedLayer,
-    direction: Dir,
-    envelope: Envelope,
     desk: &mut D,
     pool: &mut Pool,
 ) -> Result<Predicted, NoRoom>
     requires ready { D.ready K.begun pool.old desk.old }
     requires room { Suffices (D.free pool.old desk.old)
-        (need_of_visit K.begun.layout (layer_tree layer.now) direction envelope (D.shown pool.old desk.old)) }
+        (need_of_visit K.begun.layout (layer_tree layer.now) visit.now.direction visit.now.envelope
+        (D.shown pool.old desk.old)) }
     ensures ready { D.ready K.begun pool.new desk.new }
     ensures visited { IfOk result
-        (Visits (arrived_visit place (layer_tree layer.now) direction envelope (D.shown pool.old desk.old))
+        (Visits
+        (arrived_visit visit.now.place (layer_tree layer.now) visit.now.direction visit.now.envelope
+        (D.shown pool.old desk.old))
         (D.shown pool.old desk.old) (D.shown pool.new desk.new)) }
     ensures spent { Spent (D.free pool.old desk.old) (D.free pool.new desk.new)
-        (need_of_visit K.begun.layout (layer_tree layer.now) direction envelope (D.shown pool.old desk.old)) result }
+        (need_of_visit K.begun.layout (layer_tree layer.now) visit.now.direction visit.now.envelope
+        (D.shown pool.old desk.old)) result }
 {
     let mut fields = Fields::none();
-    let tag = meet::<K, D>(direction, desk, pool, &mut fields);
-    match layer.handlers.find(direction, envelope.kind, tag) {
-        Some(handler) => run_handler::<K, D>(place, handler, envelope, &fields, desk, pool),
-        None => pass::<K, D>(place, direction, envelope, tag, desk, pool),
+    let tag = meet::<K, D>(visit.direction, desk, pool, &mut fields);
+    match layer
+        .handlers
+        .find(visit.direction, visit.envelope.kind, tag)
+    {
+        Some(handler) => run_handler::<K, D>(visit, handler, &fields, desk, pool),
+        None => pass::<K, D>(visit, tag, desk, pool),
     }
 }
 
@@ -122,9 +139,8 @@ fn meet<K: Start, D: Desk>(direction: Dir, desk: &mut D, pool: &Pool, fields: &m
 /// Enters a handler's block, for which there is room, and runs it.
 #[tactic(auto, using(crate::proofs::Acts::both_turned))]
 fn run_handler<K: Start, D: Desk>(
-    place: u8,
+    visit: &Visit,
     handler: &Handler,
-    envelope: Envelope,
     fields: &Fields,
     desk: &mut D,
     pool: &mut Pool,
@@ -134,15 +150,24 @@ fn run_handler<K: Start, D: Desk>(
         (handler_need K.begun.layout (handler_tree handler.now) (D.shown pool.old desk.old).arrived) }
     ensures ready { D.ready K.begun pool.new desk.new }
     ensures visited { IfOk result
-        (Visits (handler_visited place (handler_tree handler.now) envelope fields.now (D.shown pool.old desk.old))
+        (Visits
+        (handler_visited visit.now.place (handler_tree handler.now) visit.now.envelope fields.now
+        (D.shown pool.old desk.old))
         (D.shown pool.old desk.old) (D.shown pool.new desk.new)) }
     ensures spent { Spent (D.free pool.old desk.old) (D.free pool.new desk.new)
         (handler_need K.begun.layout (handler_tree handler.now) (D.shown pool.old desk.old).arrived) result }
 {
-    desk.enter::<K>(pool, envelope, fields, handler.numbers, handler.messages);
+    desk.enter::<K>(pool, visit.envelope, fields, handler);
     let mut predicted = expect::<K, D>(&handler.expected, desk, pool);
     let mut owed = Owed::nothing();
-    run_last_block::<K, D>(place, &handler.block, &mut owed, desk, pool, &mut predicted)?;
+    run_last_block::<K, D>(
+        visit.place,
+        &handler.block,
+        &mut owed,
+        desk,
+        pool,
+        &mut predicted,
+    )?;
     Ok(predicted)
 }
 
@@ -167,9 +192,7 @@ fn expect<K: Start, D: Desk>(expected: &Expected, desk: &D, pool: &Pool) -> Pred
 /// Without a handler an event passes on: going down after the layer's header `none`, going up where that was popped.
 /// After another header it is dropped, which is never predicted.
 fn pass<K: Start, D: Desk>(
-    place: u8,
-    direction: Dir,
-    envelope: Envelope,
+    visit: &Visit,
     tag: u8,
     desk: &mut D,
     pool: &mut Pool,
@@ -177,21 +200,23 @@ fn pass<K: Start, D: Desk>(
     requires ready { D.ready K.begun pool.old desk.old }
     requires popped { IsPopped tag (D.shown pool.old desk.old).arrived }
     ensures ready { D.ready K.begun pool.new desk.new }
-    ensures visited { IfOk result (Visits (passed_visit place direction envelope tag (D.shown pool.old desk.old))
+    ensures visited { IfOk result
+        (Visits
+        (passed_visit visit.now.place visit.now.direction visit.now.envelope tag (D.shown pool.old desk.old))
         (D.shown pool.old desk.old) (D.shown pool.new desk.new)) }
     ensures spent { Spent (D.free pool.old desk.old) (D.free pool.new desk.new)
         (passing_need (D.shown pool.old desk.old).arrived) result }
 {
-    if direction == Dir::Up && tag != 0 {
+    if visit.direction == Dir::Up && tag != 0 {
         desk.leave::<K>(pool);
         return Ok(Predicted::unusual());
     }
     let none = Header {
-        layer: place,
+        layer: visit.place,
         tag: 0,
         fields: Fields::none(),
     };
-    desk.pass_on::<K>(pool, direction, envelope, none)?;
+    desk.pass_on::<K>(pool, visit.direction, visit.envelope, none)?;
     desk.leave::<K>(pool);
     Ok(Predicted::usual())
 }
