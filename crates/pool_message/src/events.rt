@@ -20,6 +20,7 @@ use crate::message_place::MessagePlace;
 use crate::messages::Messages;
 use crate::part::Part;
 use layer_ast::Dir;
+use layer_desk::Sending;
 use layer_mean::Envelope;
 use msg_core::{Fields, Header, Headers};
 use slot_pool::Pool;
@@ -192,28 +193,24 @@ impl Events {
         fill_made(self.list.last_mut(), headers, body);
     }
 
-    /// Puts an event with this envelope, and with this message once more, after the others; going down, the message
-    /// gets this header first. The two share the message's bytes, to which there is one more reference.
+    /// Puts what is sent, with this message once more, after the others; going down, the message gets a header first.
+    /// The two share the message's bytes, to which there is one more reference.
     #[tactic(auto, using(crate::proofs::Slots::last_pushed, crate::proofs::Slots::rest_pushed))]
-    pub fn push_kept(
-        &mut self,
-        direction: Dir,
-        envelope: Envelope,
-        header: Header,
-        message: &PoolMessage,
-        pool: &mut Pool,
-    )
+    pub fn push_kept(&mut self, sending: &Sending, message: &PoolMessage, pool: &mut Pool)
         requires places { length self.old.items < self.old.capacity }
-        requires room { CanPass direction (Some message.now) }
+        requires room { CanPass sending.now.direction (Some message.now) }
         requires there { Covers pool.old (refs message.now) }
         requires keeps { CanKeep pool.old (refs message.now) }
-        ensures pushed { self.new ≡
-            buffer (self.old.items ++ (direction, pool_event envelope (Some (sent_after direction header message.now)))
-            ∷ []) self.old.capacity }
+        ensures pushed { self.new ≡ buffer
+            (self.old.items ++ (
+              sending.now.direction,
+              pool_event sending.now.envelope
+                  (Some (sent_after sending.now.direction sending.now.header message.now)),
+            ) ∷ []) self.old.capacity }
         ensures kept { Kept pool.old pool.new (refs message.now) }
     {
-        self.list.push_bare(direction, envelope);
-        fill_kept(self.list.last_mut(), direction, header, message, pool);
+        self.list.push_bare(sending.direction, sending.envelope);
+        fill_kept(self.list.last_mut(), sending, message, pool);
     }
 
     /// The first one becomes the last of others.
@@ -319,26 +316,23 @@ fn fill_last(sent: &mut (Dir, PoolEvent), messages: &mut Messages)
 }
 
 /// An event without a message gets this message once more; going down, the message gets a header first.
-fn fill_kept(
-    sent: &mut (Dir, PoolEvent),
-    direction: Dir,
-    header: Header,
-    message: &PoolMessage,
-    pool: &mut Pool,
-)
+fn fill_kept(sent: &mut (Dir, PoolEvent), sending: &Sending, message: &PoolMessage, pool: &mut Pool)
     requires bare { sent.old.1.message ≡ None }
-    requires room { CanPass direction (Some message.now) }
+    requires room { CanPass sending.now.direction (Some message.now) }
     requires there { Covers pool.old (refs message.now) }
     requires keeps { CanKeep pool.old (refs message.now) }
-    ensures filled { sent.new ≡
-        (sent.old.0, record sent.old.1 { message = Some (sent_after direction header message.now) }) }
+    ensures filled { sent.new ≡ (
+      sent.old.0,
+      record sent.old.1
+          { message = Some (sent_after sending.now.direction sending.now.header message.now) },
+    ) }
     ensures kept { Kept pool.old pool.new (refs message.now) }
 {
     let place = &mut sent.1.message;
     place.keep_from(message, pool);
-    match direction {
+    match sending.direction {
         Dir::Up => {}
-        Dir::Down => place.push_header(header),
+        Dir::Down => place.push_header(sending.header),
     }
 }
 

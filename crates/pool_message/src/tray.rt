@@ -16,6 +16,7 @@ use crate::message::PoolMessage;
 use crate::message_place::MessagePlace;
 use crate::messages::Messages;
 use layer_ast::Dir;
+use layer_desk::Sending;
 use layer_mean::Envelope;
 use msg_core::{Fields, Header};
 use slot_pool::Pool;
@@ -334,71 +335,43 @@ impl Tray {
         }
     }
 
-    /// Sends an event with this envelope, and with message number `k` of the scope once more; going down, the message
-    /// gets this header first. The two share the message's bytes, to which there is one more reference.
-    pub fn send_message(
-        &mut self,
-        direction: Dir,
-        envelope: Envelope,
-        header: Header,
-        k: usize,
-        pool: &mut Pool,
-    )
+    /// Sends an event with message number `k` of the scope once more; going down, the message gets a header first. The
+    /// two share the message's bytes, to which there is one more reference.
+    pub fn send_message(&mut self, sending: &Sending, k: usize, pool: &mut Pool)
         requires places { length self.old.sent.items < self.old.sent.capacity }
         requires some { k < length self.old.messages.items }
-        requires room { CanPass direction (Some (message_at k self.old)) }
+        requires room { CanPass sending.now.direction (Some (message_at k self.old)) }
         requires there { Covers pool.old (refs (message_at k self.old)) }
         requires keeps { CanKeep pool.old (refs (message_at k self.old)) }
-        ensures sent { self.new ≡
-            also_sent direction envelope (Some (sent_after direction header (message_at k self.old))) self.old }
+        ensures sent { self.new ≡ also_sent sending.now.direction sending.now.envelope
+            (Some (sent_after sending.now.direction sending.now.header (message_at k self.old))) self.old }
         ensures kept { Kept pool.old pool.new (refs (message_at k self.old)) }
     {
         let place = match self.front {
             Front::Bound => {
                 if k == 0 {
-                    send_first_again(
-                        &mut self.events,
-                        &mut self.messages,
-                        direction,
-                        envelope,
-                        header,
-                        pool,
-                    );
+                    send_first_again(&mut self.events, &mut self.messages, sending, pool);
                     return;
                 }
                 k - 1
             }
             Front::Gone | Front::Arrived => k,
         };
-        send_listed(
-            &mut self.events,
-            &self.messages,
-            direction,
-            envelope,
-            header,
-            place,
-            pool,
-        );
+        send_listed(&mut self.events, &self.messages, sending, place, pool);
     }
 
     /// The same where the scope isn't wanted any more: the other messages go, and one that is bound goes on from where
     /// it lies.
     #[tactic(auto, using(crate::proofs::Piles::covers_at))]
-    pub fn send_and_clear(
-        &mut self,
-        direction: Dir,
-        envelope: Envelope,
-        header: Header,
-        k: usize,
-        pool: &mut Pool,
-    )
+    pub fn send_and_clear(&mut self, sending: &Sending, k: usize, pool: &mut Pool)
         requires places { length self.old.sent.items < self.old.sent.capacity }
         requires some { k < length self.old.messages.items }
-        requires room { CanPass direction (Some (message_at k self.old)) }
+        requires room { CanPass sending.now.direction (Some (message_at k self.old)) }
         requires there { Covers pool.old (pile_refs self.old.messages.items) }
         requires keeps { CanKeep pool.old (refs (message_at k self.old)) }
         ensures sent { self.new ≡
-            record (also_sent direction envelope (Some (sent_after direction header (message_at k self.old))) self.old)
+            record (also_sent sending.now.direction sending.now.envelope
+            (Some (sent_after sending.now.direction sending.now.header (message_at k self.old))) self.old)
             { messages = buffer [] self.old.messages.capacity } }
         ensures returned { Returned pool.old pool.new (pile_refs (slice_set self.old.messages.items k (bodiless []))) }
     {
@@ -406,14 +379,14 @@ impl Tray {
             Front::Bound => {
                 if k == 0 {
                     self.messages.clear(pool);
-                    send_first_after(&mut self.events, direction, envelope, header);
+                    send_first_after(&mut self.events, sending);
                     self.front = Front::Gone;
                     return;
                 }
             }
             Front::Gone | Front::Arrived => {}
         }
-        self.send_message(direction, envelope, header, k, pool);
+        self.send_message(sending, k, pool);
         self.clear_messages(pool);
     }
 
@@ -465,85 +438,78 @@ fn send_first(events: &mut Events, direction: Dir, envelope: Envelope)
 }
 
 /// The same, but going down its message, if it has one, gets a header first.
-fn send_first_after(events: &mut Events, direction: Dir, envelope: Envelope, header: Header)
+fn send_first_after(events: &mut Events, sending: &Sending)
     requires some { 0 < length events.old.items }
-    requires room { CanPass direction (first_message events.old.items) }
-    ensures { events.new ≡
-        buffer (drop 1 events.old.items ++
-        (direction, pool_event envelope (option_map (sent_after direction header) (first_message events.old.items))) ∷
-        []) events.old.capacity }
+    requires room { CanPass sending.now.direction (first_message events.old.items) }
+    ensures { events.new ≡ buffer
+        (drop 1 events.old.items ++ (
+          sending.now.direction,
+          pool_event sending.now.envelope (option_map (sent_after sending.now.direction sending.now.header)
+              (first_message events.old.items)),
+        ) ∷ []) events.old.capacity }
 {
-    begin_after(events.first_mut(), direction, envelope, header);
+    begin_after(events.first_mut(), sending);
     events.go_round();
 }
 
-/// An event gets this direction and this envelope; going down, its message, if it has one, gets a header first.
-fn begin_after(sent: &mut (Dir, PoolEvent), direction: Dir, envelope: Envelope, header: Header)
-    requires { CanPass direction sent.old.1.message }
+/// An event becomes what is sent; going down, its message, if it has one, gets a header first.
+fn begin_after(sent: &mut (Dir, PoolEvent), sending: &Sending)
+    requires { CanPass sending.now.direction sent.old.1.message }
     ensures { sent.new ≡ (
-      direction,
-      pool_event envelope (option_map (sent_after direction header) sent.old.1.message),
+      sending.now.direction,
+      pool_event sending.now.envelope
+          (option_map (sent_after sending.now.direction sending.now.header) sent.old.1.message),
     ) }
 {
-    begin_event(sent, direction, envelope);
-    match direction {
+    begin_event(sent, sending.direction, sending.envelope);
+    match sending.direction {
         Dir::Up => {}
-        Dir::Down => sent.1.message.push_header(header),
+        Dir::Down => sent.1.message.push_header(sending.header),
     }
 }
 
 /// Sends the message of the first event, which has one, once more; going down, it gets a header first. Meanwhile it
 /// lies in a spare place.
 #[tactic(auto, using(crate::proofs::Piles::last_more, crate::proofs::Piles::rest_more))]
-fn send_first_again(
-    events: &mut Events,
-    spare: &mut Messages,
-    direction: Dir,
-    envelope: Envelope,
-    header: Header,
-    pool: &mut Pool,
-)
+fn send_first_again(events: &mut Events, spare: &mut Messages, sending: &Sending, pool: &mut Pool)
     requires places { length events.old.items < events.old.capacity }
     requires spare { length spare.old.items < spare.old.capacity }
     requires bound { is_some (first_message events.old.items) ≡ true }
-    requires room { CanPass direction (first_message events.old.items) }
+    requires room { CanPass sending.now.direction (first_message events.old.items) }
     requires there { Covers pool.old (refs_if (first_message events.old.items)) }
     requires keeps { CanKeep pool.old (refs_if (first_message events.old.items)) }
-    ensures sent { events.new ≡
-        buffer (events.old.items ++
-        (direction, pool_event envelope (option_map (sent_after direction header) (first_message events.old.items))) ∷
-        []) events.old.capacity }
+    ensures sent { events.new ≡ buffer
+        (events.old.items ++ (
+          sending.now.direction,
+          pool_event sending.now.envelope (option_map (sent_after sending.now.direction sending.now.header)
+              (first_message events.old.items)),
+        ) ∷ []) events.old.capacity }
     ensures same { spare.new ≡ spare.old }
     ensures kept { Kept pool.old pool.new (refs_if (first_message events.old.items)) }
 {
     let Some(message) = message_of(events) else {
         unreachable!();
     };
-    keep_after(spare, direction, header, message, pool);
-    events.push_last(direction, envelope, spare);
+    keep_after(spare, sending, message, pool);
+    events.push_last(sending.direction, sending.envelope, spare);
 }
 
 /// Puts a message once more after others; going down, it gets a header first.
 #[tactic(auto, using(crate::proofs::Piles::changed_more))]
-fn keep_after(
-    others: &mut Messages,
-    direction: Dir,
-    header: Header,
-    message: &PoolMessage,
-    pool: &mut Pool,
-)
+fn keep_after(others: &mut Messages, sending: &Sending, message: &PoolMessage, pool: &mut Pool)
     requires places { length others.old.items < others.old.capacity }
-    requires room { CanPass direction (Some message.now) }
+    requires room { CanPass sending.now.direction (Some message.now) }
     requires there { Covers pool.old (refs message.now) }
     requires keeps { CanKeep pool.old (refs message.now) }
-    ensures pushed { others.new ≡ buffer (others.old.items ++ sent_after direction header message.now ∷ [])
+    ensures pushed { others.new ≡
+        buffer (others.old.items ++ sent_after sending.now.direction sending.now.header message.now ∷ [])
         others.old.capacity }
     ensures kept { Kept pool.old pool.new (refs message.now) }
 {
     others.push_kept(message, pool);
-    match direction {
+    match sending.direction {
         Dir::Up => {}
-        Dir::Down => others.push_header_on_last(header),
+        Dir::Down => others.push_header_on_last(sending.header),
     }
 }
 
@@ -559,26 +525,26 @@ fn message_of(events: &Events) -> Option<&PoolMessage>
 fn send_listed(
     events: &mut Events,
     messages: &Messages,
-    direction: Dir,
-    envelope: Envelope,
-    header: Header,
+    sending: &Sending,
     k: usize,
     pool: &mut Pool,
 )
     requires places { length events.old.items < events.old.capacity }
     requires some { k < length messages.now.items }
-    requires room { CanPass direction (Some (message_in k messages.now.items)) }
+    requires room { CanPass sending.now.direction (Some (message_in k messages.now.items)) }
     requires there { Covers pool.old (refs (message_in k messages.now.items)) }
     requires keeps { CanKeep pool.old (refs (message_in k messages.now.items)) }
-    ensures sent { events.new ≡
-        buffer (events.old.items ++
-        (direction, pool_event envelope (Some (sent_after direction header (message_in k messages.now.items)))) ∷ [])
-        events.old.capacity }
+    ensures sent { events.new ≡ buffer
+        (events.old.items ++ (
+          sending.now.direction,
+          pool_event sending.now.envelope
+              (Some (sent_after sending.now.direction sending.now.header (message_in k messages.now.items))),
+        ) ∷ []) events.old.capacity }
     ensures kept { Kept pool.old pool.new (refs (message_in k messages.now.items)) }
 {
     match messages.get(k) {
         Some(message) => {
-            events.push_kept(direction, envelope, header, message, pool);
+            events.push_kept(sending, message, pool);
         }
         None => unreachable!(),
     }
