@@ -21,7 +21,8 @@ pub put_off_event : (place : ℕ) (e : Emission) (c : Content) (k : ℕ) (p : La
     e.content ≡ Some c →
     c.message ≡ rust_message.Local k → h ≡ header_of place (content_tree c) p.state p.scope →
     ((m : Option Bytes) → event_in envelope m ≡ event_of e.kind (numbers_of (map expression_tree e.numbers) p) m) →
-    owed_event (record { direction = e.direction; envelope = envelope; header = h; slot = k }) p ≡
+    owed_event
+    (record { sending = record { direction = e.direction; envelope = envelope; header = h }; slot = k }) p ≡
     (e.direction, emitted_event place (emission_tree e) p.state p.scope)
 put_off_event place e c k p envelope h has is header_is envelope_is =
     let pushed = λ (h : Header) (m : Bytes). Some (sent_as e.direction h m) in

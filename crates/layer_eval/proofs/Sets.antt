@@ -21,8 +21,9 @@ still_owed : (owed : Option Pending) (old : Laid) (s : State) (l : Scope) → l.
 still_owed None old s l same = sym (append-nil old.sent)
 still_owed (Some e) old s l same =
     ap (λ ms. old.sent ++ (
-      e.direction,
-      event_in e.envelope (Some (sent_as e.direction e.header (slice_index_or ms e.slot (plain [])))),
+      e.sending.direction,
+      event_in e.sending.envelope
+          (Some (sent_as e.sending.direction e.sending.header (slice_index_or ms e.slot (plain [])))),
     ) ∷ []) same ∙ sym (append-nil (with_owed (Some e) old))
 
 -- a number is set, and an emission that is yet to go sends the message that it would have sent before

@@ -41,8 +41,9 @@ may_wait e = option_map_or (λ c. is_of_scope c.message) e.content false
 -- The event of an emission that is yet to go.
 abbrev pub owed_event : Pending → Laid → Dir × Event
 owed_event e p = (
-  e.direction,
-  event_in e.envelope (Some (sent_as e.direction e.header (slice_index_or p.scope.messages e.slot (plain [])))),
+  e.sending.direction,
+  event_in e.sending.envelope
+      (Some (sent_as e.sending.direction e.sending.header (slice_index_or p.scope.messages e.slot (plain [])))),
 )
 
 -- What was sent once an emission that is owed has gone, if there is one; and what lies at a desk then.

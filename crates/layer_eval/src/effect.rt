@@ -19,7 +19,7 @@ use crate::message::make;
 use crate::predicted::Predicted;
 use crate::value::{fields, fill, nth_number, number};
 use layer_ast::Kind;
-use layer_desk::{Desk, NoRoom, Queue, Square, Start};
+use layer_desk::{Desk, NoRoom, Queue, Sending, Square, Start};
 use layer_mean::Envelope;
 use msg_core::{Fields, Header};
 use slot_pool::Pool;
@@ -432,15 +432,13 @@ fn send_last<K: Start, D: Desk>(
 {
     if let Some(content) = &emission.content {
         if let MessageExpression::Local(slot) = &content.message {
-            let mut header = no_header();
-            write_header::<K, D>(place, content, desk, pool, &mut header);
-            return desk.send_local_and_leave::<K>(
-                pool,
-                emission.direction,
+            let mut sending = Sending {
+                direction: emission.direction,
                 envelope,
-                header,
-                *slot,
-            );
+                header: no_header(),
+            };
+            write_header::<K, D>(place, content, desk, pool, &mut sending.header);
+            return desk.send_local_and_leave::<K>(pool, &sending, *slot);
         }
     }
     send::<K, D>(place, emission, envelope, desk, pool)?;
@@ -468,13 +466,17 @@ fn send<K: Start, D: Desk>(
     match &emission.content {
         None => desk.send::<K>(pool, emission.direction, envelope),
         Some(content) => {
-            let mut header = no_header();
-            write_header::<K, D>(place, content, desk, pool, &mut header);
+            let mut sending = Sending {
+                direction: emission.direction,
+                envelope,
+                header: no_header(),
+            };
+            write_header::<K, D>(place, content, desk, pool, &mut sending.header);
             if let MessageExpression::Local(slot) = &content.message {
-                return desk.send_local::<K>(pool, emission.direction, envelope, header, *slot);
+                return desk.send_local::<K>(pool, &sending, *slot);
             }
             make::<K, D>(&content.message, desk, pool)?;
-            desk.send_first::<K>(pool, emission.direction, envelope, header)
+            desk.send_first::<K>(pool, &sending)
         }
     }
 }

@@ -8,9 +8,8 @@ ghost use Rattle.layer_eval.specs.Owed.{with_debt_paid};
 
 use crate::effect::{envelope, no_header, write_header};
 use layer_ast::{Dir, Kind};
-use layer_desk::{Desk, NoRoom, Start};
+use layer_desk::{Desk, NoRoom, Sending, Start};
 use layer_mean::Envelope;
-use msg_core::Header;
 use slot_pool::Pool;
 use std::marker::Model;
 use typed_layer::{Emission, MessageExpression};
@@ -18,9 +17,7 @@ use typed_layer::{Emission, MessageExpression};
 /// An emission whose arguments are evaluated, and whose message, which stands in a slot of the scope, is yet to go.
 #[derive(Clone, Copy)]
 pub struct Pending {
-    pub direction: Dir,
-    pub envelope: Envelope,
-    pub header: Header,
+    pub sending: Sending,
     pub slot: u8,
 }
 
@@ -55,14 +52,16 @@ impl Owed {
     {
         Owed {
             emission: Pending {
-                direction: Dir::Up,
-                envelope: Envelope {
-                    kind: Kind::Cast,
-                    peer: 0,
-                    a: 0,
-                    b: 0,
+                sending: Sending {
+                    direction: Dir::Up,
+                    envelope: Envelope {
+                        kind: Kind::Cast,
+                        peer: 0,
+                        a: 0,
+                        b: 0,
+                    },
+                    header: no_header(),
                 },
-                header: no_header(),
                 slot: 0,
             },
             is_owed: false,
@@ -93,9 +92,15 @@ impl Owed {
         let MessageExpression::Local(slot) = &content.message else {
             return false;
         };
-        self.emission.direction = emission.direction;
-        self.emission.envelope = envelope::<K, D>(emission, desk, pool);
-        write_header::<K, D>(place, content, desk, pool, &mut self.emission.header);
+        self.emission.sending.direction = emission.direction;
+        self.emission.sending.envelope = envelope::<K, D>(emission, desk, pool);
+        write_header::<K, D>(
+            place,
+            content,
+            desk,
+            pool,
+            &mut self.emission.sending.header,
+        );
         self.emission.slot = *slot;
         self.is_owed = true;
         true
@@ -133,7 +138,7 @@ impl Owed {
             return Ok(());
         }
         let owed = &self.emission;
-        desk.send_local_and_leave::<K>(pool, owed.direction, owed.envelope, owed.header, owed.slot)
+        desk.send_local_and_leave::<K>(pool, &owed.sending, owed.slot)
     }
 }
 
@@ -145,5 +150,5 @@ fn send_owed<K: Start, D: Desk>(owed: &Pending, desk: &mut D, pool: &mut Pool) -
         (D.shown pool.new desk.new ≡ with_debt_paid (Some owed.now) (D.shown pool.old desk.old)) }
     ensures spent { Spent (D.free pool.old desk.old) (D.free pool.new desk.new) one_place result }
 {
-    desk.send_local::<K>(pool, owed.direction, owed.envelope, owed.header, owed.slot)
+    desk.send_local::<K>(pool, &owed.sending, owed.slot)
 }

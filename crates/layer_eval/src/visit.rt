@@ -16,7 +16,7 @@ use crate::pending::Owed;
 use crate::predicted::Predicted;
 use crate::value::number;
 use layer_ast::Dir;
-use layer_desk::{Desk, NoRoom, Start};
+use layer_desk::{Desk, NoRoom, Sending, Start};
 use layer_mean::Envelope;
 use msg_core::{Fields, Header};
 use slot_pool::Pool;
@@ -211,12 +211,16 @@ fn pass<K: Start, D: Desk>(
         desk.leave::<K>(pool);
         return Ok(Predicted::unusual());
     }
-    let none = Header {
-        layer: visit.place,
-        tag: 0,
-        fields: Fields::none(),
+    let passed = Sending {
+        direction: visit.direction,
+        envelope: visit.envelope,
+        header: Header {
+            layer: visit.place,
+            tag: 0,
+            fields: Fields::none(),
+        },
     };
-    desk.pass_on::<K>(pool, visit.direction, visit.envelope, none)?;
+    desk.pass_on::<K>(pool, &passed)?;
     desk.leave::<K>(pool);
     Ok(Predicted::usual())
 }
