@@ -3,9 +3,9 @@
 use crate::desk::FileDesk;
 use crate::{enters, leaves, lifts, puts, reads, sends, takes, writes};
 use layer_ast::Dir;
-use layer_desk::{Desk, NoRoom, Start};
+use layer_desk::{Desk, NoRoom, Sending, Start};
 use layer_mean::Envelope;
-use msg_core::{Fields, Header};
+use msg_core::Fields;
 use slot_pool::Pool;
 use typed_layer::{Carried, Taken};
 
@@ -172,36 +172,26 @@ impl Desk for FileDesk {
         sends::send::<K>(self, pool, direction, envelope)
     }
 
-    fn send_first<K: Start>(
-        &mut self,
-        pool: &Pool,
-        direction: Dir,
-        envelope: Envelope,
-        header: Header,
-    ) -> Result<(), NoRoom> {
-        sends::send_first::<K>(self, pool, direction, envelope, header)
+    fn send_first<K: Start>(&mut self, pool: &Pool, sending: &Sending) -> Result<(), NoRoom> {
+        sends::send_first::<K>(self, pool, sending)
     }
 
     fn send_local<K: Start>(
         &mut self,
         pool: &mut Pool,
-        direction: Dir,
-        envelope: Envelope,
-        header: Header,
+        sending: &Sending,
         slot: u8,
     ) -> Result<(), NoRoom> {
-        sends::send_local::<K>(self, pool, direction, envelope, header, slot)
+        sends::send_local::<K>(self, pool, sending, slot)
     }
 
     fn send_local_and_leave<K: Start>(
         &mut self,
         pool: &mut Pool,
-        direction: Dir,
-        envelope: Envelope,
-        header: Header,
+        sending: &Sending,
         slot: u8,
     ) -> Result<(), NoRoom> {
-        sends::send_local_and_leave::<K>(self, pool, direction, envelope, header, slot)
+        sends::send_local_and_leave::<K>(self, pool, sending, slot)
     }
 
     fn pop_header<K: Start>(&mut self, pool: &Pool, fields: &mut Fields) -> u8 {
@@ -219,14 +209,8 @@ impl Desk for FileDesk {
         enters::enter::<K>(self, pool, envelope, fields, numbers, messages);
     }
 
-    fn pass_on<K: Start>(
-        &mut self,
-        pool: &Pool,
-        direction: Dir,
-        envelope: Envelope,
-        header: Header,
-    ) -> Result<(), NoRoom> {
-        sends::pass_on::<K>(self, pool, direction, envelope, header)
+    fn pass_on<K: Start>(&mut self, pool: &Pool, sending: &Sending) -> Result<(), NoRoom> {
+        sends::pass_on::<K>(self, pool, sending)
     }
 
     fn leave<K: Start>(&mut self, pool: &mut Pool) {

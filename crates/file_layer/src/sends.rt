@@ -1,11 +1,10 @@
 //! What a desk sends, and the message that arrived.
 
-ghost use Rattle.std.specs.Prelude.{◌≡◌, ◌<◌, [], length, slice_get, slice_index_or, None, Some, option_map, OnOk};
+ghost use Rattle.std.specs.Prelude.{◌≡◌, ◌<◌, [], length, slice_get, None, Some, option_map, OnOk};
 ghost use Rattle.std.specs.List.{AllByRecursion};
 ghost use Rattle.circular_buffer.specs.Buffer.{buffer};
-ghost use Rattle.msg_core.specs.Chain.{plain};
-ghost use Rattle.layer_mean.specs.Effect.{sent_as};
-ghost use Rattle.layer_desk.specs.Laid.{sends, sends_first, first_header, header_popped, passes_on, left};
+ghost use Rattle.layer_desk.specs.Laid.{sends, sends_first, sends_local, first_header, header_popped, passes_on};
+ghost use Rattle.layer_desk.specs.Laid.{left};
 ghost use Rattle.layer_mean.specs.Envelope.{event_in};
 ghost use Rattle.layer_mean.specs.Headers.{said_tag, said_fields};
 ghost use Rattle.layer_desk.specs.Need.{one_place, headers_of, passing_need};
@@ -22,31 +21,34 @@ ghost use Rattle.file_layer.specs.Ready.{stock_of, room_of, IsReady};
 use crate::desk::{FileDesk, MOST_ABOVE};
 use crate::leaves::{forget_rest, leave};
 use layer_ast::Dir;
-use layer_desk::{NoRoom, Start};
+use layer_desk::{NoRoom, Sending, Start};
 use layer_mean::Envelope;
-use msg_core::{Fields, Header};
+use msg_core::Fields;
 use pool_message::{MessagePlace, Messages, PoolMessage, Tray};
 use slot_pool::Pool;
 
 /// Turns the newest message in hand, where it lies, into what is sent: going down it gets a header.
-fn put_last_after(direction: Dir, header: Header, hand: &mut Messages)
+fn put_last_after(sending: &Sending, hand: &mut Messages)
     requires { AllByRecursion IsShort hand.old.items }
-    ensures { hand.new ≡ buffer (last_after direction header hand.old.items) hand.old.capacity }
+    ensures { hand.new ≡
+        buffer (last_after sending.now.direction sending.now.header hand.old.items) hand.old.capacity }
 {
-    match direction {
+    match sending.direction {
         Dir::Up => {}
-        Dir::Down => hand.push_header_on_last(header),
+        Dir::Down => hand.push_header_on_last(sending.header),
     }
 }
 
 /// Turns a message that arrived, where it lies, into what is sent.
-fn put_after(direction: Dir, header: Header, tray: &mut Tray)
+fn put_after(sending: &Sending, tray: &mut Tray)
     requires { IsShortIf tray.old.arrived }
-    ensures { tray.new ≡ record tray.old { arrived = option_map (sent_after direction header) tray.old.arrived } }
+    ensures { tray.new ≡ record tray.old {
+      arrived = option_map (sent_after sending.now.direction sending.now.header) tray.old.arrived;
+    } }
 {
-    match direction {
+    match sending.direction {
         Dir::Up => {}
-        Dir::Down => tray.push_header(header),
+        Dir::Down => tray.push_header(sending.header),
     }
 }
 
@@ -74,15 +76,14 @@ pub(crate) fn send<K: Start>(
 pub(crate) fn send_first<K: Start>(
     desk: &mut FileDesk,
     pool: &Pool,
-    direction: Dir,
-    envelope: Envelope,
-    header: Header,
+    sending: &Sending,
 ) -> Result<(), NoRoom>
     requires { IsReady K.begun pool.now desk.old }
     ensures ready { IsReady K.begun pool.now desk.new }
     ensures shown { OnOk result
         (laid pool.now (stock_of desk.new) ≡
-        sends_first direction envelope header (laid pool.now (stock_of desk.old))) }
+        sends_first sending.now.direction sending.now.envelope sending.now.header
+        (laid pool.now (stock_of desk.old))) }
     ensures spent { Spent (room_of pool.now desk.old) (room_of pool.now desk.new) one_place result }
 {
     if desk.tray.len() >= desk.places {
@@ -91,72 +92,63 @@ pub(crate) fn send_first<K: Start>(
     if desk.hand.is_empty() {
         return Ok(());
     }
-    put_last_after(direction, header, &mut desk.hand);
-    desk.tray.send_last(direction, envelope, &mut desk.hand);
+    put_last_after(sending, &mut desk.hand);
+    desk.tray
+        .send_last(sending.direction, sending.envelope, &mut desk.hand);
     Ok(())
 }
 
 /// A message without bytes, going down after a header.
-fn nothing_after(direction: Dir, header: Header) -> PoolMessage
-    ensures { result ≡ sent_after direction header (bodiless []) }
+fn nothing_after(sending: &Sending) -> PoolMessage
+    ensures { result ≡ sent_after sending.now.direction sending.now.header (bodiless []) }
 {
     let mut message = PoolMessage::nothing();
-    match direction {
+    match sending.direction {
         Dir::Up => {}
-        Dir::Down => message.push_header(header),
+        Dir::Down => message.push_header(sending.header),
     }
     message
 }
 
 /// Sends an event with a message without bytes, going down after a header.
 #[inline(never)]
-fn send_nothing(tray: &mut Tray, direction: Dir, envelope: Envelope, header: Header)
+fn send_nothing(tray: &mut Tray, sending: &Sending)
     requires { length tray.old.sent.items < tray.old.sent.capacity }
-    ensures { tray.new ≡ also_sent direction envelope (Some (sent_after direction header (bodiless []))) tray.old }
+    ensures { tray.new ≡ also_sent sending.now.direction sending.now.envelope
+        (Some (sent_after sending.now.direction sending.now.header (bodiless []))) tray.old }
 {
-    let mut message = nothing_after(direction, header);
+    let mut message = nothing_after(sending);
     let mut place = MessagePlace::empty();
     place.fill(&mut message);
     message.close();
-    tray.send_from(direction, envelope, &mut place);
+    tray.send_from(sending.direction, sending.envelope, &mut place);
     place.close();
 }
 
 /// Sends an event with a message that is missing from the scope and so has no bytes, going down after a header.
-fn send_missing<K: Start>(
-    desk: &mut FileDesk,
-    pool: &Pool,
-    direction: Dir,
-    envelope: Envelope,
-    header: Header,
-    slot: u8,
-)
+fn send_missing<K: Start>(desk: &mut FileDesk, pool: &Pool, sending: &Sending, slot: u8)
     requires ready { IsReady K.begun pool.now desk.old }
     requires places { length desk.old.tray.sent.items < desk.old.places }
     requires none { slice_get desk.old.tray.messages.items slot ≡ None }
     ensures ready { IsReady K.begun pool.now desk.new }
-    ensures shown { laid pool.now (stock_of desk.new) ≡ sends direction
-        (event_in envelope (Some
-        (sent_as direction header (slice_index_or (laid pool.now (stock_of desk.old)).scope.messages slot (plain [])))))
+    ensures shown { laid pool.now (stock_of desk.new) ≡
+        sends_local sending.now.direction sending.now.envelope sending.now.header slot
         (laid pool.now (stock_of desk.old)) }
     ensures spent { SpentAtMost (room_of pool.now desk.old) (room_of pool.now desk.new) one_place }
 {
-    send_nothing(&mut desk.tray, direction, envelope, header);
+    send_nothing(&mut desk.tray, sending);
 }
 
 pub(crate) fn send_local<K: Start>(
     desk: &mut FileDesk,
     pool: &mut Pool,
-    direction: Dir,
-    envelope: Envelope,
-    header: Header,
+    sending: &Sending,
     slot: u8,
 ) -> Result<(), NoRoom>
     requires { IsReady K.begun pool.old desk.old }
     ensures ready { IsReady K.begun pool.new desk.new }
-    ensures shown { OnOk result (laid pool.new (stock_of desk.new) ≡ sends direction
-        (event_in envelope (Some
-        (sent_as direction header (slice_index_or (laid pool.old (stock_of desk.old)).scope.messages slot (plain [])))))
+    ensures shown { OnOk result (laid pool.new (stock_of desk.new) ≡
+        sends_local sending.now.direction sending.now.envelope sending.now.header slot
         (laid pool.old (stock_of desk.old))) }
     ensures spent { Spent (room_of pool.old desk.old) (room_of pool.new desk.new) one_place result }
 {
@@ -166,53 +158,40 @@ pub(crate) fn send_local<K: Start>(
     let place = usize::from(slot);
     match desk.tray.message(place) {
         Some(_message) => {
-            desk.tray
-                .send_message(direction, envelope, header, place, pool);
+            desk.tray.send_message(sending, place, pool);
             Ok(())
         }
         None => {
-            send_missing::<K>(desk, pool, direction, envelope, header, slot);
+            send_missing::<K>(desk, pool, sending, slot);
             Ok(())
         }
     }
 }
 
 /// Sends an event with a message of the scope, going down after a header, and gives all others of the scope back.
-fn send_last_local<K: Start>(
-    desk: &mut FileDesk,
-    pool: &mut Pool,
-    direction: Dir,
-    envelope: Envelope,
-    header: Header,
-    slot: u8,
-)
+fn send_last_local<K: Start>(desk: &mut FileDesk, pool: &mut Pool, sending: &Sending, slot: u8)
     requires ready { IsReady K.begun pool.old desk.old }
     requires places { length desk.old.tray.sent.items < desk.old.places }
     requires some { slot < length desk.old.tray.messages.items }
     ensures ready { IsReady K.begun pool.new desk.new }
-    ensures shown { laid pool.new (stock_of desk.new) ≡ without_messages (sends direction
-        (event_in envelope (Some
-        (sent_as direction header (slice_index_or (laid pool.old (stock_of desk.old)).scope.messages slot (plain [])))))
+    ensures shown { laid pool.new (stock_of desk.new) ≡ without_messages
+        (sends_local sending.now.direction sending.now.envelope sending.now.header slot
         (laid pool.old (stock_of desk.old))) }
     ensures spent { SpentAtMost (room_of pool.old desk.old) (room_of pool.new desk.new) one_place }
 {
-    desk.tray
-        .send_and_clear(direction, envelope, header, usize::from(slot), pool);
+    desk.tray.send_and_clear(sending, usize::from(slot), pool);
 }
 
 pub(crate) fn send_local_and_leave<K: Start>(
     desk: &mut FileDesk,
     pool: &mut Pool,
-    direction: Dir,
-    envelope: Envelope,
-    header: Header,
+    sending: &Sending,
     slot: u8,
 ) -> Result<(), NoRoom>
     requires { IsReady K.begun pool.old desk.old }
     ensures ready { IsReady K.begun pool.new desk.new }
-    ensures shown { OnOk result (laid pool.new (stock_of desk.new) ≡ left (sends direction
-        (event_in envelope (Some
-        (sent_as direction header (slice_index_or (laid pool.old (stock_of desk.old)).scope.messages slot (plain [])))))
+    ensures shown { OnOk result (laid pool.new (stock_of desk.new) ≡ left
+        (sends_local sending.now.direction sending.now.envelope sending.now.header slot
         (laid pool.old (stock_of desk.old)))) }
     ensures spent { Spent (room_of pool.old desk.old) (room_of pool.new desk.new) one_place result }
 {
@@ -220,10 +199,10 @@ pub(crate) fn send_local_and_leave<K: Start>(
         return Err(NoRoom::Place);
     }
     if desk.tray.has_message(usize::from(slot)) {
-        send_last_local::<K>(desk, pool, direction, envelope, header, slot);
+        send_last_local::<K>(desk, pool, sending, slot);
         forget_rest::<K>(desk, pool);
     } else {
-        send_missing::<K>(desk, pool, direction, envelope, header, slot);
+        send_missing::<K>(desk, pool, sending, slot);
         leave::<K>(desk, pool);
     }
     Ok(())
@@ -254,14 +233,14 @@ fn arrived_headers(desk: &FileDesk, pool: &Pool) -> u32
 pub(crate) fn pass_on<K: Start>(
     desk: &mut FileDesk,
     pool: &Pool,
-    direction: Dir,
-    envelope: Envelope,
-    header: Header,
+    sending: &Sending,
 ) -> Result<(), NoRoom>
     requires { IsReady K.begun pool.now desk.old }
     ensures ready { IsReady K.begun pool.now desk.new }
     ensures shown { OnOk result
-        (laid pool.now (stock_of desk.new) ≡ passes_on direction envelope header (laid pool.now (stock_of desk.old))) }
+        (laid pool.now (stock_of desk.new) ≡
+        passes_on sending.now.direction sending.now.envelope sending.now.header
+        (laid pool.now (stock_of desk.old))) }
     ensures spent { Spent (room_of pool.now desk.old) (room_of pool.now desk.new)
         (passing_need (laid pool.now (stock_of desk.old)).arrived) result }
 {
@@ -271,7 +250,7 @@ pub(crate) fn pass_on<K: Start>(
     if arrived_headers(desk, pool) > MOST_ABOVE {
         return Err(NoRoom::Headers);
     }
-    put_after(direction, header, &mut desk.tray);
-    desk.tray.send_arrived(direction, envelope);
+    put_after(sending, &mut desk.tray);
+    desk.tray.send_arrived(sending.direction, sending.envelope);
     Ok(())
 }

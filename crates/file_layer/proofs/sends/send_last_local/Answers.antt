@@ -22,7 +22,7 @@ use Rattle.file_layer.proofs.sends.send_last_local.Goals as goal
 
 pub send_and_clear-requires-clause-room : goal.send_and_clear-requires-clause-room
 send_and_clear-requires-clause-room g c =
-    can_pass c.args.direction (message_at c.from.result c.args.desk.now.tray)
+    can_pass c.args.sending.now.direction (message_at c.from.result c.args.desk.now.tray)
     (scope_there g.K.Start.begun c.args.pool.now c.args.pool.now (stock_of c.args.desk.now) c.requires.ready.pool
     c.requires.ready.fits c.from.result
     (message_at c.from.result c.args.desk.now.tray)
@@ -41,44 +41,46 @@ send_and_clear-requires-clause-keeps g c =
 
 pub returns-clause-ready : goal.returns-clause-ready
 returns-clause-ready g c =
+    let sending = c.args.sending.now in
     let places = ap (λ (l : Layout). l.places) c.requires.ready.layout in let room = c.requires.places in
     let step = last_fits g.K.Start.begun c.args.pool.now (stock_of c.args.desk.now) c.requires.ready.pool
-    c.requires.ready.fits c.args.direction c.args.envelope
-    c.args.header (omega arith) c.send_and_clear.new.pool c.from.result (message_at c.from.result c.args.desk.now.tray)
+    c.requires.ready.fits sending.direction sending.envelope
+    sending.header (omega arith) c.send_and_clear.new.pool c.from.result (message_at c.from.result c.args.desk.now.tray)
     (item_within c.args.desk.now.tray.messages.items c.from.result (bodiless [])
     (omega (arith, c.from.ensures, c.requires.some))) c.send_and_clear.ensures.returned in
     tray_ready g.K.Start.begun c.args.pool.now c.send_and_clear.new.pool c.args.desk.now
-    (record (also_sent c.args.direction c.args.envelope
-    (Some (sent_after c.args.direction c.args.header (message_at c.from.result c.args.desk.now.tray)))
+    (record (also_sent sending.direction sending.envelope
+    (Some (sent_after sending.direction sending.header (message_at c.from.result c.args.desk.now.tray)))
     c.args.desk.now.tray) { messages = buffer [] c.args.desk.now.tray.messages.capacity }) c.send_and_clear.new.self
     c.requires.ready c.send_and_clear.ensures.sent step.0 step.1 refl
     (sent_grows g.K.Start.begun.refs g.K.Start.begun.list c.args.desk.now.first c.args.desk.now.places
     c.args.desk.now.tray.sent (
-      c.args.direction,
-      pool_event c.args.envelope
-          (Some (sent_after c.args.direction c.args.header (message_at c.from.result c.args.desk.now.tray))),
+      sending.direction,
+      pool_event sending.envelope
+          (Some (sent_after sending.direction sending.header (message_at c.from.result c.args.desk.now.tray))),
     )
     c.requires.ready.sent)
 
 pub returns-clause-shown : goal.returns-clause-shown
 returns-clause-shown g c =
+    let sending = c.args.sending.now in
     let places = ap (λ (l : Layout). l.places) c.requires.ready.layout in let room = c.requires.places in
     ap (λ t. laid c.send_and_clear.new.pool (stock_of (record c.args.desk.now { tray = t })))
     c.send_and_clear.ensures.sent ∙
     subst (λ k. laid c.send_and_clear.new.pool (record (stock_of c.args.desk.now) {
       messages = [];
       sent = c.args.desk.now.tray.sent.items ++ (
-        c.args.direction,
-        pool_event c.args.envelope
-            (Some (sent_after c.args.direction c.args.header (message_at c.from.result c.args.desk.now.tray))),
+        sending.direction,
+        pool_event sending.envelope
+            (Some (sent_after sending.direction sending.header (message_at c.from.result c.args.desk.now.tray))),
       ) ∷ [];
-    }) ≡ without_messages (sends c.args.direction
-    (event_in c.args.envelope
-    (Some (sent_as c.args.direction c.args.header
+    }) ≡ without_messages (sends sending.direction
+    (event_in sending.envelope
+    (Some (sent_as sending.direction sending.header
     (get_or (map (content_seen c.args.pool.now) c.args.desk.now.tray.messages.items) k (plain [])))))
     (laid c.args.pool.now (stock_of c.args.desk.now)))) c.from.ensures
     (last_fits g.K.Start.begun c.args.pool.now (stock_of c.args.desk.now) c.requires.ready.pool c.requires.ready.fits
-    c.args.direction c.args.envelope
-    c.args.header (omega arith) c.send_and_clear.new.pool c.from.result (message_at c.from.result c.args.desk.now.tray)
+    sending.direction sending.envelope
+    sending.header (omega arith) c.send_and_clear.new.pool c.from.result (message_at c.from.result c.args.desk.now.tray)
     (item_within c.args.desk.now.tray.messages.items c.from.result (bodiless [])
     (omega (arith, c.from.ensures, c.requires.some))) c.send_and_clear.ensures.returned).2
