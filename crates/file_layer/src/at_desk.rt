@@ -3,11 +3,11 @@
 use crate::desk::FileDesk;
 use crate::{enters, leaves, lifts, puts, reads, sends, takes, writes};
 use layer_ast::Dir;
-use layer_desk::{Desk, NoRoom, Sending, Start};
+use layer_desk::{Desk, NoRoom, Queue, RowAt, Sending, Square, Start};
 use layer_mean::Envelope;
 use msg_core::Fields;
 use slot_pool::Pool;
-use typed_layer::{Carried, Taken};
+use typed_layer::{Carried, Handler, Taken};
 
 impl Desk for FileDesk {
     ghost use Rattle.file_layer.specs.Stock.{stock_refs, laid};
@@ -56,27 +56,20 @@ impl Desk for FileDesk {
         reads::rows::<K>(self, pool, cell, index)
     }
 
-    fn item<K: Start>(&self, pool: &Pool, cell: u8, index: u32, row: u32, number: u8) -> u32 {
-        reads::item::<K>(self, pool, cell, index, row, number)
+    fn item<K: Start>(&self, pool: &Pool, at: RowAt, number: u8) -> u32 {
+        reads::item::<K>(self, pool, at, number)
     }
 
-    fn has_room<K: Start>(&self, pool: &Pool, cell: u8, index: u32, capacity: u8) -> bool {
-        reads::has_room::<K>(self, pool, cell, index, capacity)
+    fn has_room<K: Start>(&self, pool: &Pool, queue: Queue) -> bool {
+        reads::has_room::<K>(self, pool, queue)
     }
 
     fn local_size<K: Start>(&self, pool: &Pool, slot: u8) -> u32 {
         reads::local_size::<K>(self, pool, slot)
     }
 
-    fn row_size<K: Start>(
-        &self,
-        pool: &Pool,
-        cell: u8,
-        index: u32,
-        row: u32,
-        carried: Carried,
-    ) -> u32 {
-        reads::row_size::<K>(self, pool, cell, index, row, carried)
+    fn row_size<K: Start>(&self, pool: &Pool, at: RowAt, carried: Carried) -> u32 {
+        reads::row_size::<K>(self, pool, at, carried)
     }
 
     fn bind<K: Start>(&mut self, pool: &Pool, slot: u8, value: u32) {
@@ -87,15 +80,8 @@ impl Desk for FileDesk {
         writes::assign::<K>(self, pool, cell, index, value);
     }
 
-    fn assign_square<K: Start>(
-        &mut self,
-        pool: &Pool,
-        cell: u8,
-        row: u32,
-        column: u32,
-        value: u32,
-    ) {
-        writes::assign_square::<K>(self, pool, cell, row, column, value);
+    fn assign_square<K: Start>(&mut self, pool: &Pool, square: Square, value: u32) {
+        writes::assign_square::<K>(self, pool, square, value);
     }
 
     #[inline(always)]
@@ -110,12 +96,10 @@ impl Desk for FileDesk {
     fn lift_row<K: Start>(
         &mut self,
         pool: &mut Pool,
-        cell: u8,
-        index: u32,
-        row: u32,
+        at: RowAt,
         carried: Carried,
     ) -> Result<(), NoRoom> {
-        takes::lift_row::<K>(self, pool, cell, index, row, carried)
+        takes::lift_row::<K>(self, pool, at, carried)
     }
 
     fn cut<K: Start>(&mut self, pool: &Pool, from: u32, count: u32) {
@@ -130,26 +114,17 @@ impl Desk for FileDesk {
         lifts::join::<K>(self, pool)
     }
 
-    fn push<K: Start>(
-        &mut self,
-        pool: &Pool,
-        cell: u8,
-        index: u32,
-        capacity: u8,
-        numbers: Fields,
-    ) -> Result<(), NoRoom> {
-        puts::push::<K>(self, pool, cell, index, capacity, numbers)
+    fn push<K: Start>(&mut self, pool: &Pool, queue: Queue, numbers: Fields) -> Result<(), NoRoom> {
+        puts::push::<K>(self, pool, queue, numbers)
     }
 
     fn push_first<K: Start>(
         &mut self,
         pool: &Pool,
-        cell: u8,
-        index: u32,
-        capacity: u8,
+        queue: Queue,
         numbers: Fields,
     ) -> Result<(), NoRoom> {
-        puts::push_first::<K>(self, pool, cell, index, capacity, numbers)
+        puts::push_first::<K>(self, pool, queue, numbers)
     }
 
     fn take<K: Start>(
@@ -203,10 +178,9 @@ impl Desk for FileDesk {
         pool: &mut Pool,
         envelope: Envelope,
         fields: &Fields,
-        numbers: u8,
-        messages: u8,
+        handler: &Handler,
     ) {
-        enters::enter::<K>(self, pool, envelope, fields, numbers, messages);
+        enters::enter::<K>(self, pool, envelope, fields, handler);
     }
 
     fn pass_on<K: Start>(&mut self, pool: &Pool, sending: &Sending) -> Result<(), NoRoom> {

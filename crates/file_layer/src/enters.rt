@@ -18,6 +18,7 @@ use layer_desk::Start;
 use layer_mean::Envelope;
 use msg_core::Fields;
 use slot_pool::Pool;
+use typed_layer::Handler;
 
 /// Puts the number arguments of an event, in the order in which they are written.
 fn put_arguments(numbers: &mut Vec<u32>, envelope: Envelope)
@@ -112,20 +113,21 @@ pub(crate) fn enter<K: Start>(
     pool: &mut Pool,
     envelope: Envelope,
     fields: &Fields,
-    numbers: u8,
-    messages: u8,
+    handler: &Handler,
 )
     requires ready { IsReady K.begun pool.old desk.old }
     requires room { Suffices (room_of pool.old desk.old)
-        (entry_need K.begun.layout numbers messages (laid pool.old (stock_of desk.old)).arrived) }
+        (entry_need K.begun.layout handler.now.numbers handler.now.messages
+        (laid pool.old (stock_of desk.old)).arrived) }
     ensures ready { IsReady K.begun pool.new desk.new }
     ensures shown { laid pool.new (stock_of desk.new) ≡
-        enters envelope fields.now numbers messages (laid pool.old (stock_of desk.old)) }
+        enters envelope fields.now handler.now.numbers handler.now.messages (laid pool.old (stock_of desk.old)) }
     ensures spent { SpentAtMost (room_of pool.old desk.old) (room_of pool.new desk.new)
-        (entry_need K.begun.layout numbers messages (laid pool.old (stock_of desk.old)).arrived) }
+        (entry_need K.begun.layout handler.now.numbers handler.now.messages
+        (laid pool.old (stock_of desk.old)).arrived) }
 {
     forget_messages::<K>(desk, pool);
-    bind_numbers::<K>(desk, pool, envelope, fields, numbers);
+    bind_numbers::<K>(desk, pool, envelope, fields, handler.numbers);
     bind_arrived::<K>(desk, pool);
-    bind_bare::<K>(desk, pool, messages);
+    bind_bare::<K>(desk, pool, handler.messages);
 }

@@ -10,7 +10,7 @@ ghost use Rattle.file_layer.specs.Ready.{stock_of, room_of, IsReady};
 
 use crate::desk::FileDesk;
 use crate::lifts::take_last;
-use layer_desk::{NoRoom, Start};
+use layer_desk::{NoRoom, Queue, Start};
 use msg_core::Fields;
 use pool_message::PoolRow;
 use slot_pool::Pool;
@@ -18,48 +18,46 @@ use slot_pool::Pool;
 pub(crate) fn push<K: Start>(
     desk: &mut FileDesk,
     pool: &Pool,
-    cell: u8,
-    index: u32,
-    capacity: u8,
+    queue: Queue,
     numbers: Fields,
 ) -> Result<(), NoRoom>
     requires ready { IsReady K.begun pool.now desk.old }
-    requires room { has_room (laid pool.now (stock_of desk.old)).state cell index capacity ≡ true }
+    requires room { has_room (laid pool.now (stock_of desk.old)).state queue.cell queue.index queue.capacity ≡ true }
     ensures ready { IsReady K.begun pool.now desk.new }
     ensures shown { OnOk result
-        (laid pool.now (stock_of desk.new) ≡ queued cell index (record { numbers = numbers; message = None })
+        (laid pool.now (stock_of desk.new) ≡
+        queued queue.cell queue.index (record { numbers = numbers; message = None })
         (laid pool.now (stock_of desk.old))) }
     ensures spent { Spent (room_of pool.now desk.old) (room_of pool.now desk.new)
-        (room_need K.begun.layout cell capacity) result }
+        (room_need K.begun.layout queue.cell queue.capacity) result }
 {
-    if desk.cells.capacity(cell) < capacity {
+    if desk.cells.capacity(queue.cell) < queue.capacity {
         return Err(NoRoom::Misfit);
     }
     let row = PoolRow {
         numbers,
         message: None,
     };
-    desk.cells.push(cell, index, row);
+    desk.cells.push(queue.cell, queue.index, row);
     Ok(())
 }
 
 pub(crate) fn push_first<K: Start>(
     desk: &mut FileDesk,
     pool: &Pool,
-    cell: u8,
-    index: u32,
-    capacity: u8,
+    queue: Queue,
     numbers: Fields,
 ) -> Result<(), NoRoom>
     requires ready { IsReady K.begun pool.now desk.old }
-    requires room { has_room (laid pool.now (stock_of desk.old)).state cell index capacity ≡ true }
+    requires room { has_room (laid pool.now (stock_of desk.old)).state queue.cell queue.index queue.capacity ≡ true }
     ensures ready { IsReady K.begun pool.now desk.new }
     ensures shown { OnOk result
-        (laid pool.now (stock_of desk.new) ≡ queued_first cell index numbers (laid pool.now (stock_of desk.old))) }
+        (laid pool.now (stock_of desk.new) ≡
+        queued_first queue.cell queue.index numbers (laid pool.now (stock_of desk.old))) }
     ensures spent { Spent (room_of pool.now desk.old) (room_of pool.now desk.new)
-        (room_need K.begun.layout cell capacity) result }
+        (room_need K.begun.layout queue.cell queue.capacity) result }
 {
-    if desk.cells.capacity(cell) < capacity {
+    if desk.cells.capacity(queue.cell) < queue.capacity {
         return Err(NoRoom::Misfit);
     }
     let Some(message) = take_last(&mut desk.hand) else {
@@ -69,6 +67,6 @@ pub(crate) fn push_first<K: Start>(
         numbers,
         message: Some(message),
     };
-    desk.cells.push(cell, index, row);
+    desk.cells.push(queue.cell, queue.index, row);
     Ok(())
 }

@@ -9,7 +9,7 @@ ghost use Rattle.file_layer.specs.Stock.{laid};
 ghost use Rattle.file_layer.specs.Ready.{stock_of, IsReady};
 
 use crate::desk::FileDesk;
-use layer_desk::Start;
+use layer_desk::{Queue, RowAt, Start};
 use slot_pool::Pool;
 use typed_layer::Carried;
 
@@ -69,35 +69,23 @@ pub(crate) fn rows<K: Start>(desk: &FileDesk, pool: &Pool, cell: u8, index: u32)
     desk.cells.len(cell, index)
 }
 
-pub(crate) fn item<K: Start>(
-    desk: &FileDesk,
-    pool: &Pool,
-    cell: u8,
-    index: u32,
-    row: u32,
-    number: u8,
-) -> u32
+pub(crate) fn item<K: Start>(desk: &FileDesk, pool: &Pool, at: RowAt, number: u8) -> u32
     requires { IsReady K.begun pool.now desk.now }
-    ensures { result ≡ number_in number (row_at (laid pool.now (stock_of desk.now)).state cell index row) }
+    ensures { result ≡ number_in number
+        (row_at (laid pool.now (stock_of desk.now)).state at.cell at.index at.row) }
 {
-    match desk.cells.row(cell, index, row) {
+    match desk.cells.row(at.cell, at.index, at.row) {
         Some(row) => row.numbers.at(u32::from(number)),
         None => 0,
     }
 }
 
 #[tactic(auto, using(crate::proofs::Queues::room_seen))]
-pub(crate) fn has_room<K: Start>(
-    desk: &FileDesk,
-    pool: &Pool,
-    cell: u8,
-    index: u32,
-    capacity: u8,
-) -> bool
+pub(crate) fn has_room<K: Start>(desk: &FileDesk, pool: &Pool, queue: Queue) -> bool
     requires { IsReady K.begun pool.now desk.now }
-    ensures { result ≡ has_room (laid pool.now (stock_of desk.now)).state cell index capacity }
+    ensures { result ≡ has_room (laid pool.now (stock_of desk.now)).state queue.cell queue.index queue.capacity }
 {
-    desk.cells.has_room(cell, index, capacity)
+    desk.cells.has_room(queue.cell, queue.index, queue.capacity)
 }
 
 pub(crate) fn local_size<K: Start>(desk: &FileDesk, pool: &Pool, slot: u8) -> u32
@@ -110,19 +98,12 @@ pub(crate) fn local_size<K: Start>(desk: &FileDesk, pool: &Pool, slot: u8) -> u3
     }
 }
 
-pub(crate) fn row_size<K: Start>(
-    desk: &FileDesk,
-    pool: &Pool,
-    cell: u8,
-    index: u32,
-    row: u32,
-    carried: Carried,
-) -> u32
+pub(crate) fn row_size<K: Start>(desk: &FileDesk, pool: &Pool, at: RowAt, carried: Carried) -> u32
     requires { IsReady K.begun pool.now desk.now }
-    ensures { result ≡ length
-        (message_in (carried_tree carried) (row_at (laid pool.now (stock_of desk.now)).state cell index row)).body }
+    ensures { result ≡ length (message_in (carried_tree carried)
+        (row_at (laid pool.now (stock_of desk.now)).state at.cell at.index at.row)).body }
 {
-    match desk.cells.row(cell, index, row) {
+    match desk.cells.row(at.cell, at.index, at.row) {
         Some(row) => match &row.message {
             Some(message) => message.len(),
             None => 0,

@@ -19,7 +19,7 @@ ghost use Rattle.file_layer.specs.Taken.{message_left, numbers_filled, IsSpent};
 
 use crate::desk::{FileDesk, MOST_ABOVE};
 use cell_store::Cells;
-use layer_desk::{NoRoom, Start};
+use layer_desk::{NoRoom, RowAt, Start};
 use msg_core::Fields;
 use pool_message::{PoolMessage, PoolRow, Tray};
 use slot_pool::Pool;
@@ -72,15 +72,13 @@ fn stand_in(carried: Carried) -> PoolMessage
 pub(crate) fn lift_row<K: Start>(
     desk: &mut FileDesk,
     pool: &mut Pool,
-    cell: u8,
-    index: u32,
-    row: u32,
+    at: RowAt,
     carried: Carried,
 ) -> Result<(), NoRoom>
     requires { IsReady K.begun pool.old desk.old }
     ensures ready { IsReady K.begun pool.new desk.new }
-    ensures shown { OnOk result (laid pool.new (stock_of desk.new) ≡
-        lifted (message_in (carried_tree carried) (row_at (laid pool.old (stock_of desk.old)).state cell index row))
+    ensures shown { OnOk result (laid pool.new (stock_of desk.new) ≡ lifted
+        (message_in (carried_tree carried) (row_at (laid pool.old (stock_of desk.old)).state at.cell at.index at.row))
         (laid pool.old (stock_of desk.old))) }
     ensures spent { Lifted (room_of pool.old desk.old) (room_of pool.new desk.new) (held_need (carried_tree carried))
         result }
@@ -88,7 +86,7 @@ pub(crate) fn lift_row<K: Start>(
     if desk.hand.len() >= desk.hand.capacity() {
         return Err(NoRoom::Hand);
     }
-    match row_message(&desk.cells, cell, index, row) {
+    match row_message(&desk.cells, at.cell, at.index, at.row) {
         Some(message) => {
             desk.hand.push_kept(message, pool);
             Ok(())

@@ -18,7 +18,7 @@ ghost use Rattle.file_layer.specs.Stock.{kept_refs};
 
 use crate::desk::FileDesk;
 use layer_ast::Dir;
-use layer_eval::{Predicted, take_event};
+use layer_eval::{Predicted, Visit, take_event};
 use layer_mean::Envelope;
 use pool_message::Events;
 use slot_pool::Pool;
@@ -96,7 +96,12 @@ pub(crate) fn visit(
     ensures out { SentLie pool.new events.new.items }
 {
     let (direction, envelope) = begin(desk, events);
-    let predicted = take_event(place, layer, direction, envelope, desk, pool);
+    let visit = Visit {
+        place,
+        direction,
+        envelope,
+    };
+    let predicted = take_event(&visit, layer, desk, pool);
     end(desk, events);
     predicted
 }

@@ -6,7 +6,7 @@ ghost use Rattle.file_layer.specs.Stock.{laid};
 ghost use Rattle.file_layer.specs.Ready.{stock_of, room_of, IsReady};
 
 use crate::desk::FileDesk;
-use layer_desk::Start;
+use layer_desk::{Square, Start};
 use slot_pool::Pool;
 
 pub(crate) fn bind<K: Start>(desk: &mut FileDesk, pool: &Pool, slot: u8, value: u32)
@@ -30,19 +30,13 @@ pub(crate) fn assign<K: Start>(desk: &mut FileDesk, pool: &Pool, cell: u8, index
     desk.cells.set(cell, index, value);
 }
 
-pub(crate) fn assign_square<K: Start>(
-    desk: &mut FileDesk,
-    pool: &Pool,
-    cell: u8,
-    row: u32,
-    column: u32,
-    value: u32,
-)
+pub(crate) fn assign_square<K: Start>(desk: &mut FileDesk, pool: &Pool, square: Square, value: u32)
     requires { IsReady K.begun pool.now desk.old }
     ensures ready { IsReady K.begun pool.now desk.new }
     ensures shown { laid pool.now (stock_of desk.new) ≡
-        assigned_square cell row column value (laid pool.now (stock_of desk.old)) }
+        assigned_square square.cell square.row square.column value (laid pool.now (stock_of desk.old)) }
     ensures free { room_of pool.now desk.new ≡ room_of pool.now desk.old }
 {
-    desk.cells.set_square(cell, row, column, value);
+    desk.cells
+        .set_square(square.cell, square.row, square.column, value);
 }

@@ -7,8 +7,9 @@ use Rattle.file_layer.proofs.puts.push_first.Goals as goal
 pub returns-clause-ready : goal.returns-clause-ready
 returns-clause-ready g c =
     let step = top_fits g.K.Start.begun c.args.pool.now (stock_of c.args.desk.now) c.requires.ready.pool
-    c.requires.ready.fits c.args.cell c.args.index
-    (room_for_row (row_seen c.args.pool.now) c.args.desk.now.cells c.args.cell c.args.index c.args.capacity
+    c.requires.ready.fits c.args.queue.cell c.args.queue.index
+    (room_for_row (row_seen c.args.pool.now) c.args.desk.now.cells c.args.queue.cell c.args.queue.index
+    c.args.queue.capacity
     c.requires.room (omega arith))
     c.args.numbers c.push.new.self c.take_last.new.hand.items c.in-Some.message c.in-Some.ensures.some c.push.ensures in
     record {
@@ -20,14 +21,15 @@ returns-clause-ready g c =
       fits = step.1;
       numbers = search rules;
       messages = search rules;
-      forms = forms_rows _ _ c.args.cell c.args.index _ c.push.ensures ∙ c.requires.ready.forms;
+      forms = forms_rows _ _ c.args.queue.cell c.args.queue.index _ c.push.ensures ∙ c.requires.ready.forms;
       sent = search rules;
     }
 
 pub returns-clause-shown : goal.returns-clause-shown
 returns-clause-shown g c =
     (top_fits g.K.Start.begun c.args.pool.now (stock_of c.args.desk.now) c.requires.ready.pool c.requires.ready.fits
-    c.args.cell c.args.index
-    (room_for_row (row_seen c.args.pool.now) c.args.desk.now.cells c.args.cell c.args.index c.args.capacity
+    c.args.queue.cell c.args.queue.index
+    (room_for_row (row_seen c.args.pool.now) c.args.desk.now.cells c.args.queue.cell c.args.queue.index
+    c.args.queue.capacity
     c.requires.room (omega arith))
     c.args.numbers c.push.new.self c.take_last.new.hand.items c.in-Some.message c.in-Some.ensures.some c.push.ensures).2

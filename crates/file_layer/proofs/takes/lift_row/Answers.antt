@@ -10,8 +10,8 @@ use Rattle.file_layer.proofs.takes.lift_row.Goals as goal
 
 pub push_kept-requires-clause-there : goal.push_kept-requires-clause-there
 push_kept-requires-clause-there g c =
-    (held_there g.K.Start.begun c.args.pool.now (stock_of c.args.desk.now) c.requires.pool c.requires.fits c.args.cell
-    c.args.index c.args.row
+    (held_there g.K.Start.begun c.args.pool.now (stock_of c.args.desk.now) c.requires.pool c.requires.fits
+    c.args.at.cell c.args.at.index c.args.at.row
     c.in-Some.message.now (sym c.row_message.ensures ∙ ap option_copied c.in-Some.is)).0
 
 pub push_kept-requires-clause-keeps : goal.push_kept-requires-clause-keeps
@@ -22,8 +22,8 @@ pub returns-in-Some-clause-ready : goal.returns-in-Some-clause-ready
 returns-in-Some-clause-ready g c =
     let capacity = ap (λ (l : Layout). l.hand) c.requires.layout in
     let step = held_lifted g.K.Start.begun c.args.pool.now (stock_of c.args.desk.now) c.requires.pool c.requires.fits
-    c.args.cell c.args.index
-    c.push_kept.new.pool c.args.row (carried_tree c.args.carried) c.in-Some.message.now c.in-Some.message.now
+    c.args.at.cell c.args.at.index
+    c.push_kept.new.pool c.args.at.row (carried_tree c.args.carried) c.in-Some.message.now c.in-Some.message.now
     c.push_kept.new.self.items
     (sym c.row_message.ensures ∙ ap option_copied c.in-Some.is) refl (items_are _ _ _ c.push_kept.ensures.pushed)
     (omega arith) c.push_kept.ensures.kept in
@@ -41,9 +41,9 @@ returns-in-Some-clause-ready g c =
 pub returns-in-Some-clause-shown : goal.returns-in-Some-clause-shown
 returns-in-Some-clause-shown g c =
     let capacity = ap (λ (l : Layout). l.hand) c.requires.layout in
-    (held_lifted g.K.Start.begun c.args.pool.now (stock_of c.args.desk.now) c.requires.pool c.requires.fits c.args.cell
-    c.args.index
-    c.push_kept.new.pool c.args.row (carried_tree c.args.carried) c.in-Some.message.now c.in-Some.message.now
+    (held_lifted g.K.Start.begun c.args.pool.now (stock_of c.args.desk.now) c.requires.pool c.requires.fits
+    c.args.at.cell c.args.at.index
+    c.push_kept.new.pool c.args.at.row (carried_tree c.args.carried) c.in-Some.message.now c.in-Some.message.now
     c.push_kept.new.self.items
     (sym c.row_message.ensures ∙ ap option_copied c.in-Some.is) refl (items_are _ _ _ c.push_kept.ensures.pushed)
     (omega arith) c.push_kept.ensures.kept).2
@@ -52,7 +52,7 @@ pub returns-else-is_too_wide-clause-shown : goal.returns-else-is_too_wide-clause
 returns-else-is_too_wide-clause-shown g c =
     let capacity = ap (λ (l : Layout). l.hand) c.requires.layout in
     (stand_in_lifted g.K.Start.begun c.args.pool.now (stock_of c.args.desk.now) c.requires.pool c.requires.fits
-    c.args.cell c.args.index
-    c.args.row (carried_tree c.args.carried) c.stand_in.result c.push.new.self.items
+    c.args.at.cell c.args.at.index
+    c.args.at.row (carried_tree c.args.carried) c.stand_in.result c.push.new.self.items
     (sym c.row_message.ensures ∙ ap option_copied c.in-None.is) c.stand_in.ensures (items_are _ _ _ c.push.ensures)
     (omega arith)).2

@@ -7,8 +7,8 @@ use Rattle.file_layer.proofs.writes.assign_square.Goals as goal
 pub returns-clause-ready : goal.returns-clause-ready
 returns-clause-ready g c =
     let step = number_fits g.K.Start.begun c.args.pool.now (stock_of c.args.desk.now) c.requires.pool c.requires.fits
-    c.args.cell
-    (flat_index c.args.desk.now.cells.count c.args.row c.args.column) c.args.value c.set_square.new.self
+    c.args.square.cell
+    (flat_index c.args.desk.now.cells.count c.args.square.row c.args.square.column) c.args.value c.set_square.new.self
     c.set_square.ensures in
     record {
       pool = step.0;
@@ -18,12 +18,13 @@ returns-clause-ready g c =
       numbers = search rules;
       messages = search rules;
       forms =
-          forms_number _ _ c.args.cell _ c.args.value c.set_square.ensures ∙ c.requires.forms;
+          forms_number _ _ c.args.square.cell _ c.args.value c.set_square.ensures ∙ c.requires.forms;
       sent = search rules;
     }
 
 pub returns-clause-shown : goal.returns-clause-shown
 returns-clause-shown g c =
-    (number_fits g.K.Start.begun c.args.pool.now (stock_of c.args.desk.now) c.requires.pool c.requires.fits c.args.cell
-    (flat_index c.args.desk.now.cells.count c.args.row c.args.column) c.args.value c.set_square.new.self
+    (number_fits g.K.Start.begun c.args.pool.now (stock_of c.args.desk.now) c.requires.pool c.requires.fits
+    c.args.square.cell
+    (flat_index c.args.desk.now.cells.count c.args.square.row c.args.square.column) c.args.value c.set_square.new.self
     c.set_square.ensures).2
