@@ -13,7 +13,7 @@ ghost use Rattle.file_expressions.specs.Wanted.{sorts_of};
 ghost use Rattle.file_scope.specs.Scope.{scope_of};
 
 use crate::count::{Count, count_arguments, is_same_count};
-use crate::header::{header, numbers};
+use crate::header::{With, header, numbers};
 use crate::kinds::{argument_count, carries, pushes, second_wanted, suits};
 use file_expressions::{Cause, NUMBER, Wanted, argument, argument_sort, note_unless};
 use file_scope::{Found, Scope, declares_end};
@@ -81,14 +81,12 @@ fn put_on(found: &mut Found, scope: &Scope, sending: Sending, p: &Pushed)
         found.new }
 {
     let is_allowed = pushes(sending.direction) && carries(sending.kind);
-    header(
-        found,
-        scope,
-        sending.at,
-        &p.name,
-        count_arguments(&p.fields),
-        is_allowed,
-    );
+    let with = With {
+        at: sending.at,
+        name: &p.name,
+        count: count_arguments(&p.fields),
+    };
+    header(found, scope, with, is_allowed);
     numbers(found, scope, &p.fields);
 }
 

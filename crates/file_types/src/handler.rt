@@ -16,7 +16,7 @@ ghost use Rattle.file_scope.specs.Words.{own_words};
 
 use crate::block::block;
 use crate::count::{Count, count_names, is_same_count};
-use crate::header::header;
+use crate::header::{With, header};
 use crate::kinds::{argument_count, carries, pushes};
 use file_expressions::{Cause, expression, note_unless};
 use file_scope::{Found, Scope, Words, head_locals};
@@ -70,15 +70,12 @@ fn popped(found: &mut Found, scope: &Scope, handler: &Handler)
     match &handler.popped {
         None => {}
         Some(p) => {
-            let is_allowed = takes_off(handler);
-            header(
-                found,
-                scope,
-                handler.at,
-                &p.name,
-                count_names(&p.fields),
-                is_allowed,
-            );
+            let with = With {
+                at: handler.at,
+                name: &p.name,
+                count: count_names(&p.fields),
+            };
+            header(found, scope, with, takes_off(handler));
         }
     }
 }

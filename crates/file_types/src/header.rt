@@ -36,16 +36,25 @@ fn fields(scope: &Scope, word: &Word) -> Count
     }
 }
 
-/// The header that is named after `with`, with `count` fields, where one is allowed or not.
+/// A header as it is named after `with`: the place of what it belongs to, its name, and how many fields stand there.
+#[derive(Clone, Copy)]
+pub struct With<'a> {
+    pub at: At,
+    pub name: &'a Name,
+    pub count: Count,
+}
+
+/// The header that is named after `with`, where one is allowed or not.
 #[tactic(auto, using(file_scope::proofs::Parts::three_parts))]
-pub fn header(found: &mut Found, scope: &Scope, at: At, name: &Name, count: Count, is_allowed: bool)
-    ensures { Finds found.old (spec.with_faults (scope_of scope.now).layer at name.now (count_of count) is_allowed)
-        found.new }
+pub fn header(found: &mut Found, scope: &Scope, with: With<'_>, is_allowed: bool)
+    ensures { Finds found.old (spec.with_faults (scope_of scope.now).layer with.entry.at with.entry.name.now
+        (count_of with.entry.count) is_allowed) found.new }
 {
-    note_unless(found, declares_header(scope, &name.word), Cause::Kind, at);
-    let holds = is_same_count(fields(scope, &name.word), count);
-    note_unless(found, holds, Cause::Arity, at);
-    note_unless(found, is_allowed, Cause::Direction, at);
+    let word = &with.name.word;
+    note_unless(found, declares_header(scope, word), Cause::Kind, with.at);
+    let holds = is_same_count(fields(scope, word), with.count);
+    note_unless(found, holds, Cause::Arity, with.at);
+    note_unless(found, is_allowed, Cause::Direction, with.at);
 }
 
 /// Arguments, each of which is to be a number.
