@@ -16,9 +16,10 @@ struct Stay {
     to: usize,
 }
 
-/// The stays of all members, and what was delivered in them.
+/// The stays of all members, how many members these are, and what was delivered in the stays.
 #[derive(Drop)]
 struct Stays {
+    members: u8,
     stays: Vec<Stay>,
     contents: Vec<Content>,
 }
@@ -32,17 +33,18 @@ pub(crate) fn is_broken(
     notes: &[Note],
 ) -> Result<bool, SearchError> {
     let mut all = Stays {
+        members,
         stays: Vec::new(alloc),
         contents: Vec::new(alloc),
     };
-    put_all(&mut all, members, notes)?;
+    put_all(&mut all, notes)?;
     let mut bodies = Vec::new(alloc);
-    any_differ(law, members, &all, &mut bodies)
+    any_differ(law, &all, &mut bodies)
 }
 
 /// Puts the stays of all members, one member after the other.
-fn put_all(all: &mut Stays, members: u8, notes: &[Note]) -> Result<(), SearchError> {
-    for member in 0..members {
+fn put_all(all: &mut Stays, notes: &[Note]) -> Result<(), SearchError> {
+    for member in 0..all.members {
         put_stays(all, member, notes)?;
     }
     Ok(())
@@ -101,18 +103,13 @@ fn put_ended(all: &mut Stays, now: Option<Stay>, next: Option<Name>) -> Result<(
 }
 
 /// Whether two stays of different members, in one view, differ in what a law asks of them.
-fn any_differ(
-    law: Law,
-    members: u8,
-    all: &Stays,
-    bodies: &mut Vec<u64>,
-) -> Result<bool, SearchError> {
+fn any_differ(law: Law, all: &Stays, bodies: &mut Vec<u64>) -> Result<bool, SearchError> {
     for second in 0..all.stays.len() {
         for first in 0..second {
             let (one, other) = (all.stays[first], all.stays[second]);
             if one.member != other.member
                 && one.name == other.name
-                && differ(law, members, all, one, other, bodies)?
+                && differ(law, all, one, other, bodies)?
             {
                 return Ok(true);
             }
@@ -124,7 +121,6 @@ fn any_differ(
 /// Whether two stays in one view differ in what a law asks of them.
 fn differ(
     law: Law,
-    members: u8,
     all: &Stays,
     one: Stay,
     other: Stay,
@@ -133,7 +129,7 @@ fn differ(
     let (mine, yours) = (delivered(all, one), delivered(all, other));
     match law {
         Law::Total => Ok(is_other_order(mine, yours)),
-        Law::Sender => senders_differ(members, mine, yours, bodies),
+        Law::Sender => senders_differ(all.members, mine, yours, bodies),
         Law::Same => Ok(one.next.is_some() && one.next == other.next && are_others(mine, yours)),
     }
 }

@@ -119,24 +119,21 @@ impl Search {
     fn wander(&mut self, number: u64) -> Result<Schedule, SearchError> {
         let events = self.aim.events;
         let members = self.aim.members;
-        let mut steps = Vec::with_capacity(self.alloc, events as usize)?;
         let mut wander = Wander::of(self.alloc, members, number)?;
         self.ledger.clear(events)?;
         let mut group = self.open(members)?;
-        let made = wander_on(
+        let steps = wander_on(
             self.alloc,
             &mut self.ledger,
             &mut group,
             &mut wander,
             events,
-            &mut steps,
         );
         self.put_by(group);
-        made?;
         Ok(Schedule {
             members,
             names: events,
-            steps,
+            steps: steps?,
         })
     }
 
@@ -190,15 +187,15 @@ fn close(group: Option<Group>) {
     }
 }
 
-/// Draws the steps of a run and plays each: first unquiet ones, then quiet ones.
+/// Draws the steps of a run and plays each: first unquiet ones, then quiet ones. It answers the steps.
 fn wander_on(
     alloc: Global,
     ledger: &mut Ledger,
     group: &mut Group,
     wander: &mut Wander,
     events: u32,
-    steps: &mut Vec<Step>,
-) -> Result<(), SearchError> {
+) -> Result<Vec<Step>, SearchError> {
+    let mut steps = Vec::with_capacity(alloc, events as usize)?;
     let unquiet = events / 4 * UNQUIET;
     for name in 0..events {
         if name == unquiet {
@@ -210,7 +207,7 @@ fn wander_on(
             wander.follow(group, ledger.dests(), step, stepped)?;
         }
     }
-    Ok(())
+    Ok(steps)
 }
 
 /// Plays steps.
