@@ -11,13 +11,13 @@ ghost use Rattle.trace_expressions.specs.Reading.{ReadsMessage, ReadsNumber, Rea
 ghost use Rattle.trace_expressions.specs.Sorts.{number_by_sort, queue_by_sort};
 
 use crate::queued::Queue;
-use crate::sort::{Sort, sort_at};
+use crate::sort::{CellNamed, Sort, sort_at};
 use crate::targeted::Target;
 use layer_ast::Function;
 use trace_core::{Arena, Atom, Node};
 use trace_words::{
-    LineError, Name, Scope, Spot, Text, atom_named, cell_named, core_named, function_of,
-    item_named, load_at, operator_of,
+    LineError, Name, Scope, Text, atom_named, cell_named, core_named, function_of, item_named,
+    load_at, operator_of,
 };
 
 /// How many brackets may be opened inside one, if one may.
@@ -55,14 +55,15 @@ fn target_at(
     text: &mut Text<'_>,
     scope: &Scope<'_>,
     room: u32,
-    spot: Spot,
-    sort: Option<Sort>,
+    cell: CellNamed,
     nodes: &mut Arena,
 ) -> Result<Target, LineError>
-    ensures { ReadsTarget (number_by_sort (inner scope.now room) spot.place spot.cell sort (left text.old))
+    ensures { ReadsTarget
+        (number_by_sort (inner scope.now room) cell.spot.place cell.spot.cell cell.sort (left text.old))
         nodes.old nodes.new (left text.new) result }
 {
-    match sort {
+    let spot = cell.spot;
+    match cell.sort {
         Some(Sort::Number) => {
             let index = nodes.push(Node::Atom(Atom::Number(0)))?;
             Ok(Target::Element { spot, index })
@@ -98,7 +99,7 @@ pub(crate) fn target_named(
         return Err(LineError::Form);
     };
     let sort = sort_at(scope.stack, spot);
-    target_at(text, scope, room, spot, sort, nodes)
+    target_at(text, scope, room, CellNamed { spot, sort }, nodes)
 }
 
 /// The node of a number of a cell that a name begins.
@@ -143,14 +144,15 @@ fn queue_at(
     text: &mut Text<'_>,
     scope: &Scope<'_>,
     room: u32,
-    spot: Spot,
-    sort: Option<Sort>,
+    cell: CellNamed,
     nodes: &mut Arena,
 ) -> Result<Queue, LineError>
-    ensures { ReadsQueue (queue_by_sort (inner scope.now room) spot.place spot.cell sort (left text.old))
+    ensures { ReadsQueue
+        (queue_by_sort (inner scope.now room) cell.spot.place cell.spot.cell cell.sort (left text.old))
         nodes.old nodes.new (left text.new) result }
 {
-    match sort {
+    let spot = cell.spot;
+    match cell.sort {
         Some(Sort::Queue) => {
             let index = nodes.push(Node::Atom(Atom::Number(0)))?;
             Ok(Queue { spot, index })
@@ -180,7 +182,7 @@ pub(crate) fn queue(
         return Err(LineError::Form);
     };
     let sort = sort_at(scope.stack, spot);
-    queue_at(text, scope, inside, spot, sort, nodes)
+    queue_at(text, scope, inside, CellNamed { spot, sort }, nodes)
 }
 
 /// `len(QUEUE)`, after its word.

@@ -22,6 +22,13 @@ pub(crate) enum Sort {
     Queues,
 }
 
+/// A cell that is named: where it is, and what it is, if it is there.
+#[derive(Clone, Copy)]
+pub(crate) struct CellNamed {
+    pub spot: Spot,
+    pub sort: Option<Sort>,
+}
+
 /// What a form makes of a cell.
 fn sort_in(form: &Form) -> Sort
     ensures { result ≡ sort_of (form_tree form.now) }

@@ -44,8 +44,8 @@ tail-returns t c = tail_read (inner c.args.scope.now c.args.room) (left c.args.t
     c.in_ok-message.ensures
 
 pub target_at-returns-in_ok-column-in-Some-Square : goal.target_at-returns-in_ok-column-in-Some-Square
-target_at-returns-in_ok-column-in-Some-Square t c = both_read (inner c.args.scope.now c.args.room) _ c.args.sort _ _ _
-    _ _ _ _ _ (search rules) c.in_ok-row-in-Some-Square.ensures c.in_ok-column-in-Some-Square.ensures
+target_at-returns-in_ok-column-in-Some-Square t c = both_read (inner c.args.scope.now c.args.room) _ c.args.cell.sort _
+    _ _ _ _ _ _ _ (search rules) c.in_ok-row-in-Some-Square.ensures c.in_ok-column-in-Some-Square.ensures
 
 pub message-returns : goal.message-returns
 message-returns t c = message_opened c.args.scope.now (left c.args.text.now) _ _ _ _ _ _ _ c.message_named.result
