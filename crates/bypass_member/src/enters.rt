@@ -12,14 +12,15 @@ ghost use Rattle.stack_queue.specs.Pending.{first_task};
 ghost use Rattle.stack_queue.specs.Put.{carrying_task, PutLast};
 ghost use Rattle.bypass_member.specs.Entering.{Brings};
 ghost use Rattle.bypass_member.specs.Judged.{entry_meant, body_of, LiesWithin};
+ghost use Rattle.bypass_member.specs.Stepping.{stack_of};
 
 use crate::entry::Entry;
+use crate::ground::Ground;
 use event_graph::Stack;
 use layer_ast::{Dir, Kind};
 use layer_mean::Envelope;
 use msg_core::Headers;
 use packet_full::Scan;
-use packet_mean::Here;
 use packet_short::kind_of;
 use slot_pool::Pool;
 use stack_queue::{BareTask, Tasks};
@@ -51,33 +52,26 @@ fn of_peer(kind: Kind, peer: u32) -> Envelope
 }
 
 /// What entered becomes the only task, with its message in a pool that isn't full.
-pub(crate) fn enter(
-    entry: Entry<'_>,
-    here: &Here,
-    stack: &Stack,
-    bare: &Headers,
-    tasks: &mut Tasks,
-    pool: &mut Pool,
-)
+pub(crate) fn enter(entry: Entry<'_>, ground: &Ground<'_>, tasks: &mut Tasks, pool: &mut Pool)
     requires lies { LiesWithin entry }
     requires fits { length (body_of entry) ≤ longest_body }
     requires room { IsFull pool.old → ⊥ }
-    requires bare { bare.now ≡ [] }
+    requires bare { ground.now.bare.now ≡ [] }
     requires none { tasks.old.items ≡ [] }
     requires places { 0 < tasks.old.capacity }
-    ensures brings { Brings (stack_tree stack.now) here.now.rank pool.old pool.new (entry_meant here.now entry.entry)
-        (first_task tasks.new.items) }
+    ensures brings { Brings (stack_of ground.now) ground.now.here.now.rank pool.old pool.new
+        (entry_meant ground.now.here.now entry.entry) (first_task tasks.new.items) }
     ensures only { tasks.new ≡ buffer (first_task tasks.new.items ∷ []) tasks.old.capacity }
 {
     match entry {
         Entry::Cast(body) => {
-            let envelope = of_peer(Kind::Cast, u32::from(here.rank));
-            enter_above(envelope, body, stack, bare, tasks, pool);
+            let envelope = of_peer(Kind::Cast, u32::from(ground.here.rank));
+            enter_above(envelope, body, ground, tasks, pool);
         }
         Entry::Send(to, body) => {
-            enter_above(of_peer(Kind::Send, to), body, stack, bare, tasks, pool);
+            enter_above(of_peer(Kind::Send, to), body, ground, tasks, pool);
         }
-        Entry::Leave => tasks.push_bare(leaving(stack)),
+        Entry::Leave => tasks.push_bare(leaving(ground.stack)),
         Entry::Tick(moment) => tasks.push_bare(ticking(moment)),
         Entry::Packet(scan, bytes, _) => enter_packet(scan, bytes, tasks, pool),
     }
@@ -121,25 +115,24 @@ fn ticking(moment: u32) -> BareTask
 fn enter_above(
     envelope: Envelope,
     body: &[u8],
-    stack: &Stack,
-    bare: &Headers,
+    ground: &Ground<'_>,
     tasks: &mut Tasks,
     pool: &mut Pool,
 )
     requires fits { length body.now ≤ longest_body }
-    requires bare { bare.now ≡ [] }
+    requires bare { ground.now.bare.now ≡ [] }
     requires room { IsFull pool.old → ⊥ }
     requires places { length tasks.old.items < tasks.old.capacity }
     ensures { PutLast pool.old tasks.old
-        (carrying_task (record { at = length (stack_tree stack.now); direction = dir.Down; envelope = envelope })
+        (carrying_task (record { at = length (stack_of ground.now); direction = dir.Down; envelope = envelope })
         (record { headers = []; body = body.now })) pool.new tasks.new }
 {
     let task = BareTask {
-        at: u16::from(stack.places()),
+        at: u16::from(ground.stack.places()),
         direction: Dir::Down,
         envelope,
     };
-    carry(task, bare, body, tasks, pool);
+    carry(task, ground.bare, body, tasks, pool);
 }
 
 /// A packet that came becomes the last task, at the lowest place.

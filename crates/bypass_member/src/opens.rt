@@ -19,6 +19,7 @@ ghost use Rattle.bypass_member.specs.Working.{refs_in};
 use crate::opening::Opening;
 use crate::scratch::{Scratch, close_scratch, open_scratch};
 use crate::works::Works;
+use cell_store::Membership;
 use event_graph::Stack;
 use file_layer::{FileLayer, Maker};
 use msg_core::{Memory, View};
@@ -75,26 +76,25 @@ fn close_layers(mut layers: Vec<FileLayer>, pool: &mut Pool)
     layers.destroy_empty();
 }
 
-/// All layers of a maker's stack, at the member of rank `me` of `count`; none where memory runs out.
+/// All layers of a maker's stack, at a member of a view; none where memory runs out.
 fn make_layers(
     alloc: Global,
     maker: &mut Maker,
     places: u8,
     pool: &mut Pool,
-    me: u32,
-    count: u32,
-    ltime: u32,
+    membership: Membership,
 ) -> Result<Vec<FileLayer>, AllocError>
     requires places { places ≡ length (making maker.old).stack }
     requires typed { TypedStack (making maker.old).stack }
     requires made { (making maker.old).made ≤ 2 ^ 62 }
-    requires members { (me < count) × (count ≤ members.most_members) }
-    ensures all { MakesAll me count ltime (making maker.old) (making maker.new) result }
+    requires members { (membership.me < membership.count) × (membership.count ≤ members.most_members) }
+    ensures all { MakesAll membership.me membership.count membership.ltime (making maker.old) (making maker.new)
+        result }
     ensures pool { IfOk result (λ _. pool.new ≡ pool.old) }
 {
     let mut layers = Vec::with_capacity(alloc, usize::from(places))?;
     for place in 0..places {
-        match FileLayer::fresh(alloc, maker, place, me, count, ltime) {
+        match FileLayer::fresh(alloc, maker, place, membership) {
             Ok(layer) => layers.push_reserved(layer),
             Err(error) => {
                 close_layers(layers, pool);
@@ -126,18 +126,14 @@ pub(crate) fn open_works(
         Some(me) => me,
         None => unreachable!(),
     };
-    let count = member_count(view);
+    let membership = Membership {
+        me: u32::from(me),
+        count: member_count(view),
+        ltime: view.ltime,
+    };
     let mut pool = Pool::with_slots(alloc, rows + SLOTS_BEYOND)?;
     let lists = Lists::fresh(alloc, stack)?;
-    match make_layers(
-        alloc,
-        maker,
-        stack.places(),
-        &mut pool,
-        u32::from(me),
-        count,
-        view.ltime,
-    ) {
+    match make_layers(alloc, maker, stack.places(), &mut pool, membership) {
         Ok(layers) => {
             let Lists { tasks, outs } = lists;
             Ok(Works {

@@ -120,8 +120,7 @@ pub(crate) fn try_common(
 {
     let what = keep_entry(ground.plans, entry, &mut scratch.fields);
     if make_by_code(works, scratch, ground, what, &*entry, out) {
-        let view = ground.here.view;
-        return Attempt::Made(change_view(works, ground.stack, ground.most, view, ground.id, out));
+        return Attempt::Made(change_view(works, ground, out));
     }
     out.clear();
     Attempt::Left(lacked(

@@ -7,6 +7,7 @@ ghost use Rattle.bypass_member.specs.Working.{IsReady};
 
 use crate::views::reset_all;
 use crate::works::Works;
+use cell_store::Membership;
 use event_graph::Stack;
 use file_layer::FileLayer;
 use msg_core::View;
@@ -40,13 +41,12 @@ pub(crate) fn restart_works(works: &mut Works, _stack: &Stack, most: u8, view: V
         return false;
     }
     if are_among(works.layers.as_slice(), count) {
-        reset_all(
-            &mut works.layers,
-            &mut works.pool,
-            u32::from(me),
+        let membership = Membership {
+            me: u32::from(me),
             count,
-            view.ltime,
-        );
+            ltime: view.ltime,
+        };
+        reset_all(&mut works.layers, &mut works.pool, membership);
         return true;
     }
     false

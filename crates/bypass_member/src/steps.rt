@@ -51,14 +51,7 @@ fn play(
     ensures places { out.new.places ≡ out.old.places }
 {
     ground.stack.is_accepted();
-    enter(
-        entry,
-        ground.here,
-        ground.stack,
-        ground.bare,
-        &mut works.tasks,
-        &mut works.pool,
-    );
+    enter(entry, ground, &mut works.tasks, &mut works.pool);
     let predicted = run_layers(works, ground.stack, visits);
     out.begin(*ground.here);
     gather(&mut works.outs, &mut works.pool, out);
@@ -175,13 +168,6 @@ pub(crate) fn take(
     ensures places { out.new.places ≡ out.old.places }
 {
     let common = make(works, scratch, ground, entry, out, visits);
-    let change = change_view(
-        works,
-        ground.stack,
-        ground.most,
-        ground.here.view,
-        ground.id,
-        out,
-    );
+    let change = change_view(works, ground, out);
     Took { common, change }
 }

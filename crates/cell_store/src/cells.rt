@@ -11,17 +11,16 @@ ghost use Rattle.cell_store.specs.Kept.{without_first, without_last, first_row, 
 ghost use Rattle.cell_store.specs.Fresh.{kept_first, kept_fresh, IsFor};
 ghost use Rattle.msg_core.specs.View.{most_members};
 
+use crate::membership::Membership;
 use crate::slot::{self, StoredCell, slot_at};
 use std::alloc::{AllocError, Global};
 use std::marker::Model;
 use typed_layer::TypedLayer;
 
-/// The cells of one layer of one member, with the own rank, the number of members and the view's ltime. Rows are only
-/// moved in and out, so they may be of a type that can't be let go.
+/// The cells of one layer of one member, with what the layer is told of the view. Rows are only moved in and out, so
+/// they may be of a type that can't be let go.
 pub struct Cells<R> {
-    me: u32,
-    count: u32,
-    ltime: u32,
+    membership: Membership,
     /// The most members that there is room for.
     most: u32,
     block: Vec<u32>,
@@ -39,57 +38,51 @@ impl<R> Model for Cells<R> {
     ghost coded = { kept_code R.code };
 
     ghost view = { λ c. record {
-      me = c.me;
-      count = c.count;
-      ltime = c.ltime;
+      me = c.membership.me;
+      count = c.membership.count;
+      ltime = c.membership.ltime;
       most = c.most;
       cells = map (slot_kept c.block.items) c.slots.items;
     } };
 
-    ghost invariant = { λ c. AreSlots c.count c.most (vec_capacity c.block) c.block.items c.slots.items };
+    ghost invariant = { λ c. AreSlots c.membership.count c.most (vec_capacity c.block) c.block.items c.slots.items };
 }
 
 impl<R> Cells<R> {
-    /// The cells of `layer` before the first event, at the member of rank `me` of `count`. All memory is taken here.
+    /// The cells of `layer` before the first event, at a member of a view. All memory is taken here.
     pub fn fresh(
         alloc: Global,
         layer: &TypedLayer,
-        me: u32,
-        count: u32,
-        ltime: u32,
+        membership: Membership,
     ) -> Result<Cells<R>, AllocError>
-        requires { count ≤ most_members }
-        ensures { IfOk result (λ c. c ≡ kept_fresh (layer_tree layer.now) me count ltime count) }
+        requires { membership.count ≤ most_members }
+        ensures { IfOk result (λ c. c ≡ kept_fresh (layer_tree layer.now) membership.me membership.count
+            membership.ltime membership.count) }
     {
-        let (block, slots) = slot::begin_all(alloc, &layer.cells, me, count, ltime)?;
+        let (block, slots) = slot::begin_all(alloc, &layer.cells, membership)?;
         Ok(Cells {
-            me,
-            count,
-            ltime,
-            most: count,
+            membership,
+            most: membership.count,
             block,
             slots,
         })
     }
 
-    /// Begins again, at the member of rank `me` of `count`, which is no more than at first. No row may be left.
-    pub fn reset(&mut self, layer: &TypedLayer, me: u32, count: u32, ltime: u32)
+    /// Begins again, at a member of a view of no more members than at first. No row may be left.
+    pub fn reset(&mut self, layer: &TypedLayer, membership: Membership)
         requires layer { IsFor (layer_tree layer.now) self.old }
-        requires few { count ≤ self.old.most }
+        requires few { membership.count ≤ self.old.most }
         requires empty { rows_in self.old ≡ [] }
-        ensures fresh { self.new ≡ kept_fresh (layer_tree layer.now) me count ltime self.old.most }
+        ensures fresh { self.new ≡ kept_fresh (layer_tree layer.now) membership.me membership.count membership.ltime
+            self.old.most }
         ensures within { self.old.most ≤ most_members }
     {
-        self.me = me;
-        self.count = count;
-        self.ltime = ltime;
+        self.membership = membership;
         slot::restart_all(
             &mut self.block,
             &mut self.slots,
             &layer.cells,
-            me,
-            count,
-            ltime,
+            membership,
             self.most,
         );
     }
@@ -98,7 +91,7 @@ impl<R> Cells<R> {
     pub fn me(&self) -> u32
         ensures { result ≡ self.now.me }
     {
-        self.me
+        self.membership.me
     }
 
     /// The number of members.
@@ -106,14 +99,14 @@ impl<R> Cells<R> {
         ensures count { result ≡ self.now.count }
         ensures few { (result ≤ self.now.most) × (self.now.most ≤ most_members) }
     {
-        self.count
+        self.membership.count
     }
 
     /// How many views came before.
     pub fn ltime(&self) -> u32
         ensures { result ≡ self.now.ltime }
     {
-        self.ltime
+        self.membership.ltime
     }
 
     /// The number at an index of a cell; 0 outside.
@@ -163,10 +156,11 @@ impl<R> Cells<R> {
     fn flat_index(&self, row: u32, column: u32) -> u32
         ensures { result ≡ flat_index self.now.count row column }
     {
-        if row < self.count && column < self.count {
-            row * self.count + column
+        let count = self.membership.count;
+        if row < count && column < count {
+            row * count + column
         } else {
-            self.count * self.count
+            count * count
         }
     }
 
@@ -303,9 +297,7 @@ impl<R> Cells<R> {
         requires { rows_in self ≡ [] }
     {
         let Cells {
-            me: _,
-            count: _,
-            ltime: _,
+            membership: _,
             most: _,
             block: _,
             slots,

@@ -5,11 +5,13 @@
 mod cells;
 mod initial;
 mod laws;
+mod membership;
 mod rings;
 mod slot;
 
 pub use cells::Cells;
 pub use laws::{changes_are_seen, changes_are_undone, layers_stay, reads_are_seen, rows_weigh};
+pub use membership::Membership;
 #[doc(hidden)]
 pub use rings::Rings;
 #[doc(hidden)]

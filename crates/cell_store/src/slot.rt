@@ -14,6 +14,7 @@ ghost use Rattle.cell_store.specs.Slots.{AreLaid, AreFirst, HasFirst};
 ghost use Rattle.msg_core.specs.View.{most_members};
 
 use crate::initial::initial_value;
+use crate::membership::Membership;
 use crate::rings::Rings;
 use layer_ast::Shape;
 use std::alloc::{AllocError, Global};
@@ -142,23 +143,18 @@ pub fn slot_at<R>(slots: &[StoredCell<R>], cell: u8) -> Option<&StoredCell<R>>
 }
 
 /// Puts the first numbers of a cell after those in the block.
-fn fill(
-    block: &mut Vec<u32>,
-    form: &Form,
-    me: u32,
-    count: u32,
-    ltime: u32,
-) -> Result<(), AllocError>
-    requires { count ≤ most_members }
+fn fill(block: &mut Vec<u32>, form: &Form, membership: Membership) -> Result<(), AllocError>
+    requires { membership.count ≤ most_members }
     ensures numbers { OnOk result
-        (block.new.items ≡ block.old.items ++ first_numbers me count ltime (form_tree form.now)) }
-    ensures full { OnErr result
-        (vec_capacity block.old < length block.old.items + numbers_for count (frame_in (form_tree form.now))) }
+        (block.new.items ≡ block.old.items ++ first_numbers membership.me membership.count membership.ltime
+        (form_tree form.now)) }
+    ensures full { OnErr result (vec_capacity block.old < length block.old.items +
+        numbers_for membership.count (frame_in (form_tree form.now))) }
     ensures capacity { vec_capacity block.old ≤ vec_capacity block.new }
 {
     if let Form::Numbers { shape, initial } = form {
-        let value = initial_value(initial, me, count, ltime);
-        let size = size_of(count, *shape);
+        let value = initial_value(initial, membership);
+        let size = size_of(membership.count, *shape);
         block.resize(block.len() + size, value)?;
     }
     Ok(())
@@ -169,35 +165,34 @@ fn fill_and_begin<R>(
     alloc: Global,
     block: &mut Vec<u32>,
     form: &Form,
-    me: u32,
-    count: u32,
-    ltime: u32,
+    membership: Membership,
 ) -> Result<StoredCell<R>, AllocError>
-    requires { count ≤ most_members }
+    requires { membership.count ≤ most_members }
     ensures numbers { OnOk result
-        (block.new.items ≡ block.old.items ++ first_numbers me count ltime (form_tree form.now)) }
-    ensures slot { IfOk result (λ s. s ≡ slot_first count count (length block.old.items) (form_tree form.now)) }
+        (block.new.items ≡ block.old.items ++ first_numbers membership.me membership.count membership.ltime
+        (form_tree form.now)) }
+    ensures slot { IfOk result (λ s. s ≡ slot_first membership.count membership.count (length block.old.items)
+        (form_tree form.now)) }
 {
     let at = block.len();
-    fill(block, form, me, count, ltime)?;
-    StoredCell::begin(alloc, form, at, count)
+    fill(block, form, membership)?;
+    StoredCell::begin(alloc, form, at, membership.count)
 }
 
 /// The first numbers of some cells in a block, and the cells.
 pub fn begin_all<R>(
     alloc: Global,
     cells: &[Cell],
-    me: u32,
-    count: u32,
-    ltime: u32,
+    membership: Membership,
 ) -> Result<(Vec<u32>, Vec<StoredCell<R>>), AllocError>
-    requires { count ≤ most_members }
-    ensures { IfOk result (λ made. AreFirst me count ltime count (map cell_tree cells.now) made.0.items made.1.items) }
+    requires { membership.count ≤ most_members }
+    ensures { IfOk result (λ made. AreFirst membership.me membership.count membership.ltime membership.count
+        (map cell_tree cells.now) made.0.items made.1.items) }
 {
     let mut block = Vec::new(alloc);
     let mut slots = Vec::with_capacity(alloc, cells.len())?;
     for cell in cells {
-        match fill_and_begin(alloc, &mut block, &cell.form, me, count, ltime) {
+        match fill_and_begin(alloc, &mut block, &cell.form, membership) {
             Ok(slot) => slots.push_reserved(slot),
             Err(error) => {
                 destroy_all(slots);
@@ -213,29 +208,28 @@ pub fn restart_all<R>(
     block: &mut Vec<u32>,
     slots: &mut Vec<StoredCell<R>>,
     cells: &[Cell],
-    me: u32,
-    count: u32,
-    ltime: u32,
+    membership: Membership,
     _most: u32,
 )
-    requires few { (count ≤ _most) × (_most ≤ most_members) }
+    requires few { (membership.count ≤ _most) × (_most ≤ most_members) }
     requires laid { AreLaid _most 0 (length block.old.items) slots.old.items }
     requires room { sum_by (numbers_for _most) (frames_of slots.old.items) ≤ vec_capacity block.old }
     requires forms { map slot_form slots.old.items ≡ map (λ c. tree_form c.form) (map cell_tree cells.now) }
     requires empty { slot_rows slots.old.items ≡ [] }
-    ensures first { AreFirst me count ltime _most (map cell_tree cells.now) block.new.items slots.new.items }
+    ensures first { AreFirst membership.me membership.count membership.ltime _most (map cell_tree cells.now)
+        block.new.items slots.new.items }
     ensures capacity { vec_capacity block.old ≤ vec_capacity block.new }
 {
     block.clear();
     for index in 0..slots.len() {
         let at = block.len();
         let form = &cells[index].form;
-        match fill(block, form, me, count, ltime) {
+        match fill(block, form, membership) {
             Ok(()) => {}
             Err(_) => unreachable!(),
         }
         let slot = &mut slots[index];
-        slot.restart(at, count);
+        slot.restart(at, membership.count);
     }
 }
 

@@ -9,6 +9,7 @@ use crate::maker::Maker;
 use crate::makes::{close, make, restart};
 use crate::passes::{lets_pass, none_header};
 use crate::visits::visit;
+use cell_store::Membership;
 use layer_ast::Dir;
 use layer_eval::Predicted;
 use layer_stage::Stage;
@@ -37,27 +38,26 @@ impl FileLayer {
     ghost use Rattle.file_layer.specs.Layer.{refs_of, state_in, most_of, IsInOrder, BeginsAgain};
     ghost use Rattle.file_layer.specs.Making.{making, Makes};
 
-    /// The layer at a place of the maker's stack before its first event, at the member of rank `me` of `count`. All
-    /// memory is taken here. A layer with more rows, or a larger hand, than a desk may have is answered as want of
-    /// memory; within the language's limits there are never too many rows.
+    /// The layer at a place of the maker's stack before its first event, at a member of a view. All memory is taken
+    /// here. A layer with more rows, or a larger hand, than a desk may have is answered as want of memory; within the
+    /// language's limits there are never too many rows.
     #[tactic(auto, unfolding(crate::specs::Making::making))]
     pub fn fresh(
         alloc: Global,
         maker: &mut Maker,
         place: u8,
-        me: u32,
-        count: u32,
-        ltime: u32,
+        membership: Membership,
     ) -> Result<FileLayer, AllocError>
         requires place { place < length (making maker.old).stack }
-        requires members { (me < count) × (count ≤ most_members) }
+        requires members { (membership.me < membership.count) × (membership.count ≤ most_members) }
         requires typed { TypedStack (making maker.old).stack }
         requires made { (making maker.old).made ≤ 2 ^ 63 }
-        ensures { Makes place me count ltime (making maker.old) (making maker.new) result }
+        ensures { Makes place membership.me membership.count membership.ltime (making maker.old) (making maker.new)
+            result }
     {
         maker.stack.is_within_limits();
         let layer = maker.stack.layer(place).clone()?;
-        let desk = make(alloc, &layer, me, count, ltime)?;
+        let desk = make(alloc, &layer, membership)?;
         maker.made += 1;
         Ok(FileLayer {
             place,
@@ -67,16 +67,16 @@ impl FileLayer {
         })
     }
 
-    /// Begins again, at the member of rank `me` of `count`; there is room for this many members. Its rows go back.
+    /// Begins again, at a member of a view; there is room for the view's members. Its rows go back.
     #[tactic(auto, unfolding(crate::specs::Layer::layer_parts))]
-    pub fn reset(&mut self, pool: &mut Pool, me: u32, count: u32, ltime: u32)
+    pub fn reset(&mut self, pool: &mut Pool, membership: Membership)
         requires order { IsInOrder pool.old self.old }
         requires covers { Covers pool.old (refs_of self.old) }
-        requires members { (me < count) × (count ≤ most_of self.old) }
+        requires members { (membership.me < membership.count) × (membership.count ≤ most_of self.old) }
         ensures returned { Returned pool.old pool.new (refs_of self.old) }
-        ensures begun { BeginsAgain me count ltime self.old self.new }
+        ensures begun { BeginsAgain membership.me membership.count membership.ltime self.old self.new }
     {
-        restart(&mut self.desk, pool, &self.layer, me, count, ltime);
+        restart(&mut self.desk, pool, &self.layer, membership);
     }
 
     /// Ends it, and gives its references and its memory back.

@@ -16,7 +16,7 @@ ghost use Rattle.file_layer.specs.Stock.{kept_refs};
 ghost use Rattle.msg_core.specs.View.{most_members};
 
 use crate::desk::{FileDesk, MOST_BOUND, MOST_DESK_ROWS, MOST_OWN};
-use cell_store::Cells;
+use cell_store::{Cells, Membership};
 use desk_needs::{Reserve, reserve_for};
 use msg_core::MOST_MEMBERS;
 use pool_message::{Messages, PoolRow, Tray};
@@ -96,18 +96,16 @@ fn reserve_few(layer: &TypedLayer) -> Result<Reserve, AllocError>
     Ok(reserve)
 }
 
-/// An empty desk for a layer, at the member of rank `me` of `count`. All memory is taken here.
+/// An empty desk for a layer, at a member of a view. All memory is taken here.
 pub(crate) fn make(
     alloc: Global,
     layer: &TypedLayer,
-    me: u32,
-    count: u32,
-    ltime: u32,
+    membership: Membership,
 ) -> Result<FileDesk, AllocError>
-    requires members { count ≤ most_members }
+    requires members { membership.count ≤ most_members }
     requires made { IsMadeFor (layer_tree layer.now) (room.layout_of (layer_tree layer.now) 0) }
-    ensures fresh { IfOk result (IsFresh (layer_tree layer.now) me count ltime) }
-    ensures most { IfOk result (λ d. d.cells.most ≡ count) }
+    ensures fresh { IfOk result (IsFresh (layer_tree layer.now) membership.me membership.count membership.ltime) }
+    ensures most { IfOk result (λ d. d.cells.most ≡ membership.count) }
 {
     let reserve = reserve_few(layer)?;
     let numbers = Vec::with_capacity(alloc, usize::from(reserve.numbers) + MOST_BOUND)?;
@@ -116,7 +114,7 @@ pub(crate) fn make(
         usize::from(reserve.messages) + 1,
         reserve.hand as usize,
     )?;
-    match Cells::fresh(alloc, layer, me, count, ltime) {
+    match Cells::fresh(alloc, layer, membership) {
         Ok(cells) => {
             let Lists { tray, hand } = lists;
             Ok(FileDesk {
@@ -147,24 +145,22 @@ fn give_rows_back(cells: &mut Cells<PoolRow>, pool: &mut Pool)
     }
 }
 
-/// Begins again with an empty desk, at the member of rank `me` of `count`. The references of all rows go back.
+/// Begins again with an empty desk, at a member of a view. The references of all rows go back.
 pub(crate) fn restart(
     desk: &mut FileDesk,
     pool: &mut Pool,
     layer: &TypedLayer,
-    me: u32,
-    count: u32,
-    ltime: u32,
+    membership: Membership,
 )
     requires rest { IsAtRest (layer_tree layer.now) pool.old desk.old }
     requires covered { Covers pool.old (kept_refs desk.old.cells) }
-    requires few { count ≤ desk.old.cells.most }
+    requires few { membership.count ≤ desk.old.cells.most }
     ensures returned { Returned pool.old pool.new (kept_refs desk.old.cells) }
-    ensures fresh { IsFresh (layer_tree layer.now) me count ltime desk.new }
+    ensures fresh { IsFresh (layer_tree layer.now) membership.me membership.count membership.ltime desk.new }
     ensures most { desk.new.cells.most ≡ desk.old.cells.most }
 {
     give_rows_back(&mut desk.cells, pool);
-    desk.cells.reset(layer, me, count, ltime);
+    desk.cells.reset(layer, membership);
 }
 
 /// Ends a desk on which rows alone lie, and gives their references and its memory back.

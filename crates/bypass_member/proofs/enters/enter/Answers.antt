@@ -1,10 +1,10 @@
 use Rattle.std.proofs.Common.{None, sym, ap, ◌∙◌, refl}
 use Rattle.msg_core.specs.Chain.{plain}
 use Rattle.layer_ast.specs.declared.tokens.Kind.TheVariants as kind
-use Rattle.event_graph.specs.Answer.{stack_tree}
 use Rattle.packet_full.specs.Scanned.{packet_scanned}
 use Rattle.stack_queue.specs.Pending.{task_seen}
 use Rattle.stack_queue.specs.Put.{task_with}
+use Rattle.bypass_member.specs.Stepping.{stack_of}
 use Rattle.bypass_member.proofs.Entering.{entering, of_peer, from_top, only_first, brings_carried, brings_bare}
 use Rattle.bypass_member.proofs.Entering.{packet_task}
 use Rattle.bypass_member.proofs.enters.enter.Goals as goal
@@ -12,34 +12,34 @@ use Rattle.bypass_member.proofs.enters.enter.Goals as goal
 pub returns-in-Cast-clause-brings : goal.returns-in-Cast-clause-brings
 returns-in-Cast-clause-brings c =
     brings_carried _ _ _ _ _ _ _ c.requires.none _ c.enter_above.ensures
-    (ap (from_top (stack_tree c.args.stack.now) (plain c.in-Cast.body.now))
+    (ap (from_top (stack_of c.args.ground.now) (plain c.in-Cast.body.now))
     (c.of_peer-envelope.ensures ∙ ap (of_peer kind.Cast) c.from.ensures)
-    ∙ sym (ap (entering (stack_tree c.args.stack.now) c.args.here.now) c.in-Cast.is))
+    ∙ sym (ap (entering (stack_of c.args.ground.now) c.args.ground.now.here.now) c.in-Cast.is))
 
 pub returns-in-Send-clause-brings : goal.returns-in-Send-clause-brings
 returns-in-Send-clause-brings c =
     brings_carried _ _ _ _ _ _ _ c.requires.none _ c.enter_above-in-Send.ensures
-    (ap (from_top (stack_tree c.args.stack.now) (plain c.in-Send.body.now)) c.of_peer.ensures
-    ∙ sym (ap (entering (stack_tree c.args.stack.now) c.args.here.now) c.in-Send.is))
+    (ap (from_top (stack_of c.args.ground.now) (plain c.in-Send.body.now)) c.of_peer.ensures
+    ∙ sym (ap (entering (stack_of c.args.ground.now) c.args.ground.now.here.now) c.in-Send.is))
 
 pub returns-in-Leave-clause-brings : goal.returns-in-Leave-clause-brings
 returns-in-Leave-clause-brings c =
     brings_bare _ _ _ c.args.pool.now _ _ _ c.requires.none c.push_bare.ensures refl
     (ap (λ t. task_seen c.args.pool.now (task_with t None)) c.leaving.ensures
-    ∙ sym (ap (entering (stack_tree c.args.stack.now) c.args.here.now) c.in-Leave.is))
+    ∙ sym (ap (entering (stack_of c.args.ground.now) c.args.ground.now.here.now) c.in-Leave.is))
 
 pub returns-in-Tick-clause-brings : goal.returns-in-Tick-clause-brings
 returns-in-Tick-clause-brings c =
     brings_bare _ _ _ c.args.pool.now _ _ _ c.requires.none c.push_bare-in-Tick.ensures refl
     (ap (λ t. task_seen c.args.pool.now (task_with t None)) c.ticking.ensures
-    ∙ sym (ap (entering (stack_tree c.args.stack.now) c.args.here.now) c.in-Tick.is))
+    ∙ sym (ap (entering (stack_of c.args.ground.now) c.args.ground.now.here.now) c.in-Tick.is))
 
 pub returns-in-Packet-clause-brings : goal.returns-in-Packet-clause-brings
 returns-in-Packet-clause-brings c =
     brings_carried _ _ _ _ _ _ _ c.requires.none _ c.enter_packet.ensures
-    (packet_task (stack_tree c.args.stack.now) c.args.here.now.rank
-    (packet_scanned c.args.here.now c.in-Packet.bytes.now c.in-Packet.scan.now)
-    ∙ sym (ap (entering (stack_tree c.args.stack.now) c.args.here.now) c.in-Packet.is))
+    (packet_task (stack_of c.args.ground.now) c.args.ground.now.here.now.rank
+    (packet_scanned c.args.ground.now.here.now c.in-Packet.bytes.now c.in-Packet.scan.now)
+    ∙ sym (ap (entering (stack_of c.args.ground.now) c.args.ground.now.here.now) c.in-Packet.is))
 
 pub returns-in-Cast-clause-only : goal.returns-in-Cast-clause-only
 returns-in-Cast-clause-only c = only_first _ _ _ c.requires.none c.enter_above.ensures.last

@@ -14,15 +14,16 @@ pub loop-place-preserved : goal.loop-place-preserved
 loop-place-preserved c =
     let within : c.loop-place.place < length (making c.args.maker.now).stack =
     omega (arith, c.loop-place-test.true, c.requires.places) in
-    let begun = subst (λ (trees : List LayerTree). IsBegun trees c.loop-place.place c.args.me c.args.count c.args.ltime
-    c.in-Ok.layer)
+    let membership = c.args.membership in
+    let begun = subst (λ (trees : List LayerTree).
+    IsBegun trees c.loop-place.place membership.me membership.count membership.ltime c.in-Ok.layer)
     c.loop-place.invariant.making_is.same c.in-Ok.ensures.begun in record {
       fresh_are = rw add-one
           (subst (λ (layers : List FileLayer).
-          AreFresh c.args.me c.args.count c.args.ltime (take (suc c.loop-place.place)
+          AreFresh membership.me membership.count membership.ltime (take (suc c.loop-place.place)
           (making c.args.maker.now).stack) layers)
           (sym c.push_reserved.ensures.items)
-          (fresh_at c.args.me c.args.count c.args.ltime (making c.args.maker.now).stack c.loop-place.place
+          (fresh_at membership.me membership.count membership.ltime (making c.args.maker.now).stack c.loop-place.place
           c.loop-place.layers.items c.in-Ok.layer
           within
           c.loop-place.invariant.fresh_are begun));

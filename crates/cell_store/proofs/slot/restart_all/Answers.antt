@@ -12,14 +12,14 @@ unreachable-requires g c =
     let count = same_count _ _ c.requires.forms in
     let within : c.loop-index.index < length c.args.cells.now =
     omega (arith, c.loop-index-test.true, count, c.args.slots.now.ok) in
-    let room = room_here c.args.count _ _ _ c.args.cells.now _ c.requires.few.0
+    let room = room_here c.args.membership.count _ _ _ c.args.cells.now _ c.requires.few.0
     (room_in_forms _ _ _ _ c.requires.forms c.requires.room) within
     (get_or_default c.args.cells.now c.loop-index.index c.index-cells-index.result _ within) in
     let first = c.loop-index.invariant.first in
     omega (
       arith,
       room,
-      first.size ∙ ap (sum_by (numbers_for c.args.count)) first.frames,
+      first.size ∙ ap (sum_by (numbers_for c.args.membership.count)) first.frames,
       c.loop-index.invariant.capacity,
       c.in-Err.ensures.full,
     )
@@ -69,7 +69,7 @@ loop-index-preserved g c =
           c.index_mut-slot.result.now _
           c.loop-index.invariant.first within' read
           c.in-Ok.ensures.numbers within known.form known.fits
-          (c.restart.ensures ∙ ap (λ at. slot_again c.args.count at c.index_mut-slot.result.now)
+          (c.restart.ensures ∙ ap (λ at. slot_again c.args.membership.count at c.index_mut-slot.result.now)
           (c.len-at.ensures ∙ c.loop-index.block.ok.0));
       left = left_after c.loop-index.index c.loop-index.slots.items c.args.slots.now.items c.restart.new.self
           c.loop-index.invariant.left;

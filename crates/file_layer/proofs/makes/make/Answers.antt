@@ -32,7 +32,8 @@ returns-in-Ok-clause-fresh c =
       first = 0;
       places = 0;
     } in
-    let empty : IsEmpty (layer_tree c.args.layer.now) c.args.me c.args.count c.args.ltime desk = record {
+    let view = c.args.membership in
+    let empty : IsEmpty (layer_tree c.args.layer.now) view.me view.count view.ltime desk = record {
       cells = search rules;
       numbers = search rules;
       messages = ap (λ (t : OnTray). t.messages.items) c.in_ok-lists.ensures.0;
@@ -41,8 +42,8 @@ returns-in-Ok-clause-fresh c =
       sent = ap (λ (t : OnTray). t.sent) c.in_ok-lists.ensures.0;
       numbers_room = omega arith;
       messages_room = omega arith;
-      layout = layout_at_first (layer_tree c.args.layer.now) c.args.me c.args.count c.args.ltime desk
+      layout = layout_at_first (layer_tree c.args.layer.now) view.me view.count view.ltime desk
           c.in_ok-reserve.ensures.few (search rules) numbers_is messages_is hand_is (search rules);
     } in
-    empty_at_rest c.args.me c.args.count c.args.ltime (layer_tree c.args.layer.now) desk c.requires.members
+    empty_at_rest view.me view.count view.ltime (layer_tree c.args.layer.now) desk c.requires.members
     c.in_ok-reserve.ensures.few c.requires.made empty

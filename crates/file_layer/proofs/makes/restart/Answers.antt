@@ -15,8 +15,9 @@ reset-requires-clause-layer c =
 pub returns-clause-fresh : goal.returns-clause-fresh
 returns-clause-fresh c =
     let most = ap (λ (k : Kept PoolRow). k.most) c.give_rows_back.ensures.kept in
+    let view = c.args.membership in
     let few = c.reset.ensures.within in let within = c.requires.few in
-    begins_again (layer_tree c.args.layer.now) c.args.pool.now c.args.me c.args.count c.args.ltime c.args.desk.now _
+    begins_again (layer_tree c.args.layer.now) c.args.pool.now view.me view.count view.ltime c.args.desk.now _
     c.requires.rest (omega arith)
     (ap (λ k. record c.args.desk.now { cells = k })
-    (c.reset.ensures.fresh ∙ ap (kept_fresh (layer_tree c.args.layer.now) c.args.me c.args.count c.args.ltime) most))
+    (c.reset.ensures.fresh ∙ ap (kept_fresh (layer_tree c.args.layer.now) view.me view.count view.ltime) most))

@@ -24,9 +24,10 @@ make-requires-clause-made c =
 pub returns : goal.returns
 unfolding place_of tree_of refs_of state_in most_of taken_by IsInOrder making
 returns c =
+    let view = c.args.membership in
     let is = ap layer_tree c.in_ok-layer.ensures.cases ∙ c.layer.ensures
     ∙ ap (λ (s : Stack). slice_index_or (stack_tree s) c.args.place no_layer) c.deref-2.ensures in
-    let fresh = subst (λ (layer : TypedLayer). IsFresh (layer_tree layer) c.args.me c.args.count c.args.ltime
+    let fresh = subst (λ (layer : TypedLayer). IsFresh (layer_tree layer) view.me view.count view.ltime
     c.in_ok-desk.desk) c.deref-3.ensures
     c.in_ok-desk.ensures.fresh in
     record {
@@ -36,7 +37,7 @@ returns c =
         tree = is;
         order = fresh.rest;
         refs = fresh.refs;
-        state = λ p. fresh.state p ∙ ap (λ (layer : LayerTree). visit.fresh layer c.args.me c.args.count c.args.ltime)
+        state = λ p. fresh.state p ∙ ap (λ (layer : LayerTree). visit.fresh layer view.me view.count view.ltime)
             is;
       };
       most = c.in_ok-desk.ensures.most;

@@ -8,7 +8,8 @@ use Rattle.file_layer.proofs.layer.FileLayer.reset.Goals as goal
 pub returns-clause-begun : goal.returns-clause-begun
 unfolding place_of tree_of refs_of state_in most_of taken_by IsInOrder
 returns-clause-begun c =
-    let fresh = subst (λ (layer : TypedLayer). IsFresh (layer_tree layer) c.args.me c.args.count c.args.ltime
+    let view = c.args.membership in
+    let fresh = subst (λ (layer : TypedLayer). IsFresh (layer_tree layer) view.me view.count view.ltime
     c.restart.new.desk) c.deref.ensures
     c.restart.ensures.fresh in
     record {
