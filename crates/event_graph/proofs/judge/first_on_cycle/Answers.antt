@@ -10,9 +10,9 @@ use Rattle.event_graph.proofs.judge.first_on_cycle.Goals as goal
 
 pub returns : goal.returns
 returns c =
-    let stack = typed_tree c.args.stack.now in
-    let count = sym (length-map c.args.nodes.now node_tree) ∙ ap length c.requires.nodes in
-    let few = few_headers c.args.stack.now.layers.items c.args.stack.now.few_headers in
+    let stack = typed_tree c.args.graph.now.stack.now in
+    let count = sym (length-map c.args.graph.now.nodes.now node_tree) ∙ ap length c.requires.nodes in
+    let few = few_headers c.args.graph.now.stack.now.layers.items c.args.graph.now.stack.now.few_headers in
     subst (λ (o : Option graph.Node). IfOk c.first_met.result (λ found. option_map node_tree found ≡ o))
     ((λ i. find (meets_itself (c.requires.table i) (count i)) (c.requires.nodes i)) ∙
     cycles_tell stack c.requires.orderly few)

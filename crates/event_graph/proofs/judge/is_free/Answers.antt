@@ -9,8 +9,8 @@ use Rattle.event_graph.proofs.judge.is_free.Goals as goal
 
 pub returns : goal.returns
 returns c yes_it_is =
-    let few = few_headers c.args.stack.now.layers.items c.args.stack.now.few_headers in
-    free_told (typed_tree c.args.stack.now) c.requires.orderly few c.args.weights.now
+    let few = few_headers c.args.graph.now.stack.now.layers.items c.args.graph.now.stack.now.few_headers in
+    free_told (typed_tree c.args.graph.now.stack.now) c.requires.orderly few c.args.weights.now
     ((λ i. list_all (is_steady_at one_task (sym c.requires.table i) c.args.weights.now) (sym c.requires.nodes i)) ∙
     c.requires.steady)
     ((λ i. list_all (falls_at (sym c.requires.table i) c.args.weights.now) (sym c.requires.nodes i)) ∙

@@ -9,9 +9,9 @@ use Rattle.event_graph.proofs.judge.largest_in_rounds.Goals as goal
 
 pub returns : goal.returns
 returns c =
-    let stack = typed_tree c.args.stack.now in
-    let count = sym (length-map c.args.nodes.now node_tree) ∙ ap length c.requires.nodes in
-    let few = few_headers c.args.stack.now.layers.items c.args.stack.now.few_headers in
+    let stack = typed_tree c.args.graph.now.stack.now in
+    let count = sym (length-map c.args.graph.now.nodes.now node_tree) ∙ ap length c.requires.nodes in
+    let few = few_headers c.args.graph.now.stack.now.layers.items c.args.graph.now.stack.now.few_headers in
     c.largest_of_entries.ensures
     ∙ ap (largest_entry stack) (c.deref.ensures.value ∙ c.in_ok-costs.ensures
     ∙ (λ i. rounds (own_of c.args.measure) (c.requires.table i) (count i)))

@@ -9,9 +9,9 @@ use Rattle.event_graph.proofs.judge.largest_settled.Goals as goal
 
 pub returns : goal.returns
 returns c =
-    let few = few_headers c.args.stack.now.layers.items c.args.stack.now.few_headers in
+    let few = few_headers c.args.graph.now.stack.now.layers.items c.args.graph.now.stack.now.few_headers in
     c.largest_of_entries.ensures
-    ∙ settled_told (typed_tree c.args.stack.now) c.requires.orderly few c.args.costs.now c.args._measure
+    ∙ settled_told (typed_tree c.args.graph.now.stack.now) c.requires.orderly few c.args.costs.now c.args._measure
     (sym c.requires.free)
     ((λ i. list_all (is_steady_at (own_of c.args._measure) (sym c.requires.table i) c.args.costs.now)
     (sym c.requires.nodes i)) ∙ c.requires.steady)
