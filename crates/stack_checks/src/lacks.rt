@@ -24,6 +24,13 @@ use step_misses::{Lack, Miss};
 use trace_code::Checks;
 use trace_reads::{Given, Values, first_failing};
 
+/// The states of a member's layers: the layers, and the pool in which their messages lie.
+#[derive(Clone, Copy)]
+pub(crate) struct States<'a> {
+    pub layers: &'a [FileLayer],
+    pub pool: &'a Pool,
+}
+
 /// The check of a test that isn't passed.
 fn missed(checks: &Checks, test: Option<usize>) -> Lack
     ensures { lack_meant result ≡ lack.missed (option_map_or (λ k. k) (option_map (check_at checks.now) test) 0) }
@@ -35,26 +42,20 @@ fn missed(checks: &Checks, test: Option<usize>) -> Lack
 }
 
 /// What a case lacks. Nothing is kept before or after.
-fn lack(
-    asked: &Asked,
-    given: &Given<'_>,
-    values: &mut Values,
-    layers: &[FileLayer],
-    pool: &Pool,
-) -> Lack
-    requires order { AllByRecursion (IsInOrder pool.now) layers.now }
+fn lack(asked: &Asked, given: &Given<'_>, values: &mut Values, states: &States<'_>) -> Lack
+    requires order { AllByRecursion (IsInOrder states.now.pool.now) states.now.layers.now }
     requires members { given.now.count ≤ most_members }
     requires body { length given.now.body.now ≤ longest_body }
     requires empty { IsEmpty values.old }
     requires places { IsWithin (vec_capacity values.old.numbers) (asked_tree asked.now) }
-    ensures lacks { lack_meant result ≡ lack_at (input_of given.now) (map (state_in pool.now) layers.now)
-        (asked_tree asked.now) }
+    ensures lacks { lack_meant result ≡ lack_at (input_of given.now)
+        (map (state_in states.now.pool.now) states.now.layers.now) (asked_tree asked.now) }
     ensures empty { IsEmpty values.new }
     ensures places { vec_capacity values.new.numbers ≡ vec_capacity values.old.numbers }
 {
     match asked {
         Asked::Passes(checks) => {
-            let test = first_failing(checks.tests(), given, values, layers, pool);
+            let test = first_failing(checks.tests(), given, values, states.layers, states.pool);
             values.numbers.clear();
             missed(checks, test)
         }
@@ -67,22 +68,21 @@ fn second_lack(
     asked: &Option<Asked>,
     given: &Given<'_>,
     values: &mut Values,
-    layers: &[FileLayer],
-    pool: &Pool,
+    states: &States<'_>,
 ) -> Option<Lack>
-    requires order { AllByRecursion (IsInOrder pool.now) layers.now }
+    requires order { AllByRecursion (IsInOrder states.now.pool.now) states.now.layers.now }
     requires members { given.now.count ≤ most_members }
     requires body { length given.now.body.now ≤ longest_body }
     requires empty { IsEmpty values.old }
     requires places { IfWithin (vec_capacity values.old.numbers) (option_map asked_tree asked.now) }
     ensures lacks { option_map lack_meant result ≡
-        option_map (lack_at (input_of given.now) (map (state_in pool.now) layers.now))
+        option_map (lack_at (input_of given.now) (map (state_in states.now.pool.now) states.now.layers.now))
         (option_map asked_tree asked.now) }
     ensures empty { IsEmpty values.new }
     ensures places { vec_capacity values.new.numbers ≡ vec_capacity values.old.numbers }
 {
     match asked {
-        Some(asked) => Some(lack(asked, given, values, layers, pool)),
+        Some(asked) => Some(lack(asked, given, values, states)),
         None => None,
     }
 }
@@ -93,21 +93,20 @@ pub(crate) fn entry_miss(
     checks: &CaseChecks,
     given: &Given<'_>,
     values: &mut Values,
-    layers: &[FileLayer],
-    pool: &Pool,
+    states: &States<'_>,
 ) -> Miss
-    requires order { AllByRecursion (IsInOrder pool.now) layers.now }
+    requires order { AllByRecursion (IsInOrder states.now.pool.now) states.now.layers.now }
     requires members { given.now.count ≤ most_members }
     requires body { length given.now.body.now ≤ longest_body }
     requires empty { IsEmpty values.old }
     requires places { EntryWithin (vec_capacity values.old.numbers) (entry_asked checks.now) }
     ensures miss { miss_meant result ≡ entry_lacks (entry_meant entry) (input_of given.now)
-        (map (state_in pool.now) layers.now) (entry_asked checks.now) }
+        (map (state_in states.now.pool.now) states.now.layers.now) (entry_asked checks.now) }
     ensures empty { IsEmpty values.new }
     ensures places { vec_capacity values.new.numbers ≡ vec_capacity values.old.numbers }
 {
-    let first = lack(&checks.first, given, values, layers, pool);
-    let second = second_lack(&checks.second, given, values, layers, pool);
+    let first = lack(&checks.first, given, values, states);
+    let second = second_lack(&checks.second, given, values, states);
     Miss {
         entry,
         first,

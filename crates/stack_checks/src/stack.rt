@@ -11,7 +11,7 @@ ghost use Rattle.step_misses.specs.Misses.{entry_meant, miss_meant};
 ghost use Rattle.miss_laws.specs.Asked.{all_asked, miss_asked};
 
 use crate::cases::{CaseChecks, all_checks, case_checks, of_plan};
-use crate::lacks::{entry_miss, plan_miss};
+use crate::lacks::{States, entry_miss, plan_miss};
 use crate::needs::{all_numbers, case_numbers, larger};
 use file_layer::FileLayer;
 use slot_pool::Pool;
@@ -89,11 +89,12 @@ impl StackChecks {
             miss_asked self.old (entry_meant entry) (input_of given.now) (map (state_in pool.now) layers.now) }
         ensures same { self.new ≡ self.old }
     {
+        let states = States { layers, pool };
         match entry {
-            EntryOf::Cast => entry_miss(entry, &self.cast, given, &mut self.values, layers, pool),
-            EntryOf::Send => entry_miss(entry, &self.send, given, &mut self.values, layers, pool),
+            EntryOf::Cast => entry_miss(entry, &self.cast, given, &mut self.values, &states),
+            EntryOf::Send => entry_miss(entry, &self.send, given, &mut self.values, &states),
             EntryOf::Plan(number) => match of_plan(self.plans.as_slice(), number) {
-                Some(checks) => entry_miss(entry, checks, given, &mut self.values, layers, pool),
+                Some(checks) => entry_miss(entry, checks, given, &mut self.values, &states),
                 None => plan_miss(entry),
             },
             EntryOf::None => plan_miss(entry),
