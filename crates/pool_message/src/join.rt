@@ -57,14 +57,7 @@ fn join_ranges(front: Part, back: Part, pool: &mut Pool) -> Option<Part>
     ensures { PartsJoined pool.old pool.new front back result }
 {
     let len = front.len + back.len;
-    match pool.join(
-        &front.slot,
-        front.from,
-        front.len,
-        &back.slot,
-        back.from,
-        back.len,
-    ) {
+    match pool.join(front.range(), back.range()) {
         Some(slot) => {
             front.give_back(pool);
             back.give_back(pool);

@@ -3,7 +3,7 @@
 ghost use Rattle.std.specs.Prelude.{◌+◌, ◌≤◌};
 ghost use Rattle.msg_core.specs.Parts.{longest_body};
 
-use slot_pool::{Pool, Slot};
+use slot_pool::{Pool, Slot, SlotRange};
 
 /// Some bytes of a slot: `len` of them from `from` on. It has one reference to the slot.
 pub struct Part {
@@ -45,6 +45,19 @@ impl Part {
             len: _,
         } = self;
         pool.give_back(slot);
+    }
+
+    /// Where its bytes stand.
+    pub(crate) fn range(&self) -> SlotRange<'_>
+        ensures slot { result.slot.now ≡ self.now.slot }
+        ensures from { result.from ≡ self.now.from }
+        ensures len { result.len ≡ self.now.len }
+    {
+        SlotRange {
+            slot: &self.slot,
+            from: self.from,
+            len: self.len,
+        }
     }
 
     /// Its bytes.

@@ -11,7 +11,7 @@ pub use laws::{
     a_map_is_of_one_pool, a_pool_is_a_finite_map, calls_move_references, counts_stay_exact,
     moves_compose, slots_suffice,
 };
-pub use pool::{Pool, Slot};
+pub use pool::{Pool, Slot, SlotRange};
 #[doc(hidden)]
 pub use row::Row;
 pub use slot_record::LONGEST;

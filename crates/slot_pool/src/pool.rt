@@ -19,6 +19,14 @@ impl Model for Slot {
     ghost view = { λ s. s.index };
 }
 
+/// Some bytes of the body in a slot: `len` of them from `from` on.
+#[derive(Clone, Copy)]
+pub struct SlotRange<'a> {
+    pub slot: &'a Slot,
+    pub from: u32,
+    pub len: u32,
+}
+
 /// A number of slots, each unused or with a body of at most 8,192 bytes and the number of references to it.
 /// Memory is taken for all slots at once, and a slot's memory is first touched when the slot is first used.
 /// The unused places are linked through their own memory, as in a slab allocator.
@@ -111,33 +119,24 @@ impl Pool {
         self.places.body(s.index as usize)
     }
 
-    /// A first reference to `a_len` bytes of `a` from `a_from` on and, after them, `b_len` bytes of `b` from `b_from`
-    /// on.
-    pub fn join(
-        &mut self,
-        a: &Slot,
-        a_from: u32,
-        a_len: u32,
-        b: &Slot,
-        b_from: u32,
-        b_len: u32,
-    ) -> Option<Slot>
-        requires a_used { 0 < count_at self.old a.now }
-        requires b_used { 0 < count_at self.old b.now }
-        requires a_range { a_from + a_len ≤ length (bytes_at self.old a.now) }
-        requires b_range { b_from + b_len ≤ length (bytes_at self.old b.now) }
-        requires fits { a_len + b_len ≤ LONGEST }
+    /// A first reference to the bytes of one range and, after them, those of another.
+    pub fn join(&mut self, front: SlotRange<'_>, back: SlotRange<'_>) -> Option<Slot>
+        requires front_used { 0 < count_at self.old front.slot.now }
+        requires back_used { 0 < count_at self.old back.slot.now }
+        requires front_range { front.from + front.len ≤ length (bytes_at self.old front.slot.now) }
+        requires back_range { back.from + back.len ≤ length (bytes_at self.old back.slot.now) }
+        requires fits { front.len + back.len ≤ LONGEST }
         ensures full { IsNone result ↔ IsFull self.old }
         ensures none { IfNone result (self.new ≡ self.old) }
-        ensures some { IfSome result
-            (Puts self.old self.new
-            (range a_from a_len (bytes_at self.old a.now) ++ range b_from b_len (bytes_at self.old b.now))) }
+        ensures some { IfSome result (Puts self.old self.new
+            (range front.entry.from front.entry.len (bytes_at self.old front.entry.slot.now) ++
+            range back.entry.from back.entry.len (bytes_at self.old back.entry.slot.now))) }
     {
-        let whole = a_len as usize + b_len as usize;
+        let whole = front.len as usize + back.len as usize;
         let mut body = [0; LONGEST];
-        let front = part(self.bytes(a), a_from, a_len);
-        let back = part(self.bytes(b), b_from, b_len);
-        write_both(&mut body, front, back);
+        let first = part(self.bytes(front.slot), front.from, front.len);
+        let second = part(self.bytes(back.slot), back.from, back.len);
+        write_both(&mut body, first, second);
         self.put(&body[..whole])
     }
 }

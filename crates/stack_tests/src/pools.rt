@@ -3,7 +3,7 @@
 ghost use Rattle.std.specs.Prelude.{◌≡◌, ◌<◌, ◌≤◌, length};
 ghost use Rattle.slot_pool.specs.Held.{count_at, IsFull, Puts};
 
-use slot_pool::{LONGEST, Pool, Slot};
+use slot_pool::{LONGEST, Pool, Slot, SlotRange};
 use std::process::Abort;
 use std::test::Fail;
 
@@ -15,6 +15,12 @@ fn put(rt: &impl Abort, pool: &mut Pool, bytes: &[u8]) -> Slot
         Some(slot) => slot,
         None => panic!(rt; "no slot is left"),
     }
+}
+
+fn range(slot: &Slot, from: u32, len: u32) -> SlotRange<'_>
+    ensures { (result.slot.now ≡ slot.now) × (result.from ≡ from) × (result.len ≡ len) }
+{
+    SlotRange { slot, from, len }
 }
 
 fn refuses(rt: &impl Abort, pool: &mut Pool)
@@ -45,7 +51,7 @@ fn two_slots_are_filled_kept_given_back_and_joined(rt: HostRuntime) -> Result<()
     let one = put(&rt, &mut pool, b"one");
     let two = put(&rt, &mut pool, b"two");
     refuses(&rt, &mut pool);
-    match pool.join(&one, 0, 3, &two, 0, 3) {
+    match pool.join(range(&one, 0, 3), range(&two, 0, 3)) {
         Some(_slot) => panic!(rt; "a slot was left"),
         None => {}
     }
@@ -54,7 +60,7 @@ fn two_slots_are_filled_kept_given_back_and_joined(rt: HostRuntime) -> Result<()
     assert_eq!(rt; pool.bytes(&again), b"one".as_slice());
     refuses(&rt, &mut pool);
     pool.give_back(two);
-    match pool.join(&again, 1, 2, &again, 0, 1) {
+    match pool.join(range(&again, 1, 2), range(&again, 0, 1)) {
         Some(joined) => {
             assert_eq!(rt; pool.bytes(&joined), b"neo".as_slice());
             refuses(&rt, &mut pool);
@@ -72,7 +78,7 @@ fn a_body_of_8192_bytes_is_put_and_joined(rt: HostRuntime) -> Result<(), Fail> {
     let long = put(&rt, &mut pool, &[7; LONGEST]);
     assert_eq!(rt; pool.bytes(&long), [7; LONGEST].as_slice());
     let short = put(&rt, &mut pool, b"head");
-    match pool.join(&short, 1, 3, &long, 3, 8189) {
+    match pool.join(range(&short, 1, 3), range(&long, 3, 8189)) {
         Some(joined) => {
             let bytes = pool.bytes(&joined);
             assert_eq!(rt; bytes.len(), LONGEST);
