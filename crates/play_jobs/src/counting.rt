@@ -12,7 +12,7 @@ ghost use Rattle.script_text.specs.Course.{script_for};
 ghost use Rattle.stack_mean.specs.Plans.{plans_of};
 ghost use Rattle.stack_play.specs.Turns.{most_events};
 
-use crate::error::{PlayError, unopened};
+use crate::error::PlayError;
 use event_graph::Stack;
 use group_mean::Mode;
 use group_open::{Opened, open};
@@ -43,28 +43,24 @@ pub(crate) fn play_load<O: Sink>(
         (tally (stack_tree stack) (plans_of (stack_tree stack)) (shown_mode mode) (script_for workload))
         (tells_of O.Sink out.old) (tells_of O.Sink out.new) result }
 {
-    match open(alloc, mode, stack, GROUP, STAMP, workload.members) {
-        Ok(opened) => {
-            let Opened {
-                stack,
-                plans,
-                entries: _,
-                outputs,
-                mut group,
-            } = opened;
-            let wrote = write_counts(
-                alloc,
-                &mut group,
-                outputs,
-                stack.stack(),
-                &plans,
-                workload,
-                out,
-            );
-            group.close();
-            wrote?;
-            Ok(())
-        }
-        Err(error) => Err(unopened(error)),
-    }
+    let opened = open(alloc, mode, stack, GROUP, STAMP, workload.members)?;
+    let Opened {
+        stack,
+        plans,
+        entries: _,
+        outputs,
+        mut group,
+    } = opened;
+    let wrote = write_counts(
+        alloc,
+        &mut group,
+        outputs,
+        stack.stack(),
+        &plans,
+        workload,
+        out,
+    );
+    group.close();
+    wrote?;
+    Ok(())
 }

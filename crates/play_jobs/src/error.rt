@@ -32,12 +32,13 @@ impl From<SinkError> for PlayError {
     }
 }
 
-/// How the job ends whose group wasn't opened.
-pub(crate) fn unopened(error: OpenError) -> PlayError
-    ensures { result ≡ not_opened error }
-{
-    match error {
-        OpenError::TooLarge => PlayError::TooManyRows,
-        OpenError::Memory => PlayError::Memory,
+impl From<OpenError> for PlayError {
+    ghost from_gives = { λ cause error. error ≡ not_opened cause };
+
+    fn from(cause: OpenError) -> PlayError {
+        match cause {
+            OpenError::TooLarge => PlayError::TooManyRows,
+            OpenError::Memory => PlayError::Memory,
+        }
     }
 }

@@ -11,7 +11,7 @@ ghost use Rattle.play_jobs.specs.Play.{Plays};
 ghost use Rattle.stack_mean.specs.Plans.{plans_of};
 ghost use Rattle.stack_play.specs.Turns.{most_events};
 
-use crate::error::{PlayError, unopened};
+use crate::error::PlayError;
 use event_graph::Stack;
 use group_open::{Examination, open_examined};
 use layer_ast::File;
@@ -36,26 +36,22 @@ pub(crate) fn explain_steps<O: Sink>(
         (explained_lines (file_tree file.now) (stack_tree stack) (plans_of (stack_tree stack)) script.now)
         (tells_of O.Sink out.old) (tells_of O.Sink out.new) result }
 {
-    match open_examined(alloc, stack, script.group, script.stamp, script.members) {
-        Ok(examination) => {
-            let Examination {
-                stack,
-                plans,
-                entries,
-                mut outputs,
-                mut group,
-            } = examination;
-            let texts = Texts {
-                file,
-                stack: &stack,
-                plans: &plans,
-                entries: &entries,
-            };
-            let wrote = explain(alloc, &mut group, texts, script, &mut outputs, out);
-            group.close();
-            wrote?;
-            Ok(())
-        }
-        Err(error) => Err(unopened(error)),
-    }
+    let examination = open_examined(alloc, stack, script.group, script.stamp, script.members)?;
+    let Examination {
+        stack,
+        plans,
+        entries,
+        mut outputs,
+        mut group,
+    } = examination;
+    let texts = Texts {
+        file,
+        stack: &stack,
+        plans: &plans,
+        entries: &entries,
+    };
+    let wrote = explain(alloc, &mut group, texts, script, &mut outputs, out);
+    group.close();
+    wrote?;
+    Ok(())
 }

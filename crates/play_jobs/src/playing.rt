@@ -19,7 +19,7 @@ ghost use Rattle.stack_play.specs.Turns.{most_events};
 ghost use Rattle.stack_shapes.specs.Trees.{plans_tree};
 ghost use Rattle.trace_core.specs.Bypasses.{bypasses_tree};
 
-use crate::error::{PlayError, unopened};
+use crate::error::PlayError;
 use event_graph::Stack;
 use group_mean::Mode;
 use group_open::{Opened, open, open_with};
@@ -48,20 +48,16 @@ pub fn play<O: Sink>(
         (output_in (stack_tree stack) (plans_of (stack_tree stack)) script.now (shown_mode mode) wire count)
         (tells_of O.Sink out.old) (tells_of O.Sink out.new) result }
 {
-    match open(
+    let opened = open(
         alloc,
         mode,
         stack,
         script.group,
         script.stamp,
         script.members,
-    ) {
-        Ok(opened) => {
-            play_opened(alloc, opened, script, wire, count, out)?;
-            Ok(())
-        }
-        Err(error) => Err(unopened(error)),
-    }
+    )?;
+    play_opened(alloc, opened, script, wire, count, out)?;
+    Ok(())
 }
 
 /// Plays a script by bypasses that are given, and are the stack's: with the same report as `play` in bypass mode.
@@ -82,20 +78,16 @@ pub(crate) fn play_with<O: Sink>(
         (output_in (stack_tree stack) (plans_of (stack_tree stack)) script.now bypass wire count)
         (tells_of O.Sink out.old) (tells_of O.Sink out.new) result }
 {
-    match open_with(
+    let opened = open_with(
         alloc,
         bypasses,
         stack,
         script.group,
         script.stamp,
         script.members,
-    ) {
-        Ok(opened) => {
-            play_opened(alloc, opened, script, wire, count, out)?;
-            Ok(())
-        }
-        Err(error) => Err(unopened(error)),
-    }
+    )?;
+    play_opened(alloc, opened, script, wire, count, out)?;
+    Ok(())
 }
 
 /// Plays a script in a group that begins, and lets go of the group.
