@@ -11,23 +11,19 @@ use crate::preparing::prepare_examined;
 use crate::run::{Examination, Opened};
 use bypass_member::OpenError;
 use event_graph::Stack;
+use script_mean::GroupLine;
 use std::alloc::Global;
 use world_core::Examined;
 
-/// Opens a group of n members over a stack, which run by its bypasses and are examined by the checks of these.
-pub fn open_examined(
-    alloc: Global,
-    stack: Stack,
-    group: u32,
-    stamp: u32,
-    members: u8,
-) -> Result<Examination, OpenError>
+/// Opens the group that the first line of a script tells of, over a stack: its members run by the stack's bypasses, and
+/// are examined by the checks of these.
+pub fn open_examined(alloc: Global, stack: Stack, line: GroupLine) -> Result<Examination, OpenError>
     requires sound { IsSound (stack_tree stack) }
-    requires members { (1 ≤ members) × (members ≤ most_members) }
-    ensures { OpensExamined (stack_tree stack) group stamp members result }
+    requires members { (1 ≤ line.members) × (line.members ≤ most_members) }
+    ensures { OpensExamined (stack_tree stack) line.group line.stamp line.members result }
 {
     let (parts, checks) = prepare_examined(alloc, stack)?;
-    match begin(alloc, parts, group, stamp, members) {
+    match begin(alloc, parts, line) {
         Ok(opened) => {
             let Opened {
                 stack,

@@ -18,22 +18,18 @@ use crate::run::{Opened, Parts};
 use bypass_member::{OpenError, Opening};
 use event_graph::Stack;
 use group_mean::Mode;
+use script_mean::GroupLine;
 use std::alloc::Global;
 use trace_core::Bypasses;
 use world_core::World;
 
-/// Opens a group of n members, of these parts.
-pub(crate) fn begin(
-    alloc: Global,
-    parts: Parts,
-    group: u32,
-    stamp: u32,
-    members: u8,
-) -> Result<Opened, OpenError>
+/// Opens the group that a first line tells of, of these parts.
+pub(crate) fn begin(alloc: Global, parts: Parts, line: GroupLine) -> Result<Opened, OpenError>
     requires typed { TypedStack (stack_tree parts.stack) }
     requires prepared { IsPrepared (mode_with (option_map rc_value parts.codes)) (stack_tree parts.stack) parts }
-    requires members { (1 ≤ members) × (members ≤ most_members) }
-    ensures { Opens (mode_with (option_map rc_value parts.codes)) (stack_tree parts.stack) group stamp members result }
+    requires members { (1 ≤ line.members) × (line.members ≤ most_members) }
+    ensures { Opens (mode_with (option_map rc_value parts.codes)) (stack_tree parts.stack) line.group line.stamp
+        line.members result }
 {
     let Parts {
         mut maker,
@@ -50,10 +46,10 @@ pub(crate) fn begin(
         entries: &entries,
         starts,
         codes: codes.as_ref(),
-        group,
-        stamp,
+        group: line.group,
+        stamp: line.stamp,
     };
-    match World::begin(alloc, &mut maker, opening, members) {
+    match World::begin(alloc, &mut maker, opening, line.members) {
         Ok(world) => Ok(Opened {
             stack,
             plans,
@@ -65,37 +61,29 @@ pub(crate) fn begin(
     }
 }
 
-/// Opens a group of n members over a stack, which run it in a mode.
-pub fn open(
-    alloc: Global,
-    mode: Mode,
-    stack: Stack,
-    group: u32,
-    stamp: u32,
-    members: u8,
-) -> Result<Opened, OpenError>
+/// Opens the group that the first line of a script or plan tells of, over a stack that its members run in a mode.
+pub fn open(alloc: Global, mode: Mode, stack: Stack, line: GroupLine) -> Result<Opened, OpenError>
     requires runs { CanRun (shown_mode mode) (stack_tree stack) }
-    requires members { (1 ≤ members) × (members ≤ most_members) }
-    ensures { Opens (shown_mode mode) (stack_tree stack) group stamp members result }
+    requires members { (1 ≤ line.members) × (line.members ≤ most_members) }
+    ensures { Opens (shown_mode mode) (stack_tree stack) line.group line.stamp line.members result }
 {
     let parts = prepare(alloc, mode, stack)?;
-    begin(alloc, parts, group, stamp, members)
+    begin(alloc, parts, line)
 }
 
-/// Opens a group of n members over a stack, which run it by bypasses that are given, and are the stack's.
+/// Opens the group that such a line tells of, over a stack that its members run by bypasses which are given, and are
+/// the stack's.
 pub fn open_with(
     alloc: Global,
     bypasses: &Bypasses,
     stack: Stack,
-    group: u32,
-    stamp: u32,
-    members: u8,
+    line: GroupLine,
 ) -> Result<Opened, OpenError>
     requires typed { TypedStack (stack_tree stack) }
     requires of_stack { AreOfStack (stack_tree stack) (bypasses_tree bypasses.now) }
-    requires members { (1 ≤ members) × (members ≤ most_members) }
-    ensures { Opens bypass (stack_tree stack) group stamp members result }
+    requires members { (1 ≤ line.members) × (line.members ≤ most_members) }
+    ensures { Opens bypass (stack_tree stack) line.group line.stamp line.members result }
 {
     let parts = prepare_with(alloc, bypasses, stack)?;
-    begin(alloc, parts, group, stamp, members)
+    begin(alloc, parts, line)
 }

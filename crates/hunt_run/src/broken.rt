@@ -8,7 +8,7 @@ use crate::words::Request;
 use file_judge::{FileError, judge};
 use group_mean::Mode;
 use outside::StillSink;
-use play_jobs::{PlayError, play};
+use play_jobs::{PlayError, Wanted, play};
 use run_audit::{AuditError, Finding, Law, audit};
 use script_mean::Script;
 use script_text::{ScriptError, read_script};
@@ -95,7 +95,12 @@ fn report_of(alloc: Global, file: &[u8], script: &Script) -> Result<Option<Vec<u
         Err(_) => return Ok(None),
     };
     let mut sink = StillSink::of(alloc);
-    match play(alloc, Mode::Bypass, stack, script, false, false, &mut sink) {
+    let wanted = Wanted {
+        script,
+        wire: false,
+        count: false,
+    };
+    match play(alloc, Mode::Bypass, stack, wanted, &mut sink) {
         Ok(()) => Ok(Some(copy_of(alloc, sink.contents())?)),
         Err(PlayError::Memory) => Err(AllocError),
         Err(_) => Ok(None),

@@ -14,5 +14,5 @@ mod statements;
 mod texts;
 
 pub use miss::{Step, write_miss};
-pub use script::explain;
+pub use script::{Explanation, explain};
 pub use texts::Texts;

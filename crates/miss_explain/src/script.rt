@@ -29,6 +29,20 @@ use std::alloc::Global;
 use step_misses::Probed;
 use step_outputs::Outputs;
 
+/// The outputs of the last step, and what lines are built in.
+#[derive(Drop)]
+struct Run {
+    outputs: Outputs,
+    line: Line,
+}
+
+/// An event of a script, with its number.
+#[derive(Clone, Copy)]
+struct NumberedEvent<'a> {
+    number: u64,
+    event: &'a ScriptEvent,
+}
+
 /// Feeds an event. How many visits it makes isn't told.
 fn feed<P: Probe>(probe: &mut P, event: &ScriptEvent, outputs: &mut Outputs) -> Result<(), Memory>
     requires member { member_of event.now < length (P.group probe.old).members }
@@ -85,36 +99,35 @@ fn write_probed<O: Sink>(
     }
 }
 
-/// Explains the event with this number.
+/// Explains an event.
 fn explain_event<P: Probe, O: Sink>(
-    line: &mut Line,
+    run: &mut Run,
     probe: &mut P,
     texts: Texts<'_>,
-    number: u64,
-    event: &ScriptEvent,
-    outputs: &mut Outputs,
+    numbered: NumberedEvent<'_>,
     out: &mut O,
 ) -> Result<(), SinkError>
     requires entries { texts.entries.now ≡ short_shapes (stack_tree texts.stack.now) (plans_tree texts.plans.now) }
     requires ready { IsReady (stack_tree texts.stack.now) (plans_tree texts.plans.now) (P.group probe.old)
-        outputs.old.places }
+        run.old.outputs.places }
     requires world { SomeWorld (P.group probe.old) }
-    requires member { member_of event.now < length (P.group probe.old).members }
+    requires member { member_of numbered.event.now < length (P.group probe.old).members }
     ensures kept { Keeps (stack_tree texts.entry.stack.now) (plans_tree texts.entry.plans.now) (P.group probe.old)
-        (P.group probe.new) outputs.new.places }
+        (P.group probe.new) run.new.outputs.places }
     ensures told { (w : mean.World) → Stands (P.group probe.old) w →
         Explains (file_tree texts.entry.file.now) (stack_tree texts.entry.stack.now) (plans_tree texts.entry.plans.now)
-        number w event.now (P.group probe.new)
+        numbered.entry.number w numbered.entry.event.now (P.group probe.new)
         (tells_of O.Sink out.old) (tells_of O.Sink out.new) result }
 {
-    match probe.probe(event, outputs) {
+    let NumberedEvent { number, event } = numbered;
+    match probe.probe(event, &mut run.outputs) {
         Ok(probed) => {
             let step = Step {
                 event: number,
                 member: member_of(event),
             };
-            write_probed(line, texts, step, probed, out)?;
-            match feed_uncommon(probe, probed, event, outputs) {
+            write_probed(&mut run.line, texts, step, probed, out)?;
+            match feed_uncommon(probe, probed, event, &mut run.outputs) {
                 Ok(()) => Ok(()),
                 Err(Memory) => Err(SinkError::Memory),
             }
@@ -125,16 +138,15 @@ fn explain_event<P: Probe, O: Sink>(
 
 /// Explains all events of a script.
 fn explain_events<P: Probe, O: Sink>(
-    line: &mut Line,
+    run: &mut Run,
     probe: &mut P,
     texts: Texts<'_>,
     script: &Script,
-    outputs: &mut Outputs,
     out: &mut O,
 ) -> Result<(), SinkError>
     requires entries { texts.entries.now ≡ short_shapes (stack_tree texts.stack.now) (plans_tree texts.plans.now) }
     requires first { IsAtFirst (stack_tree texts.stack.now) (plans_tree texts.plans.now) script.now (P.group probe.old)
-        outputs.old.places }
+        run.old.outputs.places }
     requires runs { IsRunnable script.now }
     requires few { length script.now.events ≤ most_lines }
     ensures { Wrote (script_misses (file_tree texts.entry.file.now) (stack_tree texts.entry.stack.now)
@@ -143,8 +155,11 @@ fn explain_events<P: Probe, O: Sink>(
 {
     let events = script.events.slice();
     for index in 0..events.len() {
-        let number = index as u64 + 1;
-        explain_event(line, probe, texts, number, &events[index], outputs, out)?;
+        let numbered = NumberedEvent {
+            number: index as u64 + 1,
+            event: &events[index],
+        };
+        explain_event(run, probe, texts, numbered, out)?;
     }
     Ok(())
 }
@@ -159,26 +174,38 @@ fn write_end<O: Sink>(line: &mut Line, events: u64, out: &mut O) -> Result<(), S
     put_line(line.slice(), out)
 }
 
+/// An explanation that is wanted: the script of whose steps it tells, and what its lines are made from.
+#[derive(Clone, Copy)]
+pub struct Explanation<'a> {
+    pub script: &'a Script,
+    pub texts: Texts<'a>,
+}
+
 /// Explains a script with a group that begins, runs by bypasses and tells why an event is no common step: puts the line
 /// of each step that isn't common, and then the last line.
 pub fn explain<P: Probe, O: Sink>(
     alloc: Global,
     probe: &mut P,
-    texts: Texts<'_>,
-    script: &Script,
-    outputs: &mut Outputs,
+    outputs: Outputs,
+    explanation: Explanation<'_>,
     out: &mut O,
 ) -> Result<(), SinkError>
-    requires entries { texts.entries.now ≡ short_shapes (stack_tree texts.stack.now) (plans_tree texts.plans.now) }
-    requires first { IsAtFirst (stack_tree texts.stack.now) (plans_tree texts.plans.now) script.now (P.group probe.old)
-        outputs.old.places }
-    requires runs { IsRunnable script.now }
-    requires few { length script.now.events ≤ most_lines }
-    ensures { Wrote (explained_lines (file_tree texts.entry.file.now) (stack_tree texts.entry.stack.now)
-        (plans_tree texts.entry.plans.now) script.now)
+    requires entries { explanation.texts.entries.now ≡ short_shapes (stack_tree explanation.texts.stack.now)
+        (plans_tree explanation.texts.plans.now) }
+    requires first { IsAtFirst (stack_tree explanation.texts.stack.now) (plans_tree explanation.texts.plans.now)
+        explanation.script.now (P.group probe.old) outputs.places }
+    requires runs { IsRunnable explanation.script.now }
+    requires few { length explanation.script.now.events ≤ most_lines }
+    ensures { Wrote (explained_lines (file_tree explanation.entry.texts.file.now)
+        (stack_tree explanation.entry.texts.stack.now) (plans_tree explanation.entry.texts.plans.now)
+        explanation.entry.script.now)
         (tells_of O.Sink out.old) (tells_of O.Sink out.new) result }
 {
-    let mut line = Line::new(alloc);
-    explain_events(&mut line, probe, texts, script, outputs, out)?;
-    write_end(&mut line, script.events.slice().len() as u64, out)
+    let Explanation { script, texts } = explanation;
+    let mut run = Run {
+        outputs,
+        line: Line::new(alloc),
+    };
+    explain_events(&mut run, probe, texts, script, out)?;
+    write_end(&mut run.line, script.events.slice().len() as u64, out)
 }

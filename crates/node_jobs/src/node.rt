@@ -20,7 +20,7 @@ use job_ends::Ending;
 use job_text::Node;
 use node_loop::{Course, serve};
 use outside::{Clock, Links, Shelf, Sink};
-use script_mean::NodePlan;
+use script_mean::{GroupLine, NodePlan};
 use std::alloc::{AllocError, Global};
 
 /// Runs own members of a plan's group over a network, and writes what they do and what it gives.
@@ -69,7 +69,12 @@ fn serve_plan<O: Sink, N: Links, C: Clock>(
         Ok(me) => me,
         Err(AllocError) => return Ending::Memory,
     };
-    match open(alloc, node.mode, stack, plan.group, plan.stamp, count) {
+    let line = GroupLine {
+        group: plan.group,
+        stamp: plan.stamp,
+        members: count,
+    };
+    match open(alloc, node.mode, stack, line) {
         Ok(opened) => {
             let Opened {
                 stack,

@@ -17,8 +17,9 @@ use event_graph::Stack;
 use group_mean::Mode;
 use group_open::{Opened, open};
 use outside::Sink;
+use script_mean::GroupLine;
 use script_text::Workload;
-use stack_play::write_counts;
+use stack_play::{Load, write_counts};
 use std::alloc::Global;
 
 /// The group of a script that is made.
@@ -43,7 +44,12 @@ pub(crate) fn play_load<O: Sink>(
         (tally (stack_tree stack) (plans_of (stack_tree stack)) (shown_mode mode) (script_for workload))
         (tells_of O.Sink out.old) (tells_of O.Sink out.new) result }
 {
-    let opened = open(alloc, mode, stack, GROUP, STAMP, workload.members)?;
+    let line = GroupLine {
+        group: GROUP,
+        stamp: STAMP,
+        members: workload.members,
+    };
+    let opened = open(alloc, mode, stack, line)?;
     let Opened {
         stack,
         plans,
@@ -51,15 +57,12 @@ pub(crate) fn play_load<O: Sink>(
         outputs,
         mut group,
     } = opened;
-    let wrote = write_counts(
-        alloc,
-        &mut group,
-        outputs,
-        stack.stack(),
-        &plans,
+    let load = Load {
+        stack: stack.stack(),
+        plans: &plans,
         workload,
-        out,
-    );
+    };
+    let wrote = write_counts(alloc, &mut group, outputs, load, out);
     group.close();
     wrote?;
     Ok(())

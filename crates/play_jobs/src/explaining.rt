@@ -15,18 +15,18 @@ use crate::error::PlayError;
 use event_graph::Stack;
 use group_open::{Examination, open_examined};
 use layer_ast::File;
-use miss_explain::{Texts, explain};
+use miss_explain::{Explanation, Texts, explain};
 use outside::Sink;
-use script_mean::Script;
+use script_mean::{GroupLine, Script};
 use std::alloc::Global;
 
 /// Plays a script by bypasses in the world in which it begins, and writes why its steps weren't common: a line for
 /// each, with lines of the file that the stack is of.
-pub(crate) fn explain_steps<O: Sink>(
+pub(crate) fn explain_steps<'a, O: Sink>(
     alloc: Global,
-    file: &File,
+    file: &'a File,
     stack: Stack,
-    script: &Script,
+    script: &'a Script,
     out: &mut O,
 ) -> Result<(), PlayError>
     requires sound { IsSound (stack_tree stack) }
@@ -36,12 +36,17 @@ pub(crate) fn explain_steps<O: Sink>(
         (explained_lines (file_tree file.now) (stack_tree stack) (plans_of (stack_tree stack)) script.now)
         (tells_of O.Sink out.old) (tells_of O.Sink out.new) result }
 {
-    let examination = open_examined(alloc, stack, script.group, script.stamp, script.members)?;
+    let line = GroupLine {
+        group: script.group,
+        stamp: script.stamp,
+        members: script.members,
+    };
+    let examination = open_examined(alloc, stack, line)?;
     let Examination {
         stack,
         plans,
         entries,
-        mut outputs,
+        outputs,
         mut group,
     } = examination;
     let texts = Texts {
@@ -50,7 +55,8 @@ pub(crate) fn explain_steps<O: Sink>(
         plans: &plans,
         entries: &entries,
     };
-    let wrote = explain(alloc, &mut group, texts, script, &mut outputs, out);
+    let explanation = Explanation { script, texts };
+    let wrote = explain(alloc, &mut group, outputs, explanation, out);
     group.close();
     wrote?;
     Ok(())

@@ -11,7 +11,7 @@ ghost use Rattle.script_mean.specs.Script.{IsRunnable};
 ghost use Rattle.stack_play.specs.Turns.{most_events};
 
 use crate::played::ending;
-use crate::playing::play_with;
+use crate::playing::{Wanted, play_with};
 use crate::script::fetch_script;
 use crate::traces::fetch_traces;
 use event_graph::Stack;
@@ -65,15 +65,12 @@ fn play_traces<S: Shelf, O: Sink>(
     }
     match fetch_traces(alloc, &stack, replay.traces, shelf) {
         Ok(bypasses) => {
-            let run = play_with(
-                alloc,
-                &bypasses,
-                stack,
+            let wanted = Wanted {
                 script,
-                replay.wire,
-                replay.count,
-                out,
-            );
+                wire: replay.wire,
+                count: replay.count,
+            };
+            let run = play_with(alloc, &bypasses, stack, wanted, out);
             forget(bypasses);
             ending(run)
         }

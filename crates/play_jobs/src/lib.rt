@@ -19,5 +19,5 @@ pub use error::PlayError;
 pub use explain::explain_script;
 pub use given::replay_with;
 pub use load::load_stack;
-pub use playing::play;
+pub use playing::{Wanted, play};
 pub use replay::replay_script;

@@ -25,38 +25,46 @@ use group_mean::Mode;
 use group_open::{Opened, open, open_with};
 use outside::{Sink, SinkError};
 use report_text::Manner;
-use script_mean::Script;
-use stack_play::write_report;
+use script_mean::{GroupLine, Script};
+use stack_play::{Report, write_report};
 use std::alloc::Global;
 use trace_core::Bypasses;
 
-/// Plays a script in the world in which it begins, in a mode, and writes its report: with the packets' bytes and the
-/// number of visits where these are wanted.
+/// The report that is wanted of a script: with the packets' bytes and the number of visits, or without these.
+#[derive(Clone, Copy)]
+pub struct Wanted<'a> {
+    pub script: &'a Script,
+    pub wire: bool,
+    pub count: bool,
+}
+
+/// Plays a script in the world in which it begins, in a mode, and writes its report as it is wanted.
 pub fn play<O: Sink>(
     alloc: Global,
     mode: Mode,
     stack: Stack,
-    script: &Script,
-    wire: bool,
-    count: bool,
+    wanted: Wanted<'_>,
     out: &mut O,
 ) -> Result<(), PlayError>
     requires runs_stack { CanRun (shown_mode mode) (stack_tree stack) }
-    requires runs { IsRunnable script.now }
-    requires few { length script.now.events ≤ most_events }
-    ensures { Plays (stack_tree stack) script.now.members
-        (output_in (stack_tree stack) (plans_of (stack_tree stack)) script.now (shown_mode mode) wire count)
+    requires runs { IsRunnable wanted.script.now }
+    requires few { length wanted.script.now.events ≤ most_events }
+    ensures { Plays (stack_tree stack) wanted.entry.script.now.members
+        (output_in (stack_tree stack) (plans_of (stack_tree stack)) wanted.entry.script.now (shown_mode mode)
+        wanted.entry.wire wanted.entry.count)
         (tells_of O.Sink out.old) (tells_of O.Sink out.new) result }
 {
     let opened = open(
         alloc,
         mode,
         stack,
-        script.group,
-        script.stamp,
-        script.members,
+        GroupLine {
+            group: wanted.script.group,
+            stamp: wanted.script.stamp,
+            members: wanted.script.members,
+        },
     )?;
-    play_opened(alloc, opened, script, wire, count, out)?;
+    play_opened(alloc, opened, wanted, out)?;
     Ok(())
 }
 
@@ -65,28 +73,29 @@ pub(crate) fn play_with<O: Sink>(
     alloc: Global,
     bypasses: &Bypasses,
     stack: Stack,
-    script: &Script,
-    wire: bool,
-    count: bool,
+    wanted: Wanted<'_>,
     out: &mut O,
 ) -> Result<(), PlayError>
     requires typed { TypedStack (stack_tree stack) }
     requires of_stack { AreOfStack (stack_tree stack) (bypasses_tree bypasses.now) }
-    requires runs { IsRunnable script.now }
-    requires few { length script.now.events ≤ most_events }
-    ensures { Plays (stack_tree stack) script.now.members
-        (output_in (stack_tree stack) (plans_of (stack_tree stack)) script.now bypass wire count)
+    requires runs { IsRunnable wanted.script.now }
+    requires few { length wanted.script.now.events ≤ most_events }
+    ensures { Plays (stack_tree stack) wanted.entry.script.now.members
+        (output_in (stack_tree stack) (plans_of (stack_tree stack)) wanted.entry.script.now bypass wanted.entry.wire
+        wanted.entry.count)
         (tells_of O.Sink out.old) (tells_of O.Sink out.new) result }
 {
     let opened = open_with(
         alloc,
         bypasses,
         stack,
-        script.group,
-        script.stamp,
-        script.members,
+        GroupLine {
+            group: wanted.script.group,
+            stamp: wanted.script.stamp,
+            members: wanted.script.members,
+        },
     )?;
-    play_opened(alloc, opened, script, wire, count, out)?;
+    play_opened(alloc, opened, wanted, out)?;
     Ok(())
 }
 
@@ -94,18 +103,15 @@ pub(crate) fn play_with<O: Sink>(
 fn play_opened<O: Sink>(
     alloc: Global,
     opened: Opened,
-    script: &Script,
-    wire: bool,
-    count: bool,
+    wanted: Wanted<'_>,
     out: &mut O,
 ) -> Result<(), SinkError>
     requires first { IsAtFirst opened.group.mode (stack_tree opened.stack) (plans_tree (rc_value opened.plans))
-        script.now.group script.now.stamp
-        script.now.members opened.group opened.outputs.places }
-    requires runs { IsRunnable script.now }
-    requires few { length script.now.events ≤ most_events }
-    ensures { Wrote (output_in (stack_tree opened.stack) (plans_tree (rc_value opened.plans)) script.now
-        opened.group.mode wire count)
+        wanted.script.now.group wanted.script.now.stamp wanted.script.now.members opened.group opened.outputs.places }
+    requires runs { IsRunnable wanted.script.now }
+    requires few { length wanted.script.now.events ≤ most_events }
+    ensures { Wrote (output_in (stack_tree opened.stack) (plans_tree (rc_value opened.plans)) wanted.entry.script.now
+        opened.group.mode wanted.entry.wire wanted.entry.count)
         (tells_of O.Sink out.old) (tells_of O.Sink out.new) result }
 {
     let Opened {
@@ -118,9 +124,14 @@ fn play_opened<O: Sink>(
     let manner = Manner {
         stack: &stack,
         plans: &plans,
-        wire,
+        wire: wanted.wire,
     };
-    let wrote = write_report(alloc, &mut group, outputs, manner, script, count, out);
+    let report = Report {
+        script: wanted.script,
+        manner,
+        count: wanted.count,
+    };
+    let wrote = write_report(alloc, &mut group, outputs, report, out);
     group.close();
     wrote
 }

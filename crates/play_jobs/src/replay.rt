@@ -6,7 +6,7 @@ ghost use Rattle.job_ends.specs.Shown.{shown_end};
 ghost use Rattle.group_mean.specs.Shown.{shown_mode};
 
 use crate::played::ending;
-use crate::playing::play;
+use crate::playing::{Wanted, play};
 use crate::script::fetch_script;
 use file_jobs::fetch_stack;
 use job_ends::Ending;
@@ -28,8 +28,12 @@ pub fn replay_script<S: Shelf, O: Sink>(
     match fetch_stack(alloc, replay.file, shelf) {
         Ok(stack) => match fetch_script(alloc, replay.script, shelf) {
             Ok(script) => {
-                let mode = replay.mode;
-                ending(play(alloc, mode, stack, &script, replay.wire, replay.count, out))
+                let wanted = Wanted {
+                    script: &script,
+                    wire: replay.wire,
+                    count: replay.count,
+                };
+                ending(play(alloc, replay.mode, stack, wanted, out))
             }
             Err(ending) => ending,
         },

@@ -28,6 +28,14 @@ use stack_shapes::Plans;
 use std::alloc::Global;
 use step_outputs::{Outputs, an_accepted_stack_is_light};
 
+/// A load: a workload, and the stack over which its script is played, with the plans of that.
+#[derive(Clone, Copy)]
+pub struct Load<'a> {
+    pub stack: &'a Stack,
+    pub plans: &'a Plans,
+    pub workload: Workload,
+}
+
 /// Plays the script of a workload of 1 to 32 members in a group that begins, with the number and the stamp of such a
 /// script, in the group's mode, and writes how many lines of each kind its report has. Each event is made as it is
 /// played.
@@ -35,22 +43,19 @@ pub fn write_counts<G: Feed, O: Sink>(
     alloc: Global,
     group: &mut G,
     outputs: Outputs,
-    stack: &Stack,
-    plans: &Plans,
-    workload: Workload,
+    load: Load<'_>,
     out: &mut O,
 ) -> Result<(), SinkError>
-    requires first { IsAtFirst (G.group group.old).mode (stack_tree stack.now) (plans_tree plans.now) 1 1
-        workload.members
-        (G.group group.old) outputs.places }
-    requires members { (1 ≤ workload.members) × (workload.members ≤ most_members) }
-    requires few { workload.events ≤ most_events }
-    ensures { Wrote (tally (stack_tree stack.now) (plans_tree plans.now) (G.group group.old).mode (script_for workload))
-        (tells_of O.Sink out.old) (tells_of O.Sink out.new) result }
+    requires first { IsAtFirst (G.group group.old).mode (stack_tree load.stack.now) (plans_tree load.plans.now) 1 1
+        load.workload.members (G.group group.old) outputs.places }
+    requires members { (1 ≤ load.workload.members) × (load.workload.members ≤ most_members) }
+    requires few { load.workload.events ≤ most_events }
+    ensures { Wrote (tally (stack_tree load.entry.stack.now) (plans_tree load.entry.plans.now) (G.group group.old).mode
+        (script_for load.entry.workload)) (tells_of O.Sink out.old) (tells_of O.Sink out.new) result }
 {
     let mut run = Run::begin(alloc, outputs);
     let mut counts = Tally::new();
-    match count_events(alloc, group, &mut run, stack, plans, workload, &mut counts) {
+    match count_events(alloc, group, &mut run, load, &mut counts) {
         Ok(()) => write_tally(&mut run.pen, &counts, out),
         Err(Memory) => Err(SinkError::Memory),
     }
@@ -61,25 +66,23 @@ fn count_events<G: Feed>(
     alloc: Global,
     group: &mut G,
     run: &mut Run,
-    stack: &Stack,
-    plans: &Plans,
-    workload: Workload,
+    load: Load<'_>,
     counts: &mut Tally,
 ) -> Result<(), Memory>
-    requires first { IsAtFirst (G.group group.old).mode (stack_tree stack.now) (plans_tree plans.now) 1 1
-        workload.members
-        (G.group group.old) run.old.outputs.places }
+    requires first { IsAtFirst (G.group group.old).mode (stack_tree load.stack.now) (plans_tree load.plans.now) 1 1
+        load.workload.members (G.group group.old) run.old.outputs.places }
     requires visits { run.old.visits ≡ 0 }
-    requires members { (1 ≤ workload.members) × (workload.members ≤ most_members) }
-    requires few { workload.events ≤ most_events }
+    requires members { (1 ≤ load.workload.members) × (load.workload.members ≤ most_members) }
+    requires few { load.workload.events ≤ most_events }
     requires nothing { counts.old ≡ no_counts }
-    ensures { OnOk result (counts.new ≡ counts_of (G.group group.old).mode (stack_tree stack.now) (plans_tree plans.now)
-        (run_of (stack_tree stack.now) (plans_tree plans.now) (script_for workload))) }
+    ensures { OnOk result (counts.new ≡ counts_of (G.group group.old).mode (stack_tree load.entry.stack.now)
+        (plans_tree load.entry.plans.now)
+        (run_of (stack_tree load.entry.stack.now) (plans_tree load.entry.plans.now) (script_for load.entry.workload))) }
 {
-    let mut script = Generation::begin(alloc, workload)?;
-    for _ in 0..workload.events {
+    let mut script = Generation::begin(alloc, load.workload)?;
+    for _ in 0..load.workload.events {
         let event = script.next(alloc)?;
-        count_event(group, run, stack, plans, &event, counts)?;
+        count_event(group, run, load, &event, counts)?;
         script.take_back(event);
     }
     Ok(())
@@ -89,25 +92,24 @@ fn count_events<G: Feed>(
 fn count_event<G: Feed>(
     group: &mut G,
     run: &mut Run,
-    stack: &Stack,
-    _plans: &Plans,
+    load: Load<'_>,
     event: &ScriptEvent,
     counts: &mut Tally,
 ) -> Result<(), Memory>
-    requires ready { IsReady (G.group group.old).mode (stack_tree stack.now) (plans_tree _plans.now) (G.group group.old)
-        run.old.outputs.places }
+    requires ready { IsReady (G.group group.old).mode (stack_tree load.stack.now) (plans_tree load.plans.now)
+        (G.group group.old) run.old.outputs.places }
     requires member { member_of event.now < length (G.group group.old).members }
     requires visits { run.old.visits ≤ 2 ^ 63 }
     requires events { counts.old.events < 2 ^ 32 }
-    ensures kept { Keeps (G.group group.old).mode (stack_tree stack.now) (plans_tree _plans.now)
+    ensures kept { Keeps (G.group group.old).mode (stack_tree load.entry.stack.now) (plans_tree load.entry.plans.now)
         (playing (G.group group.old) run.old) (playing (G.group group.new) run.new) }
     ensures counted { (w : mean.World) → Stands (G.group group.old) w →
-        CountsEvent (G.group group.old).mode (stack_tree stack.now) (plans_tree _plans.now) w event.now
-        (playing (G.group group.new) run.new)
+        CountsEvent (G.group group.old).mode (stack_tree load.entry.stack.now) (plans_tree load.entry.plans.now) w
+        event.now (playing (G.group group.new) run.new)
         counts.old counts.new result }
 {
     let did = group.feed(event, &mut run.outputs, &mut run.visits)?;
-    an_accepted_stack_is_light(stack);
+    an_accepted_stack_is_light(load.stack);
     run.outputs.has_places_for_all();
     counts.count_event(did, &run.outputs);
     Ok(())

@@ -23,29 +23,36 @@ use script_mean::{Script, ScriptEvent};
 use std::alloc::Global;
 use step_outputs::{Outputs, an_accepted_stack_is_light};
 
-/// Plays a script in a group that begins, in the group's mode, and writes its report: with the number of visits where
-/// it is wanted.
+/// A report that is wanted: the script that it is of, how its lines are written, and whether it ends with the number of
+/// visits.
+#[derive(Clone, Copy)]
+pub struct Report<'a, 'b> {
+    pub script: &'a Script,
+    pub manner: Manner<'b>,
+    pub count: bool,
+}
+
+/// Plays a script in a group that begins, in the group's mode, and writes its report as it is wanted.
 pub fn write_report<G: Shows, O: Sink>(
     alloc: Global,
     group: &mut G,
     outputs: Outputs,
-    manner: Manner<'_>,
-    script: &Script,
-    count: bool,
+    report: Report<'_, '_>,
     out: &mut O,
 ) -> Result<(), SinkError>
-    requires first { IsAtFirst (G.group group.old).mode (stack_tree manner.stack.now) (plans_tree manner.plans.now)
-        script.now.group script.now.stamp script.now.members (G.group group.old) outputs.places }
-    requires runs { IsRunnable script.now }
-    requires few { length script.now.events ≤ most_events }
-    ensures { Wrote (output_in (stack_tree manner.entry.stack.now) (plans_tree manner.entry.plans.now) script.now
-        (G.group group.old).mode
-        manner.entry.wire count) (tells_of O.Sink out.old) (tells_of O.Sink out.new) result }
+    requires first { IsAtFirst (G.group group.old).mode (stack_tree report.manner.stack.now)
+        (plans_tree report.manner.plans.now) report.script.now.group report.script.now.stamp report.script.now.members
+        (G.group group.old) outputs.places }
+    requires runs { IsRunnable report.script.now }
+    requires few { length report.script.now.events ≤ most_events }
+    ensures { Wrote (output_in (stack_tree report.entry.manner.stack.now) (plans_tree report.entry.manner.plans.now)
+        report.entry.script.now (G.group group.old).mode report.entry.manner.wire report.entry.count)
+        (tells_of O.Sink out.old) (tells_of O.Sink out.new) result }
 {
     let mut run = Run::begin(alloc, outputs);
-    write_events(manner, group, &mut run, script, out)?;
-    let events = script.events.slice().len() as u64;
-    write_last(&mut run.pen, events, count, run.visits, out)
+    write_events(report.manner, group, &mut run, report.script, out)?;
+    let events = report.script.events.slice().len() as u64;
+    write_last(&mut run.pen, events, report.count, run.visits, out)
 }
 
 /// Writes the last lines of a report.

@@ -12,21 +12,21 @@ use Rattle.miss_explain.proofs.script.explain.Goals as goal
 
 pub returns-in_err-explain_events : goal.returns-in_err-explain_events
 returns-in_err-explain_events g c =
-    let texts = c.args.texts in
+    let texts = c.args.explanation.texts in
     let p = err_from_is_err_and c.from_residual.result c.from_residual.ensures.1 in
     rw (p.1, p.2) (part_of _ _ _ _ _ _
     (sym (explained_is (file_tree texts.file.now) (stack_tree texts.stack.now) (plans_tree texts.plans.now)
-    c.args.script.now))
+    c.args.explanation.script.now))
     c.in_err-explain_events.ensures)
 
 pub returns : goal.returns
 returns g c =
-    let texts = c.args.texts in
+    let texts = c.args.explanation.texts in
     let before = tells_of g.O.Sink c.explain_events.new.out in
     let after = tells_of g.O.Sink c.write_end.new.out in
     wrote_as _ _ _ _ c.write_end.result
     (explained_is (file_tree texts.file.now) (stack_tree texts.stack.now) (plans_tree texts.plans.now)
-    c.args.script.now)
+    c.args.explanation.script.now)
     (wrote_both _ _ _ _ _ c.write_end.result c.in_ok-explain_events.ensures
     (subst {A = ℕ} (λ n. Wrote (end_line n ∷ []) before after c.write_end.result) (ap length c.slice.ensures)
     c.write_end.ensures))

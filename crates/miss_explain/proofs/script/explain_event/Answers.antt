@@ -16,7 +16,7 @@ write_probed-requires-clause-told g c =
     may_be_told (file_tree texts.file.now) (stack_tree texts.stack.now) (plans_tree texts.plans.now)
     (g.P.Feed.group c.args.probe.now)
     (g.P.Feed.group c.probe.new.self) c.requires.ready.stack_is c.requires.ready.plans_are c.requires.world.world
-    c.args.event.now c.in-Ok.probed
+    c.args.numbered.event.now c.in-Ok.probed
     (c.in-Ok.ensures.probed c.requires.world.world c.requires.world.stands)
 
 pub returns-in_err-write_probed-in-Ok-clause-told : goal.returns-in_err-write_probed-in-Ok-clause-told
@@ -27,9 +27,9 @@ returns-in_err-write_probed-in-Ok-clause-told g c = λ w stands.
     (Err c.in_err-write_probed-in-Ok.field-0.0)
     (lines_are (file_tree texts.file.now) (stack_tree texts.stack.now) (plans_tree texts.plans.now)
     (g.P.Feed.group c.args.probe.now)
-    (g.P.Feed.group c.probe.new.self) c.requires.ready.stack_is c.requires.ready.plans_are w c.args.event.now
+    (g.P.Feed.group c.probe.new.self) c.requires.ready.stack_is c.requires.ready.plans_are w c.args.numbered.event.now
     c.in-Ok.probed
-    (c.in-Ok.ensures.probed w stands) c.args.number c.member_of.result c.member_of.ensures)
+    (c.in-Ok.ensures.probed w stands) c.args.numbered.number c.member_of.result c.member_of.ensures)
     c.in_err-write_probed-in-Ok.ensures)
 
 pub returns-in-Ok-feed_uncommon-clause-told : goal.returns-in-Ok-feed_uncommon-clause-told
@@ -38,14 +38,16 @@ returns-in-Ok-feed_uncommon-clause-told g c = λ w stands.
     let old = g.P.Feed.group c.args.probe.now in
     let probed = c.in-Ok.ensures.probed w stands in record {
       world = stands_after (file_tree texts.file.now) (stack_tree texts.stack.now) (plans_tree texts.plans.now) old
-          (g.P.Feed.group c.probe.new.self) c.requires.ready.stack_is c.requires.ready.plans_are w c.args.event.now
+          (g.P.Feed.group c.probe.new.self) c.requires.ready.stack_is c.requires.ready.plans_are w
+          c.args.numbered.event.now
           c.in-Ok.probed probed
           (g.P.Feed.group c.feed_uncommon.new.probe) stands c.in-Ok-feed_uncommon.ensures.follows;
       gained = subst (Gains (tells_of g.O.Sink c.args.out.now) (tells_of g.O.Sink c.write_probed.new.out))
           (lines_are (file_tree texts.file.now) (stack_tree texts.stack.now) (plans_tree texts.plans.now) old
-          (g.P.Feed.group c.probe.new.self) c.requires.ready.stack_is c.requires.ready.plans_are w c.args.event.now
+          (g.P.Feed.group c.probe.new.self) c.requires.ready.stack_is c.requires.ready.plans_are w
+          c.args.numbered.event.now
           c.in-Ok.probed
-          probed c.args.number c.member_of.result c.member_of.ensures)
+          probed c.args.numbered.number c.member_of.result c.member_of.ensures)
           c.in_ok-write_probed-in-Ok.ensures;
     }
 
@@ -55,7 +57,7 @@ returns-in-Err-feed_uncommon-clause-told g c = λ w stands.
     begins_all _ _ _ (subst (Gains (tells_of g.O.Sink c.args.out.now) (tells_of g.O.Sink c.write_probed.new.out))
     (lines_are (file_tree texts.file.now) (stack_tree texts.stack.now) (plans_tree texts.plans.now)
     (g.P.Feed.group c.args.probe.now)
-    (g.P.Feed.group c.probe.new.self) c.requires.ready.stack_is c.requires.ready.plans_are w c.args.event.now
+    (g.P.Feed.group c.probe.new.self) c.requires.ready.stack_is c.requires.ready.plans_are w c.args.numbered.event.now
     c.in-Ok.probed
-    (c.in-Ok.ensures.probed w stands) c.args.number c.member_of.result c.member_of.ensures)
+    (c.in-Ok.ensures.probed w stands) c.args.numbered.number c.member_of.result c.member_of.ensures)
     c.in_ok-write_probed-in-Ok.ensures)

@@ -11,7 +11,8 @@ returns-clause-counted g c = λ w stands.
     let after = g.G.Feed.group c.feed.new.self in
     let old = playing before c.args.run.now in
     let new : Playing = record { group = after; places = c.feed.new.out.places; visits = c.feed.new.visits } in
-    let h = happened before.mode (stack_tree c.args.stack.now) (plans_tree c.args._plans.now) w c.args.event.now before
+    let h = happened before.mode (stack_tree c.args.load.stack.now) (plans_tree c.args.load.plans.now) w
+    c.args.event.now before
     after c.feed.new.out.outputs
     old.visits c.feed.new.visits c.in_ok-did.did c.requires.ready.mode_is c.requires.ready.stack_is
     c.requires.ready.plans_are

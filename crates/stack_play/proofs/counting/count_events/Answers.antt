@@ -7,8 +7,8 @@ use Rattle.stack_play.proofs.Counted.{first_counted, next_counted, few_counted, 
 use Rattle.stack_play.proofs.counting.count_events.Goals as goal
 
 pub loop-init : goal.loop-init
-loop-init g c = first_counted (g.G.Feed.group c.args.group.now).mode (stack_tree c.args.stack.now)
-    (plans_tree c.args.plans.now) c.args.workload
+loop-init g c = first_counted (g.G.Feed.group c.args.group.now).mode (stack_tree c.args.load.stack.now)
+    (plans_tree c.args.load.plans.now) c.args.load.workload
     (playing (g.G.Feed.group c.args.group.now) c.args.run.now) c.args.counts.now c.in_ok-script.script
     c.requires.first c.requires.visits c.requires.nothing c.in_ok-script.ensures
 
@@ -21,15 +21,16 @@ count_event-requires-clause-ready g c =
 
 pub count_event-requires-clause-member : goal.count_event-requires-clause-member
 count_event-requires-clause-member g c =
-    one_of_them (g.G.Feed.group c.args.group.now).mode (stack_tree c.args.stack.now) (plans_tree c.args.plans.now)
-    c.args.workload c.loop.counter (playing (g.G.Feed.group c.loop.group) c.loop.run) c.loop.counts c.loop.script
+    one_of_them (g.G.Feed.group c.args.group.now).mode (stack_tree c.args.load.stack.now)
+    (plans_tree c.args.load.plans.now)
+    c.args.load.workload c.loop.counter (playing (g.G.Feed.group c.loop.group) c.loop.run) c.loop.counts c.loop.script
     c.loop.invariant c.next.new.self
     c.in_ok-event.event c.in_ok-event.ensures
 
 pub count_event-requires-clause-events : goal.count_event-requires-clause-events
 count_event-requires-clause-events g c =
-    let counted = few_counted (g.G.Feed.group c.args.group.now).mode (stack_tree c.args.stack.now)
-    (plans_tree c.args.plans.now) c.args.workload
+    let counted = few_counted (g.G.Feed.group c.args.group.now).mode (stack_tree c.args.load.stack.now)
+    (plans_tree c.args.load.plans.now) c.args.load.workload
     c.loop.counter (playing (g.G.Feed.group c.loop.group) c.loop.run) c.loop.counts c.loop.script c.loop.invariant
     c.loop-test.true in
     let few = c.requires.few in
@@ -37,14 +38,15 @@ count_event-requires-clause-events g c =
 
 pub loop-preserved : goal.loop-preserved
 loop-preserved g c = rw c.take_back.ensures
-    (next_counted (g.G.Feed.group c.args.group.now).mode (stack_tree c.args.stack.now)
-    (plans_tree c.args.plans.now) c.args.workload c.loop.counter (playing (g.G.Feed.group c.loop.group) c.loop.run)
+    (next_counted (g.G.Feed.group c.args.group.now).mode (stack_tree c.args.load.stack.now)
+    (plans_tree c.args.load.plans.now) c.args.load.workload c.loop.counter
+    (playing (g.G.Feed.group c.loop.group) c.loop.run)
     c.loop.counts c.loop.script
     c.loop.invariant c.next.new.self c.in_ok-event.event c.in_ok-event.ensures _ _
     c.in_ok-count_event.ensures.kept (c.in_ok-count_event.ensures.counted _ c.loop.invariant.counted.stands.world))
 
 pub returns : goal.returns
-returns g c = all_counted (g.G.Feed.group c.args.group.now).mode (stack_tree c.args.stack.now)
-    (plans_tree c.args.plans.now) c.args.workload
+returns g c = all_counted (g.G.Feed.group c.args.group.now).mode (stack_tree c.args.load.stack.now)
+    (plans_tree c.args.load.plans.now) c.args.load.workload
     c.loop.counter (playing (g.G.Feed.group c.loop.group) c.loop.run) c.loop.counts c.loop.script c.loop.invariant
     c.loop-test.false

@@ -10,6 +10,7 @@ use Rattle.stack_play.proofs.counting.write_counts.Goals as goal
 pub returns-in-Ok : goal.returns-in-Ok
 returns-in-Ok g c = wrote_as _ _ _ _ c.write_tally.result
     (ap tally_lines c.in-Ok.ensures
-    ∙ counted_tally (g.G.Feed.group c.args.group.now).mode (stack_tree c.args.stack.now) (plans_tree c.args.plans.now)
-    (script_for c.args.workload))
+    ∙ counted_tally (g.G.Feed.group c.args.group.now).mode (stack_tree c.args.load.stack.now)
+    (plans_tree c.args.load.plans.now)
+    (script_for c.args.load.workload))
     c.write_tally.ensures

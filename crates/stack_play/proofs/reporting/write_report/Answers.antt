@@ -15,8 +15,9 @@ returns-in_err-write_events g c =
     let mode = (g.G.Feed.group c.args.group.now).mode in
     let p = err_from_is_err_and c.from_residual.result c.from_residual.ensures.1 in
     rw (p.1, p.2) (part_of _ _ _ _ _ _
-    (output_is mode (stack_tree c.args.manner.stack.now) (plans_tree c.args.manner.plans.now) c.args.script.now
-    c.args.manner.wire c.args.count)
+    (output_is mode (stack_tree c.args.report.manner.stack.now) (plans_tree c.args.report.manner.plans.now)
+    c.args.report.script.now
+    c.args.report.manner.wire c.args.report.count)
     c.in_err-write_events.ensures.lines)
 
 pub returns : goal.returns
@@ -27,9 +28,10 @@ returns g c =
     let events = ap length c.slice.ensures in
     let visits = c.in_ok-write_events.ensures.visits in
     wrote_as _ _ _ _ c.write_last.result
-    (sym (output_is mode (stack_tree c.args.manner.stack.now) (plans_tree c.args.manner.plans.now) c.args.script.now
-    c.args.manner.wire c.args.count))
+    (sym (output_is mode (stack_tree c.args.report.manner.stack.now) (plans_tree c.args.report.manner.plans.now)
+    c.args.report.script.now
+    c.args.report.manner.wire c.args.report.count))
     (wrote_both _ _ _ _ _ c.write_last.result c.in_ok-write_events.ensures.lines
-    (subst {A = ℕ × ℕ} (λ x. Wrote (end_line x.0 ∷ visits_if c.args.count x.1) before after c.write_last.result)
+    (subst {A = ℕ × ℕ} (λ x. Wrote (end_line x.0 ∷ visits_if c.args.report.count x.1) before after c.write_last.result)
     (λ k. (events k, visits k))
     c.write_last.ensures))
