@@ -21,6 +21,14 @@ use synth::synth;
 use synth_print::{print_bypasses, print_traces};
 use trace_core::Bypasses;
 
+/// The bypasses that were made of a stack with these plans.
+#[derive(Clone, Copy)]
+struct Synthesis<'a> {
+    stack: &'a Stack,
+    plans: &'a Plans,
+    bypasses: &'a Bypasses,
+}
+
 /// Prints a stack's bypasses, a line a put.
 pub(crate) fn put_text<O: Sink>(
     alloc: Global,
@@ -37,11 +45,11 @@ pub(crate) fn put_text<O: Sink>(
 }
 
 /// Prints the bypasses of a stack whose shapes are drawn.
-fn put_bypasses<O: Sink>(
+fn put_bypasses<'a, O: Sink>(
     alloc: Global,
     what: Printing,
-    stack: &Stack,
-    shapes: &StackShapes,
+    stack: &'a Stack,
+    shapes: &'a StackShapes,
     out: &mut O,
 ) -> Result<(), SinkError>
     requires plans { plans_tree shapes.now.plans ≡ plans_of (stack_tree stack.now) }
@@ -49,7 +57,12 @@ fn put_bypasses<O: Sink>(
     ensures { Wrote (own_lines what (stack_tree stack.now)) (tells_of O.Sink out.old) (tells_of O.Sink out.new) result }
 {
     let bypasses = synth(alloc, stack, shapes)?;
-    let wrote = put(alloc, what, stack, &shapes.plans, &bypasses, out);
+    let made = Synthesis {
+        stack,
+        plans: &shapes.plans,
+        bypasses: &bypasses,
+    };
+    let wrote = put(alloc, what, made, out);
     forget(bypasses);
     wrote
 }
@@ -58,14 +71,18 @@ fn put_bypasses<O: Sink>(
 fn put<O: Sink>(
     alloc: Global,
     what: Printing,
-    stack: &Stack,
-    plans: &Plans,
-    bypasses: &Bypasses,
+    made: Synthesis<'_>,
     out: &mut O,
 ) -> Result<(), SinkError>
-    ensures { Wrote (printing what (stack_tree stack.now) (plans_tree plans.now) (bypasses_tree bypasses.now))
+    ensures { Wrote (printing what (stack_tree made.entry.stack.now) (plans_tree made.entry.plans.now)
+        (bypasses_tree made.entry.bypasses.now))
         (tells_of O.Sink out.old) (tells_of O.Sink out.new) result }
 {
+    let Synthesis {
+        stack,
+        plans,
+        bypasses,
+    } = made;
     match what {
         Printing::Handlers => print_bypasses(alloc, stack, plans, bypasses, out),
         Printing::Traces => print_traces(alloc, stack, plans, bypasses, out),
