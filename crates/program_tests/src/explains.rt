@@ -1,7 +1,7 @@
 //! Why steps weren't common: the expected texts come from an independent reading of the rules.
 
 use crate::jobs::{FLIP, REPEATER};
-use crate::runs::{COUNTER, ROWS, leaves};
+use crate::runs::{COUNTER, ROWS, leaves, refused, written};
 use std::alloc::{AllocError, Global};
 use std::test::Fail;
 
@@ -34,7 +34,7 @@ const TWINS: &[u8] =
 
 /// Whether `explain` tells this of what a script's steps lacked.
 fn tells(alloc: Global, file: &[u8], script: &[u8], told: &[u8]) -> Result<bool, AllocError> {
-    leaves(alloc, EXPLAIN, file, script, 0, told, b"")
+    leaves(alloc, EXPLAIN, file, script, written(told))
 }
 
 /// A decision of a layer of the file and one of a layer of the library, each with its line; no plan; and what nothing
@@ -139,7 +139,7 @@ fn scripts_are_refused(rt: HostRuntime) -> Result<(), Fail> {
         (ROWS, b"group 1 stamp 7 members 26\n", 3, b"script: rows\n"),
     ];
     for (file, script, status, said) in cases {
-        assert!(rt; leaves(alloc, EXPLAIN, file, script, status, b"", said)?);
+        assert!(rt; leaves(alloc, EXPLAIN, file, script, refused(status, said))?);
     }
     Ok(())
 }

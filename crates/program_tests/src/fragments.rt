@@ -1,6 +1,6 @@
 //! A cast of 8,192 bytes that goes out in eight packets, which are given back to front.
 
-use crate::runs::{REPLAY, leaves};
+use crate::runs::{REPLAY, leaves, written};
 use std::alloc::{AllocError, Global};
 use std::test::Fail;
 
@@ -73,6 +73,6 @@ fn eight_parts_become_one_cast(rt: HostRuntime) -> Result<(), Fail> {
     let alloc = rt.alloc();
     let script = script(alloc)?;
     let report = report(alloc)?;
-    assert!(rt; leaves(alloc, REPLAY, STACK, &script, 0, &report, b"")?);
+    assert!(rt; leaves(alloc, REPLAY, STACK, &script, written(&report))?);
     Ok(())
 }

@@ -1,6 +1,6 @@
 //! Words that are no job, and the jobs of one file.
 
-use crate::runs::{COUNTER, REPLAY, ROWS, left_by, named};
+use crate::runs::{COUNTER, Expected, REPLAY, ROWS, left_by, named, refused, written};
 use outside::MemShelf;
 use std::alloc::{AllocError, Global};
 use std::test::Fail;
@@ -9,7 +9,7 @@ use std::test::Fail;
 fn refuses(alloc: Global, texts: &[&str], status: u8, err: &[u8]) -> Result<bool, AllocError> {
     let mut shelf = MemShelf::of(Vec::new(alloc), Vec::new(alloc));
     let left = left_by(alloc, texts, &mut shelf, Vec::new(alloc))?;
-    Ok(left.is(status, b"", err))
+    Ok(left.is(refused(status, err)))
 }
 
 #[test]
@@ -36,15 +36,13 @@ fn leaves(
     texts: &[&str],
     file: &[u8],
     puts: Vec<Option<u64>>,
-    status: u8,
-    out: &[u8],
-    err: &[u8],
+    expected: Expected<'_>,
 ) -> Result<bool, AllocError> {
     let mut files = Vec::new(alloc);
     files.push(named(alloc, "f", file)?)?;
     let mut shelf = MemShelf::of(files, Vec::new(alloc));
     let left = left_by(alloc, texts, &mut shelf, puts)?;
-    Ok(left.is(status, out, err))
+    Ok(left.is(expected))
 }
 
 #[test]
@@ -61,7 +59,7 @@ fn counts_generated_scripts(rt: HostRuntime) -> Result<(), Fail> {
     ];
     let counts =
         b"deliver 9 packet 8 timer 0 block 0 announce 0 view 0 out 0 refused 10 absent 6 end 40\nshort 0\n";
-    assert!(rt; leaves(alloc, load, COUNTER, Vec::new(alloc), 0, counts, b"")?);
+    assert!(rt; leaves(alloc, load, COUNTER, Vec::new(alloc), written(counts))?);
     let load: &[&str] = &[
         "load",
         "f",
@@ -72,7 +70,7 @@ fn counts_generated_scripts(rt: HostRuntime) -> Result<(), Fail> {
     ];
     let counts =
         b"deliver 9 packet 8 timer 0 block 0 announce 0 view 0 out 0 refused 10 absent 6 end 40\nshort 8\n";
-    assert!(rt; leaves(alloc, load, COUNTER, Vec::new(alloc), 0, counts, b"")?);
+    assert!(rt; leaves(alloc, load, COUNTER, Vec::new(alloc), written(counts))?);
     let load: &[&str] = &["load", "f", "--seed=1", "--events=5", "--members=32"];
     assert!(rt;
         leaves(
@@ -80,9 +78,7 @@ fn counts_generated_scripts(rt: HostRuntime) -> Result<(), Fail> {
             load,
             ROWS,
             Vec::new(alloc),
-            3,
-            b"",
-            b"script: rows\n"
+            refused(3, b"script: rows\n")
         )?
     );
     Ok(())
@@ -188,7 +184,13 @@ const LONG: &[u8] = b"\
 /// Whether the long file leaves its text.
 fn leaves_long(alloc: Global, synth: &[&str]) -> Result<bool, AllocError> {
     let file = long_file(alloc)?;
-    leaves(alloc, synth, file.as_slice(), Vec::new(alloc), 0, LONG, b"")
+    leaves(
+        alloc,
+        synth,
+        file.as_slice(),
+        Vec::new(alloc),
+        written(LONG),
+    )
 }
 
 #[test]
@@ -208,7 +210,7 @@ fn prints_bypasses(rt: HostRuntime) -> Result<(), Fail> {
         (pack, FLIP, CASE_TRACES),
     ];
     for (words, file, text) in cases {
-        assert!(rt; leaves(alloc, words, file, Vec::new(alloc), 0, text, b"")?);
+        assert!(rt; leaves(alloc, words, file, Vec::new(alloc), written(text))?);
     }
     assert!(rt; leaves_long(alloc, synth)?);
     Ok(())
@@ -236,9 +238,15 @@ fn audits_reports(rt: HostRuntime) -> Result<(), Fail> {
         ),
     ];
     for (texts, file, status, out, err) in cases {
-        assert!(rt; leaves(alloc, texts, file, Vec::new(alloc), status, out, err)?);
+        let expected = Expected { status, out, err };
+        assert!(rt; leaves(alloc, texts, file, Vec::new(alloc), expected)?);
     }
     let puts = vec![in alloc; Some(6)]?;
-    assert!(rt; leaves(alloc, total, CROSSED, puts, 5, b"breach", b"write fault\n")?);
+    let expected = Expected {
+        status: 5,
+        out: b"breach",
+        err: b"write fault\n",
+    };
+    assert!(rt; leaves(alloc, total, CROSSED, puts, expected)?);
     Ok(())
 }

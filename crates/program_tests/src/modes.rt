@@ -2,7 +2,7 @@
 //! packets of common steps go short by bypasses, and their visits aren't made.
 
 use crate::jobs::{FLIP, REPEATER};
-use crate::runs::{COUNTER, leaves};
+use crate::runs::{COUNTER, leaves, written};
 use std::alloc::{AllocError, Global};
 use std::test::Fail;
 
@@ -23,8 +23,14 @@ struct Case {
 impl Case {
     /// Whether the replay leaves this.
     fn leaves(self, alloc: Global) -> Result<bool, AllocError> {
-        let layered = leaves(alloc, LAYERED, self.file, self.script, 0, self.layered, b"")?;
-        Ok(layered && leaves(alloc, BYPASS, self.file, self.script, 0, self.bypass, b"")?)
+        let layered = leaves(
+            alloc,
+            LAYERED,
+            self.file,
+            self.script,
+            written(self.layered),
+        )?;
+        Ok(layered && leaves(alloc, BYPASS, self.file, self.script, written(self.bypass))?)
     }
 }
 

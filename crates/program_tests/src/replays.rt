@@ -1,6 +1,8 @@
 //! Replays of scripts over stack files.
 
-use crate::runs::{COUNTER, FIRST, REPLAY, ROWS, leaves, left_by, pair};
+use crate::runs::{
+    COUNTER, Expected, FIRST, REPLAY, ROWS, leaves, left_by, pair, refused, written,
+};
 use outside::MemShelf;
 use std::alloc::{AllocError, Global};
 use std::test::Fail;
@@ -43,7 +45,7 @@ fn reports(rt: HostRuntime) -> Result<(), Fail> {
         ),
     ];
     for (file, script, out) in cases {
-        assert!(rt; leaves(alloc, REPLAY, file, script, 0, out, b"")?);
+        assert!(rt; leaves(alloc, REPLAY, file, script, written(out))?);
     }
     Ok(())
 }
@@ -51,9 +53,17 @@ fn reports(rt: HostRuntime) -> Result<(), Fail> {
 #[test]
 fn refuses(rt: HostRuntime) -> Result<(), Fail> {
     let alloc = rt.alloc();
-    assert!(rt; leaves(alloc, REPLAY, b"", b"", 1, b"", b"file: unexpected 1:1\n")?);
+    assert!(rt;
+        leaves(
+            alloc,
+            REPLAY,
+            b"",
+            b"",
+            refused(1, b"file: unexpected 1:1\n")
+        )?
+    );
     let many = b"group 1 stamp 7 members 32\n";
-    assert!(rt; leaves(alloc, REPLAY, ROWS, many, 3, b"", b"script: rows\n")?);
+    assert!(rt; leaves(alloc, REPLAY, ROWS, many, refused(3, b"script: rows\n"))?);
     Ok(())
 }
 
@@ -64,24 +74,26 @@ fn fails(
     alloc: Global,
     reads: Vec<bool>,
     puts: Vec<Option<u64>>,
-    status: u8,
-    out: &[u8],
-    err: &[u8],
+    expected: Expected<'_>,
 ) -> Result<bool, AllocError> {
     let mut shelf = MemShelf::of(pair(alloc, COUNTER, "s", SCRIPT)?, reads);
     let left = left_by(alloc, REPLAY, &mut shelf, puts)?;
-    Ok(left.is(status, out, err))
+    Ok(left.is(expected))
 }
 
 #[test]
 fn says_what_failed(rt: HostRuntime) -> Result<(), Fail> {
     let alloc = rt.alloc();
     let puts = vec![in alloc; None, None, Some(0)]?;
-    let lines = b"packet 1 0 all cnt.num(0) 6869\ndeliver 1 cast 0 6869\n";
-    assert!(rt; fails(alloc, Vec::new(alloc), puts, 5, lines, b"write fault\n")?);
+    let cut = Expected {
+        status: 5,
+        out: b"packet 1 0 all cnt.num(0) 6869\ndeliver 1 cast 0 6869\n",
+        err: b"write fault\n",
+    };
+    assert!(rt; fails(alloc, Vec::new(alloc), puts, cut)?);
     for second in [false, true] {
         let reads = vec![in alloc; !second, second]?;
-        assert!(rt; fails(alloc, reads, Vec::new(alloc), 4, b"", b"read fault\n")?);
+        assert!(rt; fails(alloc, reads, Vec::new(alloc), refused(4, b"read fault\n"))?);
     }
     Ok(())
 }
@@ -93,35 +105,27 @@ fn filled(alloc: Global, byte: u8, count: usize) -> Result<Vec<u8>, AllocError> 
 
 fn refuses_spaces(alloc: Global, count: usize) -> Result<bool, AllocError> {
     let file = filled(alloc, b' ', count)?;
-    leaves(alloc, REPLAY, &file, FIRST, 1, b"", b"file: too large\n")
+    leaves(
+        alloc,
+        REPLAY,
+        &file,
+        FIRST,
+        refused(1, b"file: too large\n"),
+    )
 }
 
 fn refuses_lines(alloc: Global, count: usize) -> Result<bool, AllocError> {
     let script = filled(alloc, b'\n', count)?;
-    leaves(
-        alloc,
-        REPLAY,
-        COUNTER,
-        &script,
-        3,
-        b"",
-        b"script: too long\n",
-    )
+    let expected = refused(3, b"script: too long\n");
+    leaves(alloc, REPLAY, COUNTER, &script, expected)
 }
 
 /// Whether the member refuses a cast of `count` bytes.
 fn refuses_body(alloc: Global, count: usize) -> Result<bool, AllocError> {
     let mut script = Vec::from_slice(alloc, b"group 1 stamp 7 members 3\ncast 0 ")?;
     script.extend_from_slice(&filled(alloc, b'6', count.saturating_mul(2))?)?;
-    leaves(
-        alloc,
-        REPLAY,
-        COUNTER,
-        &script,
-        0,
-        b"refused 0 big\nend 1\n",
-        b"",
-    )
+    let expected = written(b"refused 0 big\nend 1\n");
+    leaves(alloc, REPLAY, COUNTER, &script, expected)
 }
 
 #[test]

@@ -29,10 +29,38 @@ pub(crate) struct Left {
     pub err: Vec<u8>,
 }
 
+/// What a run is to leave.
+#[derive(Clone, Copy)]
+pub(crate) struct Expected<'a> {
+    pub status: u8,
+    pub out: &'a [u8],
+    pub err: &'a [u8],
+}
+
+/// All of this output.
+pub(crate) fn written(out: &[u8]) -> Expected<'_> {
+    Expected {
+        status: 0,
+        out,
+        err: b"",
+    }
+}
+
+/// No output, for this cause.
+pub(crate) fn refused(status: u8, err: &[u8]) -> Expected<'_> {
+    Expected {
+        status,
+        out: b"",
+        err,
+    }
+}
+
 impl Left {
     /// Whether a run left this.
-    pub(crate) fn is(&self, status: u8, out: &[u8], err: &[u8]) -> bool {
-        self.status == status && self.out.as_slice() == out && self.err.as_slice() == err
+    pub(crate) fn is(&self, expected: Expected<'_>) -> bool {
+        self.status == expected.status
+            && self.out.as_slice() == expected.out
+            && self.err.as_slice() == expected.err
     }
 }
 
@@ -120,11 +148,9 @@ pub(crate) fn leaves(
     texts: &[&str],
     file: &[u8],
     script: &[u8],
-    status: u8,
-    out: &[u8],
-    err: &[u8],
+    expected: Expected<'_>,
 ) -> Result<bool, AllocError> {
     let mut shelf = MemShelf::of(pair(alloc, file, "s", script)?, Vec::new(alloc));
     let left = left_by(alloc, texts, &mut shelf, Vec::new(alloc))?;
-    Ok(left.is(status, out, err))
+    Ok(left.is(expected))
 }

@@ -1,6 +1,6 @@
 //! Runs over streams that lack something.
 
-use crate::runs::{COUNTER, FIRST, Left, REPLAY, no_links, pair, words};
+use crate::runs::{COUNTER, Expected, FIRST, Left, REPLAY, no_links, pair, words};
 use outside::{Clock, Links, MemClock, MemShelf, Shelf, StdSink};
 use stackc_run::run_through;
 use std::alloc::{AllocError, Global};
@@ -90,7 +90,8 @@ fn hands_on_what_was_put(rt: HostRuntime) -> Result<(), Fail> {
         (b"$", 100, true, 1, b"", b"file: token 1:1\n"),
     ];
     for (file, most, stuck, status, out, err) in cases {
-        assert!(rt; streamed(alloc, file, most, stuck)?.is(status, out, err));
+        let expected = Expected { status, out, err };
+        assert!(rt; streamed(alloc, file, most, stuck)?.is(expected));
     }
     Ok(())
 }

@@ -1,7 +1,7 @@
 //! Replays by the traces of a file: these are run where they do what the stack's own do, and else refused with the
 //! place.
 
-use crate::runs::{COUNTER, ROWS, left_by, named, pair};
+use crate::runs::{COUNTER, Expected, ROWS, left_by, named, pair, refused};
 use outside::MemShelf;
 use std::alloc::{AllocError, Global};
 use std::test::Fail;
@@ -37,16 +37,14 @@ fn leaves(
     alloc: Global,
     files: [&[u8]; 3],
     reads: Vec<bool>,
-    status: u8,
-    out: &[u8],
-    err: &[u8],
+    expected: Expected<'_>,
 ) -> Result<bool, AllocError> {
     let [file, script, traces] = files;
     let mut named_files = pair(alloc, file, "s", script)?;
     named_files.push(named(alloc, "t", traces)?)?;
     let mut shelf = MemShelf::of(named_files, reads);
     let left = left_by(alloc, WITH, &mut shelf, Vec::new(alloc))?;
-    Ok(left.is(status, out, err))
+    Ok(left.is(expected))
 }
 
 #[test]
@@ -71,18 +69,11 @@ fn runs_or_refuses_traces(rt: HostRuntime) -> Result<(), Fail> {
         ([COUNTER, b"", OTHER], 3, b"", b"script: line 1\n"),
     ];
     for (files, status, out, err) in cases {
-        assert!(rt; leaves(alloc, files, Vec::new(alloc), status, out, err)?);
+        let expected = Expected { status, out, err };
+        assert!(rt; leaves(alloc, files, Vec::new(alloc), expected)?);
     }
     let reads = vec![in alloc; false, false, true]?;
-    assert!(rt;
-        leaves(
-            alloc,
-            [COUNTER, SCRIPT, TRACES],
-            reads,
-            4,
-            b"",
-            b"read fault\n"
-        )?
-    );
+    let expected = refused(4, b"read fault\n");
+    assert!(rt; leaves(alloc, [COUNTER, SCRIPT, TRACES], reads, expected)?);
     Ok(())
 }

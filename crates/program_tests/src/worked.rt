@@ -1,6 +1,6 @@
 //! Files and scripts that are refused, and why, as an independent reading of the rules told it.
 
-use crate::runs::{COUNTER, REPLAY, leaves};
+use crate::runs::{COUNTER, REPLAY, leaves, refused};
 use std::test::Fail;
 
 /// A layer that keeps 320 rows for each member of its view.
@@ -34,7 +34,7 @@ fn refuses_files(rt: HostRuntime) -> Result<(), Fail> {
         (b"$", b"file: token 1:1\n"),
     ];
     for (file, err) in cases {
-        assert!(rt; leaves(alloc, REPLAY, file, b"x", 1, b"", err)?);
+        assert!(rt; leaves(alloc, REPLAY, file, b"x", refused(1, err))?);
     }
     Ok(())
 }
@@ -57,7 +57,7 @@ fn refuses_scripts(rt: HostRuntime) -> Result<(), Fail> {
         (COUNTER, b"", b"script: line 1\n"),
     ];
     for (file, script, err) in cases {
-        assert!(rt; leaves(alloc, REPLAY, file, script, 3, b"", err)?);
+        assert!(rt; leaves(alloc, REPLAY, file, script, refused(3, err))?);
     }
     Ok(())
 }

@@ -2,7 +2,7 @@
 //! the definitions.
 
 use super::served::{PLAN, SERVED};
-use crate::runs::{COUNTER, Left, left_over, pair, words};
+use crate::runs::{COUNTER, Expected, Left, left_over, pair, words};
 use outside::{MemClock, MemLinks, MemShelf};
 use std::alloc::{AllocError, Global};
 use std::test::Fail;
@@ -89,7 +89,8 @@ fn serves_and_bears(rt: HostRuntime) -> Result<(), Fail> {
     ];
     for (run, me, patience, listen_fails, receive_fails, status, out, err) in cases {
         let mut links = failing(alloc, listen_fails, receive_fails)?;
-        assert!(rt; served(alloc, run, me, patience, &mut links)?.is(status, out, err));
+        let expected = Expected { status, out, err };
+        assert!(rt; served(alloc, run, me, patience, &mut links)?.is(expected));
     }
     Ok(())
 }
