@@ -109,13 +109,12 @@ fn sizes_pass<N: Links>(
 fn places_are_their_own<N: Links>(
     clock: &impl Clock,
     links: &mut N,
-    first: Peer,
-    second: Peer,
-    third: Peer,
+    places: [Peer; 3],
     into: &mut [u8],
 ) -> Result<bool, LinkError>
     requires room { length into.old ≡ LONGEST_DATAGRAM }
 {
+    let [first, second, third] = places;
     let nowhere = Peer {
         ip: first.ip,
         port: 0,
@@ -208,8 +207,8 @@ fn datagrams_over_the_loopback(rt: HostRuntime) -> Result<(), Fail> {
     assert!(rt; sizes_pass(&rt, &mut links, &peers, &pattern, into) == Ok(true));
     assert!(rt; links.faults() == 0 && links.send_faults() == 0);
     let first = peer(process, 0, 47322);
-    let (second, third) = (peer(process, 0, 47323), peer(process, 1, 47323));
-    assert!(rt; places_are_their_own(&rt, &mut links, first, second, third, into) == Ok(true));
+    let places = [first, peer(process, 0, 47323), peer(process, 1, 47323)];
+    assert!(rt; places_are_their_own(&rt, &mut links, places, into) == Ok(true));
     assert!(rt; links.faults() == 1 && links.send_faults() == 1);
     assert!(rt; each_gets_its_own(&rt, &mut links, first, into) == Ok(true));
     Ok(())
