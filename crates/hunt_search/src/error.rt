@@ -2,6 +2,7 @@
 
 ghost use Rattle.std.specs.Prelude.{◌≡◌};
 ghost use Rattle.hunt_search.specs.declared.error.SearchError.TheVariants as search_error;
+ghost use Rattle.hunt_search.specs.Opened.{not_opened};
 
 use bypass_member::OpenError;
 use msg_core::Memory;
@@ -43,10 +44,13 @@ impl From<Memory> for SearchError {
     }
 }
 
-/// Why no group begins.
-pub(crate) fn unopened(error: OpenError) -> SearchError {
-    match error {
-        OpenError::TooLarge => SearchError::TooManyRows,
-        OpenError::Memory => SearchError::Memory,
+impl From<OpenError> for SearchError {
+    ghost from_gives = { λ cause error. error ≡ not_opened cause };
+
+    fn from(cause: OpenError) -> SearchError {
+        match cause {
+            OpenError::TooLarge => SearchError::TooManyRows,
+            OpenError::Memory => SearchError::Memory,
+        }
     }
 }

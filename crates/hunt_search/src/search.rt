@@ -3,7 +3,7 @@
 ghost use Rattle.bypass_laws.specs.Making.{IsSound};
 ghost use Rattle.event_graph.specs.Answer.{stack_tree};
 
-use crate::error::{SearchError, unopened};
+use crate::error::SearchError;
 use crate::judge::is_broken;
 use crate::ledger::Ledger;
 use crate::reduce::reduce;
@@ -92,10 +92,7 @@ impl Search {
         if let Some(group) = renewed(self.spare.take(), members) {
             return Ok(group);
         }
-        match self.ground.begin(self.alloc, members) {
-            Ok(group) => Ok(group),
-            Err(error) => Err(unopened(error)),
-        }
+        Ok(self.ground.begin(self.alloc, members)?)
     }
 
     /// Keeps a group in whose memory the next one may begin.
