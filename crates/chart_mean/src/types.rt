@@ -1,8 +1,10 @@
 //! The types of pictures.
 ghost use Rattle.std.specs.Prelude.{◌≡◌};
 ghost use Rattle.chart_mean.specs.Causes.{unread, unwritten};
+ghost use Rattle.chart_mean.specs.declared.types.Ending.TheVariants as ending;
 
 use outside::{ShelfError, SinkError};
+use std::alloc::AllocError;
 
 /// The lines of a report that a picture shows, by the numbers of the first and the last, counted from 1.
 #[derive(Clone, Copy, Debug, PartialEq, Eq)]
@@ -52,6 +54,14 @@ pub enum Ending {
     Write,
     /// Memory ran out.
     Memory,
+}
+
+impl From<AllocError> for Ending {
+    ghost from_gives = { λ _ end. end ≡ ending.Memory };
+
+    fn from(_: AllocError) -> Ending {
+        Ending::Memory
+    }
 }
 
 impl From<ShelfError> for Ending {

@@ -47,11 +47,8 @@ fn judged(alloc: Global, text: &[u8], law: Law) -> Result<Output, Ending>
 fn found(alloc: Global, finding: Finding) -> Result<Output, Ending>
     ensures { (law : Law) (text : List ℕ) → audit_of law text ≡ Ok finding → Judges law text result }
 {
-    match finding_line(alloc, finding) {
-        Ok(line) => Ok(Output {
-            line,
-            breach: finding != Finding::Holds,
-        }),
-        Err(_) => Err(Ending::Memory),
-    }
+    Ok(Output {
+        line: finding_line(alloc, finding)?,
+        breach: finding != Finding::Holds,
+    })
 }

@@ -4,6 +4,7 @@ ghost use Rattle.std.specs.String.{string_bytes};
 ghost use Rattle.outside.specs.Said.{errors};
 ghost use Rattle.outside.specs.Tells.{tells_of};
 ghost use Rattle.format_run.specs.Causes.{unread, unwritten};
+ghost use Rattle.format_run.specs.declared.ending.Ending.TheVariants as ending;
 ghost use Rattle.format_run.specs.Ends.{Said, token_line};
 
 use layer_ast::At;
@@ -27,6 +28,14 @@ pub enum Ending {
     Write,
     /// Memory ran out.
     Memory,
+}
+
+impl From<AllocError> for Ending {
+    ghost from_gives = { λ _ end. end ≡ ending.Memory };
+
+    fn from(_: AllocError) -> Ending {
+        Ending::Memory
+    }
 }
 
 impl From<ShelfError> for Ending {

@@ -107,10 +107,9 @@ fn judged(alloc: Global, text: Vec<u8>) -> Result<Vec<u8>, Ending>
     requires { spec.IsSmall text.items }
     ensures { spec.Judges text.items result }
 {
-    match bad_token(alloc, &text) {
-        Ok(None) => Ok(text),
-        Ok(Some(at)) => Err(Ending::BadToken(at)),
-        Err(AllocError) => Err(Ending::Memory),
+    match bad_token(alloc, &text)? {
+        None => Ok(text),
+        Some(at) => Err(Ending::BadToken(at)),
     }
 }
 

@@ -7,6 +7,7 @@ ghost use Rattle.job_ends.specs.declared.ending.Ending.TheVariants as ending;
 use file_judge::FileError;
 use layer_mean::Case;
 use outside::ShelfError;
+use std::alloc::AllocError;
 
 /// How a job ended.
 #[derive(Clone, Copy)]
@@ -46,6 +47,14 @@ pub enum Ending {
     Link,
     /// Memory ran out.
     Memory,
+}
+
+impl From<AllocError> for Ending {
+    ghost from_gives = { λ _ end. end ≡ ending.Memory };
+
+    fn from(_: AllocError) -> Ending {
+        Ending::Memory
+    }
 }
 
 impl From<ShelfError> for Ending {

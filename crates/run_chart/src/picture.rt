@@ -44,10 +44,7 @@ fn drawn(alloc: Global, text: &[u8], range: Range) -> Result<Vec<u8>, Ending>
     requires { IsReport range text.now (Ok tt) }
     ensures { Charts (spec.chart_of range text.now) result }
 {
-    match draw(alloc, text, range) {
-        Ok(picture) => Ok(picture),
-        Err(_) => Err(Ending::Memory),
-    }
+    Ok(draw(alloc, text, range)?)
 }
 
 fn draw(alloc: Global, text: &[u8], range: Range) -> Result<Vec<u8>, AllocError>
