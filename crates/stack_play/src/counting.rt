@@ -55,10 +55,8 @@ pub fn write_counts<G: Feed, O: Sink>(
 {
     let mut run = Run::begin(alloc, outputs);
     let mut counts = Tally::new();
-    match count_events(alloc, group, &mut run, load, &mut counts) {
-        Ok(()) => write_tally(&mut run.pen, &counts, out),
-        Err(Memory) => Err(SinkError::Memory),
-    }
+    count_events(alloc, group, &mut run, load, &mut counts)?;
+    write_tally(&mut run.pen, &counts, out)
 }
 
 /// Makes and plays all events of a script, and counts the lines of each.

@@ -16,7 +16,6 @@ ghost use Rattle.stack_play.specs.Turns.{Keeps, TellsEvent, most_events, playing
 
 use crate::run::Run;
 use group_feed::Shows;
-use msg_core::Memory;
 use outside::{Sink, SinkError};
 use report_text::{Manner, Outcome, Pen, write_end, write_event, write_visits};
 use script_mean::{Script, ScriptEvent};
@@ -126,18 +125,14 @@ fn play_event<G: Shows, O: Sink>(
         (tells_of O.Sink out.old) (tells_of O.Sink out.new) result }
 {
     let first = group.next_number();
-    match group.feed(event, &mut run.outputs, &mut run.visits) {
-        Ok(did) => {
-            an_accepted_stack_is_light(manner.stack.stack());
-            run.outputs.has_places_for_all();
-            let outcome = Outcome {
-                event,
-                did,
-                outputs: &run.outputs,
-                first,
-            };
-            write_event(&mut run.pen, manner, group, &outcome, out)
-        }
-        Err(Memory) => Err(SinkError::Memory),
-    }
+    let did = group.feed(event, &mut run.outputs, &mut run.visits)?;
+    an_accepted_stack_is_light(manner.stack.stack());
+    run.outputs.has_places_for_all();
+    let outcome = Outcome {
+        event,
+        did,
+        outputs: &run.outputs,
+        first,
+    };
+    write_event(&mut run.pen, manner, group, &outcome, out)
 }

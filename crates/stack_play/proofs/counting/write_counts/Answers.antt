@@ -1,4 +1,5 @@
-use Rattle.std.proofs.Common.{ap, ◌∙◌}
+use Rattle.std.proofs.Common.{ap, ◌∙◌, rules}
+use Rattle.std.proofs.lemmas.Result.{err_from_is_err_and}
 use Rattle.event_graph.specs.Answer.{stack_tree}
 use Rattle.stack_shapes.specs.Trees.{plans_tree}
 use Rattle.report_text.proofs.Gained.{counted_tally}
@@ -7,9 +8,14 @@ use Rattle.outside.proofs.Turns.{wrote_as}
 use Rattle.script_text.specs.Course.{script_for}
 use Rattle.stack_play.proofs.counting.write_counts.Goals as goal
 
-pub returns-in-Ok : goal.returns-in-Ok
-returns-in-Ok g c = wrote_as _ _ _ _ c.write_tally.result
-    (ap tally_lines c.in-Ok.ensures
+pub returns-in_err-count_events : goal.returns-in_err-count_events
+returns-in_err-count_events g c =
+    let p = err_from_is_err_and c.from_residual.result c.from_residual.ensures.1 in
+    rw (p.1, p.2) (search rules)
+
+pub returns : goal.returns
+returns g c = wrote_as _ _ _ _ c.write_tally.result
+    (ap tally_lines c.in_ok-count_events.ensures
     ∙ counted_tally (g.G.Feed.group c.args.group.now).mode (stack_tree c.args.load.stack.now)
     (plans_tree c.args.load.plans.now)
     (script_for c.args.load.workload))
