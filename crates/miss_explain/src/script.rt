@@ -120,20 +120,14 @@ fn explain_event<P: Probe, O: Sink>(
         (tells_of O.Sink out.old) (tells_of O.Sink out.new) result }
 {
     let NumberedEvent { number, event } = numbered;
-    match probe.probe(event, &mut run.outputs) {
-        Ok(probed) => {
-            let step = Step {
-                event: number,
-                member: member_of(event),
-            };
-            write_probed(&mut run.line, texts, step, probed, out)?;
-            match feed_uncommon(probe, probed, event, &mut run.outputs) {
-                Ok(()) => Ok(()),
-                Err(Memory) => Err(SinkError::Memory),
-            }
-        }
-        Err(Memory) => Err(SinkError::Memory),
-    }
+    let probed = probe.probe(event, &mut run.outputs)?;
+    let step = Step {
+        event: number,
+        member: member_of(event),
+    };
+    write_probed(&mut run.line, texts, step, probed, out)?;
+    feed_uncommon(probe, probed, event, &mut run.outputs)?;
+    Ok(())
 }
 
 /// Explains all events of a script.
