@@ -19,7 +19,6 @@ use crate::desk::NodeDesk;
 use crate::outputs::pass_stepped;
 use crate::source::Source;
 use group_feed::Feed;
-use msg_core::Memory;
 use outside::{Links, Sink, SinkError, put_line};
 use report_lines::{Line, journal_line};
 use script_mean::{ScriptEvent, member_of};
@@ -91,8 +90,8 @@ pub(crate) fn feed_event<F: Feed, O: Sink, N: Links>(
     is_given(event);
     let number = feed.next_number();
     let mut visits = 0;
-    match feed.feed(event, &mut desk.outputs, &mut visits) {
-        Ok(Did::Stepped(stepped)) => {
+    match feed.feed(event, &mut desk.outputs, &mut visits)? {
+        Did::Stepped(stepped) => {
             an_accepted_stack_is_light(course.stack.stack());
             desk.outputs.has_places_for_all();
             let source = Source {
@@ -105,9 +104,8 @@ pub(crate) fn feed_event<F: Feed, O: Sink, N: Links>(
             desk.events += 1;
             Ok(())
         }
-        Ok(Did::Absent) => unreachable!(),
-        Ok(Did::Shown) => unreachable!(),
-        Err(Memory) => Err(SinkError::Memory),
+        Did::Absent => unreachable!(),
+        Did::Shown => unreachable!(),
     }
 }
 

@@ -15,13 +15,13 @@ returns-in_err-write_journal-clause-fed g c =
 pub pass_stepped-requires : goal.pass_stepped-requires
 pass_stepped-requires g c =
     let at = c.requires.up.rests.somewhere in
-    let places = c.in-Ok-Stepped.ensures.places ∙ c.requires.up.rests.places in
-    let light = rw (c.deref-in-Ok-Stepped.ensures, c.stack-in-Ok-Stepped.ensures) at
+    let places = c.in_ok-stepped.ensures.places ∙ c.requires.up.rests.places in
+    let light = rw (c.deref-in-Stepped.ensures, c.stack-in-Stepped.ensures) at
     c.an_accepted_stack_is_light.ensures in
     let h = happened c.requires.up.mode (stack_in c.args.course) (plans_in c.args.course) c.requires.up.world
     c.args.event.now (g.F.Feed.group c.args.feed.now)
     (g.F.Feed.group c.feed.new.self) c.feed.new.out.outputs 0 c.feed.new.visits _ _ at.mode_is at.stack_is at.plans_are
-    c.in-Ok-Stepped.field-0-is (c.in-Ok-Stepped.ensures.fed c.requires.up.world at.stands) in
+    c.in-Stepped.is (c.in_ok-stepped.ensures.fed c.requires.up.world at.stands) in
     record {
       few = omega (arith, c.next_number-number.ensures.small, c.has_places_for_all.ensures, places, light);
       sendable = own_sendable _ _ _ _ _ c.requires.up.members _ _ _ _ _ _ (g.N.Links.listening c.args.links.now)
@@ -34,37 +34,37 @@ pass_stepped-requires g c =
           at.chained at.within h c.member_of.ensures c.requires.up.listen.0.1;
     }
 
-pub returns-in_err-pass_stepped-in-Ok-Stepped-clause-fed : goal.returns-in_err-pass_stepped-in-Ok-Stepped-clause-fed
-returns-in_err-pass_stepped-in-Ok-Stepped-clause-fed g c =
-    let p = err_from_is_err_and c.from_residual-in_err-pass_stepped-in-Ok-Stepped.result
-    c.from_residual-in_err-pass_stepped-in-Ok-Stepped.ensures.1 in
+pub returns-in_err-pass_stepped-in-Stepped-clause-fed : goal.returns-in_err-pass_stepped-in-Stepped-clause-fed
+returns-in_err-pass_stepped-in-Stepped-clause-fed g c =
+    let p = err_from_is_err_and c.from_residual-in_err-pass_stepped-in-Stepped.result
+    c.from_residual-in_err-pass_stepped-in-Stepped.ensures.1 in
     rw (p.1, p.2) (λ mode n w r.
     let at = r.somewhere in
     let h = happened mode (stack_in c.args.course) (plans_in c.args.course) w c.args.event.now
     (g.F.Feed.group c.args.feed.now)
     (g.F.Feed.group c.feed.new.self) c.feed.new.out.outputs 0 c.feed.new.visits _ _ at.mode_is at.stack_is at.plans_are
-    c.in-Ok-Stepped.field-0-is (c.in-Ok-Stepped.ensures.fed w at.stands) in
+    c.in-Stepped.is (c.in_ok-stepped.ensures.fed w at.stands) in
     journal_cut _ _ _ w _ _ _ _ _ _ _ _ _ _ _ _ h c.member_of.ensures
     (first_is _ _ _ w (g.F.Feed.group c.args.feed.now) n _ at c.next_number-number.ensures.number)
     c.in_ok-write_journal.ensures refl refl refl
-    c.in_err-pass_stepped-in-Ok-Stepped.ensures.handed)
+    c.in_err-pass_stepped-in-Stepped.ensures.handed)
 
-pub returns-in_ok-pass_stepped-in-Ok-Stepped-clause-fed : goal.returns-in_ok-pass_stepped-in-Ok-Stepped-clause-fed
-returns-in_ok-pass_stepped-in-Ok-Stepped-clause-fed g c = λ mode n w r.
+pub returns-clause-fed : goal.returns-clause-fed
+returns-clause-fed g c = λ mode n w r.
     let at = r.somewhere in
     let h = happened mode (stack_in c.args.course) (plans_in c.args.course) w c.args.event.now
     (g.F.Feed.group c.args.feed.now)
     (g.F.Feed.group c.feed.new.self) c.feed.new.out.outputs 0 c.feed.new.visits _ _ at.mode_is at.stack_is at.plans_are
-    c.in-Ok-Stepped.field-0-is (c.in-Ok-Stepped.ensures.fed w at.stands) in
+    c.in-Stepped.is (c.in_ok-stepped.ensures.fed w at.stands) in
     record {
       rests = rests_again _ _ _ w _ n _ _ _ _ _ _ _ _ c.requires.up.typed c.requires.up.numbered c.is_given.ensures r
-          c.in-Ok-Stepped.ensures.stays h
-          c.in-Ok-Stepped.ensures.places;
+          c.in_ok-stepped.ensures.stays h
+          c.in_ok-stepped.ensures.places;
       counted = refl;
       passed = journal_then _ _ _ w _ _ _ _ _ _ _ _ _ _ _ h c.member_of.ensures
           (first_is _ _ _ w (g.F.Feed.group c.args.feed.now) n _ at c.next_number-number.ensures.number)
           c.in_ok-write_journal.ensures refl refl refl
-          c.in_ok-pass_stepped-in-Ok-Stepped.ensures.handed;
+          c.in_ok-pass_stepped-in-Stepped.ensures.handed;
     }
 
 pub unreachable-requires : goal.unreachable-requires
@@ -73,17 +73,19 @@ unreachable-requires g c =
     let h = happened c.requires.up.mode (stack_in c.args.course) (plans_in c.args.course) c.requires.up.world
     c.args.event.now (g.F.Feed.group c.args.feed.now)
     (g.F.Feed.group c.feed.new.self) c.feed.new.out.outputs 0 c.feed.new.visits _ _ at.mode_is at.stack_is at.plans_are
-    c.in-Ok-Absent.field-0-is (c.in-Ok-Absent.ensures.fed c.requires.up.world at.stands) in
+    c.in-Absent.is (c.in_ok-stepped.ensures.fed c.requires.up.world at.stands) in
     own_never_absent _ _ _ _ _ _ _ _ _ c.requires.own h
 
-pub unreachable-requires-in-Ok-Shown : goal.unreachable-requires-in-Ok-Shown
-unreachable-requires-in-Ok-Shown g c =
+pub unreachable-requires-in-Shown : goal.unreachable-requires-in-Shown
+unreachable-requires-in-Shown g c =
     let at = c.requires.up.rests.somewhere in
     let h = happened c.requires.up.mode (stack_in c.args.course) (plans_in c.args.course) c.requires.up.world
     c.args.event.now (g.F.Feed.group c.args.feed.now)
     (g.F.Feed.group c.feed.new.self) c.feed.new.out.outputs 0 c.feed.new.visits _ _ at.mode_is at.stack_is at.plans_are
-    c.in-Ok-Shown.field-0-is (c.in-Ok-Shown.ensures.fed c.requires.up.world at.stands) in
+    c.in-Shown.is (c.in_ok-stepped.ensures.fed c.requires.up.world at.stands) in
     own_never_shown _ _ _ _ _ _ _ _ _ c.requires.own h
 
-pub returns-in-Err-clause-fed : goal.returns-in-Err-clause-fed
-returns-in-Err-clause-fed g c = λ mode n w r. journal_none mode _ _ w _ _ _ c.in_ok-write_journal.ensures refl refl refl
+pub returns-in_err-stepped-clause-fed : goal.returns-in_err-stepped-clause-fed
+returns-in_err-stepped-clause-fed g c =
+    let p = err_from_is_err_and c.from_residual-in_err-stepped.result c.from_residual-in_err-stepped.ensures.1 in
+    rw (p.1, p.2) (λ mode n w r. journal_none mode _ _ w _ _ _ c.in_ok-write_journal.ensures refl refl refl)
