@@ -16,9 +16,8 @@ ghost use Rattle.bypass_member.specs.Opening.{codes_in, plans_in, stack_in, CanO
 ghost use Rattle.bypass_member.specs.Serving.{IsSpare};
 ghost use Rattle.bypass_member.specs.Working.{refs_in};
 
-use crate::kit::Kit;
 use crate::opening::Opening;
-use crate::scratch::{close_scratch, open_scratch};
+use crate::scratch::{Scratch, close_scratch, open_scratch};
 use crate::works::Works;
 use cell_store::Membership;
 use event_graph::Stack;
@@ -151,8 +150,15 @@ pub(crate) fn open_works(
     }
 }
 
+/// What a member works with, what runs of its code keep, and its plans, laid out where it runs by code.
+pub(crate) struct Kit {
+    pub(crate) works: Works,
+    pub(crate) scratch: Scratch,
+    pub(crate) layouts: Layouts,
+}
+
 /// The plans of a group that is to be opened, laid out where its members run by code.
-pub(crate) fn lay_out(alloc: Global, opening: Opening<'_>) -> Result<Layouts, Memory>
+fn lay_out(alloc: Global, opening: Opening<'_>) -> Result<Layouts, Memory>
     ensures { IfOk result (AreLaidOut (stack_in opening.entry) (plans_in opening.entry)) }
 {
     match opening.codes {
@@ -161,7 +167,7 @@ pub(crate) fn lay_out(alloc: Global, opening: Opening<'_>) -> Result<Layouts, Me
     }
 }
 
-/// What a member of a view works with, and room for runs of its code.
+/// All that a member of a view works with.
 pub(crate) fn open_kit(
     alloc: Global,
     maker: &mut Maker,
@@ -176,10 +182,16 @@ pub(crate) fn open_kit(
     requires few { rows ≤ most_rows }
     ensures works { OpensKit (stack_in opening.entry) view id (making maker.old) (making maker.new) result }
     ensures spare { IfOk result (λ kit. IsSpare (codes_in opening.entry) (plans_in opening.entry) kit.scratch) }
+    ensures laid { IfOk result (λ kit. AreLaidOut (stack_in opening.entry) (plans_in opening.entry) kit.layouts) }
 {
+    let layouts = lay_out(alloc, opening)?;
     let scratch = open_scratch(alloc, opening.codes, opening.plans)?;
     match open_works(alloc, maker, opening.stack, view, id, rows) {
-        Ok(works) => Ok(Kit { works, scratch }),
+        Ok(works) => Ok(Kit {
+            works,
+            scratch,
+            layouts,
+        }),
         Err(_) => {
             close_scratch(scratch);
             Err(Memory)
@@ -187,7 +199,7 @@ pub(crate) fn open_kit(
     }
 }
 
-/// Ends the layers of a member and what they worked with.
+/// Ends what a member worked with.
 pub(crate) fn close_works(works: Works)
     requires order { AllByRecursion (IsInOrder works.pool) works.layers.items }
     requires covers { Covers works.pool (refs_in works) }
