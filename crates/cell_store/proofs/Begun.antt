@@ -50,7 +50,7 @@ first_size me n ltime (tree.queues capacity items) = refl
 some_same : {a b : ℕ} → Some a ≡ Some b → a ≡ b
 some_same same = cc same
 
--- the form of a cell gives its frame
+-- the form of a cell determines its frame
 frame_of_form : (frame : Frame) (capacity : ℕ) (form : tree.Form) → form_framed frame capacity ≡ tree_form form →
     frame ≡ frame_in form
 frame_of_form (Numbers shape) capacity (tree.numbers shape' initial) same =

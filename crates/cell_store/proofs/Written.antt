@@ -45,7 +45,7 @@ module _ {R : Type 0} where
       ap deque_capacity read ∙ sym (get_or-map deque_capacity rings i ring 0 within)
       ∙ ap (λ xs. slice_index_or xs i 0) are.capacities ∙ get_or-replicate (length rings) i capacity 0 within
 
-  -- the same of the view
+  -- a row of the cell stands among the rings that it shows
   pub within_shown : (capacity shown : ℕ) (rings : List (VecDeque R Global)) (p : CellQueues R) (i : ℕ) →
       viewed capacity shown rings ≡ p → i < length p.rows → i < shown
   within_shown capacity shown rings p i view below =

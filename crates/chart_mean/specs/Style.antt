@@ -1,4 +1,4 @@
--- How a picture looks: fonts and colours, the sign of each kind of line, and a white ground.
+-- How a picture looks: fonts and colours, the sign of each kind of line, and a white background.
 use Rattle.std.specs.Prelude.{ℕ, List, [], ◌∷◌, ◌++◌, codes}
 
 -- lines one after the other, each ended by a line feed (10)

@@ -31,7 +31,7 @@ flat_more : {X B : Type 0} (f : X → List B) (xs : List X) (x : X) → flat_map
 flat_more f xs x =
     flat_map-append f xs (x ∷ []) ∙ ap (λ ys. flat_map f xs ++ ys) (flat_map-cons f x [] ∙ append-nil (f x))
 
--- one number more, and what it gives
+-- one turn more of a loop that adds one element for each number
 pub number_step : {A B : Type 0} (shown : A → B) (front : List B) (f : ℕ → B) (k : ℕ) (done next : List A) (x : A) →
     map shown done ≡ front ++ map f (range_with_len 0 k) → next ≡ done ++ x ∷ [] → shown x ≡ f k →
     map shown next ≡ front ++ map f (range_with_len 0 (k + 1))
@@ -42,13 +42,13 @@ number_step shown front f k done next x so_far more is =
     ∙ append_assoc front (map f (range_with_len 0 k)) (f k ∷ [])
     ∙ ap (λ ys. front ++ ys) (sym (ap (map f) (range_more k) ∙ map-append f (range_with_len 0 k) (k ∷ [])))
 
--- one number more, and all that it gives
+-- one turn more of a loop that adds a list for each number
 pub numbers_step : {B : Type 0} (f : ℕ → List B) (k : ℕ) (done next : List B) →
     done ≡ flat_map f (range_with_len 0 k) → next ≡ done ++ f k → next ≡ flat_map f (range_with_len 0 (k + 1))
 numbers_step f k done next so_far more =
     more ∙ ap (λ ys. ys ++ f k) so_far ∙ sym (ap (flat_map f) (range_more k) ∙ flat_more f (range_with_len 0 k) k)
 
--- one element more, and all that it gives
+-- one turn more of a loop that adds a list for each element
 pub elements_step : {X B : Type 0} (f : X → List B) (xs : List X) (i : ℕ) (d : X) (front done next : List B) →
     i < length xs → done ≡ front ++ flat_map f (take i xs) → next ≡ done ++ f (get_or xs i d) →
     next ≡ front ++ flat_map f (take (i + 1) xs)
@@ -69,7 +69,7 @@ pub fold_more : {B : Type 0} (f : B → ℕ → B) (b : B) (a n : ℕ) → fold 
 fold_more f b a n = ap (λ k. fold f b (range_with_len a k)) (add-one n) ∙ ap (fold f b) (range_suc a n) ∙
     fold_push f b (range_with_len a n) (a + n)
 
--- the first that passes a test, and none so far
+-- where none before it passes a test, an element that passes is the one that is found
 pub found_at : {X Y : Type 0} (f : X → Y) (p : Y → Bool) (xs : List X) (i : ℕ) (d : X) → i < length xs →
     find p (map f (take i xs)) ≡ None → p (f (get_or xs i d)) ≡ true → find p (map f xs) ≡ Some (f (get_or xs i d))
 found_at f p [] i d within none passes = absurd (omega arith)

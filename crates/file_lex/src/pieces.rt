@@ -74,7 +74,7 @@ fn line_length(bytes: &[u8]) -> usize
     bytes.iter().take_while(|byte| is_in_line(**byte)).count()
 }
 
-/// How many bytes that go on a word are at the front.
+/// How many bytes at the front may continue a word.
 fn word_length(bytes: &[u8]) -> usize
     ensures count { result ≡ prefix_len goes_on_word bytes.now }
     ensures within { result ≤ length bytes.now }

@@ -1,4 +1,4 @@
--- A file with queues of messages and of parts, at two places.
+-- A file whose layer keeps queues of messages and of parts and stands in the stack twice, and the stack that it means.
 use Rattle.std.specs.Prelude.{ℕ, List, [], ◌∷◌, ◌++◌, codes, true, false, Some}
 use Rattle.layer_ast.specs.declared.tokens.Dir.TheVariants.{Up, Down}
 use Rattle.layer_ast.specs.declared.tokens.Kind.TheVariants as kind
@@ -10,7 +10,7 @@ use Rattle.layer_mean.specs.Tree as mean
 use Rattle.msg_core.specs.declared.message.Header.{Header}
 use Rattle.layer_mean.specs.Visit.{none_header}
 
--- Its text.
+-- the text
 abbrev pub text : List ℕ
 text =
     codes "layer hold {\n"
@@ -27,11 +27,11 @@ text =
     ++ codes "}\n"
     ++ codes "stack { hold; hold; }\n"
 
--- The file.
+-- the file that the text spells
 abbrev pub file : FileTree
 file = file_of text
 
--- The block of its handler, where messages stand in whose blank has these headers.
+-- the block of its handler, at a place where a blank message has these headers
 abbrev pub block_with : List Header → mean.StatementTrees
 block_with blank =
     mean.more (
@@ -75,7 +75,7 @@ block_with blank =
     })
     mean.none)))
 
--- Its layer, where messages stand in whose blank has these headers.
+-- the layer, at a place where a blank message has these headers
 abbrev pub holding : List Header → mean.LayerTree
 holding blank = record {
   name = codes "hold";
@@ -105,6 +105,6 @@ holding blank = record {
       ∷ [];
 }
 
--- The stack that it means: above the lower place there is one, and above the upper none.
+-- The stack that it means: a blank message has one header, `none`, at the lower place, and none at the upper.
 abbrev pub stack : List mean.LayerTree
 stack = holding (none_header 1 ∷ []) ∷ holding [] ∷ []

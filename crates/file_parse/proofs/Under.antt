@@ -1,4 +1,4 @@
--- After a sign the machine goes on alike where it goes on alike after it.
+-- Two stacks that go on alike once a sign is taken also go on alike where this sign is still wanted.
 use Rattle.std.proofs.Common.{◌≡◌, ℕ, suc, Bool, true, false, if◌then◌else◌, List, [], ◌∷◌, ◌++◌, length, Option, Some}
 use Rattle.std.proofs.Common.{None, Result, Ok, Err, refl, ◌∙◌}
 use Rattle.std.specs.Borrow.{Bor}

@@ -50,7 +50,7 @@ module _ (text : List ℕ) (tokens : List Lexed) (bad_at : Option At)
           fits = subst (Fits (print.layer l [])) same_tokens (read.spelled [] (nothing_left rest 100 ends));
         }
 
-    -- a file that was read of a text without a bad token the text spells
+    -- a text without a bad token spells the file that was read from it
     pub file_spelled : (f : FileTree) → bad_at ≡ None → ReadsFile tokens f → Spells text f
     file_spelled f good read = record {
       good = sym same_bad ∙ good;

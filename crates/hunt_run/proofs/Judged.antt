@@ -1,4 +1,4 @@
--- A draft and what is told of it are judged alike: then it is a find.
+-- A draft that still breaks the law in the same way, with what is told of the breach before it, is a find.
 use Rattle.std.proofs.Common.{◌≡◌, subst, ◌∙◌, ℕ, List, ◌++◌}
 use Rattle.std.specs.Prelude.{Ok}
 use Rattle.audit_mean.specs.Finding.{audit_of}

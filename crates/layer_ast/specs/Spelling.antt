@@ -17,7 +17,7 @@ use Rattle.layer_ast.specs.declared.tokens.Token.TheVariants as token
 abbrev pub is_blank : ℕ → Bool
 is_blank b = nat_eq b 32 || (nat_eq b 9 || (nat_eq b 13 || nat_eq b 10))
 
--- the bytes that go on a word: letters, digits and the underscore
+-- the bytes that a word may continue with: letters, digits and the underscore
 abbrev pub is_word_byte : ℕ → Bool
 is_word_byte b = is_ascii_alphanumeric b || nat_eq b 95
 

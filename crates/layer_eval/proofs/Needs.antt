@@ -90,7 +90,7 @@ turn_within k most n less = record {
   misfits = omega arith;
 }
 
--- after k turns there is no room for one more
+-- where there is no room for one turn more after k of them, there is none for the loop
 pub turns_lack : (layout : Layout) (a b b' : Room) (k slot most : ℕ) (below : ExpressionTree) (block : StatementTrees)
     (tree : StatementTree) (e : NoRoom) →
     tree ≡ each slot below most block → k < most → SpentAtMost a b (repeated k (block_need layout block)) → b' ≡ b →
@@ -165,7 +165,7 @@ item_spent layout xs i x a b c within is first second =
     subst (λ ts. SpentAtMost a c (block_need layout (trees ts))) (sym (one_more_tree xs i x within is))
     (spent_after a b c _ _ _ first second (item_more layout (map statement_tree (take i xs)) (statement_tree x)))
 
--- after the first i statements there is no room for the next
+-- where there is no room for a statement after those before it, there is none for the block
 pub item_lacks : (layout : Layout) (xs : List Statement) (i : ℕ) (x : Statement) (a b : Room) (e : NoRoom) →
     i < length xs → x ≡ get_or xs i x →
     SpentAtMost a b (block_need layout (trees (map statement_tree (take i xs)))) →
@@ -198,7 +198,7 @@ front_within layout (y ∷ ts) x =
           omega arith;
     }
 
--- a need m is more than a need n
+-- where there is no room for a need, there is none for a greater one
 lacks_more : (a : Room) (n m : Need) (e : NoRoom) → Lacks a n e → Within nothing_needed n m → Lacks a m e
 lacks_more a n m e lacks within =
     lacks_after a a nothing_needed n m e (record { slots = omega arith; places = omega arith; hand = omega arith })
@@ -274,7 +274,7 @@ pub owed_item_lacks : (layout : Layout) (xs : List Statement) (i : ℕ) (x : Sta
 owed_item_lacks layout xs i x before owed a b e within is spent lacks =
     owed_lacks before owed a b _ _ _ e spent lacks (item_within layout xs i x within is)
 
--- there is no room for what is before the last statement
+-- where there is no room for the statements before the last, there is none for all of them
 pub front_lacks : (layout : Layout) (xs ys : List Statement) (x : Statement) (before : Option Pending) (a : Room)
     (e : NoRoom) → xs ≡ ys → 1 ≤ length xs →
     x ≡ get_or xs (length xs - 1) x →

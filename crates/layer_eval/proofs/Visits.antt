@@ -21,7 +21,7 @@ use Rattle.layer_mean.specs.Envelope.{event_in}
 use Rattle.layer_eval.specs.declared.predicted.Predicted.{Predicted}
 use Rattle.layer_eval.specs.Visit.{Visits, arrived_visit, meets, handler_visited, passed_visit}
 
--- an event's arguments are no matter of its message
+-- an event's arguments don't depend on its message
 arguments_same : (k : Kind) (e : Envelope) (x y : Option Content) → arguments_for k (event_in e x) ≡
     arguments_for k (event_in e y)
 arguments_same kind.Cast e x y = refl

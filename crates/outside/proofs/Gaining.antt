@@ -105,7 +105,7 @@ begins_after a b c xs ys zs h k is = record {
       (appends_then a.contents b.contents c.contents xs (take k.count ys) h k.gained);
 }
 
--- a front of a list is a front of each longer one
+-- the first elements of a list are the first elements of a longer one that begins with it
 front : (ys more : List ℕ) (n : ℕ) → (m : ℕ) × (take m (ys ++ more) ≡ take n ys)
 front ys more n = ⊎_elim
     (λ lt. (n, take-append-le n ys more (omega (arith, lt))))

@@ -15,13 +15,13 @@ pub wrote_as : (a b : Tells) (xs ys : List (List ℕ)) (r : Result (Unit {0}) Si
     Wrote ys a b r
 wrote_as a b xs ys r same h = subst (λ lines. Wrote lines a b r) same h
 
--- lines in front, and whatever came of those after
+-- some lines were written and further ones after them, whole or in part: that is writing all of them
 pub wrote_both : (a b c : Tells) (xs ys : List (List ℕ)) (r : Result (Unit {0}) SinkError) → Gains a b xs →
     Wrote ys b c r → Wrote (xs ++ ys) a c r
 wrote_both a b c xs ys (Ok done) h k = gains_then a b c xs ys (xs ++ ys) h k refl
 wrote_both a b c xs ys (Err e) h k = cut_short a b c xs ys (xs ++ ys) [] e h k (sym (append-nil (xs ++ ys)))
 
--- lines in front that were cut short
+-- where the first lines weren't all written, no more lines were written than that
 pub wrote_part : (a b : Tells) (xs ys : List (List ℕ)) (e : SinkError) → Wrote xs a b (Err e) →
     Wrote (xs ++ ys) a b (Err e)
 wrote_part a b xs ys e h = cut_short a a b [] xs (xs ++ ys) ys e (gains_none a) h refl

@@ -35,7 +35,7 @@ joins_none p = (λ j. record { first = stays p.first j; second = stays p.second 
 
 module _ {S : Type 0} (place : S → ℕ) (layer : S → LayerTree) (refs : S → List ℕ) (Ready : List Held → S → Type 0)
     (state : List Held → S → State) (taken : S → ℕ) (s s' : S) where
-  -- The two lists, of which each was turned.
+  -- Places and events each lose their first and gain what was sent on as their last: so the tasks have gone round.
   pub goes_round : (ps : Buffer ℕ) (es : List (Dir × PoolEvent)) (tasks : Buffer PoolTask) →
       length ps.items ≡ length es →
       buffer (tasks_at ps.items es) (ps.capacity - 1) ≡ tasks → (sent w : Dir × PoolEvent) → sent ≡ first_sent es →
@@ -66,7 +66,7 @@ module _ {S : Type 0} (place : S → ℕ) (layer : S → LayerTree) (refs : S �
         following : tasks_at (drop 1 ps.items) (drop 1 es) ≡ drop 1 tasks.items
         following = rest_at ps.items es tasks.items same (ap (λ b. b.items) view)
 
-  -- What that is: the visit of a layer that has no handler for the event.
+  -- Going round is the visit of a layer that has no handler for the event.
   module _ (p : List Held) (tasks after : Buffer PoolTask)
       (on : HasGoneRound place layer refs Ready state taken s tasks s' after) (at : ℕ)
       (first : (first_task tasks.items).at ≡ at) where

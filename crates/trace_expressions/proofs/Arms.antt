@@ -21,7 +21,7 @@ use Rattle.trace_expressions.specs.declared.queued.Queue.{Queue}
 use Rattle.trace_expressions.specs.Reading.{queue_in, MessageRead, NumberRead, QueueRead}
 use Rattle.trace_expressions.proofs.Took.{onto, number_read, message_read}
 
--- What texts, and words take.
+-- A text begins with a wanted one, and this is what stands after it.
 abbrev Text : List ℕ → List ℕ → List ℕ → Type 0
 Text wanted text rest = the_text wanted text ≡ Some (tt, rest)
 

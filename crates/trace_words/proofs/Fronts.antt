@@ -17,7 +17,7 @@ nat_swap : (x y : ℕ) → nat_eq x y ≡ nat_eq y x
 nat_swap x y = same_bools (nat_eq x y) (nat_eq y x) (λ e. eq-eqb y x (sym (eqb-true x y e)))
     (λ e. eq-eqb x y (sym (eqb-true y x e)))
 
--- which of two texts stands first in a comparison
+-- two texts may be compared in either order
 swap : (xs ys : List ℕ) → bytes_eq xs ys ≡ bytes_eq ys xs
 swap [] [] = refl
 swap [] (y ∷ ys) = refl

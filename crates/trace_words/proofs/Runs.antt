@@ -1,4 +1,4 @@
--- How many bytes at the front are such.
+-- How many bytes at the front of a text are a name's, or a word's.
 use Rattle.std.proofs.Common.{◌≡◌, ℕ, ◌+◌, Bool, true, false, not, if◌then◌else◌, List, [], ◌∷◌, refl, sym, ap₂}
 use Rattle.std.specs.Prelude.{◌==◌}
 use Rattle.std.specs.List.{position_or_len, prefix_len}

@@ -1,6 +1,5 @@
 use Rattle.std.proofs.Common.{rules}
 use Rattle.typed_layer.proofs.handlers.Handlers.of.Goals as goal
 
--- src/handlers.rt:63:9
 pub invariant_of-result : goal.invariant_of-result
 invariant_of-result c = (search rules, c.requires.tagged, search rules)
