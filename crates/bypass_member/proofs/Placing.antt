@@ -154,8 +154,8 @@ pub ground_is : (m : Inside) (g : Ground) (view : View) → IsMember m → m.vie
     g.bare.now ≡ m.bare → g.here.now.view ≡ view → g.here.now.group < 2 ^ 32 → g.here.now.stamp < 2 ^ 32 →
     g.here.now.rank ≡ m.rank → g.id ≡ m.id → IsGround g
 ground_is m g view is at stack plans entries starts codes bare here group stamp rank_is id_is =
-    let there : IsAt (stack_tree (rc_value m.stack)) m.most m.id (Some view) (states_in m.works) =
-    subst (λ (v : Option View). IsAt (stack_tree (rc_value m.stack)) m.most m.id v (states_in m.works)) at is.at in
+    let there : IsAt (stack_tree (rc_value m.stack)) m.most m.id (Some view) (states_in m.kit.works) =
+    subst (λ (v : Option View). IsAt (stack_tree (rc_value m.stack)) m.most m.id v (states_in m.kit.works)) at is.at in
     let its = ranked m view is at in record {
       typed = subst (λ (s : Stack). TypedStack (stack_tree s)) (sym stack) is.typed;
       plans = ap plans_tree plans ∙ is.plans_are ∙ ap (λ (s : Stack). plans_of (stack_tree s)) (sym stack);

@@ -85,7 +85,7 @@ module _ (m : Inside) (stack : Stack) (view : View) (works : Works) (r : ℕ) wh
   pub again_is : IsMember m → stack ≡ rc_value m.stack → IsView view →
       IsAnew (stack_tree stack) m.most view m.id works →
       (r ≡ rank_of view m.id) × (r < most_members) →
-      IsMember (record m { view = Some view; rank = r; works = works })
+      IsMember (record m { view = Some view; rank = r; kit = record m.kit { works = works } })
   again_is is same is_view anew ranks =
       let its = subst (λ (s : Stack). IsAnew (stack_tree s) m.most view m.id works) same anew in record {
         typed = is.typed;
@@ -107,11 +107,13 @@ module _ (m : Inside) (stack : Stack) (view : View) (works : Works) (r : ℕ) wh
 
   pub restarted : (old : Placed) → placed_member m ≡ old → stack ≡ rc_value m.stack →
       IsAnew (stack_tree stack) m.most view m.id works →
-      IsRestarted view old (placed_member (record m { view = Some view; rank = r; works = works }))
+      IsRestarted view old
+      (placed_member (record m { view = Some view; rank = r; kit = record m.kit { works = works } }))
   restarted old seen same anew =
       let its = subst (λ (s : Stack). IsAnew (stack_tree s) m.most view m.id works) same anew in
       subst
-      (λ (p : Placed). IsRestarted view p (placed_member (record m { view = Some view; rank = r; works = works }))) seen
+      (λ (p : Placed). IsRestarted view p
+      (placed_member (record m { view = Some view; rank = r; kit = record m.kit { works = works } }))) seen
       (record {
         member = sym its.member;
         place = record { stack = refl; plans = refl; mode = refl; group = refl; stamp = refl; id = refl; most = refl };

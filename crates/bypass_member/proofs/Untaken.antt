@@ -34,8 +34,8 @@ refused_is_not p input new outs reason why same none = record {
 }
 
 -- a member whose layers and pool are the same is placed the same
-pub same_placed : (m m' : Inside) → m' ≡ record m { scan = m'.scan; works = m'.works; scratch = m'.scratch } →
-    AreSame m.works m'.works →
+pub same_placed : (m m' : Inside) → m' ≡ record m { scan = m'.scan; kit = m'.kit } →
+    AreSame m.kit.works m'.kit.works →
     placed_member m' ≡ placed_member m
 same_placed m m' is same = ap placed_member is ∙ (λ i. record {
   stack = stack_tree (rc_value m.stack);

@@ -16,7 +16,7 @@ use Rattle.file_layer.specs.Making.{Making}
 use Rattle.file_layer.specs.declared.layer.FileLayer.{FileLayer}
 use Rattle.bypass_member.specs.Viewing.{HasMembers}
 use Rattle.bypass_member.specs.Working.{states_in, IsReady}
-use Rattle.bypass_member.specs.declared.opens.Kit.{Kit}
+use Rattle.bypass_member.specs.declared.kit.Kit.{Kit}
 use Rattle.bypass_member.specs.declared.works.Works.{Works}
 
 -- These layers are those of some trees, from the lowest place on, before their first events.

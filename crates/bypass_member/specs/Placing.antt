@@ -33,10 +33,10 @@ placed_member m = record {
   stamp = m.stamp;
   id = m.id;
   most = m.most;
-  member = member_in m.view (states_in m.works);
-  pool = m.works.pool;
-  refs = refs_in m.works;
-  taken = taken_in m.works;
+  member = member_in m.view (states_in m.kit.works);
+  pool = m.kit.works.pool;
+  refs = refs_in m.kit.works;
+  taken = taken_in m.kit.works;
 }
 
 -- In a view the rank that a member keeps is that of its id there, and less than `most_members`; in no view it may be
@@ -56,7 +56,7 @@ pub record IsMember (m : Inside) : Type 0 where
   pub codes_are : AreCodes (stack_tree (rc_value m.stack)) (codes_kept m)
   pub rank_is : IsRankIn m.view m.id m.rank
   pub bare : m.bare ≡ []
-  pub ready : IsReady (stack_tree (rc_value m.stack)) m.most m.works
-  pub spare : IsSpare (codes_kept m) (plans_tree (rc_value m.plans)) m.scratch
+  pub ready : IsReady (stack_tree (rc_value m.stack)) m.most m.kit.works
+  pub spare : IsSpare (codes_kept m) (plans_tree (rc_value m.plans)) m.kit.scratch
   pub laid : AreLaidOut (stack_tree (rc_value m.stack)) (plans_tree (rc_value m.plans)) m.layouts
-  pub at : IsAt (stack_tree (rc_value m.stack)) m.most m.id m.view (states_in m.works)
+  pub at : IsAt (stack_tree (rc_value m.stack)) m.most m.id m.view (states_in m.kit.works)

@@ -8,6 +8,7 @@ mod entry;
 mod error;
 mod gathers;
 mod ground;
+mod kit;
 mod member;
 mod opening;
 mod opens;
@@ -20,6 +21,8 @@ mod views;
 mod works;
 
 pub use error::OpenError;
+#[doc(hidden)]
+pub use kit::Kit;
 pub use member::Member;
 pub use opening::Opening;
 #[doc(hidden)]

@@ -3,13 +3,13 @@
 use crate::entry::judge;
 use crate::error::OpenError;
 use crate::ground::{Ground, Took, follow, lent, rank_in};
+use crate::kit::Kit;
 use crate::opening::Opening;
-use crate::opens::{Kit, close_works, open_kit};
+use crate::opens::{close_works, lay_out, open_kit};
 use crate::probes::{Attempt, probed_of, try_common};
 use crate::restarts::restart_works;
-use crate::scratch::{Scratch, close_scratch, share};
+use crate::scratch::{close_scratch, share};
 use crate::steps::take;
-use crate::works::Works;
 use bypass_codes::Codes;
 use event_graph::Stack;
 use file_layer::Maker;
@@ -53,8 +53,7 @@ pub struct Member {
     layouts: Layouts,
     /// No headers.
     bare: Headers,
-    works: Works,
-    scratch: Scratch,
+    kit: Kit,
 }
 
 impl Model for Member {
@@ -114,12 +113,8 @@ impl Member {
         let plans = opening.plans.clone()?;
         let entries = opening.entries.clone()?;
         let codes = share(opening.codes)?;
+        let layouts = lay_out(alloc, opening)?;
         let kit = open_kit(alloc, maker, opening, view, id, rows)?;
-        let Kit {
-            works,
-            scratch,
-            layouts,
-        } = kit;
         Ok(Member {
             stack,
             plans,
@@ -135,8 +130,7 @@ impl Member {
             scan: Scan::none(),
             layouts,
             bare: Headers::none(),
-            works,
-            scratch,
+            kit,
         })
     }
 
@@ -170,7 +164,7 @@ impl Member {
             &here,
             input,
             &mut self.scan,
-            &mut self.scratch.fields,
+            &mut self.kit.scratch.fields,
         ) {
             Ok(entry) => entry,
             Err(reason) => return Stepped::Refused(reason),
@@ -186,14 +180,7 @@ impl Member {
             id,
             most: self.most,
         };
-        let Took { common, change } = take(
-            &mut self.works,
-            &mut self.scratch,
-            &ground,
-            entry,
-            out,
-            visits,
-        );
+        let Took { common, change } = take(&mut self.kit, &ground, entry, out, visits);
         follow(&mut self.view, &mut self.rank, id, change);
         Stepped::Taken { common, change }
     }
@@ -232,7 +219,7 @@ impl Member {
             &here,
             input,
             &mut self.scan,
-            &mut self.scratch.fields,
+            &mut self.kit.scratch.fields,
         ) {
             Ok(entry) => entry,
             Err(_) => return Probed::Other,
@@ -248,14 +235,7 @@ impl Member {
             id,
             most: self.most,
         };
-        match try_common(
-            &mut self.works,
-            &mut self.scratch,
-            &ground,
-            &entry,
-            checks,
-            out,
-        ) {
+        match try_common(&mut self.kit, &ground, &entry, checks, out) {
             Attempt::Made(change) => {
                 follow(&mut self.view, &mut self.rank, id, change);
                 Probed::Common
@@ -270,7 +250,7 @@ impl Member {
     pub fn restart(&mut self, view: View) -> bool
         ensures { Restarts view self.old self.new result }
     {
-        if restart_works(&mut self.works, &self.stack, self.most, view, self.id) {
+        if restart_works(&mut self.kit.works, &self.stack, self.most, view, self.id) {
             self.view = Some(view);
             self.rank = rank_in(view, self.id);
             return true;
@@ -282,7 +262,11 @@ impl Member {
     pub fn shown(&self) -> Shown<'_>
         ensures { result ≡ self.now.member }
     {
-        Shown::of(self.view, self.works.layers.as_slice(), &self.works.pool)
+        Shown::of(
+            self.view,
+            self.kit.works.layers.as_slice(),
+            &self.kit.works.pool,
+        )
     }
 
     /// Ends it, and gives its memory back.
@@ -302,9 +286,9 @@ impl Member {
             scan: _,
             layouts: _,
             bare: _,
-            works,
-            scratch,
+            kit,
         } = self;
+        let Kit { works, scratch } = kit;
         close_works(works);
         close_scratch(scratch);
     }
@@ -313,21 +297,21 @@ impl Member {
     pub fn has_slots(&self)
         ensures { length self.now.pool ≡ rows_of self.now.stack self.now.most + slots_beyond }
     {
-        let _works = &self.works;
+        let _works = &self.kit.works;
     }
 
     /// That what its layers refer to is all that its pool counts.
     pub fn counts_are_exact(&self)
         ensures { Exact self.now.pool self.now.refs }
     {
-        let _works = &self.works;
+        let _works = &self.kit.works;
     }
 
     /// That what its layers keep is chained.
     pub fn is_chained(&self)
         ensures { IsChainedMember self.now.stack self.now.member }
     {
-        let _works = &self.works;
+        let _works = &self.kit.works;
     }
 
     /// That its stack is typed and accepted, and that its plans are the stack's.

@@ -16,8 +16,9 @@ ghost use Rattle.bypass_member.specs.Opening.{codes_in, plans_in, stack_in, CanO
 ghost use Rattle.bypass_member.specs.Serving.{IsSpare};
 ghost use Rattle.bypass_member.specs.Working.{refs_in};
 
+use crate::kit::Kit;
 use crate::opening::Opening;
-use crate::scratch::{Scratch, close_scratch, open_scratch};
+use crate::scratch::{close_scratch, open_scratch};
 use crate::works::Works;
 use cell_store::Membership;
 use event_graph::Stack;
@@ -150,15 +151,8 @@ pub(crate) fn open_works(
     }
 }
 
-/// What a member works with, what runs of its code keep, and its plans, laid out where it runs by code.
-pub(crate) struct Kit {
-    pub(crate) works: Works,
-    pub(crate) scratch: Scratch,
-    pub(crate) layouts: Layouts,
-}
-
 /// The plans of a group that is to be opened, laid out where its members run by code.
-fn lay_out(alloc: Global, opening: Opening<'_>) -> Result<Layouts, Memory>
+pub(crate) fn lay_out(alloc: Global, opening: Opening<'_>) -> Result<Layouts, Memory>
     ensures { IfOk result (AreLaidOut (stack_in opening.entry) (plans_in opening.entry)) }
 {
     match opening.codes {
@@ -167,7 +161,7 @@ fn lay_out(alloc: Global, opening: Opening<'_>) -> Result<Layouts, Memory>
     }
 }
 
-/// All that a member of a view works with.
+/// What a member of a view works with, and room for runs of its code.
 pub(crate) fn open_kit(
     alloc: Global,
     maker: &mut Maker,
@@ -182,16 +176,10 @@ pub(crate) fn open_kit(
     requires few { rows ≤ most_rows }
     ensures works { OpensKit (stack_in opening.entry) view id (making maker.old) (making maker.new) result }
     ensures spare { IfOk result (λ kit. IsSpare (codes_in opening.entry) (plans_in opening.entry) kit.scratch) }
-    ensures laid { IfOk result (λ kit. AreLaidOut (stack_in opening.entry) (plans_in opening.entry) kit.layouts) }
 {
-    let layouts = lay_out(alloc, opening)?;
     let scratch = open_scratch(alloc, opening.codes, opening.plans)?;
     match open_works(alloc, maker, opening.stack, view, id, rows) {
-        Ok(works) => Ok(Kit {
-            works,
-            scratch,
-            layouts,
-        }),
+        Ok(works) => Ok(Kit { works, scratch }),
         Err(_) => {
             close_scratch(scratch);
             Err(Memory)
@@ -199,7 +187,7 @@ pub(crate) fn open_kit(
     }
 }
 
-/// Ends what a member worked with.
+/// Ends the layers of a member and what they worked with.
 pub(crate) fn close_works(works: Works)
     requires order { AllByRecursion (IsInOrder works.pool) works.layers.items }
     requires covers { Covers works.pool (refs_in works) }

@@ -24,10 +24,9 @@ ghost use Rattle.bypass_member.specs.Working.{states_in, IsReady};
 use crate::commons::{given_of, keep_entry};
 use crate::entry::Entry;
 use crate::ground::Ground;
-use crate::scratch::Scratch;
+use crate::kit::Kit;
 use crate::steps::make_by_code;
 use crate::views::change_view;
-use crate::works::Works;
 use miss_laws::misses_are_told;
 use stack_checks::StackChecks;
 use stack_shapes::EntryOf;
@@ -59,8 +58,7 @@ fn is_told(entry: &Entry<'_>) -> bool
 
 /// What the step of what entered lacks, if that is told. The step isn't common.
 fn lacked<'x>(
-    works: &Works,
-    fields: &'x [u32],
+    kit: &'x Kit,
     ground: &Ground<'_>,
     what: EntryOf,
     entry: &'x Entry<'_>,
@@ -70,31 +68,36 @@ fn lacked<'x>(
     requires mode { mode_of ground.now ≡ bypass }
     requires sound { IsSound (stack_of ground.now) }
     requires checks { AreChecksOf (stack_of ground.now) checks.old }
-    requires ready { IsReady (stack_of ground.now) ground.now.most works.now }
+    requires ready { IsReady (stack_of ground.now) ground.now.most kit.now.works }
     requires is_in { IsIn (stack_of ground.now) ground.now.most ground.now.here.now.view ground.now.id
-        (states_in works.now) }
+        (states_in kit.now.works) }
     requires entered { IsEntered (stack_of ground.now) (entry_meant ground.now.here.now entry.now) }
     requires lies { LiesWithin entry.now }
     requires what { (here : stands.Here) → what ≡ entry_for (plans_in ground.now) (entry_meant here entry.now) }
-    requires fields { fields.now ≡ fields_given (plans_in ground.now) (entry_meant ground.now.here.now entry.now) }
-    requires uncommon { IsUncommon (mode_of ground.now) ground.now (states_in works.now)
+    requires fields { kit.now.scratch.fields.items ≡
+        fields_given (plans_in ground.now) (entry_meant ground.now.here.now entry.now) }
+    requires uncommon { IsUncommon (mode_of ground.now) ground.now (states_in kit.now.works)
         (entry_meant ground.now.here.now entry.now) }
     ensures lacks { Lacks (stack_of ground.now) (plans_in ground.now)
-        (step_over ground.now (states_in works.now) (entry_meant ground.now.here.now entry.now)) result }
+        (step_over ground.now (states_in kit.now.works) (entry_meant ground.now.here.now entry.now)) result }
     ensures checks { checks.new ≡ checks.old }
 {
     if !is_told(entry) {
         return None;
     }
     misses_are_told();
-    let given = given_of(ground.plans, ground.here, entry, fields);
-    Some(checks.miss(what, &given, works.layers.as_slice(), &works.pool))
+    let given = given_of(
+        ground.plans,
+        ground.here,
+        entry,
+        kit.scratch.fields.as_slice(),
+    );
+    Some(checks.miss(what, &given, kit.works.layers.as_slice(), &kit.works.pool))
 }
 
 /// Makes the step of what entered, if it is a common one; else nothing changes, and the answer tells what it lacks.
 pub(crate) fn try_common(
-    works: &mut Works,
-    scratch: &mut Scratch,
+    kit: &mut Kit,
     ground: &Ground<'_>,
     entry: &Entry<'_>,
     checks: &mut StackChecks,
@@ -104,33 +107,26 @@ pub(crate) fn try_common(
     requires mode { mode_of ground.now ≡ bypass }
     requires sound { IsSound (stack_of ground.now) }
     requires checks { AreChecksOf (stack_of ground.now) checks.old }
-    requires ready { IsReady (stack_of ground.now) ground.now.most works.old }
-    requires spare { IsSpare (codes_in ground.now) (plans_in ground.now) scratch.old }
+    requires ready { IsReady (stack_of ground.now) ground.now.most kit.old.works }
+    requires spare { IsSpare (codes_in ground.now) (plans_in ground.now) kit.old.scratch }
     requires is_in { IsIn (stack_of ground.now) ground.now.most ground.now.here.now.view ground.now.id
-        (states_in works.old) }
+        (states_in kit.old.works) }
     requires entered { IsEntered (stack_of ground.now) (entry_meant ground.now.here.now entry.now) }
     requires lies { LiesWithin entry.now }
-    requires known { IsKnown (plans_in ground.now) scratch.old.fields.items entry.now }
+    requires known { IsKnown (plans_in ground.now) kit.old.scratch.fields.items entry.now }
     requires out { out.old.places ≡ largest_weight (stack_of ground.now) }
-    ensures attempts { Attempts ground.now works.old (entry_meant ground.now.here.now entry.now) works.new out.new
-        result }
-    ensures spare { IsSpare (codes_in ground.now) (plans_in ground.now) scratch.new }
+    ensures attempts { Attempts ground.now kit.old.works (entry_meant ground.now.here.now entry.now) kit.new.works
+        out.new result }
+    ensures spare { IsSpare (codes_in ground.now) (plans_in ground.now) kit.new.scratch }
     ensures checks { checks.new ≡ checks.old }
     ensures places { out.new.places ≡ out.old.places }
 {
-    let what = keep_entry(ground.plans, entry, &mut scratch.fields);
-    if make_by_code(works, scratch, ground, what, &*entry, out) {
-        return Attempt::Made(change_view(works, ground, out));
+    let what = keep_entry(ground.plans, entry, &mut kit.scratch.fields);
+    if make_by_code(kit, ground, what, &*entry, out) {
+        return Attempt::Made(change_view(&mut kit.works, ground, out));
     }
     out.clear();
-    Attempt::Left(lacked(
-        works,
-        scratch.fields.as_slice(),
-        ground,
-        what,
-        &*entry,
-        checks,
-    ))
+    Attempt::Left(lacked(kit, ground, what, &*entry, checks))
 }
 
 /// What is answered where the step of an input isn't made.

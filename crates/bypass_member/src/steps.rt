@@ -20,8 +20,8 @@ use crate::enters::enter;
 use crate::entry::Entry;
 use crate::gathers::gather;
 use crate::ground::{Ground, Took};
+use crate::kit::Kit;
 use crate::runs::run_layers;
-use crate::scratch::Scratch;
 use crate::views::change_view;
 use crate::works::Works;
 use layer_eval::Predicted;
@@ -76,30 +76,29 @@ fn send_short(ground: &Ground<'_>, what: EntryOf, case: Case, out: &mut Outputs)
 /// is no code, or none passes, nothing has changed.
 #[inline(always)]
 pub(crate) fn make_by_code<'x>(
-    works: &mut Works,
-    scratch: &'x mut Scratch,
+    kit: &'x mut Kit,
     ground: &Ground<'_>,
     what: EntryOf,
     entry: &'x Entry<'_>,
     out: &mut Outputs,
 ) -> bool
     requires ground { IsGround ground.now }
-    requires ready { IsReady (stack_of ground.now) ground.now.most works.old }
-    requires spare { IsSpare (codes_in ground.now) (plans_in ground.now) scratch.old }
+    requires ready { IsReady (stack_of ground.now) ground.now.most kit.old.works }
+    requires spare { IsSpare (codes_in ground.now) (plans_in ground.now) kit.old.scratch }
     requires is_in { IsIn (stack_of ground.now) ground.now.most ground.now.here.now.view ground.now.id
-        (states_in works.old) }
+        (states_in kit.old.works) }
     requires entered { IsEntered (stack_of ground.now) (entry_meant ground.now.here.now entry.now) }
     requires lies { LiesWithin entry.now }
     requires what { (here : stands.Here) → what ≡ entry_for (plans_in ground.now) (entry_meant here entry.now) }
-    requires fields { AreGiven ground.now entry.now scratch.old.fields.items }
+    requires fields { AreGiven ground.now entry.now kit.old.scratch.fields.items }
     requires out { out.old.places ≡ largest_weight (stack_of ground.now) }
-    ensures made { MakesByCode ground.now works.old (entry_meant ground.now.here.now entry.now) works.new out.new
-        result }
-    ensures spare { IsSpare (codes_in ground.now) (plans_in ground.now) scratch.new }
-    ensures fields { scratch.new.fields ≡ scratch.old.fields }
+    ensures made { MakesByCode ground.now kit.old.works (entry_meant ground.now.here.now entry.now) kit.new.works
+        out.new result }
+    ensures spare { IsSpare (codes_in ground.now) (plans_in ground.now) kit.new.scratch }
+    ensures fields { kit.new.scratch.fields ≡ kit.old.scratch.fields }
     ensures places { out.new.places ≡ out.old.places }
 {
-    match make_common(works, scratch, ground, what, entry, out) {
+    match make_common(&mut kit.works, &mut kit.scratch, ground, what, entry, out) {
         Some(case) => {
             send_short(ground, what, case, out);
             true
@@ -111,33 +110,32 @@ pub(crate) fn make_by_code<'x>(
 /// Makes the step of what entered, by its code if there is any that passes, else by the run of the layers, and answers
 /// whether it was a common step.
 fn make(
-    works: &mut Works,
-    scratch: &mut Scratch,
+    kit: &mut Kit,
     ground: &Ground<'_>,
     entry: Entry<'_>,
     out: &mut Outputs,
     visits: &mut u64,
 ) -> bool
     requires ground { IsGround ground.now }
-    requires ready { IsReady (stack_of ground.now) ground.now.most works.old }
-    requires spare { IsSpare (codes_in ground.now) (plans_in ground.now) scratch.old }
+    requires ready { IsReady (stack_of ground.now) ground.now.most kit.old.works }
+    requires spare { IsSpare (codes_in ground.now) (plans_in ground.now) kit.old.scratch }
     requires is_in { IsIn (stack_of ground.now) ground.now.most ground.now.here.now.view ground.now.id
-        (states_in works.old) }
+        (states_in kit.old.works) }
     requires entered { IsEntered (stack_of ground.now) (entry_meant ground.now.here.now entry) }
     requires lies { LiesWithin entry }
-    requires known { IsKnown (plans_in ground.now) scratch.old.fields.items entry }
+    requires known { IsKnown (plans_in ground.now) kit.old.scratch.fields.items entry }
     requires out { out.old.places ≡ largest_weight (stack_of ground.now) }
     requires visits { visits.old ≤ 2 ^ 63 }
-    ensures gone { HasGone ground.now works.old (entry_meant ground.now.here.now entry.entry) works.new out.new
+    ensures gone { HasGone ground.now kit.old.works (entry_meant ground.now.here.now entry.entry) kit.new.works out.new
         visits.old visits.new result }
-    ensures spare { IsSpare (codes_in ground.now) (plans_in ground.now) scratch.new }
+    ensures spare { IsSpare (codes_in ground.now) (plans_in ground.now) kit.new.scratch }
     ensures places { out.new.places ≡ out.old.places }
 {
-    let what = entry_in(ground, &entry, &mut scratch.fields);
-    if make_by_code(works, scratch, ground, what, &entry, out) {
+    let what = entry_in(ground, &entry, &mut kit.scratch.fields);
+    if make_by_code(kit, ground, what, &entry, out) {
         return true;
     }
-    let predicted = play(works, ground, entry, out, visits);
+    let predicted = play(&mut kit.works, ground, entry, out, visits);
     ground
         .entries
         .is_common(what, predicted.first, predicted.second)
@@ -145,29 +143,28 @@ fn make(
 
 /// Takes what entered: one step.
 pub(crate) fn take(
-    works: &mut Works,
-    scratch: &mut Scratch,
+    kit: &mut Kit,
     ground: &Ground<'_>,
     entry: Entry<'_>,
     out: &mut Outputs,
     visits: &mut u64,
 ) -> Took
     requires ground { IsGround ground.now }
-    requires ready { IsReady (stack_of ground.now) ground.now.most works.old }
-    requires spare { IsSpare (codes_in ground.now) (plans_in ground.now) scratch.old }
+    requires ready { IsReady (stack_of ground.now) ground.now.most kit.old.works }
+    requires spare { IsSpare (codes_in ground.now) (plans_in ground.now) kit.old.scratch }
     requires is_in { IsIn (stack_of ground.now) ground.now.most ground.now.here.now.view ground.now.id
-        (states_in works.old) }
+        (states_in kit.old.works) }
     requires entered { IsEntered (stack_of ground.now) (entry_meant ground.now.here.now entry) }
     requires lies { LiesWithin entry }
-    requires known { IsKnown (plans_in ground.now) scratch.old.fields.items entry }
+    requires known { IsKnown (plans_in ground.now) kit.old.scratch.fields.items entry }
     requires out { out.old.places ≡ largest_weight (stack_of ground.now) }
     requires visits { visits.old ≤ 2 ^ 63 }
-    ensures taken { HasTaken ground.now works.old (entry_meant ground.now.here.now entry.entry) works.new out.new
-        visits.old visits.new result }
-    ensures spare { IsSpare (codes_in ground.now) (plans_in ground.now) scratch.new }
+    ensures taken { HasTaken ground.now kit.old.works (entry_meant ground.now.here.now entry.entry) kit.new.works
+        out.new visits.old visits.new result }
+    ensures spare { IsSpare (codes_in ground.now) (plans_in ground.now) kit.new.scratch }
     ensures places { out.new.places ≡ out.old.places }
 {
-    let common = make(works, scratch, ground, entry, out, visits);
-    let change = change_view(works, ground, out);
+    let common = make(kit, ground, entry, out, visits);
+    let change = change_view(&mut kit.works, ground, out);
     Took { common, change }
 }

@@ -13,9 +13,12 @@ pub returns-then-not-is_told-clause-lacks : goal.returns-then-not-is_told-clause
 returns-then-not-is_told-clause-lacks c =
     let g = c.args.ground.now in
     let what = entry_meant g.here.now c.args.entry.now in
-    lacks_none g c.args.works.now what
-    (in_no_case (mode_of g) g (states_in c.args.works.now) what c.requires.mode c.requires.uncommon)
+    lacks_none g c.args.kit.now.works what
+    (in_no_case (mode_of g) g (states_in c.args.kit.now.works) what c.requires.mode c.requires.uncommon)
     (sym (c.is_told.ensures g.here.now (plans_in g)) ∙ c.if-not-is_told.true)
+
+pub given_of-given-requires-clause-fields : goal.given_of-given-requires-clause-fields
+given_of-given-requires-clause-fields c = c.as_slice.ensures.value ∙ c.requires.fields
 
 pub miss-requires-clause-body : goal.miss-requires-clause-body
 miss-requires-clause-body c =
@@ -26,11 +29,11 @@ pub returns-clause-lacks : goal.returns-clause-lacks
 returns-clause-lacks c =
     let g = c.args.ground.now in
     let what = entry_meant g.here.now c.args.entry.now in
-    lacks_some g c.args.works.now what
-    (in_no_case (mode_of g) g (states_in c.args.works.now) what c.requires.mode c.requires.uncommon)
+    lacks_some g c.args.kit.now.works what
+    (in_no_case (mode_of g) g (states_in c.args.kit.now.works) what c.requires.mode c.requires.uncommon)
     c.requires.ground c.requires.is_in c.requires.sound c.args.checks.now c.requires.checks c.requires.entered
     c.misses_are_told.ensures
     (sym (c.is_told.ensures g.here.now (plans_in g)) ∙ c.if-not-is_told.false) c.args.what (c.requires.what g.here.now)
     (input_of c.given_of-given.result) c.given_of-given.ensures.given _
-    (ap (λ (layers : List FileLayer). map (state_in c.args.works.now.pool) layers) c.as_slice.ensures.value)
+    (ap (λ (layers : List FileLayer). map (state_in c.args.kit.now.works.pool) layers) c.as_slice-2.ensures.value)
     c.miss.result c.miss.ensures.miss

@@ -11,12 +11,12 @@ use Rattle.bypass_member.proofs.steps.make.Goals as goal
 
 pub make_by_code-requires-clause-spare : goal.make_by_code-requires-clause-spare
 make_by_code-requires-clause-spare c =
-    spare_on (codes_in c.args.ground.now) (plans_in c.args.ground.now) c.args.scratch.now _ refl
+    spare_on (codes_in c.args.ground.now) (plans_in c.args.ground.now) c.args.kit.now.scratch _ refl
     c.entry_in-what.ensures.capacity c.requires.spare
 
 pub play-predicted-requires-clause-ready : goal.play-predicted-requires-clause-ready
 play-predicted-requires-clause-ready c =
-    same_ready (stack_of c.args.ground.now) c.args.ground.now.most c.args.works.now c.make_by_code.new.works
+    same_ready (stack_of c.args.ground.now) c.args.ground.now.most c.args.kit.now.works c.make_by_code.new.kit.works
     c.if-make_by_code.ensures.made.same
     c.requires.ready
 
@@ -24,19 +24,20 @@ pub play-predicted-requires-clause-is_in : goal.play-predicted-requires-clause-i
 play-predicted-requires-clause-is_in c =
     subst (IsIn (stack_of c.args.ground.now) c.args.ground.now.most c.args.ground.now.here.now.view
     c.args.ground.now.id)
-    (sym (same_states c.args.works.now c.make_by_code.new.works c.if-make_by_code.ensures.made.same)) c.requires.is_in
+    (sym (same_states c.args.kit.now.works c.make_by_code.new.kit.works c.if-make_by_code.ensures.made.same))
+    c.requires.is_in
 
 pub returns-clause-gone : goal.returns-clause-gone
 returns-clause-gone c =
     let what = entry_meant c.args.ground.now.here.now c.args.entry in
     let played = c.play-predicted.ensures.played in
-    gone_by_run c.args.ground.now c.args.works.now what c.play-predicted.new.works c.play-predicted.new.out
+    gone_by_run c.args.ground.now c.args.kit.now.works what c.play-predicted.new.works c.play-predicted.new.out
     c.args.visits.now
-    c.play-predicted.new.visits c.make_by_code.new.works c.play-predicted.result c.is_common.result
+    c.play-predicted.new.visits c.make_by_code.new.kit.works c.play-predicted.result c.is_common.result
     c.if-make_by_code.ensures.made.same
     c.if-make_by_code.ensures.made.uncommon played
     (c.is_common.ensures.common (stack_of c.args.ground.now) (plans_in c.args.ground.now)
-    (step_over c.args.ground.now (states_in c.make_by_code.new.works) what)
+    (step_over c.args.ground.now (states_in c.make_by_code.new.kit.works) what)
     (c.deref.ensures ∙ c.requires.ground.entries)
     (c.entry_in-what.ensures.what c.args.ground.now.here.now) (ap (λ (p : Predicted). p.first) played.predicted)
     (ap (λ (p : Predicted). p.second) played.predicted))

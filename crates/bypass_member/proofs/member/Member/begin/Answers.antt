@@ -38,7 +38,7 @@ invariant_of-result c =
           (rc_value c.args.opening.plans.now) (rc_value c.in_ok-plans.plans) c.in_ok-kit.kit.scratch
           (sym codes) (sym plans) c.in_ok-kit.ensures.spare;
       laid = laid_for (rc_value c.in_ok-stack.stack) (rc_value c.args.opening.stack.now) (rc_value c.in_ok-plans.plans)
-          (rc_value c.args.opening.plans.now) c.in_ok-kit.kit.layouts same plans c.in_ok-kit.ensures.laid;
+          (rc_value c.args.opening.plans.now) c.in_ok-layouts.layouts same plans c.in_ok-layouts.ensures;
       at = subst (λ (s : Stack). IsIn (stack_tree s) c.member_count-most.result c.args.view c.args.id
           (states_in c.in_ok-kit.kit.works)) (sym same)
           both.1;

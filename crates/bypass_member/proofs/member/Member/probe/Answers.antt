@@ -27,8 +27,9 @@ returns-in-Err-clause-probed c =
     (stands c.self.inside c.in-Some.view c.self.invariant c.in-Some.is) c.in-Err.ensures.judged in
     refused_is_not c.args.self.now (input_meant c.args.input) _ _ (refusal_meant c.in-Err.field-0)
     (subst (λ (p : Placed). step_of p (input_meant c.args.input) ≡ Err (refusal_meant c.in-Err.field-0)) c.self.view_is
-    (refused_in (placed_member c.self.inside) c.in-Some.view (states_in c.self.inside.works) (input_meant c.args.input)
-    (ap (λ (v : Option View). member_in v (states_in c.self.inside.works)) c.in-Some.is) c.in-Err.field-0 not))
+    (refused_in (placed_member c.self.inside) c.in-Some.view (states_in c.self.inside.kit.works)
+    (input_meant c.args.input)
+    (ap (λ (v : Option View). member_in v (states_in c.self.inside.kit.works)) c.in-Some.is) c.in-Err.field-0 not))
     c.self.view_is
     (ap (λ (o : Gathered). o.outputs) c.clear.ensures)
 
@@ -51,9 +52,7 @@ returns-in-Made-clause-probed c =
     let new = record c.self.inside {
       view = c.follow.new.view;
       rank = c.follow.new.rank;
-      works = c.try_common.new.works;
-      scratch =
-          c.try_common.new.scratch;
+      kit = c.try_common.new.kit;
     } in
     record {
       change = c.in-Made.change;
@@ -62,15 +61,16 @@ returns-in-Made-clause-probed c =
           (placed_member new)
           c.try_common.new.out.outputs 0 0 true c.in-Made.change)
           c.self.view_is
-          (takes (placed_member c.self.inside) c.in-Some.view (states_in c.self.inside.works) (input_meant c.args.input)
-          (ap (λ (v : Option View). member_in v (states_in c.self.inside.works)) c.in-Some.is) _
+          (takes (placed_member c.self.inside) c.in-Some.view (states_in c.self.inside.kit.works)
+          (input_meant c.args.input)
+          (ap (λ (v : Option View). member_in v (states_in c.self.inside.kit.works)) c.in-Some.is) _
           (entry_meant (here_at c.self.inside c.in-Some.view) c.in-Ok.entry)
-          c.self.inside.works c.try_common.new.works c.try_common.new.out 0 0
+          c.self.inside.kit.works c.try_common.new.kit.works c.try_common.new.out 0 0
           (record { common = true; change = c.in-Made.change })
           (placed_member new)
           (ap stack_tree c.deref-3.ensures) (ap plans_tree c.deref-4.ensures) (ap mode_with c.lent.ensures) here refl
           enters c.in-Made.ensures.attempts
-          refl refl (ap (λ (v : Option View). member_in v (states_in c.try_common.new.works))
+          refl refl (ap (λ (v : Option View). member_in v (states_in c.try_common.new.kit.works))
           (c.follow.ensures.view c.in-Some.view c.in-Some.is)) refl
           (record { stack = refl; plans = refl; mode = refl; group = refl; stamp = refl; id = refl; most = refl }));
     }
@@ -84,12 +84,12 @@ returns-in-Left-clause-probed c =
     (here_in (placed_member c.self.inside) c.in-Some.view) (input_meant c.args.input) _ c.deref.ensures
     c.deref-2.ensures here
     c.in-Ok.ensures.judged in
-    let new = record c.self.inside { works = c.try_common.new.works; scratch = c.try_common.new.scratch } in
-    let not = left (placed_member c.self.inside) c.in-Some.view (states_in c.self.inside.works)
+    let new = record c.self.inside { kit = c.try_common.new.kit } in
+    let not = left (placed_member c.self.inside) c.in-Some.view (states_in c.self.inside.kit.works)
     (input_meant c.args.input)
-    (ap (λ (v : Option View). member_in v (states_in c.self.inside.works)) c.in-Some.is) _
+    (ap (λ (v : Option View). member_in v (states_in c.self.inside.kit.works)) c.in-Some.is) _
     (entry_meant (here_at c.self.inside c.in-Some.view) c.in-Ok.entry)
-    c.self.inside.works c.try_common.new.works c.try_common.new.out c.in-Left.miss (placed_member new)
+    c.self.inside.kit.works c.try_common.new.kit.works c.try_common.new.out c.in-Left.miss (placed_member new)
     (ap stack_tree c.deref-3.ensures)
     (ap plans_tree c.deref-4.ensures) here refl enters refl c.in-Left.ensures.attempts
     (same_placed c.self.inside new refl c.in-Left.ensures.attempts.same) in

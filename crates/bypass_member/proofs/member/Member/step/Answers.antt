@@ -25,9 +25,9 @@ returns-in-Err-clause-step c =
     (stands c.self.inside c.in-Some.view c.self.invariant c.in-Some.is) c.in-Err.ensures.judged in record {
       why = subst (λ (p : Placed). step_of p (input_meant c.args.input) ≡ Err (refusal_meant c.in-Err.reason))
           c.self.view_is
-          (refused_in (placed_member c.self.inside) c.in-Some.view (states_in c.self.inside.works)
+          (refused_in (placed_member c.self.inside) c.in-Some.view (states_in c.self.inside.kit.works)
           (input_meant c.args.input)
-          (ap (λ (v : Option View). member_in v (states_in c.self.inside.works)) c.in-Some.is) c.in-Err.reason not);
+          (ap (λ (v : Option View). member_in v (states_in c.self.inside.kit.works)) c.in-Some.is) c.in-Err.reason not);
       same = c.self.view_is;
       none = ap (λ (o : Gathered). o.outputs) c.clear.ensures;
       visits = refl;
@@ -58,27 +58,23 @@ returns-clause-step c =
     (placed_member (record c.self.inside {
       view = c.follow.new.view;
       rank = c.follow.new.rank;
-      works = c.take-common.new.works;
-      scratch =
-          c.take-common.new.scratch;
+      kit = c.take-common.new.kit;
     }))
     c.take-common.new.out.outputs c.args.visits.now c.take-common.new.visits c.take-common.result.common
     c.take-common.result.change)
     c.self.view_is
-    (takes (placed_member c.self.inside) c.in-Some.view (states_in c.self.inside.works) (input_meant c.args.input)
-    (ap (λ (v : Option View). member_in v (states_in c.self.inside.works)) c.in-Some.is) _
+    (takes (placed_member c.self.inside) c.in-Some.view (states_in c.self.inside.kit.works) (input_meant c.args.input)
+    (ap (λ (v : Option View). member_in v (states_in c.self.inside.kit.works)) c.in-Some.is) _
     (entry_meant (here_at c.self.inside c.in-Some.view) c.in-Ok.entry)
-    c.self.inside.works c.take-common.new.works c.take-common.new.out c.args.visits.now c.take-common.new.visits
+    c.self.inside.kit.works c.take-common.new.kit.works c.take-common.new.out c.args.visits.now c.take-common.new.visits
     c.take-common.result
     (placed_member (record c.self.inside {
       view = c.follow.new.view;
       rank = c.follow.new.rank;
-      works = c.take-common.new.works;
-      scratch =
-          c.take-common.new.scratch;
+      kit = c.take-common.new.kit;
     }))
     (ap stack_tree c.deref-3.ensures) (ap plans_tree c.deref-4.ensures) (ap mode_with c.lent.ensures) here refl enters
     c.take-common.ensures.taken
-    refl refl (ap (λ (v : Option View). member_in v (states_in c.take-common.new.works))
+    refl refl (ap (λ (v : Option View). member_in v (states_in c.take-common.new.kit.works))
     (c.follow.ensures.view c.in-Some.view c.in-Some.is)) refl
     (record { stack = refl; plans = refl; mode = refl; group = refl; stamp = refl; id = refl; most = refl }))
