@@ -49,6 +49,7 @@ pub(crate) struct Tried<'c, 'g> {
 
 /// Finds the number of the least plan that the packet of a scan fits, and keeps the fields that this plan leaves
 /// variable; where reading told the number, they are kept already.
+#[inline(always)]
 fn keep_packet(plans: &Plans, scan: &Scan, known: Option<u8>, fields: &mut Vec<u32>) -> Option<u8>
     requires room { AllByRecursion (HasAtMost (vec_capacity fields.old)) (plans_tree plans.now) }
     requires known { IsReadAs (plans_tree plans.now) known (kind_of scan.now.dest) scan.now.headers fields.old.items }

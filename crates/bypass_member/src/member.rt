@@ -10,6 +10,7 @@ use crate::probes::{Attempt, probed_of, try_common};
 use crate::restarts::restart_works;
 use crate::scratch::{close_scratch, share};
 use crate::steps::take;
+use crate::views::Seat;
 use bypass_codes::Codes;
 use event_graph::Stack;
 use file_layer::Maker;
@@ -250,7 +251,13 @@ impl Member {
     pub fn restart(&mut self, view: View) -> bool
         ensures { Restarts view self.old self.new result }
     {
-        if restart_works(&mut self.kit.works, &self.stack, self.most, view, self.id) {
+        let seat = Seat {
+            stack: &self.stack,
+            most: self.most,
+            view,
+            id: self.id,
+        };
+        if restart_works(&mut self.kit.works, seat) {
             self.view = Some(view);
             self.rank = rank_in(view, self.id);
             return true;

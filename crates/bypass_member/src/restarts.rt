@@ -5,12 +5,10 @@ ghost use Rattle.event_graph.specs.Answer.{stack_tree};
 ghost use Rattle.bypass_member.specs.Restarting.{AreAmong, BeginsAnew};
 ghost use Rattle.bypass_member.specs.Working.{IsReady};
 
-use crate::views::reset_all;
+use crate::views::{Seat, reset_all};
 use crate::works::Works;
 use cell_store::Membership;
-use event_graph::Stack;
 use file_layer::FileLayer;
-use msg_core::View;
 use packet_full::member_count;
 use view_core::rank;
 
@@ -29,22 +27,23 @@ fn are_among(layers: &[FileLayer], count: u32) -> bool
 
 /// Begins again in a view of no more members than there were at first, if each layer has as many now, and answers
 /// whether it did.
-pub(crate) fn restart_works(works: &mut Works, _stack: &Stack, most: u8, view: View, id: u8) -> bool
-    requires { IsReady (stack_tree _stack.now) most works.old }
-    ensures { BeginsAnew (stack_tree _stack.now) most view id works.old works.new result }
+pub(crate) fn restart_works(works: &mut Works, seat: Seat<'_>) -> bool
+    requires { IsReady (stack_tree seat.stack.now) seat.most works.old }
+    ensures { BeginsAnew (stack_tree seat.entry.stack.now) seat.entry.most seat.entry.view seat.entry.id works.old
+        works.new result }
 {
-    let Some(me) = rank(view, id) else {
+    let Some(me) = rank(seat.view, seat.id) else {
         return false;
     };
-    let count = member_count(view);
-    if count > u32::from(most) {
+    let count = member_count(seat.view);
+    if count > u32::from(seat.most) {
         return false;
     }
     if are_among(works.layers.as_slice(), count) {
         let membership = Membership {
             me: u32::from(me),
             count,
-            ltime: view.ltime,
+            ltime: seat.view.ltime,
         };
         reset_all(&mut works.layers, &mut works.pool, membership);
         return true;

@@ -60,6 +60,7 @@ fn play(
 
 /// Sends short the outputs of a common step in a case, from the first plan of its entry on. Only an application's cast
 /// or send has such a plan.
+#[inline(always)]
 fn send_short(ground: &Ground<'_>, what: EntryOf, case: Case, out: &mut Outputs)
     requires ground { IsGround ground.now }
     ensures { (entered : Entered) (outs : List Output) → what ≡ entry_for (plans_in ground.now) entered →

@@ -2,6 +2,7 @@
 
 ghost use Rattle.std.specs.Prelude.{◌<◌, ◌≤◌, map, slice_get};
 ghost use Rattle.std.specs.List.{AllByRecursion, filter_map, flat_map};
+ghost use Rattle.event_graph.specs.Answer.{stack_tree};
 ghost use Rattle.file_layer.specs.Layer.{refs_of, IsInOrder, state_in};
 ghost use Rattle.run_mean.specs.Member.{announced_ranks};
 ghost use Rattle.slot_pool.specs.References.{Covers};
@@ -12,11 +13,22 @@ ghost use Rattle.bypass_member.specs.Working.{states_in, IsReady};
 use crate::ground::Ground;
 use crate::works::Works;
 use cell_store::Membership;
+use event_graph::Stack;
 use file_layer::FileLayer;
+use msg_core::View;
 use packet_full::member_count;
 use slot_pool::Pool;
 use step_outputs::Outputs;
 use view_core::{Change, next_view, rank};
+
+/// A member in a view that others may follow: its stack, how many members its first view had, the view, and its id.
+#[derive(Clone, Copy)]
+pub(crate) struct Seat<'a> {
+    pub(crate) stack: &'a Stack,
+    pub(crate) most: u8,
+    pub(crate) view: View,
+    pub(crate) id: u8,
+}
 
 /// Begins again with each layer, at a member of a view of no more members than there were.
 pub(crate) fn reset_all(layers: &mut Vec<FileLayer>, pool: &mut Pool, membership: Membership)
@@ -36,17 +48,17 @@ pub(crate) fn reset_all(layers: &mut Vec<FileLayer>, pool: &mut Pool, membership
 
 /// Installs the view after a member's own, made of these ranks, if there is such a view and the member is in it.
 #[inline(never)]
-fn install(works: &mut Works, ground: &Ground<'_>, ranks: u32) -> Change
-    requires ready { IsReady (stack_of ground.now) ground.now.most works.old }
-    requires members { HasMembers (stack_of ground.now) ground.now.most ground.now.here.now.view ground.now.id
+fn install(works: &mut Works, seat: Seat<'_>, ranks: u32) -> Change
+    requires ready { IsReady (stack_tree seat.stack.now) seat.most works.old }
+    requires members { HasMembers (stack_tree seat.stack.now) seat.most seat.view seat.id
         (states_in works.old) }
-    ensures { Installs (stack_of ground.now) ground.now.most ground.now.here.now.view ground.now.id ranks works.old
+    ensures { Installs (stack_tree seat.entry.stack.now) seat.entry.most seat.entry.view seat.entry.id ranks works.old
         works.new result }
 {
-    let Some(next) = next_view(ground.here.view, ranks) else {
+    let Some(next) = next_view(seat.view, ranks) else {
         return Change::Out
     };
-    let Some(me) = rank(next, ground.id) else {
+    let Some(me) = rank(next, seat.id) else {
         return Change::Out
     };
     let membership = Membership {
@@ -58,7 +70,8 @@ fn install(works: &mut Works, ground: &Ground<'_>, ranks: u32) -> Change
     Change::Into(next)
 }
 
-/// Installs the first view that was announced, if one was.
+/// Installs the first view that was announced, if one was. Where the member sits is said in this case alone: a ground
+/// that is lent would lie in memory at each step.
 #[inline(always)]
 pub(crate) fn change_view(works: &mut Works, ground: &Ground<'_>, out: &Outputs) -> Option<Change>
     requires ready { IsReady (stack_of ground.now) ground.now.most works.old }
@@ -69,7 +82,15 @@ pub(crate) fn change_view(works: &mut Works, ground: &Ground<'_>, out: &Outputs)
         works.old works.new result }
 {
     match out.first_announced() {
-        Some(ranks) => Some(install(works, ground, ranks)),
+        Some(ranks) => {
+            let seat = Seat {
+                stack: ground.stack,
+                most: ground.most,
+                view: ground.here.view,
+                id: ground.id,
+            };
+            Some(install(works, seat, ranks))
+        }
         None => None,
     }
 }

@@ -11,10 +11,11 @@ use Rattle.bypass_member.proofs.restarts.restart_works.Goals as goal
 
 pub reset_all-requires-clause-member : goal.reset_all-requires-clause-member
 reset_all-requires-clause-member c =
-    let at : rank c.args.view c.args.id ≡ Some c.in-Some.me = sym c.rank.ensures ∙ c.in-Some.is in
+    let seat = c.args.seat in
+    let at : rank seat.view seat.id ≡ Some c.in-Some.me = sym c.rank.ensures ∙ c.in-Some.is in
     omega (
       arith,
-      rank_below c.args.view c.args.id c.in-Some.me at,
+      rank_below seat.view seat.id c.in-Some.me at,
       c.from-then-are_among.ensures,
       c.member_count-count.ensures.count,
     )
@@ -28,8 +29,9 @@ reset_all-requires-clause-room c =
 
 pub returns-then-are_among : goal.returns-then-are_among
 returns-then-are_among c =
-    let at : rank c.args.view c.args.id ≡ Some c.from-then-are_among.result = sym c.rank.ensures ∙ c.in-Some.is ∙
+    let seat = c.args.seat in
+    let at : rank seat.view seat.id ≡ Some c.from-then-are_among.result = sym c.rank.ensures ∙ c.in-Some.is ∙
     ap Some (sym c.from-then-are_among.ensures) in
-    anew_in (stack_tree c.args._stack.now) c.args.most c.args.view c.args.id c.from-then-are_among.result
+    anew_in (stack_tree seat.stack.now) seat.most seat.view seat.id c.from-then-are_among.result
     c.member_count-count.result c.args.works.now
     _ at c.member_count-count.ensures.count (omega arith) c.requires c.reset_all.ensures refl refl

@@ -1,7 +1,7 @@
 use Rattle.std.proofs.Common.{◌≡◌, ◌∙◌, Some, refl, sym, ap, arith}
 use Rattle.msg_core.specs.View.{rank}
 use Rattle.run_mean.specs.View.{next_view}
-use Rattle.bypass_member.specs.Stepping.{stack_of}
+use Rattle.event_graph.specs.Answer.{stack_tree}
 use Rattle.bypass_member.specs.Viewing.{input_at}
 use Rattle.bypass_member.proofs.Members.{counts_are}
 use Rattle.bypass_member.proofs.Viewing.{rank_below, fewer_now, comes_into}
@@ -9,30 +9,31 @@ use Rattle.bypass_member.proofs.views.install.Goals as goal
 
 pub reset_all-requires-clause-member : goal.reset_all-requires-clause-member
 reset_all-requires-clause-member c =
-    let g = c.args.ground.now in
-    let at : rank c.in-Some.next g.id ≡ Some c.in-Some-rank.me = sym c.rank.ensures ∙ c.in-Some-rank.is in
+    let seat = c.args.seat in
+    let at : rank c.in-Some.next seat.id ≡ Some c.in-Some-rank.me = sym c.rank.ensures ∙ c.in-Some-rank.is in
     omega (
       arith,
-      rank_below c.in-Some.next g.id c.in-Some-rank.me at,
+      rank_below c.in-Some.next seat.id c.in-Some-rank.me at,
       c.from.ensures,
       c.member_count.ensures.count,
     )
 
 pub reset_all-requires-clause-room : goal.reset_all-requires-clause-room
 reset_all-requires-clause-room c =
-    let g = c.args.ground.now in
-    let view = g.here.now.view in
-    let following : next_view view c.args.ranks ≡ Some c.in-Some.next = sym c.next_view.ensures ∙ c.in-Some.is in
-    fewer_now view c.in-Some.next c.args.ranks _ _ following c.member_count.ensures.count
-    (counts_are (input_at view g.id) (stack_of g) _ c.requires.members.own)
+    let seat = c.args.seat in
+    let following : next_view seat.view c.args.ranks ≡ Some c.in-Some.next = sym c.next_view.ensures ∙
+    c.in-Some.is in
+    fewer_now seat.view c.in-Some.next c.args.ranks _ _ following c.member_count.ensures.count
+    (counts_are (input_at seat.view seat.id) (stack_tree seat.stack.now) _ c.requires.members.own)
 
 pub returns : goal.returns
 returns c =
-    let g = c.args.ground.now in
-    let view = g.here.now.view in
-    let following : next_view view c.args.ranks ≡ Some c.in-Some.next = sym c.next_view.ensures ∙ c.in-Some.is in
-    let at : rank c.in-Some.next g.id ≡ Some c.from.result = sym c.rank.ensures ∙ c.in-Some-rank.is ∙
+    let seat = c.args.seat in
+    let following : next_view seat.view c.args.ranks ≡ Some c.in-Some.next = sym c.next_view.ensures ∙
+    c.in-Some.is in
+    let at : rank c.in-Some.next seat.id ≡ Some c.from.result = sym c.rank.ensures ∙ c.in-Some-rank.is ∙
     ap Some (sym c.from.ensures) in
-    comes_into (stack_of g) g.most view c.in-Some.next g.id c.args.ranks c.from.result c.member_count.result
+    comes_into (stack_tree seat.stack.now) seat.most seat.view c.in-Some.next seat.id c.args.ranks
+    c.from.result c.member_count.result
     c.args.works.now _ following at c.member_count.ensures.count c.requires.ready c.requires.members
     c.reset_all.ensures refl refl
