@@ -18,7 +18,7 @@ use Rattle.step_outputs.specs.Views.{output_meant}
 use Rattle.step_outputs.specs.declared.view.OutputView.{OutputView}
 use Rattle.step_outputs.specs.declared.view.OutputView.TheVariants.{Cast, Send, Block, Announce, Timer, Packet, Nowhere}
 use Rattle.step_outputs.specs.declared.view.OutputView.TheVariants.{Quiet}
-use Rattle.step_outputs.specs.declared.view.PacketView.{PacketView}
+use Rattle.packet_full.specs.declared.view.PacketView.{PacketView}
 use Rattle.view_core.specs.declared.step.Change.{Change}
 use Rattle.report_text.specs.Numbered.{number_after}
 use Rattle.report_text.specs.Told.{change_lines}

@@ -11,7 +11,7 @@ use Rattle.run_mean.specs.Journal.{Handed, handed_output}
 use Rattle.run_mean.specs.Lines.{refused_line}
 use Rattle.run_mean.specs.Member.{Output}
 use Rattle.report_text.specs.Told.{change_lines}
-use Rattle.step_outputs.specs.declared.view.PacketView.{PacketView}
+use Rattle.packet_full.specs.declared.view.PacketView.{PacketView}
 use Rattle.view_core.specs.Refusals.{refusal_meant}
 use Rattle.view_core.specs.declared.step.Stepped.{Stepped}
 use Rattle.view_core.specs.declared.step.Stepped.TheVariants.{Taken, Refused}

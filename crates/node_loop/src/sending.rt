@@ -18,10 +18,10 @@ use crate::source::Source;
 use crate::tools::Tools;
 use msg_core::{Dest, MOST_MEMBERS, View};
 use outside::{LONGEST_DATAGRAM, LinkError, Links, Sink, SinkError, put_line};
+use packet_full::PacketView;
 use packet_mean::Here;
 use report_lines::{Line, lost_line};
 use report_text::spell;
-use step_outputs::PacketView;
 
 /// A datagram on its way out: who sends it, and the number of its packet.
 #[derive(Clone, Copy)]

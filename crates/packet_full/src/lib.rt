@@ -8,6 +8,7 @@ mod front;
 mod laws;
 mod opened;
 mod scan;
+mod view;
 mod write;
 
 pub use cursor::Cursor;
@@ -17,4 +18,5 @@ pub use front::{FULL_FORM, Preamble, SHORT_FORM, member_count};
 pub use laws::{read_in_steps, written_is_read};
 pub use opened::Opened;
 pub use scan::{Scan, scan_full};
+pub use view::PacketView;
 pub use write::{put_body, put_full_of, put_number, put_preamble, room_of};

@@ -11,8 +11,8 @@ ghost use Rattle.packet_short.specs.Shortened.{Puts, PutsVariable, short_room, s
 
 use crate::error::NotFitting;
 use crate::fit::{is_fitting, kind_of};
-use msg_core::{Dest, Fields, Headers};
-use packet_full::{SHORT_FORM, put_body, put_number, put_preamble};
+use msg_core::{Fields, Headers};
+use packet_full::{PacketView, SHORT_FORM, put_body, put_number, put_preamble};
 use packet_mean::Here;
 use stack_shapes::Plan;
 
@@ -79,48 +79,41 @@ pub fn short_room_of(headers: &Headers, body: &[u8]) -> usize
     headers.len() as usize * HEADER_BYTES + FRONT_BYTES + body.len()
 }
 
-/// Puts the short form of what a member sends to a destination with these headers and this body, under a plan and its
-/// number, after what a vector holds. It is put as the plan says, without asking whether it fits. It takes no memory:
-/// there must be room for 17 bytes of each header, the body and 20 more.
-pub fn put_short(
-    plan: &Plan,
-    number: u8,
-    here: &Here,
-    dest: Dest,
-    headers: &Headers,
-    body: &[u8],
-    into: &mut Vec<u8>,
-)
-    requires { vec_len into.old + short_room (sent_packet here.now dest headers.now body.now) ≤ vec_capacity into.old }
-    ensures items { into.new.items ≡ into.old.items ++
-        spelling.short_bytes number (plan_tree plan.now) (sent_packet here.now dest headers.now body.now) }
+/// Puts the short form of a packet that a member sends, under a plan and its number, whatever plan the packet names,
+/// after what a vector holds. It is put as the plan says, without asking whether it fits. It takes no memory: there
+/// must be room for 17 bytes of each header, the body and 20 more.
+pub fn put_short(plan: &Plan, number: u8, here: &Here, packet: &PacketView<'_>, into: &mut Vec<u8>)
+    requires { vec_len into.old + short_room
+        (sent_packet here.now packet.now.dest packet.now.headers.now packet.now.body.now) ≤ vec_capacity into.old }
+    ensures items { into.new.items ≡ into.old.items ++ spelling.short_bytes number (plan_tree plan.now)
+        (sent_packet here.now packet.now.dest packet.now.headers.now packet.now.body.now) }
     ensures capacity { vec_capacity into.old ≤ vec_capacity into.new }
 {
-    put_preamble(SHORT_FORM, here, dest, into);
+    put_preamble(SHORT_FORM, here, packet.dest, into);
     into.push_reserved(number);
-    put_headers(plan, headers, into);
-    put_body(body, into);
+    put_headers(plan, packet.headers, into);
+    put_body(packet.body, into);
 }
 
-/// Puts the short form of what fits a plan, as `put_short` does. Err exactly where it doesn't fit the plan; then
-/// nothing changes.
+/// Puts the short form of a packet that fits a plan, as `put_short` does. Err exactly where it doesn't fit the plan;
+/// then nothing changes.
 pub fn put_short_of(
     plan: &Plan,
     number: u8,
     here: &Here,
-    dest: Dest,
-    headers: &Headers,
-    body: &[u8],
+    packet: &PacketView<'_>,
     into: &mut Vec<u8>,
 ) -> Result<(), NotFitting>
-    requires { vec_len into.old + short_room (sent_packet here.now dest headers.now body.now) ≤ vec_capacity into.old }
-    ensures items { Puts (short_under (plan_tree plan.now) number (sent_packet here.now dest headers.now body.now))
+    requires { vec_len into.old + short_room
+        (sent_packet here.now packet.now.dest packet.now.headers.now packet.now.body.now) ≤ vec_capacity into.old }
+    ensures items { Puts (short_under (plan_tree plan.now) number
+        (sent_packet here.now packet.now.dest packet.now.headers.now packet.now.body.now))
         into.old.items into.new.items result }
     ensures capacity { vec_capacity into.old ≤ vec_capacity into.new }
 {
-    if !is_fitting(plan, kind_of(dest), headers) {
+    if !is_fitting(plan, kind_of(packet.dest), packet.headers) {
         return Err(NotFitting);
     }
-    put_short(plan, number, here, dest, headers, body, into);
+    put_short(plan, number, here, packet, into);
     Ok(())
 }

@@ -7,11 +7,10 @@ ghost use Rattle.packet_short.specs.Shortened.{short_room};
 ghost use Rattle.run_mean.specs.Common.{wire};
 ghost use Rattle.stack_shapes.specs.Trees.{plans_tree};
 
-use packet_full::put_full_of;
+use packet_full::{PacketView, put_full_of};
 use packet_mean::Here;
 use packet_short::{put_short, short_room_of};
 use stack_shapes::Plans;
-use step_outputs::PacketView;
 
 /// Puts a packet under the plan of a number: short where there is such a plan, and else in full.
 #[inline(always)]
@@ -23,15 +22,7 @@ fn put_under(plans: &Plans, number: u8, here: &Here, packet: &PacketView<'_>, in
         (Some number) }
 {
     match plans.get(number) {
-        Some(plan) => put_short(
-            plan,
-            number,
-            here,
-            packet.dest,
-            packet.headers,
-            packet.body,
-            into,
-        ),
+        Some(plan) => put_short(plan, number, here, packet, into),
         None => put_full_of(here, packet.dest, packet.headers, packet.body, into),
     }
 }

@@ -13,6 +13,7 @@ use crate::chain::push_chain;
 use crate::line::Line;
 use crate::named::NamedStack;
 use msg_core::{Dest, Headers, Memory, Stray, View};
+use packet_full::PacketView;
 use view_core::Refusal;
 
 /// How a message arrived at a member: cast to all, or sent to it.
@@ -171,17 +172,15 @@ pub fn packet_line(
     stack: &NamedStack,
     number: u64,
     id: u8,
-    dest: Dest,
-    headers: &Headers,
-    body: &[u8],
+    packet: &PacketView<'_>,
 ) -> Result<(), Memory>
-    ensures { OnOk result
-        (line.new ≡ line.old ++ packet_text (stack_tree stack.now) number id dest headers.now body.now) }
+    ensures { OnOk result (line.new ≡ line.old ++ packet_text (stack_tree stack.now) number id
+        packet.now.dest packet.now.headers.now packet.now.body.now) }
 {
     line.text(b"packet ")?;
     line.number(number)?;
-    push_address(line, id, dest)?;
-    push_contents(line, stack, headers, body)
+    push_address(line, id, packet.dest)?;
+    push_contents(line, stack, packet.headers, packet.body)
 }
 
 /// `wire K HEX`: the bytes of packet K as it is sent.

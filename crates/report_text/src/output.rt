@@ -18,13 +18,14 @@ use crate::pen::Pen;
 use crate::wire::spell;
 use msg_core::Memory;
 use outside::{Sink, SinkError, put_line};
+use packet_full::PacketView;
 use packet_mean::Here;
 use report_lines::{
     Delivery, Line, NamedStack, announce_line, block_line, deliver_line, packet_line, timer_line,
     wire_line,
 };
 use stack_shapes::Plans;
-use step_outputs::{OutputView, PacketView};
+use step_outputs::OutputView;
 
 /// Builds the line of an output, if it has one, and answers whether it has.
 fn build_output(
@@ -49,15 +50,7 @@ fn build_output(
         OutputView::Block(a) => block_line(line, issuer.id, *a)?,
         OutputView::Announce(ranks) => announce_line(line, issuer.id, *ranks)?,
         OutputView::Timer(moment) => timer_line(line, issuer.id, *moment)?,
-        OutputView::Packet(packet) => packet_line(
-            line,
-            stack,
-            issuer.number,
-            issuer.id,
-            packet.dest,
-            packet.headers,
-            packet.body,
-        )?,
+        OutputView::Packet(packet) => packet_line(line, stack, issuer.number, issuer.id, packet)?,
         OutputView::Nowhere(_) => return Ok(false),
         OutputView::Quiet(_, _) => return Ok(false),
     }

@@ -1,6 +1,6 @@
 //! Datagrams of stacks of several layers: taken, refused, and long ones.
 
-use crate::writing::{full, short};
+use crate::writing::{full, scanned, short};
 use event_graph::Stack;
 use file_judge::judge;
 use msg_core::{Stray, View};
@@ -67,9 +67,10 @@ fn a_cast_of_four_layers_is_read_in_both_forms(rt: HostRuntime) -> Result<(), Fa
     for bytes in [ORDERED.as_slice(), ORDERED_SHORT.as_slice()] {
         let mut scan = Scan::none();
         assert!(rt; scan_packet(&stack, &plans, &SECOND, bytes, &mut scan).is_ok());
-        let again = full(alloc, &FIRST, scan.dest, &scan.headers, b"a")?;
+        let packet = scanned(&scan, b"a");
+        let again = full(alloc, &FIRST, &packet)?;
         assert_eq!(rt; again.as_slice(), ORDERED.as_slice());
-        let again = short(alloc, plan, &FIRST, scan.dest, &scan.headers, b"a")?;
+        let again = short(alloc, plan, &FIRST, &packet)?;
         assert_eq!(rt; again.as_slice(), ORDERED_SHORT.as_slice());
     }
     Ok(())

@@ -1,10 +1,10 @@
 //! A layer whose header has a constant and a variable field: its packets and datagrams in both forms.
 
-use crate::writing::{full, short};
+use crate::writing::{full, scanned, short};
 use event_graph::Stack;
 use file_judge::judge;
 use msg_core::{Dest, Fields, Header, Headers, Stray, View};
-use packet_full::Scan;
+use packet_full::{PacketView, Scan};
 use packet_mean::Here;
 use packet_short::{fits, fits_scan, scan_packet};
 use stack_shapes::{Plans, StackShapes};
@@ -62,6 +62,16 @@ fn cast(number: u32) -> Headers {
     headers
 }
 
+/// The packet of a cast with these headers.
+fn with_headers(headers: &Headers) -> PacketView<'_> {
+    PacketView {
+        dest: Dest::All,
+        headers,
+        body: b"hi",
+        plan: None,
+    }
+}
+
 #[test]
 fn a_cast_is_written_in_both_forms(rt: HostRuntime) -> Result<(), Fail> {
     let alloc = rt.alloc();
@@ -73,15 +83,13 @@ fn a_cast_is_written_in_both_forms(rt: HostRuntime) -> Result<(), Fail> {
     assert_eq!(rt; fits(&plans, Dest::All, &cast(5)), Some(0));
     assert_eq!(rt; fits(&plans, Dest::All, &cast(6)), None);
     let headers = cast(5);
+    let packet = with_headers(&headers);
+    assert_eq!(rt; full(alloc, &SENDER, &packet)?.as_slice(), FULL.as_slice());
     assert_eq!(rt;
-        full(alloc, &SENDER, Dest::All, &headers, b"hi")?.as_slice(),
-        FULL.as_slice()
-    );
-    assert_eq!(rt;
-        short(alloc, plan, &SENDER, Dest::All, &headers, b"hi")?.as_slice(),
+        short(alloc, plan, &SENDER, &packet)?.as_slice(),
         SHORT.as_slice()
     );
-    assert!(rt; short(alloc, plan, &SENDER, Dest::All, &cast(6), b"hi")?.is_empty());
+    assert!(rt; short(alloc, plan, &SENDER, &with_headers(&cast(6)))?.is_empty());
     Ok(())
 }
 
@@ -95,7 +103,7 @@ fn both_forms_are_read(rt: HostRuntime) -> Result<(), Fail> {
         assert!(rt; scan_packet(&stack, &plans, &HERE, bytes, &mut scan).is_ok());
         assert_eq!(rt; fits_scan(&plans, &scan), Some(0));
         assert_eq!(rt; scan.body, body);
-        let again = full(alloc, &SENDER, scan.dest, &scan.headers, b"hi")?;
+        let again = full(alloc, &SENDER, &scanned(&scan, b"hi"))?;
         assert_eq!(rt; again.as_slice(), FULL.as_slice());
     }
     Ok(())

@@ -21,11 +21,11 @@ ghost use Rattle.step_outputs.specs.Kept.{output_with, span_of, IsFor};
 ghost use Rattle.step_outputs.specs.Views.{output_meant, signal_meant};
 
 use crate::list::KeptList;
-use crate::view::{OutputView, PacketView, Signal};
+use crate::view::{OutputView, Signal};
 use layer_ast::{Dir, Kind};
 use layer_mean::Envelope;
 use msg_core::{Dest, Headers};
-use packet_full::{member_count, put_body};
+use packet_full::{PacketView, member_count, put_body};
 use packet_mean::Here;
 use pool_message::PoolEvent;
 use slot_pool::Pool;

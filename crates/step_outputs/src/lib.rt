@@ -14,4 +14,4 @@ pub use laws::an_accepted_stack_is_light;
 #[doc(hidden)]
 pub use list::KeptList;
 pub use outputs::Outputs;
-pub use view::{OutputView, PacketView, Signal};
+pub use view::{OutputView, Signal};

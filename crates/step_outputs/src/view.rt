@@ -1,7 +1,7 @@
 //! What is told of an output.
 
 use layer_ast::{Dir, Kind};
-use msg_core::{Dest, Headers};
+use packet_full::PacketView;
 
 /// An event that is nothing outside of its stack: its kind and its numbers. It has no message.
 #[derive(Clone, Copy)]
@@ -10,16 +10,6 @@ pub struct Signal {
     pub peer: u32,
     pub a: u32,
     pub b: u32,
-}
-
-/// A packet that is sent. Its group, its stamp, its view and its sender are those of where the outputs come from.
-#[derive(Drop)]
-pub struct PacketView<'b> {
-    pub dest: Dest,
-    pub headers: &'b Headers,
-    pub body: &'b [u8],
-    /// The plan under which it is sent short; none where it is sent in full.
-    pub plan: Option<u8>,
 }
 
 /// An output, with what it borrows of those that are gathered.

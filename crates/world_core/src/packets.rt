@@ -11,12 +11,13 @@ ghost use Rattle.world_core.specs.Parts.{parts_from, start_of, EndAt};
 ghost use Rattle.group_feed.specs.Standing.{spelled_number, spelled_of};
 
 use msg_core::Memory;
+use packet_full::PacketView;
 use packet_mean::Here;
 use packet_wire::{put_wire, wire_room_of};
 use stack_shapes::Plans;
 use std::alloc::Global;
 use std::marker::Model;
-use step_outputs::{OutputView, Outputs, PacketView};
+use step_outputs::{OutputView, Outputs};
 
 /// The least number of bytes for which more room is made.
 const LEAST_ROOM: usize = 1_048_576;
