@@ -17,7 +17,7 @@ echo "bench: $below" >>"$room/crates.txt"
 use event_graph::Stack;
 use file_judge::judge;
 use msg_core::{Dest, Fields, Header, Headers, Memory, View};
-use packet_full::{Scan, form_at, put_full_of, room_of, scan_full};
+use packet_full::{PacketView, Scan, form_at, put_full_of, room_of, scan_full};
 use packet_mean::Here;
 use packet_short::{fits, fits_scan, put_short_of, scan_packet};
 use stack_shapes::{Plan, Plans, StackShapes};
@@ -63,7 +63,8 @@ fn short_of(alloc: Global, plans: &Plans, number: u8, scan: &Scan, bytes: &[u8])
     let body = &bytes[scan.body as usize..];
     let Some(plan) = plans.get(number) else { return Ok(None) };
     let mut short = Vec::with_capacity(alloc, room_of(&scan.headers, body) + 1)?;
-    match put_short_of(plan, number, &ranked(scan.sender), scan.dest, &scan.headers, body, &mut short) {
+    let packet = PacketView { dest: scan.dest, headers: &scan.headers, body, plan: Some(number) };
+    match put_short_of(plan, number, &ranked(scan.sender), &packet, &mut short) {
         Ok(()) => Ok(Some(short)),
         Err(_) => Ok(None),
     }
