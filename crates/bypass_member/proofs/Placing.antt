@@ -1,5 +1,5 @@
 -- Steps of a placed member, taken or refused.
-use Rattle.std.proofs.Common.{◌≡◌, ◌∙◌, ℕ, ◌+◌, ◌<◌, Bool, List, Option, Some, Result, Ok, Err, sym, ap, subst}
+use Rattle.std.proofs.Common.{◌≡◌, ◌∙◌, ℕ, ◌+◌, ◌<◌, ◌≤◌, Bool, List, Option, Some, Result, Ok, Err, sym, ap, subst}
 use Rattle.std.specs.Prelude.{◌^◌}
 use Rattle.std.specs.List.{AllByRecursion}
 use Rattle.std.specs.Rc.{rc_value}
@@ -24,7 +24,7 @@ use Rattle.bypass_member.specs.Judged.{entry_meant, IsKnown}
 use Rattle.bypass_member.specs.Making.{IsOpening}
 use Rattle.bypass_codes.specs.Codes.{CodesTree}
 use Rattle.bypass_member.specs.Modes.{IsTakenSo}
-use Rattle.bypass_member.specs.Placing.{codes_kept, placed_member, IsMember, IsRankIn}
+use Rattle.bypass_member.specs.Placing.{codes_kept, placed_member, IsMember, IsCountIn, IsRankIn}
 use Rattle.bypass_member.specs.Serving.{AreCodes, IsSpare}
 use Rattle.bypass_member.specs.Viewing.{HasMembers, IsIn, IsAt}
 use Rattle.bypass_member.specs.declared.entry.Entry.{Entry}
@@ -59,6 +59,9 @@ use Rattle.bypass_member.specs.declared.works.Works.{Works}
 -- a member has its rank in its view, and stands there
 pub ranked : (m : Inside) (view : View) → IsMember m → m.view ≡ Some view → IsRankIn (Some view) m.id m.rank
 ranked m view is at = subst (λ (v : Option View). IsRankIn v m.id m.rank) at is.rank_is
+
+counted : (m : Inside) (view : View) → IsMember m → m.view ≡ Some view → IsCountIn (Some view) m.count
+counted m view is at = subst (λ (v : Option View). IsCountIn v m.count) at is.count_is
 
 abbrev pub here_at : Inside → View → Here
 here_at m view = record { group = m.group; stamp = m.stamp; view = view; rank = m.rank }
@@ -152,8 +155,8 @@ pub ground_is : (m : Inside) (g : Ground) (view : View) → IsMember m → m.vie
     g.stack.now ≡ rc_value m.stack →
     g.plans.now ≡ rc_value m.plans → g.entries.now ≡ m.entries → g.starts.now ≡ m.starts → codes_in g ≡ codes_kept m →
     g.bare.now ≡ m.bare → g.here.now.view ≡ view → g.here.now.group < 2 ^ 32 → g.here.now.stamp < 2 ^ 32 →
-    g.here.now.rank ≡ m.rank → g.id ≡ m.id → IsGround g
-ground_is m g view is at stack plans entries starts codes bare here group stamp rank_is id_is =
+    g.here.now.rank ≡ m.rank → g.count ≡ m.count → g.id ≡ m.id → IsGround g
+ground_is m g view is at stack plans entries starts codes bare here group stamp rank_is count_is id_is =
     let there : IsAt (stack_tree (rc_value m.stack)) m.most m.id (Some view) (states_in m.kit.works) =
     subst (λ (v : Option View). IsAt (stack_tree (rc_value m.stack)) m.most m.id v (states_in m.kit.works)) at is.at in
     let its = ranked m view is at in record {
@@ -172,6 +175,8 @@ ground_is m g view is at stack plans entries starts codes bare here group stamp 
         rank = subst (λ (r : ℕ). r < most_members) (sym rank_is) its.1;
       };
       rank = rank_is ∙ its.0 ∙ (λ i. rank_of (sym here i) (sym id_is i));
+      count = count_is ∙ (counted m view is at).0 ∙ ap member_count (sym here);
+      few = subst (λ (n : ℕ). n ≤ most_members) (sym count_is) (counted m view is at).1;
     }
 
 -- what runs of code keep serves for what is equal

@@ -81,12 +81,13 @@ anew_in stack most view id me count old new at same few ready anew tasks outs =
     }
 
 -- a member that works with it is one, opened in the view
-module _ (m : Inside) (stack : Stack) (view : View) (works : Works) (r : ℕ) where
+module _ (m : Inside) (stack : Stack) (view : View) (works : Works) (r c : ℕ) where
   pub again_is : IsMember m → stack ≡ rc_value m.stack → IsView view →
       IsAnew (stack_tree stack) m.most view m.id works →
       (r ≡ rank_of view m.id) × (r < most_members) →
-      IsMember (record m { view = Some view; rank = r; kit = record m.kit { works = works } })
-  again_is is same is_view anew ranks =
+      (c ≡ member_count view) × (c ≤ most_members) →
+      IsMember (record m { view = Some view; rank = r; count = c; kit = record m.kit { works = works } })
+  again_is is same is_view anew ranks counts =
       let its = subst (λ (s : Stack). IsAnew (stack_tree s) m.most view m.id works) same anew in record {
         typed = is.typed;
         plans_are = is.plans_are;
@@ -94,6 +95,7 @@ module _ (m : Inside) (stack : Stack) (view : View) (works : Works) (r : ℕ) wh
         starts_are = is.starts_are;
         codes_are = is.codes_are;
         rank_is = ranks;
+        count_is = counts;
         bare = is.bare;
         ready = its.ready;
         spare = is.spare;
@@ -108,12 +110,12 @@ module _ (m : Inside) (stack : Stack) (view : View) (works : Works) (r : ℕ) wh
   pub restarted : (old : Placed) → placed_member m ≡ old → stack ≡ rc_value m.stack →
       IsAnew (stack_tree stack) m.most view m.id works →
       IsRestarted view old
-      (placed_member (record m { view = Some view; rank = r; kit = record m.kit { works = works } }))
+      (placed_member (record m { view = Some view; rank = r; count = c; kit = record m.kit { works = works } }))
   restarted old seen same anew =
       let its = subst (λ (s : Stack). IsAnew (stack_tree s) m.most view m.id works) same anew in
       subst
       (λ (p : Placed). IsRestarted view p
-      (placed_member (record m { view = Some view; rank = r; kit = record m.kit { works = works } }))) seen
+      (placed_member (record m { view = Some view; rank = r; count = c; kit = record m.kit { works = works } }))) seen
       (record {
         member = sym its.member;
         place = record { stack = refl; plans = refl; mode = refl; group = refl; stamp = refl; id = refl; most = refl };

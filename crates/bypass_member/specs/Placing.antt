@@ -1,7 +1,7 @@
 -- What a contract sees of a member, and what holds of each.
-use Rattle.std.specs.Prelude.{◌≡◌, ℕ, ◌<◌, [], Option, Some, None, option_map}
+use Rattle.std.specs.Prelude.{◌≡◌, ℕ, ◌<◌, ◌≤◌, [], Option, Some, None, option_map}
 use Rattle.std.specs.Rc.{rc_value}
-use Rattle.msg_core.specs.View.{most_members}
+use Rattle.msg_core.specs.View.{member_count, most_members}
 use Rattle.msg_core.specs.declared.packet.View.{View}
 use Rattle.stack_mean.specs.Plans.{plans_of}
 use Rattle.chain_laws.specs.Runs.{TypedStack}
@@ -45,9 +45,15 @@ abbrev pub IsRankIn : Option View → ℕ → ℕ → Type 0
 IsRankIn None id r = Unit {0}
 IsRankIn (Some view) id r = (r ≡ rank_of view id) × (r < most_members)
 
+-- In a view the count that a member keeps is that of the view's members, which are `most_members` at most; in no view
+-- it may be any number.
+abbrev pub IsCountIn : Option View → ℕ → Type 0
+IsCountIn None c = Unit {0}
+IsCountIn (Some view) c = (c ≡ member_count view) × (c ≤ most_members)
+
 -- Its stack is typed, the plans, the entries, the numbers of their first plans and the code are the stack's, its rank
--- is that in its view, its bare headers are none, its plans are laid out, and it is between two steps, in a view with
--- chained states that are its own, or in none.
+-- and count are those of its view, its bare headers are none, its plans are laid out, and it is between two steps, in a
+-- view with chained states that are its own, or in none.
 pub record IsMember (m : Inside) : Type 0 where
   pub typed : TypedStack (stack_tree (rc_value m.stack))
   pub plans_are : plans_tree (rc_value m.plans) ≡ plans_of (stack_tree (rc_value m.stack))
@@ -55,6 +61,7 @@ pub record IsMember (m : Inside) : Type 0 where
   pub starts_are : starts_tree m.starts ≡ starts_of (stack_tree (rc_value m.stack))
   pub codes_are : AreCodes (stack_tree (rc_value m.stack)) (codes_kept m)
   pub rank_is : IsRankIn m.view m.id m.rank
+  pub count_is : IsCountIn m.view m.count
   pub bare : m.bare ≡ []
   pub ready : IsReady (stack_tree (rc_value m.stack)) m.most m.kit.works
   pub spare : IsSpare (codes_kept m) (plans_tree (rc_value m.plans)) m.kit.scratch

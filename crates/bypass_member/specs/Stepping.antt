@@ -1,6 +1,7 @@
 -- A step of a member in a view, over what it works with.
-use Rattle.std.specs.Prelude.{◌≡◌, ℕ, ◌+◌, Bool, List, [], map, Option, None, option_map}
+use Rattle.std.specs.Prelude.{◌≡◌, ℕ, ◌+◌, ◌≤◌, Bool, List, [], map, Option, None, option_map}
 use Rattle.std.specs.Rc.{rc_value}
+use Rattle.msg_core.specs.View.{member_count, most_members}
 use Rattle.layer_mean.specs.State.{State}
 use Rattle.layer_mean.specs.Tree.{LayerTree}
 use Rattle.stack_mean.specs.Plan.{Plan}
@@ -46,7 +47,7 @@ abbrev pub mode_of : Ground → Mode
 mode_of g = mode_with (codes_in g)
 
 -- The stack is typed, the plans, the entries, the numbers of their first plans and the code are the stack's, the bare
--- headers are none, and it stands in a view, at its rank.
+-- headers are none, and it stands in a view, at its rank and with this count of members.
 pub record IsGround (g : Ground) : Type 0 where
   pub typed : TypedStack (stack_of g)
   pub plans : plans_in g ≡ plans_of (stack_of g)
@@ -56,6 +57,8 @@ pub record IsGround (g : Ground) : Type 0 where
   pub bare : g.bare.now ≡ []
   pub here : IsHere g.here.now
   pub rank : g.here.now.rank ≡ rank_of g.here.now.view g.id
+  pub count : g.count ≡ member_count g.here.now.view
+  pub few : g.count ≤ most_members
 
 -- The step of a member whose layers have these states, from what entered.
 abbrev pub step_over : Ground → List State → Entered → Step

@@ -3,7 +3,7 @@
 ghost use Rattle.std.specs.Prelude.{◌≡◌, ℕ, ◌≤◌, List, flat_map, vec_capacity};
 ghost use Rattle.std.specs.List.{AllByRecursion};
 ghost use Rattle.member_laws.specs.Members.{IsEntered};
-ghost use Rattle.msg_core.specs.View.{most_members};
+ghost use Rattle.msg_core.specs.View as members;
 ghost use Rattle.layer_mean.specs.declared.run.Case.TheVariants as cases;
 ghost use Rattle.packet_mean.specs.declared.here.Here as stands;
 ghost use Rattle.stack_mean.specs.Acceptance.{largest_weight};
@@ -31,7 +31,7 @@ use crate::works::Works;
 use bypass_codes::Codes;
 use handler_laws::steps_are_handled;
 use layer_mean::Case;
-use packet_full::{Scan, member_count};
+use packet_full::Scan;
 use packet_mean::Here;
 use packet_short::fits_with_fields;
 use stack_shapes::{EntryOf, Plans};
@@ -147,18 +147,21 @@ fn body_in<'a>(entry: &'a Entry<'_>) -> &'a [u8]
 pub(crate) fn given_of<'a>(
     _plans: &Plans,
     here: &Here,
+    count: u32,
     entry: &'a Entry<'_>,
     fields: &'a [u32],
 ) -> Given<'a>
+    requires count { count ≡ members.member_count here.now.view }
+    requires few { count ≤ members.most_members }
     requires lies { LiesWithin entry.now }
     requires fields { fields.now ≡ fields_given (plans_tree _plans.now) (entry_meant here.now entry.now) }
     ensures given { input_of result ≡ step_input (plans_tree _plans.now) here.now (entry_meant here.now entry.now) }
-    ensures members { result.count ≤ most_members }
+    ensures members { result.count ≤ members.most_members }
     ensures body { result.body.now ≡ body_of entry.now }
 {
     Given {
         me: u32::from(here.rank),
-        count: member_count(here.view),
+        count,
         ltime: here.view.ltime,
         peer: peer_of(here, entry),
         fields,
@@ -266,7 +269,13 @@ pub(crate) fn make_common<'x>(
     if let EntryOf::None = what {
         return None;
     }
-    let given = given_of(ground.plans, ground.here, entry, scratch.fields.as_slice());
+    let given = given_of(
+        ground.plans,
+        ground.here,
+        ground.count,
+        entry,
+        scratch.fields.as_slice(),
+    );
     let tried = Tried {
         codes,
         entry: what,

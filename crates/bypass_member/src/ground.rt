@@ -5,7 +5,7 @@ ghost use Rattle.std.specs.Rc.{rc_value};
 ghost use Rattle.msg_core.specs.View as members;
 ghost use Rattle.msg_core.specs.declared.packet.View.{View};
 ghost use Rattle.bypass_member.specs.After.{rank_of, view_after};
-ghost use Rattle.bypass_member.specs.Placing.{IsRankIn};
+ghost use Rattle.bypass_member.specs.Placing.{IsCountIn, IsRankIn};
 
 use bypass_codes::Codes;
 use event_graph::Stack;
@@ -17,7 +17,7 @@ use std::rc::Rc;
 use view_core::{Change, rank};
 
 /// What a member in a view works over: its stack with what is known of it, the code by which it runs, if any, a list of
-/// no headers, where it stands, its id, and how many members its first view had.
+/// no headers, where it stands, how many members its view has, its id, and how many members its first view had.
 #[derive(Drop)]
 pub(crate) struct Ground<'a> {
     pub(crate) stack: &'a Stack,
@@ -27,6 +27,7 @@ pub(crate) struct Ground<'a> {
     pub(crate) codes: Option<&'a Codes>,
     pub(crate) bare: &'a Headers,
     pub(crate) here: &'a Here,
+    pub(crate) count: u32,
     pub(crate) id: u8,
     pub(crate) most: u8,
 }
@@ -51,16 +52,25 @@ pub(crate) fn rank_in(view: View, id: u8) -> u8
     }
 }
 
-/// The view that a member is in, and its rank in it, become those after a change, if there was one.
+/// The view that a member is in, its rank in it, and how many members it has, become those after a change, if there was
+/// one.
 #[inline(always)]
-pub(crate) fn follow(view: &mut Option<View>, rank: &mut u8, id: u8, change: Option<Change>)
+pub(crate) fn follow(
+    view: &mut Option<View>,
+    rank: &mut u8,
+    count: &mut u32,
+    id: u8,
+    change: Option<Change>,
+)
     ensures view { (before : View) → view.old ≡ Some before → view.new ≡ view_after before change }
     ensures rank { IsRankIn view.old id rank.old → IsRankIn view.new id rank.new }
+    ensures count { IsCountIn view.old count.old → IsCountIn view.new count.new }
 {
     match change {
         Some(Change::Into(next)) => {
             *view = Some(next);
             *rank = rank_in(next, id);
+            *count = member_count(next);
         }
         Some(Change::Out) => *view = None,
         None => {}

@@ -45,9 +45,10 @@ pub struct Member {
     id: u8,
     /// How many members its first view had.
     most: u8,
-    /// The view that it is in, if it is in one, and its rank in it.
+    /// The view that it is in, if it is in one, its rank in it, and how many members it has.
     view: Option<View>,
     rank: u8,
+    count: u32,
     /// What the last datagram said.
     scan: Scan,
     /// Its plans, laid out where it runs by code.
@@ -128,6 +129,7 @@ impl Member {
             most,
             view: Some(view),
             rank: rank_in(view, id),
+            count: member_count(view),
             scan: Scan::none(),
             layouts,
             bare: Headers::none(),
@@ -178,11 +180,12 @@ impl Member {
             codes: lent(&self.codes),
             bare: &self.bare,
             here: &here,
+            count: self.count,
             id,
             most: self.most,
         };
         let Took { common, change } = take(&mut self.kit, &ground, entry, out, visits);
-        follow(&mut self.view, &mut self.rank, id, change);
+        follow(&mut self.view, &mut self.rank, &mut self.count, id, change);
         Stepped::Taken { common, change }
     }
 
@@ -233,12 +236,13 @@ impl Member {
             codes: lent(&self.codes),
             bare: &self.bare,
             here: &here,
+            count: self.count,
             id,
             most: self.most,
         };
         match try_common(&mut self.kit, &ground, &entry, checks, out) {
             Attempt::Made(change) => {
-                follow(&mut self.view, &mut self.rank, id, change);
+                follow(&mut self.view, &mut self.rank, &mut self.count, id, change);
                 Probed::Common
             }
             Attempt::Left(miss) => probed_of(miss),
@@ -260,6 +264,7 @@ impl Member {
         if restart_works(&mut self.kit.works, seat) {
             self.view = Some(view);
             self.rank = rank_in(view, self.id);
+            self.count = member_count(view);
             return true;
         }
         false
@@ -290,6 +295,7 @@ impl Member {
             most: _,
             view: _,
             rank: _,
+            count: _,
             scan: _,
             layouts: _,
             bare: _,

@@ -89,6 +89,7 @@ fn lacked<'x>(
     let given = given_of(
         ground.plans,
         ground.here,
+        ground.count,
         entry,
         kit.scratch.fields.as_slice(),
     );

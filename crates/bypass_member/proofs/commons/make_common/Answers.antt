@@ -12,6 +12,12 @@ given_of-given-requires-clause-fields c =
     let is : codes_in c.args.ground.now ≡ Some c.in-Some.codes.now = search rules in
     c.as_slice.ensures.value ∙ c.requires.fields c.in-Some.codes.now is c.args.ground.now.here.now
 
+pub given_of-given-requires-clause-count : goal.given_of-given-requires-clause-count
+given_of-given-requires-clause-count c = c.requires.ground.count
+
+pub given_of-given-requires-clause-few : goal.given_of-given-requires-clause-few
+given_of-given-requires-clause-few c = c.requires.ground.few
+
 pub try_cases-requires-clause-first : goal.try_cases-requires-clause-first
 try_cases-requires-clause-first c =
     let is : codes_in c.args.ground.now ≡ Some c.in-Some.codes.now = search rules in

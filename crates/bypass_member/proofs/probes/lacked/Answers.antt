@@ -20,6 +20,12 @@ returns-then-not-is_told-clause-lacks c =
 pub given_of-given-requires-clause-fields : goal.given_of-given-requires-clause-fields
 given_of-given-requires-clause-fields c = c.as_slice.ensures.value ∙ c.requires.fields
 
+pub given_of-given-requires-clause-count : goal.given_of-given-requires-clause-count
+given_of-given-requires-clause-count c = c.requires.ground.count
+
+pub given_of-given-requires-clause-few : goal.given_of-given-requires-clause-few
+given_of-given-requires-clause-few c = c.requires.ground.few
+
 pub miss-requires-clause-body : goal.miss-requires-clause-body
 miss-requires-clause-body c =
     subst (λ body. length body ≤ longest_body) (sym c.given_of-given.ensures.body)

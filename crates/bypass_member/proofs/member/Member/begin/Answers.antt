@@ -31,6 +31,7 @@ invariant_of-result c =
           (sym codes)
           c.requires.opening.codes_are);
       rank_is = (c.rank_in.ensures.rank, c.rank_in.ensures.few);
+      count_is = (c.member_count.ensures.count, c.member_count.ensures.few);
       bare = search rules;
       ready = subst (λ (s : Stack). IsReady (stack_tree s) c.member_count-most.result c.in_ok-kit.kit.works) (sym same)
           both.0;

@@ -52,6 +52,7 @@ returns-in-Made-clause-probed c =
     let new = record c.self.inside {
       view = c.follow.new.view;
       rank = c.follow.new.rank;
+      count = c.follow.new.count;
       kit = c.try_common.new.kit;
     } in
     record {

@@ -36,7 +36,7 @@ returns-in-Err-clause-step c =
 pub take-common-requires-clause-ground : goal.take-common-requires-clause-ground
 take-common-requires-clause-ground c =
     ground_is c.self.inside _ c.in-Some.view c.self.invariant c.in-Some.is c.deref-3.ensures c.deref-4.ensures refl refl
-    c.lent.ensures refl refl (omega arith) (omega arith) refl refl
+    c.lent.ensures refl refl (omega arith) (omega arith) refl refl refl
 
 pub take-common-requires-clause-entered : goal.take-common-requires-clause-entered
 take-common-requires-clause-entered c =
@@ -58,6 +58,7 @@ returns-clause-step c =
     (placed_member (record c.self.inside {
       view = c.follow.new.view;
       rank = c.follow.new.rank;
+      count = c.follow.new.count;
       kit = c.take-common.new.kit;
     }))
     c.take-common.new.out.outputs c.args.visits.now c.take-common.new.visits c.take-common.result.common
@@ -71,6 +72,7 @@ returns-clause-step c =
     (placed_member (record c.self.inside {
       view = c.follow.new.view;
       rank = c.follow.new.rank;
+      count = c.follow.new.count;
       kit = c.take-common.new.kit;
     }))
     (ap stack_tree c.deref-3.ensures) (ap plans_tree c.deref-4.ensures) (ap mode_with c.lent.ensures) here refl enters
