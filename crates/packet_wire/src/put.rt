@@ -12,7 +12,8 @@ use packet_mean::Here;
 use packet_short::{put_short, short_room_of};
 use stack_shapes::Plans;
 
-/// Puts a packet under the plan of a number: short where there is such a plan, and else in full.
+/// Puts a packet under the plan of a number: short where there is such a plan, and else in full. The packet is told anew
+/// for a short form: lent as it is, what is told of each output would lie in memory wherever packets are picked out.
 #[inline(always)]
 fn put_under(plans: &Plans, number: u8, here: &Here, packet: &PacketView<'_>, into: &mut Vec<u8>)
     requires { vec_len into.old + short_room
@@ -22,7 +23,15 @@ fn put_under(plans: &Plans, number: u8, here: &Here, packet: &PacketView<'_>, in
         (Some number) }
 {
     match plans.get(number) {
-        Some(plan) => put_short(plan, number, here, packet, into),
+        Some(plan) => {
+            let sent = PacketView {
+                dest: packet.dest,
+                headers: packet.headers,
+                body: packet.body,
+                plan: packet.plan,
+            };
+            put_short(plan, number, here, &sent, into);
+        }
         None => put_full_of(here, packet.dest, packet.headers, packet.body, into),
     }
 }
