@@ -36,9 +36,11 @@ items_in (Some (queue capacity items)) = Some items
 items_in (Some (queues capacity items)) = Some items
 items_in _ = None
 
+-- Rows with neither numbers nor a message.
 abbrev pub no_items : ItemsTree
 no_items = record { numbers = []; message = None }
 
+-- What the rows of cell c of the layer at place p have; nothing, if that is no queue.
 abbrev pub items_at : List LayerTree → ℕ → ℕ → ItemsTree
 items_at stack p c = unwrap_or (items_in (form_at (layer_of stack p) c)) no_items
 
@@ -59,13 +61,14 @@ below limit word = do
 abbrev pub place_of : List ℕ → List (List ℕ) → Option ℕ
 place_of name names = position (bytes_eq name) names
 
--- A number of a taken row, and its message where it has one.
+-- A number of a row that was taken before, by the row's number and the name that its queue gives it.
 abbrev pub row_number : Named → List ℕ → List ℕ → Option Atom
 row_number s row name = do
   r ← below (length s.rows) row
   k ← place_of name (slice_index_or s.rows r no_items).numbers
   Some (taken_number r k)
 
+-- The message of a row that was taken before, by the row's number, where its queue's rows have one.
 abbrev pub row_message : Named → List ℕ → Option Core
 row_message s row = do
   r ← below (length s.rows) row
@@ -108,17 +111,20 @@ abbrev pub kind_named : List (List ℕ) → Option Kind
 kind_named (word ∷ []) = beside kinds word
 kind_named _ = None
 
--- The function of a word, and the operator of a word or symbol.
+-- All functions of one number.
 abbrev pub functions : List Function
 functions = Not ∷ Bit ∷ Count ∷ Lowest ∷ []
 
+-- The function of a word.
 abbrev pub function_named : List (List ℕ) → Option Function
 function_named (word ∷ []) = find (λ f. bytes_eq word (sign_text (function_sign f))) functions
 function_named _ = None
 
+-- All operators between two numbers.
 abbrev pub operators : List Operator
 operators = Add ∷ Subtract ∷ Multiply ∷ Equal ∷ NotEqual ∷ Less ∷ LessOrEqual ∷ Greater ∷ GreaterOrEqual ∷ And ∷ Or ∷
     BitAnd ∷ BitOr ∷ BitXor ∷ []
 
+-- The operator of a word or symbol.
 abbrev pub operator_named : List ℕ → Option Operator
 operator_named word = find (λ o. bytes_eq word (sign_text (operator_sign o))) operators
