@@ -43,12 +43,13 @@ mutual
     tail : MessageValue → (from : NumberValue) → MessageValue
     join : MessageValue → MessageValue → MessageValue
 
--- A known header, and a message after such headers.
+-- A known header, with the values of its fields.
 pub record LinkValue : Type 0 where
   pub place : ℕ
   pub tag : ℕ
   pub fields : List NumberValue
 
+-- A message that is sent or stored: known headers, and the value of the message after them.
 pub record ChainedValue : Type 0 where
   pub chain : List LinkValue
   pub message : MessageValue
