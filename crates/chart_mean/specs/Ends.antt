@@ -5,6 +5,7 @@ use Rattle.outside.specs.Said.{Errors, SaysLine, Silent}
 use Rattle.chart_mean.specs.declared.types.Ending.{Ending}
 use Rattle.chart_mean.specs.declared.types.Ending.TheVariants.{Done, TooLarge, Line, Words, Read, Write, Memory}
 
+-- the status with which the program ends
 abbrev pub status_number : Ending → ℕ
 status_number Done = 0
 status_number TooLarge = 1

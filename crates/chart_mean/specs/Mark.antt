@@ -26,6 +26,7 @@ abbrev pub carries : Word → Says → Bool
 carries wanted (packet member body) = bytes_eq body wanted && not (bytes_eq body (codes "-"))
 carries wanted _ = false
 
+-- the member that sends the packet of a line, 0 for a line of any other kind
 abbrev pub sender_of : Says → ℕ
 sender_of (packet member body) = member
 sender_of _ = 0

@@ -52,6 +52,7 @@ sign_class b =
     else if nat_eq b 44 || (nat_eq b 41 || (nat_eq b 93 || nat_eq b 58)) then class.Tight
     else class.Apart
 
+-- the class of a token or comment, by its spelling
 abbrev pub class_of : List ℕ → Class
 class_of [] = class.Apart
 class_of (b ∷ bs) = if is_word_byte b then word_class (b ∷ bs) else sign_class b

@@ -42,6 +42,7 @@ length_after b bs =
     else if is_word_byte b then prefix_len is_word_byte bs
     else sign_length b bs
 
+-- what a text begins with, by its first byte and those after it
 abbrev pub front : ℕ → List ℕ → Front
 front b bs = if nat_eq b 10 then feed else if is_blank b then blank else whole (length_after b bs)
 

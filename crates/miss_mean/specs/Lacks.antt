@@ -47,15 +47,17 @@ lack_of case s (Ok x) =
     if nat_le x.length longest_shape then missed (option_map_or (λ k. k) (first_missed case s) 0) else absent
     no_shape.long
 
--- What the first case of an entry lacks, if there is an entry, and the second, if it is made.
+-- What the first case of an entry lacks; a plan, where the packet fits none.
 abbrev pub first_lack : List LayerTree → Step → Option Known → Lack
 first_lack stack s None = no_plan
 first_lack stack s (Some known) = lack_of First s (shape stack known First)
 
+-- What the second case of an entry lacks, if that case is made.
 abbrev pub second_lack : List LayerTree → Step → Known → Option Lack
 second_lack stack s known = if has_second_case stack known then Some (lack_of Second s (shape stack known Second)) else
     None
 
+-- What a step with this entry lacked, by what is known of its event, which is nothing where its packet fits no plan.
 abbrev pub miss_by : List LayerTree → Step → Option Known → Entry → Miss
 miss_by stack s known entry =
     record { entry = entry; first = first_lack stack s known; second = option_and_then (second_lack stack s) known }

@@ -38,11 +38,12 @@ abbrev mutual
   block_lines case ast.none = []
   block_lines case (ast.more statement rest) = statement_lines case statement ++ block_lines case rest
 
--- A handler that is common where a condition holds decides that first.
+-- The line of the condition where a handler is common, which it decides first; none for any other.
 abbrev pub expected_lines : ast.Expected → List ℕ
 expected_lines (ast.common condition) = (expression_at condition).line ∷ []
 expected_lines _ = []
 
+-- The lines of a handler's decisions on its predicted way in a case: of its own condition, and then of its block.
 abbrev pub handler_lines : Case → ast.HandlerTree → List ℕ
 handler_lines case h = expected_lines h.expected ++ block_lines case h.block
 
@@ -76,6 +77,7 @@ pub record Spot : Type 0 where
   pub place : ℕ
   pub line : ℕ
 
+-- The decisions of a visit, which is given with its number, at its place of the stack.
 abbrev pub visit_spots : Case → FileTree → List LayerTree → ℕ × ShapeVisit → List Spot
 visit_spots case file stack x = map (λ line. record { visit = x.0; place = x.1.place; line = line })
     (visit_lines case file stack x.1)

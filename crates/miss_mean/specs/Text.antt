@@ -36,11 +36,12 @@ known_at plans send = Some entry.app_send
 known_at plans (plan k) = option_map plan_entry (slice_get plans k)
 known_at plans none = None
 
--- The decisions on the predicted way of an entry in a case.
+-- The decisions of a shape in a case; none where there is no shape.
 abbrev pub drawn_spots : Case → FileTree → List LayerTree → Result Shape NoShape → List Spot
 drawn_spots case file stack (Ok s) = shape_spots case file stack s
 drawn_spots case file stack (Err reason) = []
 
+-- The decisions on the predicted way of an entry in a case; none where it isn't known or has no shape.
 abbrev pub entry_spots : Case → FileTree → List LayerTree → Option Known → List Spot
 entry_spots case file stack known = option_map_or (λ k. drawn_spots case file stack (shape stack k case)) known []
 
@@ -69,11 +70,12 @@ miss_line file stack plans event id miss = let known = known_at plans miss.entry
     ∷ lack_text stack (entry_spots First file stack known) miss.first
     ∷ second_text stack (entry_spots Second file stack known) miss.second)
 
--- The line of an event, if its step was taken and lacked something.
+-- What the step of an event lacked, if it was taken and wasn't common.
 abbrev pub missed_in : List LayerTree → List Plan → Did → Option Miss
 missed_in stack plans (taken s) = miss_of stack plans s
 missed_in stack plans _ = None
 
+-- The line of an event, which is given with its number, if its step was taken and lacked something.
 abbrev pub event_misses : FileTree → List LayerTree → List Plan → ℕ × Moment → List (List ℕ)
 event_misses file stack plans x = option_to_list (option_map (miss_line file stack plans x.0 (member_of x.1.event))
     (missed_in stack plans x.1.happening.did))
