@@ -92,7 +92,7 @@ AliasedGuard = guard_of (set 0 1 (cell 0 0) (lit 5) ∷ check (binary Equal (ele
 abbrev pub more_rows : TraceNumber
 more_rows = binary Add (rows 0 1 (lit 0)) (lit 1)
 
--- A push of a row of one number, the layer's first cell, with the body as its message.
+-- A push of a row whose one number is that of the first cell, with the body as its message.
 abbrev pub pushing : Operation
 pushing = push 0 1 (lit 0) (cell 0 0 ∷ []) (with_chain [] body)
 
@@ -109,7 +109,7 @@ QueueGuard = guard_of (check (binary Equal (rows 0 1 (lit 0)) (lit 0)) ∷ pushi
       operations = pushing ∷ [];
     }
 
--- The size of the message of a row of the queue, held in it.
+-- The size of the message that a row of the queue holds.
 abbrev pub few_bytes : TraceNumber → TraceNumber
 few_bytes row = size (held 0 1 (lit 0) row part)
 
