@@ -62,6 +62,7 @@ fn fill_numbers(numbers: &mut Vec<u32>, envelope: Envelope, fields: &Fields, cou
     }
 }
 
+/// Makes the numbers of the scope anew, for a block that declares `count` of its own.
 fn bind_numbers<K: Start>(
     desk: &mut FileDesk,
     pool: &Pool,
@@ -108,6 +109,8 @@ fn bind_bare<K: Start>(desk: &mut FileDesk, pool: &Pool, count: u8)
     }
 }
 
+/// Makes the scope of a handler's block: the event's numbers, the fields of its header and the message that arrived,
+/// and then the numbers and messages that the block declares. The messages of the scope before go back.
 pub(crate) fn enter<K: Start>(
     desk: &mut FileDesk,
     pool: &mut Pool,

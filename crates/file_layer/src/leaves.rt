@@ -37,6 +37,7 @@ pub(crate) fn forget_rest<K: Start>(desk: &mut FileDesk, pool: &mut Pool)
     desk.tray.drop_arrived(pool);
 }
 
+/// Lets the scope of a visit go, and what arrived: all their references go back to the pool.
 #[inline(always)]
 pub(crate) fn leave<K: Start>(desk: &mut FileDesk, pool: &mut Pool)
     requires { IsReady K.begun pool.old desk.old }

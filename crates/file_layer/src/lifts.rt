@@ -23,6 +23,7 @@ pub(crate) fn take_last(hand: &mut Messages) -> Option<PoolMessage>
     hand.pop()
 }
 
+/// Takes a message of the scope into the hand; the scope keeps it. One that isn't there has no bytes.
 #[inline(always)]
 pub(crate) fn lift<K: Start>(desk: &mut FileDesk, pool: &mut Pool, slot: u8) -> Result<(), NoRoom>
     requires { IsReady K.begun pool.old desk.old }
@@ -47,6 +48,7 @@ pub(crate) fn lift<K: Start>(desk: &mut FileDesk, pool: &mut Pool, slot: u8) -> 
     }
 }
 
+/// Takes a message without bytes into the hand.
 pub(crate) fn lift_nothing<K: Start>(desk: &mut FileDesk, pool: &Pool) -> Result<(), NoRoom>
     requires { IsReady K.begun pool.now desk.old }
     ensures ready { IsReady K.begun pool.now desk.new }
@@ -61,6 +63,7 @@ pub(crate) fn lift_nothing<K: Start>(desk: &mut FileDesk, pool: &Pool) -> Result
     Ok(())
 }
 
+/// Leaves of the newest message in hand at most `count` bytes from byte `from` on, and none of its headers.
 pub(crate) fn cut<K: Start>(desk: &mut FileDesk, pool: &Pool, from: u32, count: u32)
     requires { IsReady K.begun pool.now desk.old }
     ensures ready { IsReady K.begun pool.now desk.new }
@@ -73,6 +76,7 @@ pub(crate) fn cut<K: Start>(desk: &mut FileDesk, pool: &Pool, from: u32, count: 
     }
 }
 
+/// Leaves of the newest message in hand the bytes from byte `from` on, and its headers.
 pub(crate) fn tail<K: Start>(desk: &mut FileDesk, pool: &Pool, from: u32)
     requires { IsReady K.begun pool.now desk.old }
     ensures ready { IsReady K.begun pool.now desk.new }
@@ -85,6 +89,7 @@ pub(crate) fn tail<K: Start>(desk: &mut FileDesk, pool: &Pool, from: u32)
     }
 }
 
+/// Joins the two newest messages in hand, with the older as the front part, in a slot of the pool.
 pub(crate) fn join<K: Start>(desk: &mut FileDesk, pool: &mut Pool) -> Result<(), NoRoom>
     requires { IsReady K.begun pool.old desk.old }
     ensures ready { IsReady K.begun pool.new desk.new }

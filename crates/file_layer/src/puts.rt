@@ -15,6 +15,7 @@ use msg_core::Fields;
 use pool_message::PoolRow;
 use slot_pool::Pool;
 
+/// Puts a row of numbers alone at the back of a queue that has room.
 pub(crate) fn push<K: Start>(
     desk: &mut FileDesk,
     pool: &Pool,
@@ -42,6 +43,7 @@ pub(crate) fn push<K: Start>(
     Ok(())
 }
 
+/// Puts a row with the newest message in hand at the back of a queue that has room.
 pub(crate) fn push_first<K: Start>(
     desk: &mut FileDesk,
     pool: &Pool,

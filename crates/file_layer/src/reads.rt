@@ -13,6 +13,7 @@ use layer_desk::{Queue, RowAt, Start};
 use slot_pool::Pool;
 use typed_layer::Carried;
 
+/// The own rank.
 pub(crate) fn me<K: Start>(desk: &FileDesk, pool: &Pool) -> u32
     requires { IsReady K.begun pool.now desk.now }
     ensures { result ≡ (laid pool.now (stock_of desk.now)).state.me }
@@ -20,6 +21,7 @@ pub(crate) fn me<K: Start>(desk: &FileDesk, pool: &Pool) -> u32
     desk.cells.me()
 }
 
+/// The number of members of the view.
 pub(crate) fn count<K: Start>(desk: &FileDesk, pool: &Pool) -> u32
     requires { IsReady K.begun pool.now desk.now }
     ensures { result ≡ (laid pool.now (stock_of desk.now)).state.count }
@@ -27,6 +29,7 @@ pub(crate) fn count<K: Start>(desk: &FileDesk, pool: &Pool) -> u32
     desk.cells.count()
 }
 
+/// How many views came before.
 pub(crate) fn ltime<K: Start>(desk: &FileDesk, pool: &Pool) -> u32
     requires { IsReady K.begun pool.now desk.now }
     ensures { result ≡ (laid pool.now (stock_of desk.now)).state.ltime }
@@ -34,6 +37,7 @@ pub(crate) fn ltime<K: Start>(desk: &FileDesk, pool: &Pool) -> u32
     desk.cells.ltime()
 }
 
+/// The number in a slot of the scope, 0 where there is no such slot.
 pub(crate) fn local<K: Start>(desk: &FileDesk, pool: &Pool, slot: u8) -> u32
     requires { IsReady K.begun pool.now desk.now }
     ensures { result ≡ slice_index (laid pool.now (stock_of desk.now)).scope.numbers slot }
@@ -44,6 +48,7 @@ pub(crate) fn local<K: Start>(desk: &FileDesk, pool: &Pool, slot: u8) -> u32
     }
 }
 
+/// The number of a cell at an index, 0 where it isn't there.
 #[tactic(auto, using(crate::proofs::Queues::number_seen))]
 pub(crate) fn number<K: Start>(desk: &FileDesk, pool: &Pool, cell: u8, index: u32) -> u32
     requires { IsReady K.begun pool.now desk.now }
@@ -52,6 +57,7 @@ pub(crate) fn number<K: Start>(desk: &FileDesk, pool: &Pool, cell: u8, index: u3
     desk.cells.get(cell, index)
 }
 
+/// The number of a square cell in a row and a column, 0 where it isn't there.
 #[tactic(auto, using(crate::proofs::Queues::number_seen))]
 pub(crate) fn square<K: Start>(desk: &FileDesk, pool: &Pool, cell: u8, row: u32, column: u32) -> u32
     requires { IsReady K.begun pool.now desk.now }
@@ -61,6 +67,7 @@ pub(crate) fn square<K: Start>(desk: &FileDesk, pool: &Pool, cell: u8, row: u32,
     desk.cells.square(cell, row, column)
 }
 
+/// How many rows a queue has.
 #[tactic(auto, using(crate::proofs::Queues::length_seen))]
 pub(crate) fn rows<K: Start>(desk: &FileDesk, pool: &Pool, cell: u8, index: u32) -> u32
     requires { IsReady K.begun pool.now desk.now }
@@ -69,6 +76,7 @@ pub(crate) fn rows<K: Start>(desk: &FileDesk, pool: &Pool, cell: u8, index: u32)
     desk.cells.len(cell, index)
 }
 
+/// A number of a row that is in a queue, 0 where it isn't there.
 pub(crate) fn item<K: Start>(desk: &FileDesk, pool: &Pool, at: RowAt, number: u8) -> u32
     requires { IsReady K.begun pool.now desk.now }
     ensures { result ≡ number_in number
@@ -80,6 +88,7 @@ pub(crate) fn item<K: Start>(desk: &FileDesk, pool: &Pool, at: RowAt, number: u8
     }
 }
 
+/// Whether a queue is there and has fewer rows than its capacity.
 #[tactic(auto, using(crate::proofs::Queues::room_seen))]
 pub(crate) fn has_room<K: Start>(desk: &FileDesk, pool: &Pool, queue: Queue) -> bool
     requires { IsReady K.begun pool.now desk.now }
@@ -88,6 +97,7 @@ pub(crate) fn has_room<K: Start>(desk: &FileDesk, pool: &Pool, queue: Queue) -> 
     desk.cells.has_room(queue.cell, queue.index, queue.capacity)
 }
 
+/// How many bytes a message of the scope has, 0 where it isn't there.
 pub(crate) fn local_size<K: Start>(desk: &FileDesk, pool: &Pool, slot: u8) -> u32
     requires { IsReady K.begun pool.now desk.now }
     ensures { result ≡ length (slice_index_or (laid pool.now (stock_of desk.now)).scope.messages slot (plain [])).body }
@@ -98,6 +108,7 @@ pub(crate) fn local_size<K: Start>(desk: &FileDesk, pool: &Pool, slot: u8) -> u3
     }
 }
 
+/// How many bytes the message of a row in a queue has, 0 where it isn't there.
 pub(crate) fn row_size<K: Start>(desk: &FileDesk, pool: &Pool, at: RowAt, carried: Carried) -> u32
     requires { IsReady K.begun pool.now desk.now }
     ensures { result ≡ length (message_in (carried_tree carried)

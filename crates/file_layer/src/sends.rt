@@ -52,6 +52,7 @@ fn put_after(sending: &Sending, tray: &mut Tray)
     }
 }
 
+/// Sends an event without a message, if there is a place for it.
 #[inline(always)]
 pub(crate) fn send<K: Start>(
     desk: &mut FileDesk,
@@ -73,6 +74,7 @@ pub(crate) fn send<K: Start>(
     Ok(())
 }
 
+/// Sends an event with the newest message in hand, going down after a header.
 pub(crate) fn send_first<K: Start>(
     desk: &mut FileDesk,
     pool: &Pool,
@@ -139,6 +141,7 @@ fn send_missing<K: Start>(desk: &mut FileDesk, pool: &Pool, sending: &Sending, s
     send_nothing(&mut desk.tray, sending);
 }
 
+/// Sends an event with a message of the scope, going down after a header; the scope keeps it.
 pub(crate) fn send_local<K: Start>(
     desk: &mut FileDesk,
     pool: &mut Pool,
@@ -182,6 +185,7 @@ fn send_last_local<K: Start>(desk: &mut FileDesk, pool: &mut Pool, sending: &Sen
     desk.tray.send_and_clear(sending, usize::from(slot), pool);
 }
 
+/// Sends an event with a message of the scope, going down after a header, and lets the scope and what arrived go.
 pub(crate) fn send_local_and_leave<K: Start>(
     desk: &mut FileDesk,
     pool: &mut Pool,
@@ -208,6 +212,8 @@ pub(crate) fn send_local_and_leave<K: Start>(
     Ok(())
 }
 
+/// Takes the first header off the message that arrived: answers its tag, 0 where there is none, and fills in its
+/// fields.
 pub(crate) fn pop_header<K: Start>(desk: &mut FileDesk, pool: &Pool, fields: &mut Fields) -> u8
     requires ready { IsReady K.begun pool.now desk.old }
     requires none { fields.old ≡ [] }
@@ -230,6 +236,7 @@ fn arrived_headers(desk: &FileDesk, pool: &Pool) -> u32
     }
 }
 
+/// Sends an event on with the message that arrived, if one did, going down after a header.
 pub(crate) fn pass_on<K: Start>(
     desk: &mut FileDesk,
     pool: &Pool,

@@ -45,6 +45,7 @@ fn is_too_wide(carried: Carried) -> bool
     }
 }
 
+/// Whether a blank has more headers than a message that a layer keeps, or one of a place beyond 255.
 #[tactic(auto, using(crate::proofs::Blank::too_many, crate::proofs::Blank::too_high))]
 fn is_beyond(blank: Blank) -> bool
     ensures { JudgesBlank blank result }
@@ -69,6 +70,8 @@ fn stand_in(carried: Carried) -> PoolMessage
     }
 }
 
+/// Takes the message of a row in a queue into the hand; the row keeps it. A blank one stands in for one that isn't
+/// there.
 pub(crate) fn lift_row<K: Start>(
     desk: &mut FileDesk,
     pool: &mut Pool,
@@ -178,6 +181,7 @@ fn is_misfit(taken: &Taken) -> bool
     }
 }
 
+/// Takes the front row of a queue into the scope, and answers whether there was one.
 pub(crate) fn take<K: Start>(
     desk: &mut FileDesk,
     pool: &mut Pool,

@@ -9,6 +9,7 @@ use crate::desk::FileDesk;
 use layer_desk::{Square, Start};
 use slot_pool::Pool;
 
+/// Sets the number in a slot of the scope, if there is such a slot.
 pub(crate) fn bind<K: Start>(desk: &mut FileDesk, pool: &Pool, slot: u8, value: u32)
     requires { IsReady K.begun pool.now desk.old }
     ensures ready { IsReady K.begun pool.now desk.new }
@@ -21,6 +22,7 @@ pub(crate) fn bind<K: Start>(desk: &mut FileDesk, pool: &Pool, slot: u8, value: 
     }
 }
 
+/// Sets the number of a cell at an index, if it is there.
 pub(crate) fn assign<K: Start>(desk: &mut FileDesk, pool: &Pool, cell: u8, index: u32, value: u32)
     requires { IsReady K.begun pool.now desk.old }
     ensures ready { IsReady K.begun pool.now desk.new }
@@ -30,6 +32,7 @@ pub(crate) fn assign<K: Start>(desk: &mut FileDesk, pool: &Pool, cell: u8, index
     desk.cells.set(cell, index, value);
 }
 
+/// Sets the number of a square cell in a row and a column, if it is there.
 pub(crate) fn assign_square<K: Start>(desk: &mut FileDesk, pool: &Pool, square: Square, value: u32)
     requires { IsReady K.begun pool.now desk.old }
     ensures ready { IsReady K.begun pool.now desk.new }
