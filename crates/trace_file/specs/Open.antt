@@ -64,7 +64,7 @@ abbrev pub Names : Open → Open → Operation → {E : Type 0} → Result (Unit
 Names old new o (Ok done) = IsNamed old new o
 Names old new o (Err e) = Unit {0}
 
--- The same, and it is put after the others.
+-- What an operation gives a name to where it is put after the operations of its case.
 pub record IsPut (old new : Open) (o : Operation) : Type 0 where
   pub named : (stack : List LayerTree) (ts : List Term) (cs : List (List trace.Link)) →
       named_of stack new ≡ naming stack

@@ -91,7 +91,7 @@ ReadsChained taken old new after (Ok c) = ChainedRead taken old new after c
 ReadsChained taken old new after (Err Form) = taken ≡ None
 ReadsChained taken old new after (Err Memory) = Unit {0}
 
--- The same of one that may be missing.
+-- A message that a reader took with its chain, or none where it may be missing.
 pub record MessageRead (taken : Option (Option trace.Chained × List ℕ)) (old new : List Link) (after : List ℕ)
     (m : Option Chained) : Type 0 where
   pub is : taken ≡ Some (option_map (chained_in (chains new)) m, after)
