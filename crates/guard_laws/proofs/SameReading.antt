@@ -1,4 +1,4 @@
--- The same readings are worth the same.
+-- Readings that are spelled alike are worth the same.
 use Rattle.std.proofs.Common.{◌≡◌, ◌==◌, true, List, refl, ap, ap₂}
 use Rattle.std.proofs.lemmas.Bool.{eqb-true, and_parts, false≢true}
 use denote.Enum.Bare.{sameb, same_true}
