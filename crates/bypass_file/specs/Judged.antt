@@ -22,7 +22,8 @@ Judges stack text (Err (Line n)) = IsFault stack text (bad_line n)
 Judges stack text (Err (Differs entry case act)) = IsFault stack text (differs entry case act)
 Judges stack text (Err Memory) = Unit {0}
 
--- The same where bypasses were changed in place; of those of a file that is refused nothing is said.
+-- A file was read into bypasses, which are those that it gives, or it is refused for its fault, or memory ran out; of
+-- the bypasses where it is refused nothing is said.
 abbrev pub JudgesInto : List LayerTree → List ℕ → code.Bypasses → Result (Unit {0}) BypassError → Type 0
 JudgesInto stack text b (Ok read) = Judges stack text (Ok b)
 JudgesInto stack text b (Err e) = Judges stack text (Err e)

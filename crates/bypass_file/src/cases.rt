@@ -45,7 +45,7 @@ fn fill(
     }
 }
 
-/// The same of a second case, where there is one.
+/// Puts the next trace of a file in place of the stack's own for a second case, where there is one.
 fn fill_second(
     alloc: Global,
     entry: u32,
@@ -66,7 +66,7 @@ fn fill_second(
     }
 }
 
-/// The same of both cases of an entry.
+/// Puts the next traces of a file in place of the stack's own for both cases of an entry, the first case first.
 fn fill_cases(
     alloc: Global,
     entry: u32,
@@ -83,7 +83,7 @@ fn fill_cases(
     Ok(())
 }
 
-/// The same of the packets of all plans.
+/// Puts the next traces of a file in place of the stack's own for the packets of all plans, in order.
 fn fill_plans(
     alloc: Global,
     own: &mut Vec<Cases>,

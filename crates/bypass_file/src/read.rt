@@ -39,7 +39,7 @@ pub fn read_bypasses(alloc: Global, stack: &Stack, text: &[u8]) -> Result<Bypass
     read_with(alloc, stack, &shapes, text)
 }
 
-/// The same where the stack's shapes are drawn.
+/// The bypasses that a file gives for a stack whose shapes are drawn, if its traces are accepted.
 fn read_with(
     alloc: Global,
     stack: &Stack,

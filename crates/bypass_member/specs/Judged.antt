@@ -41,7 +41,7 @@ abbrev pub IsKnown : List Plan → (kept : List ℕ) → Entry → Type 0
 IsKnown plans kept (Packet scan bytes known) = IsReadAs plans known (kind_of scan.now.dest) scan.now.headers kept
 IsKnown plans kept _ = Unit {0}
 
--- The same of the plan alone.
+-- What reading told of a packet's plan holds, whatever the fields that the plan leaves variable.
 abbrev pub IsPlanned : List Plan → Entry → Type 0
 IsPlanned plans (Packet scan bytes known) = IsLeastFor plans known (kind_of scan.now.dest) scan.now.headers
 IsPlanned plans _ = Unit {0}

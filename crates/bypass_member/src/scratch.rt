@@ -43,7 +43,7 @@ pub(crate) fn open_scratch(
     Ok(Scratch { values, fields })
 }
 
-/// The same code once more, if there is some.
+/// Another handle of the code, if there is some; the code itself isn't copied.
 pub(crate) fn share(codes: Option<&Rc<Codes>>) -> Result<Option<Rc<Codes>>, AllocError>
     ensures { IfOk result (λ shared. option_map rc_value shared ≡ option_map (λ c. rc_value c.now) codes.entry) }
 {

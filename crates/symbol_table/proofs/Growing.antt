@@ -88,7 +88,7 @@ knows_grown {a} {b} {w} {v} g k = record {
   counts = k.counts;
 }
 
--- The same, after what was made.
+-- What is known to a walk stays known after one value more was made.
 pub knows_made : {a b : List Form} {w : Walk} {k : ℕ} {x : Meant} → Made a b k x → KnowsAs a w (known_to w) →
     KnowsAs b w (known_to w)
 knows_made m h = knows_grown m.grows h
