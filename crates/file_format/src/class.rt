@@ -18,6 +18,7 @@ pub(crate) fn class_of(spelling: &[u8]) -> Class
     }
 }
 
+/// The class of a word or number.
 fn word_class(word: &[u8]) -> Class
     ensures { result ≡ spec.word_class word.now }
 {
@@ -80,6 +81,7 @@ fn stands_apart(word: &[u8]) -> bool
         || is(word, "or")
 }
 
+/// The class of a comment or a sign, by its first byte.
 fn sign_class(first: u8) -> Class
     ensures { result ≡ spec.sign_class first }
 {
@@ -103,12 +105,14 @@ pub(crate) fn are_joined(last: Class, next: Class) -> bool
     holds_next(last) || holds_last(next) || calls(last, next)
 }
 
+/// Whether nothing stands apart after this.
 fn holds_next(class: Class) -> bool
     ensures { result ≡ spec.holds_next class }
 {
     matches!(class, Class::Parenthesis | Class::Bracket | Class::Dot)
 }
 
+/// Whether this stands apart from nothing before it.
 fn holds_last(class: Class) -> bool
     ensures { result ≡ spec.holds_last class }
 {
@@ -118,12 +122,14 @@ fn holds_last(class: Class) -> bool
     )
 }
 
+/// Whether the first is a word that is called, as the second is a parenthesis.
 fn calls(last: Class, next: Class) -> bool
     ensures { result ≡ spec.calls last next }
 {
     matches!((last, next), (Class::Plain, Class::Parenthesis))
 }
 
+/// Whether a statement or declaration may begin after this.
 pub(crate) fn ends_statement(class: Class) -> bool
     ensures { result ≡ spec.ends_statement class }
 {
@@ -133,12 +139,14 @@ pub(crate) fn ends_statement(class: Class) -> bool
     )
 }
 
+/// Whether this is an opening or closing brace.
 pub(crate) fn is_brace(class: Class) -> bool
     ensures { result ≡ spec.is_brace class }
 {
     matches!(class, Class::Opening | Class::Closing)
 }
 
+/// Whether this is a comment, which goes on to the end of its line.
 pub(crate) fn is_remark(class: Class) -> bool
     ensures { result ≡ is_remark class }
 {

@@ -59,24 +59,28 @@ fn sign_length(first: u8, following: &[u8]) -> usize
     }
 }
 
+/// Whether a byte makes one sign with an equals sign after it.
 fn doubles(byte: u8) -> bool
     ensures { result ≡ spec.doubles byte }
 {
     matches!(byte, b'=' | b'!' | b'<' | b'>')
 }
 
+/// Whether a byte is a line feed.
 pub(crate) fn is_feed(byte: u8) -> bool
     ensures { result ≡ nat_eq byte 10 }
 {
     byte == b'\n'
 }
 
+/// Whether a byte is a space, a tab, a carriage return or a line feed.
 pub(crate) fn is_blank(byte: u8) -> bool
     ensures { result ≡ spelling.is_blank byte }
 {
     matches!(byte, b' ' | b'\t' | b'\r' | b'\n')
 }
 
+/// Whether a byte is a letter, a digit or an underscore.
 pub(crate) fn is_word_byte(byte: u8) -> bool
     ensures { result ≡ spelling.is_word_byte byte }
 {

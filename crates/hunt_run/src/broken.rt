@@ -107,7 +107,7 @@ fn report_of(alloc: Global, file: &[u8], script: &Script) -> Result<Option<Vec<u
     }
 }
 
-/// The same bytes once more.
+/// A copy of these bytes, in memory of its own.
 fn copy_of(alloc: Global, bytes: &[u8]) -> Result<Vec<u8>, AllocError>
     ensures { IfOk result (λ copy. copy.items ≡ bytes.now) }
 {

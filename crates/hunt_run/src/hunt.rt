@@ -42,7 +42,7 @@ pub(crate) fn look<C: Clock + Drop, N: Write + Drop>(
     look_over(alloc, request, file, stack, watch)
 }
 
-/// The same, with the stack that the file means.
+/// What a hunt over the stack that a file means writes, or how it ends.
 fn look_over<C: Clock + Drop, N: Write + Drop>(
     alloc: Global,
     request: Request<'_>,

@@ -38,6 +38,7 @@ pub struct Search {
 }
 
 impl Search {
+    /// A search over a stack that is accepted, before its first run.
     pub fn of(alloc: Global, stack: Stack, aim: Aim) -> Result<Search, SearchError>
         requires { IsSound (stack_tree stack) }
     {
@@ -61,6 +62,7 @@ impl Search {
         Ok(Some(script))
     }
 
+    /// Where a search takes its memory.
     pub(crate) fn alloc(&self) -> Global {
         self.alloc
     }

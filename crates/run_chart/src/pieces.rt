@@ -20,6 +20,7 @@ pub(crate) struct Pieces<'a> {
 }
 
 impl<'a> Pieces<'a> {
+    /// The lines of a text, the last of which may lack its line feed; a text of no bytes has none.
     pub(crate) fn lines(text: &'a [u8]) -> Pieces<'a>
         ensures { pieces_left result ≡ lines_of text.now }
     {
@@ -35,6 +36,7 @@ impl<'a> Pieces<'a> {
         }
     }
 
+    /// The words of a line, with one space between; an empty line is one empty word.
     pub(crate) fn words(line: &'a [u8]) -> Pieces<'a>
         ensures { pieces_left result ≡ words_of line.now }
     {
@@ -76,6 +78,7 @@ impl<'a> Pieces<'a> {
         if is_kind(word) { Some(word) } else { None }
     }
 
+    /// Whether no word is left: None where there is one.
     pub(crate) fn end(&mut self) -> Option<()>
         ensures { Takes (form.ends tt (pieces_left self.old)) result (pieces_left self.new) }
     {

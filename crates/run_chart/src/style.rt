@@ -40,6 +40,7 @@ g .arrow { stroke: #3d3846; stroke-width: 1.2; marker-end: url(#tip) }
 <rect width='100%' height='100%' fill='#fff'/>
 ";
 
+/// What a picture begins with inside: its style sheet, the signs that marks use, and a white background.
 #[tactic(auto, unfolding(chart_mean::specs::Style::style))]
 pub(crate) fn style() -> &'static [u8]
     ensures { result.now ≡ spec.style }

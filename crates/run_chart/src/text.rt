@@ -41,6 +41,7 @@ impl Text {
         }
     }
 
+    /// The bytes of the text, which itself is ended.
     pub(crate) fn into_bytes(self) -> Vec<u8>
         ensures { result.items ≡ self }
     {
@@ -123,6 +124,7 @@ impl Text {
         Ok(())
     }
 
+    /// Appends a byte as it is spelled in a picture.
     fn escaped_byte(&mut self, byte: u8) -> Result<(), AllocError>
         ensures { OnOk result (self.new ≡ self.old ++ escaped_byte byte) }
     {
