@@ -96,7 +96,7 @@ pub first_there : (a b : List Node) (next : List ℕ) (k : ℕ) → NumberMade a
     AllNumbers (terms b) next
 first_there a b next k made e = subst (AllNumbers (terms b)) (sym e) (number_made made, tt)
 
--- the same of what is left of a list
+-- what is taken of a list after its first, one fewer than it has, is all of that
 all_left : {B : Type 0} (n : B) (bs : List B) → take (length (n ∷ bs) - 1) bs ≡ bs
 all_left n bs = take_all (length (n ∷ bs) - 1) bs (omega arith)
 
