@@ -66,7 +66,7 @@ abbrev pub planned_field : Atom → List ℕ
 planned_field (number n) = decimal n
 planned_field _ = codes "?"
 
--- How the packet of an event came: `cast` to all, or `send` to one.
+-- The word for the packets of a plan: `cast` for those of casts, and `send` for any other.
 abbrev pub packet_word : Kind → List ℕ
 packet_word Cast = codes "cast"
 packet_word _ = codes "send"

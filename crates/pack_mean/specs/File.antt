@@ -106,7 +106,7 @@ with_operation stack due s zero r o = None
 with_operation stack due s (suc left) r o =
     Some (record r { stage = within due (naming stack s o) left; held = r.held ++ o ∷ [] })
 
--- In a case a line adds the operation that it spells, if it spells one.
+-- A line in a case as the operation that it spells; a line that spells none is out of form.
 abbrev pub operation_line : List LayerTree → List Due → Named → ℕ → Reading → Option Operation → Option Reading
 operation_line stack due s left r None = None
 operation_line stack due s left r (Some o) = with_operation stack due s left r o
