@@ -61,7 +61,7 @@ constant_fields =
     pick (number 1) (number 2) me ∷
     pick (number 0) (number 5) (number 6) ∷ []
 
--- A layer that sends each cast down with these four fields in its header.
+-- A layer that sends each cast down with a header of the four fields `constant_fields`.
 abbrev pub constant_layer : LayerTree
 constant_layer = record {
   name = codes "fixed";

@@ -173,7 +173,8 @@ abbrev pub way_forks : ℕ → Option (List Step) → Drawing → Bool
 way_forks place None d = false
 way_forks place (Some steps) d = steps_fork place steps d
 
--- Whether this handler's way in the first case meets such a condition; a missing handler meets none.
+-- Whether this handler's way in the first case meets a condition with two predicted ways before it ends or can't be
+-- drawn; a missing handler meets none.
 abbrev pub handled_forks : ℕ → Option HandlerTree → DrawnMet → Bool
 handled_forks place None m = false
 handled_forks place (Some h) m = way_forks place (handler_way First h) (drawn_entered h m.headers)

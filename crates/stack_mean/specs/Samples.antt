@@ -37,11 +37,11 @@ TwoEchoes = (acceptance (echo ∷ echo ∷ []) ≡ Err (cycle 0 Cast)) × (accep
 abbrev pub fans : ℕ → List LayerTree
 fans n = replicate n fan
 
--- The weight of such stacks of one to four layers.
+-- The weights of stacks of one to four layers that each make sixteen events of one.
 abbrev pub FanWeights : Type 0
 FanWeights = map (λ n. largest_weight (fans n)) (1 ∷ 2 ∷ 3 ∷ 4 ∷ []) ≡ 17 ∷ 273 ∷ 4369 ∷ 69905 ∷ []
 
--- Four such layers are too many, and three are accepted.
+-- Four layers that each make sixteen events of one are too many, and three are accepted.
 abbrev pub FourFans : Type 0
 FourFans = (acceptance (fans 4) ≡ Err (too_many 69905)) × (acceptance (fans 3) ≡ Ok (fans 3))
 
@@ -101,7 +101,8 @@ out dir headers maker = record { dir = dir; kind = Cast; headers = headers; made
 abbrev pub ordering_stack : List LayerTree
 ordering_stack = bottom ∷ local_copy ∷ total ∷ []
 
--- The shape of the application's cast over that stack: four visits, and the packet leaves before the delivery.
+-- The shape of the application's cast over `bottom`, `local` and `total`: four visits, and the packet leaves before the
+-- delivery.
 abbrev pub OrderedShape : Type 0
 OrderedShape = shape ordering_stack app_cast First ≡ Ok (record {
   visits = visit 2 Down 0 None ∷ visit 1 Down 1 (made_by 0 0) ∷ visit 0 Down 0 (made_by 1 0) ∷
@@ -112,11 +113,12 @@ OrderedShape = shape ordering_stack app_cast First ≡ Ok (record {
   length = 15;
 })
 
--- That stack with `mnak` above `bottom`, a layer that keeps what it sends: the cast comes back before it goes out.
+-- A stack of `bottom`, `mnak`, `local` and `total`, of which `mnak` keeps what it sends: a cast comes back before it
+-- goes out.
 abbrev pub keeping_stack : List LayerTree
 keeping_stack = bottom ∷ mnak ∷ local_copy ∷ total ∷ []
 
--- The shape of the application's cast over the stack that keeps what it sends: five visits, and the delivery comes
+-- The shape of the application's cast over `bottom`, `mnak`, `local` and `total`: five visits, and the delivery comes
 -- before the packet.
 abbrev pub KeptShape : Type 0
 KeptShape = shape keeping_stack app_cast First ≡ Ok (record {
@@ -163,7 +165,7 @@ cast_of m = record { kind = Cast; peer = 1; a = 0; b = 0; message = Some m }
 abbrev pub at_silent : Dir → Event → Visited
 at_silent dir event = step 3 silent_layer (fresh silent_layer 0 2 0) dir event
 
--- A visit of that layer that sends this event on and leaves the state as it was.
+-- A visit of the layer `silent` that sends this event on and leaves the state as it was.
 abbrev pub passed_visit : Dir → Event → Visited
 passed_visit dir event = record { state = fresh silent_layer 0 2 0; sent = (dir, event) ∷ []; decided = [] }
 

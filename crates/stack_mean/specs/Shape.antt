@@ -110,7 +110,8 @@ meets_fork stack at dir event (Err reason) = false
 meets_fork stack at dir event (Ok p) = nat_lt p.visits visits_limit &&
     visit_forks (at - 1) (layer_at stack at) dir event
 
--- What a visit leaves, given what the visit that draws leaves: that, and whether such a condition was met so far.
+-- What a visit leaves that is drawn and watched, given what it leaves as drawn: that, and whether a condition with two
+-- predicted ways was met so far.
 abbrev pub watched_turn : List LayerTree → ℕ → Dir → DrawnEvent → Watched → Turn (Result Progress NoShape) DrawnEvent →
     Turn Watched DrawnEvent
 watched_turn stack at dir event w turn = record {
