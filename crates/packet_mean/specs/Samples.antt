@@ -56,7 +56,7 @@ packet stamp mask dest headers body = record {
 abbrev pub ordered_cast : Packet
 ordered_cast = packet 1 3 All ((1, 1 ∷ []) ∷ (1, 0 ∷ []) ∷ (0, []) ∷ (1, 0 ∷ 0 ∷ []) ∷ []) (codes "a")
 
--- The plan of that cast: the lowest layer's field is constant, the other three vary.
+-- The plan of a cast over the ordering stack: the lowest layer's field is constant, the other three vary.
 abbrev pub ordered_plan : Plan
 ordered_plan = record { kind = Cast; tags = 1 ∷ 1 ∷ 0 ∷ 1 ∷ []; fields = Some 1 ∷ None ∷ None ∷ None ∷ [] }
 
@@ -68,7 +68,7 @@ ordered_request = packet 1 3 (Rank 1) ((1, 1 ∷ []) ∷ (2, 0 ∷ 7 ∷ []) ∷
 abbrev pub counter_cast : Packet
 counter_cast = packet 7 7 All ((1, 0 ∷ []) ∷ []) (codes "hi")
 
--- Two plans of the counter layer: that of the cast, and that of a send.
+-- The plans of the counter layer: a cast's, whose one field varies, and a send's.
 abbrev pub counter_plans : List Plan
 counter_plans =
     record { kind = Cast; tags = 1 ∷ []; fields = None ∷ [] } ∷

@@ -36,7 +36,7 @@ entry_of plans (clock_tick moment) = None
 abbrev pub longest_shape : ℕ
 longest_shape = 4096
 
--- Whether there is a shape, and its length is at most that of the longest shape that is common.
+-- Whether there is a shape, and its length is at most that of the longest common one.
 abbrev pub is_short : Result Shape NoShape → Bool
 is_short (Ok s) = nat_le s.length longest_shape
 is_short (Err reason) = false
