@@ -112,11 +112,12 @@ module _ {R : Type 0} where
   abbrev pub rows_in : Kept R → List R
   rows_in k = flat_map (λ cell. rows_of (queues_kept cell)) k.cells
 
-  -- The same state without its rows.
+  -- A cell whose queues have no rows; numbers stay as they are.
   abbrev pub cell_emptied : KeptCell R → KeptCell R
   cell_emptied (numbers shape ns) = numbers shape ns
   cell_emptied (queues shape capacity qs) = queues shape capacity (map (λ q. []) qs)
 
+  -- A state whose queues have no rows; its numbers stay as they are.
   abbrev pub emptied : Kept R → Kept R
   emptied k = record k { cells = map cell_emptied k.cells }
 

@@ -12,16 +12,19 @@ use Rattle.layer_ast.specs.declared.tokens.Kind.TheVariants.{Cast, Send, Stable,
 abbrev pub allows : List Sort → Sort → Bool
 allows sorts sort = list_any (sameb sort_row.the_type sort) sorts
 
--- What may stand where this is wanted: a number, a message of the layers above, a part, or a message of either sort.
+-- What may stand where a number is wanted.
 abbrev pub a_number : List Sort
 a_number = Int ∷ []
 
+-- What may stand where a message of the layers above is wanted.
 abbrev pub a_msg : List Sort
 a_msg = Msg ∷ []
 
+-- What may stand where a part is wanted.
 abbrev pub a_part : List Sort
 a_part = Part ∷ []
 
+-- What may stand where a message of either sort is wanted: one of the layers above, or a part.
 abbrev pub a_message : List Sort
 a_message = Msg ∷ Part ∷ []
 

@@ -10,27 +10,31 @@ use Rattle.fault_mean.specs.Places.{param_value}
 use Rattle.fault_mean.specs.Scope.{layer_statements}
 use Rattle.msg_core.specs.Headers.{most_fields}
 
--- The most layers of a file; the most params and cells of a layer, and the most handlers; the most names that a handler
--- declares.
+-- The most layers that a file declares.
 abbrev pub most_layers : ℕ
 most_layers = 64
 
+-- The most params that a layer declares.
 abbrev pub most_params : ℕ
 most_params = 16
 
+-- The most cells that a layer declares.
 abbrev pub most_cells : ℕ
 most_cells = 16
 
+-- The most handlers of a layer.
 abbrev pub most_handlers : ℕ
 most_handlers = 64
 
+-- The most names that a handler declares, at its head and in its blocks.
 abbrev pub most_names : ℕ
 most_names = 64
 
--- The largest capacity of a queue, and the largest maximum of a loop.
+-- The largest capacity of a queue, in rows; for an array of queues, that of each.
 abbrev pub largest_capacity : ℕ
 largest_capacity = 64
 
+-- The largest maximum of a loop: how many times its block may run.
 abbrev pub longest_loop : ℕ
 longest_loop = 32
 
@@ -53,12 +57,13 @@ pub record LimitedSize : Type 0 where
 abbrev pub is_within : ℕ → ℕ → Bool
 is_within most number = nat_le 1 number && nat_le number most
 
--- The sizes of a declaration, and of a statement.
+-- The size that a declaration has: the capacity of a queue, or of each queue of an array.
 abbrev pub capacity_in : DeclarationTree → List LimitedSize
 capacity_in (rows_cell at name capacity items) = record { size = capacity; most = largest_capacity } ∷ []
 capacity_in (rows_array at name capacity items) = record { size = capacity; most = largest_capacity } ∷ []
 capacity_in _ = []
 
+-- The size that a statement has, without those in its blocks: the maximum of a loop.
 abbrev pub maximum_in : StatementTree → List LimitedSize
 maximum_in (each at name below most block) = record { size = most; most = longest_loop } ∷ []
 maximum_in _ = []

@@ -47,6 +47,7 @@ use_faults scope (of_name name) = unless (is_visible scope name.word) (unknown n
 use_faults scope (of_label queue label) =
     unless (list_any (λ i. same_word i.name label) (row_of scope.layer queue.word)) (unknown label.at)
 
+-- The faults of uses in a scope, in their order.
 abbrev pub uses_faults : Scope → List Use → List NameFault
 uses_faults scope = flat_map (use_faults scope)
 

@@ -47,10 +47,11 @@ called_at file place = if is_some (layer_among file.layers place.name.word)
 abbrev pub judged_layers : FileTree → List Judged
 judged_layers file = map written file.layers ++ filter_map (called_at file) file.places
 
--- The faults of a judged layer, and those of all judged layers of a file.
+-- The faults of a judged layer; those of a layer of the library are moved to the place that names it.
 abbrev pub faults_of_judged : {F : Type 0} → (At → F → F) → (LayerTree → List F) → Judged → List F
 faults_of_judged moved faults (written layer) = faults layer
 faults_of_judged moved faults (called at layer) = map (moved at) (faults layer)
 
+-- The faults of all judged layers of a file: those that the file writes first, then those of the library.
 abbrev pub faults_of_layers : {F : Type 0} → (At → F → F) → (LayerTree → List F) → FileTree → List F
 faults_of_layers moved faults file = flat_map (faults_of_judged moved faults) (judged_layers file)

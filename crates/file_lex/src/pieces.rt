@@ -48,6 +48,7 @@ pub fn piece_at(after_number: bool, first: u8, following: &[u8], text: &[u8]) ->
     symbol(first, following)
 }
 
+/// Whether a byte stands between tokens: a blank, a tab, a carriage return or a line feed.
 pub fn is_blank(byte: u8) -> bool
     ensures { result ≡ is_gap byte }
 {

@@ -34,7 +34,7 @@ text =
 abbrev pub file : FileTree
 file = file_of text
 
--- Its handler of acknowledgements, and that of casts on their way down.
+-- The meaning of its handler of acknowledgements that come up.
 abbrev pub acknowledgement_handler : mean.HandlerTree
 acknowledgement_handler = record {
   direction = Up;
@@ -58,6 +58,7 @@ acknowledgement_handler = record {
       mean.none);
 }
 
+-- The meaning of its handler of casts on their way down.
 abbrev pub cast_handler : mean.HandlerTree
 cast_handler = record {
   direction = Down;

@@ -34,7 +34,7 @@ holds-prop p (header at name fields ending) = le_prop
 pub HoldDeclarations-prop : (p : Placed) → IsProp (HoldDeclarations p)
 HoldDeclarations-prop p = AllByRecursion-prop (HoldsDeclaration p) (holds-prop p) p.layer.declarations
 
--- The same of the layer of a scope.
+-- Each declaration of a scope's layer is one that members can keep at a place with these params and these places above.
 abbrev pub AreHeld : Scope → List Given → Blank → Type 0
 AreHeld scope given blank = HoldDeclarations (placement scope.layer given blank)
 

@@ -90,7 +90,7 @@ fn item_sort(row: &Items, place: usize) -> Sort
     }
 }
 
-/// The same in the rows that a declaration declares.
+/// The sort of an item by its place in the rows that a declaration declares; after the last item are numbers.
 #[tactic(auto, using(crate::proofs::Sorted::number_there))]
 fn row_sort(d: &Declaration, place: usize) -> Sort
     ensures { result ≡ slice_index_or (map (λ i. i.sort) (items_of (declaration_tree d.now))) place Int }

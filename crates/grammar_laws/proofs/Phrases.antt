@@ -103,7 +103,7 @@ split [] stack p h = (p, refl, h)
 split (s ∷ new) stack p (l, here, h) = let (k, chain, following) = split new stack l h in
     (k, (l, here, chain), following)
 
--- the same of symbols before others
+-- the symbols before others, and these others
 pub chain_split : (new following : List Symbol) (p k : List Printed) → Chain (new ++ following) p k →
     (l : List Printed) × Chain new p l × Chain following l k
 chain_split [] following p k h = (p, refl, h)

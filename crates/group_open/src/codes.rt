@@ -35,7 +35,7 @@ fn code_of(alloc: Global, bypasses: &Bypasses) -> Result<Rc<Codes>, AllocError>
     Ok(Rc::new(alloc, codes)?)
 }
 
-/// The same of bypasses that are a stack's.
+/// The code of bypasses that are a stack's, for members to share.
 pub(crate) fn given_code(
     alloc: Global,
     bypasses: &Bypasses,
@@ -58,7 +58,7 @@ fn stack_code(alloc: Global, stack: &Stack, shapes: &StackShapes) -> Result<Rc<C
     given_code(alloc, &bypasses, stack)
 }
 
-/// The same if members run by bypasses, and else none.
+/// The code of the bypasses that are made of a stack if members run by bypasses, and else none.
 pub(crate) fn codes_for(
     alloc: Global,
     mode: Mode,
@@ -89,7 +89,7 @@ fn code_and_checks(
     Ok((codes, checks))
 }
 
-/// The same of the bypasses that are made of a stack.
+/// The code of the bypasses that are made of a stack, and their checks.
 pub(crate) fn examining_codes(
     alloc: Global,
     stack: &Stack,

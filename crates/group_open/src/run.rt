@@ -39,7 +39,8 @@ pub struct Opened {
     pub group: World,
 }
 
-/// The same of a group that is examined.
+/// A group that begins and is examined, with the stack that it is over, its plans, the shapes of its entries, and room
+/// for the outputs of a step.
 pub struct Examination {
     pub stack: NamedStack,
     pub plans: Rc<Plans>,

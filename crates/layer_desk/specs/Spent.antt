@@ -43,7 +43,8 @@ abbrev pub Spent : {A : Type 0} → Room → Room → Need → Result A NoRoom �
 Spent old new n (Ok a) = SpentAtMost old new n
 Spent old new n (Err e) = Lacks old n e
 
--- The same of an operation that leaves a message in hand.
+-- Where an operation that leaves a message in hand is done, at most this was spent, places of the hand included; else
+-- there was less than this.
 abbrev pub Lifted : {A : Type 0} → Room → Room → Need → Result A NoRoom → Type 0
 Lifted old new n (Ok a) = LiftedAtMost old new n
 Lifted old new n (Err e) = Lacks old n e

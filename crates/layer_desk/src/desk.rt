@@ -280,8 +280,8 @@ pub trait Desk {
             (shown pool.old self.old)) }
         ensures spent { Spent (free pool.old self.old) (free pool.new self.new) one_place result };
 
-    /// The same, and what the visit leaves behind is let go, as `leave` does it. The message goes on from where it
-    /// lies, since the scope doesn't keep it.
+    /// Sends an event with a message of the scope, going down after a header, and lets what the visit leaves behind go,
+    /// as `leave` does it. The message goes on from where it lies, since the scope doesn't keep it.
     fn send_local_and_leave<K: Start>(
         &mut self,
         pool: &mut Pool,

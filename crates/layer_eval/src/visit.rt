@@ -87,7 +87,8 @@ pub fn take_event<D: Desk>(
     }
 }
 
-/// The same; where a handler's block lacks room, it answers what is lacking.
+/// A layer takes an event, whose message has arrived at its desk, and says whether that went as predicted; where a
+/// handler's block lacks room, it answers what is lacking.
 fn take_from<K: Start, D: Desk>(
     visit: &Visit,
     layer: &TypedLayer,

@@ -20,6 +20,7 @@ arguments_for Stable e = e.a ∷ e.b ∷ []
 arguments_for Ack e = e.a ∷ e.b ∷ []
 arguments_for _ e = e.a ∷ []
 
+-- The number arguments of an event, by its own kind.
 abbrev pub arguments : Event → List ℕ
 arguments e = arguments_for e.kind e
 

@@ -24,10 +24,11 @@ pub record Scope : Type 0 where
   pub numbers : List ℕ
   pub messages : List Content
 
--- A number is true where it isn't 0; truth is written as 1 and 0.
+-- Whether a number counts as true: it isn't 0.
 abbrev pub is_true : ℕ → Bool
 is_true x = not (x == 0)
 
+-- Truth as a number: 1 for true, 0 for false.
 abbrev pub of_bool : Bool → ℕ
 of_bool b = if b then 1 else 0
 

@@ -14,7 +14,7 @@ abbrev pub HasShape : List LayerTree → Case → Option Known → Lack → Type
 HasShape stack case (Some known) (missed decision) = is_short (shape stack known case) ≡ true
 HasShape stack case _ _ = Unit {0}
 
--- The same of a case that may not be made.
+-- A case that may not be made has a shape that isn't too long, if it is told to lack a decision.
 abbrev pub HaveShape : List LayerTree → Case → Option Known → Option Lack → Type 0
 HaveShape stack case known (Some lack) = HasShape stack case known lack
 HaveShape stack case known None = Unit {0}

@@ -81,7 +81,7 @@ fn push_spot(line: &mut Line, stack: &NamedStack, spot: Spot) -> Result<(), Memo
     push_numbered(line, b" line ", u64::from(spot.line))
 }
 
-/// The same, if there is such a decision.
+/// `visit V place P LAYER line L` if there is such a decision, and else nothing.
 fn push_found(line: &mut Line, stack: &NamedStack, spot: Option<Spot>) -> Result<(), Memory>
     ensures { OnOk result
         (line.new ≡ line.old ++ option_map_or (spot_text (stack_tree stack.now)) (option_map spot_tree spot) []) }

@@ -63,7 +63,7 @@ fn named<'a>(layers: &'a [Layer], word: &Word) -> Option<&'a Layer>
     layers.iter().find(|l| is_same(&l.name.word, word))
 }
 
-/// The same, in the definitions' words.
+/// The layer of a list that has this name, as the definitions find it.
 #[tactic(auto, using(crate::proofs::Layers::among))]
 fn layer_among<'a>(layers: &'a [Layer], word: &Word) -> Option<&'a Layer>
     ensures { option_map (λ l. written.layer_tree l.now) result ≡ places.layer_among (map written.layer_tree layers.now)

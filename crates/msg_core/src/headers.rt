@@ -33,6 +33,7 @@ impl Model for Headers {
 }
 
 impl Headers {
+    /// No header.
     pub fn none() -> Headers
         ensures { result ≡ [] }
     {
@@ -73,7 +74,7 @@ impl Headers {
         }
     }
 
-    /// The same headers once more.
+    /// A copy of these headers.
     pub fn copy(&self) -> Headers
         ensures { result ≡ self.now }
     {

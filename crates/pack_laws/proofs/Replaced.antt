@@ -99,7 +99,7 @@ module _ (stack : List LayerTree) (sound : IsSound stack) where
       go true [] k = absurd k
       go true (t ∷ ts) k = record { made = (chosen_replaces own t (same own refl) k.0, refl); rest = k.1 }
 
-  -- the same of a second case
+  -- what is made of a second case, if it is made, and the traces that are left for those that are due after it
   record IsSecondFilled (e : Entry) (more : List Due) (traces : List (List Operation)) (own : Option Made) : Type 0
     where
       made : IsSecondReplaced stack e own (second_filled own traces).0

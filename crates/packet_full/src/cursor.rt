@@ -23,6 +23,7 @@ pub struct Cursor<'a> {
 }
 
 impl<'a> Cursor<'a> {
+    /// Before these bytes, of which all are left.
     pub fn on(bytes: &'a [u8]) -> Cursor<'a>
         ensures { left result ≡ bytes.now }
     {
@@ -36,6 +37,7 @@ impl<'a> Cursor<'a> {
         self.bytes.len()
     }
 
+    /// One byte, if one is left.
     pub fn byte(&mut self) -> Option<u8>
         ensures { Takes (reading.byte (left self.old)) result (left self.new) }
     {

@@ -18,10 +18,11 @@ use Rattle.layer_mean.specs.State as state
 use Rattle.layer_mean.specs.State.{State, Contents, size_of}
 use Rattle.packet_mean.specs.Chained.{IsChain}
 
--- A number, and numbers: below 2^32.
+-- A number is below 2^32.
 abbrev pub IsNumber : ℕ → Type 0
 IsNumber n = n < 2 ^ 32
 
+-- Each number of a list is below 2^32.
 abbrev pub Numbers : List ℕ → Type 0
 Numbers ns = AllByRecursion IsNumber ns
 

@@ -17,10 +17,11 @@ abbrev pub kind_of : Dest → Kind
 kind_of dest.All = Cast
 kind_of (dest.Rank rank) = Send
 
--- The tags of a message's headers, and their fields, all in a row, from the lowest layer up.
+-- The tags of a message's headers, from the lowest layer up.
 abbrev pub tags_of : Content → List ℕ
 tags_of message = map (λ h. h.tag) message.headers
 
+-- The fields of a message's headers, all in a row, from the lowest layer up.
 abbrev pub fields_of : Content → List ℕ
 fields_of message = flat_map (λ h. h.fields) message.headers
 

@@ -28,7 +28,7 @@ abbrev pub ◌>>=◌ : {A B : Type 0} → Reader A → (A → Reader B) → Read
 abbrev pub value_reader : {A : Type 0} → A → Reader A
 value_reader x bytes = Some (x, bytes)
 
--- The same, if there is a value.
+-- Nothing is taken off, and the value is what was read; where there is none, reading fails.
 abbrev pub option_reader : {A : Type 0} → Option A → Reader A
 option_reader None bytes = None
 option_reader (Some x) bytes = Some (x, bytes)

@@ -54,7 +54,8 @@ abbrev pub IsLeastFor : List Plan → Option ℕ → Kind → List Header → Ty
 IsLeastFor plans None kind headers = Unit {0}
 IsLeastFor plans (Some k) kind headers = Some k ≡ position (fits_headers kind headers) plans
 
--- The same; and where this plan is known, the headers' fields that it leaves variable are kept.
+-- What is known of headers of a packet of a kind after they were read: the number of the least plan that they fit, and
+-- then the headers' fields that it leaves variable are kept; or nothing.
 abbrev pub IsReadAs : List Plan → Option ℕ → Kind → List Header → (kept : List ℕ) → Type 0
 IsReadAs plans None kind headers kept = Unit {0}
 IsReadAs plans (Some k) kind headers kept =

@@ -77,8 +77,9 @@ fn laid_out<'a>(known: &Known<'a>, dest: Dest, cursor: &mut Cursor<'_>) -> Optio
     Some((number, layout))
 }
 
-/// The same as `contents`. For a short datagram whose plan is laid out, it also answers the least plan that the headers
-/// fit, if that is known; `fields` then has the fields that this plan leaves variable, in place of what it held.
+/// Reads the headers after a datagram's preamble; the bytes that are left are its body. For a short datagram whose plan
+/// is laid out, it also answers the least plan that the headers fit, if that is known; `fields` then has the fields
+/// that this plan leaves variable, in place of what it held.
 pub(crate) fn known_contents(
     known: &Known<'_>,
     front: &Preamble,

@@ -102,7 +102,8 @@ fn keep_agreeing<'a>(
     Some(left)
 }
 
-/// The same of a header. Most headers have no fields.
+/// The planned fields after those of a header, if its fields agree with theirs; the variable ones of these are put
+/// after others. Most headers have no fields.
 fn keep_header<'a>(
     planned: &'a [Option<u32>],
     header: &Header,

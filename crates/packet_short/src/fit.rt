@@ -51,7 +51,8 @@ pub(crate) fn is_fitting(plan: &Plan, kind: Kind, headers: &Headers) -> bool
     plan.kind == kind && is_alike(plan, headers)
 }
 
-/// The same; if they are, `into` then has the fields that the plan leaves variable, in place of what it held.
+/// Whether headers of a packet of a kind are as a plan says; if they are, `into` then has the fields that the plan
+/// leaves variable, in place of what it held.
 fn is_fitting_keeping(plan: &Plan, kind: Kind, headers: &Headers, into: &mut Vec<u32>) -> bool
     requires { length plan.now.fields.items ≤ vec_capacity into.old }
     ensures fits { result ≡ fits_headers kind headers.now (plan_tree plan.now) }
@@ -72,7 +73,8 @@ fn fits_first(plans: &Plans, kind: Kind, headers: &Headers) -> bool
     }
 }
 
-/// The same; if they are, `into` then has the fields that the plan leaves variable, in place of what it held.
+/// Whether headers of a packet of a kind are as the first plan says; if they are, `into` then has the fields that the
+/// plan leaves variable, in place of what it held.
 fn fits_first_keeping(plans: &Plans, kind: Kind, headers: &Headers, into: &mut Vec<u32>) -> bool
     requires room { AllByRecursion (HasAtMost (vec_capacity into.old)) (plans_tree plans.now) }
     ensures fits { result ≡ first_fits (fits_headers kind headers.now) (plans_tree plans.now) }
@@ -104,8 +106,8 @@ fn least(plans: &Plans, kind: Kind, headers: &Headers) -> Option<u8>
     None
 }
 
-/// The same; `into` then has the fields that this plan leaves variable, or none where there is no plan, in place of
-/// what it held.
+/// The number of the least plan that headers of a packet of a kind fit; `into` then has the fields that this plan
+/// leaves variable, or none where there is no plan, in place of what it held.
 fn least_keeping(plans: &Plans, kind: Kind, headers: &Headers, into: &mut Vec<u32>) -> Option<u8>
     requires room { AllByRecursion (HasAtMost (vec_capacity into.old)) (plans_tree plans.now) }
     ensures least { result ≡ position (fits_headers kind headers.now) (plans_tree plans.now) }
@@ -143,8 +145,9 @@ pub fn fits_scan(plans: &Plans, scan: &Scan) -> Option<u8>
     least(plans, kind_of(scan.dest), &scan.headers)
 }
 
-/// The same as `fits_scan`; `into` then has the fields that this plan leaves variable, or none where there is no plan,
-/// in place of what it held. It takes no memory: there must be room for the fields of each plan.
+/// The number of the least plan that a scanned packet fits, whatever its body; None where it fits none. `into` then has
+/// the fields that this plan leaves variable, or none where there is no plan, in place of what it held. It takes no
+/// memory: there must be room for the fields of each plan.
 pub fn fits_with_fields(plans: &Plans, scan: &Scan, into: &mut Vec<u32>) -> Option<u8>
     requires room { AllByRecursion (HasAtMost (vec_capacity into.old)) (plans_tree plans.now) }
     ensures fits { (here : Here) (bytes : List ℕ) →

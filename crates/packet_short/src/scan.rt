@@ -44,9 +44,11 @@ pub fn scan_packet(
     close(bytes, &front, &cursor, scan)
 }
 
-/// The same, by plans that are laid out. For a short datagram, it also answers the least plan that its packet fits, if
-/// that is known; `fields` then has the fields that this plan leaves variable, in place of what it held, and otherwise
-/// what it holds is of no use. It takes no memory: there must be room for the fields of each plan.
+/// Reads what a datagram, full or short, says to a member of a stack into `scan`, by plans that are laid out; or
+/// answers the first cause for which it is refused, and then `scan` is of no use. For a short datagram, it also answers
+/// the least plan that its packet fits, if that is known; `fields` then has the fields that this plan leaves variable,
+/// in place of what it held, and otherwise what it holds is of no use. It takes no memory: there must be room for the
+/// fields of each plan.
 pub fn scan_known(
     known: &Known<'_>,
     here: &Here,

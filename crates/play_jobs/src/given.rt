@@ -44,8 +44,9 @@ pub fn replay_with<S: Shelf, O: Sink>(
     }
 }
 
-/// The same over a stack and a script that are read. The rows of the members are judged before the traces are read. The
-/// memory of the bypasses isn't given back before the program ends.
+/// Replays a script that was read over a stack by the bypasses whose traces a file holds, and writes its report. The
+/// rows of the members are judged before the traces are read. The memory of the bypasses isn't given back before the
+/// program ends.
 fn play_traces<S: Shelf, O: Sink>(
     alloc: Global,
     replay: &ReplayWith<'_>,

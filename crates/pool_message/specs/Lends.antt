@@ -16,7 +16,7 @@ abbrev pub lends_first : MutBor (Buffer (Dir × PoolEvent)) → MutBor (Dir × P
 lends_first es r = Lends the_row (Tuple (dir.the_row ∷ event.the_row ∷ [])) es r
     (λ w. buffer (w ∷ drop 1 es.now.items) es.now.capacity)
 
--- the same of the list in its box
+-- the first event of a list in its box is what was last written through r
 abbrev pub lends_listed : MutBor (Buffer (Dir × PoolEvent)) → MutBor (Dir × PoolEvent) → Fml
 lends_listed es r = Lends list.the_row (Tuple (dir.the_row ∷ event.the_row ∷ [])) es r
     (λ w. buffer (w ∷ drop 1 es.now.items) es.now.capacity)

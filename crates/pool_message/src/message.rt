@@ -77,7 +77,7 @@ impl PoolMessage {
         }
     }
 
-    /// The same message once more. The two share their bytes, to which there is one more reference.
+    /// A copy of this message. The two share their bytes, to which there is one more reference.
     pub fn keep(&self, pool: &mut Pool) -> PoolMessage
         requires there { Covers pool.old (refs self.now) }
         requires room { CanKeep pool.old (refs self.now) }

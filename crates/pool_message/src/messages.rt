@@ -68,6 +68,7 @@ impl Messages {
         self.places.capacity()
     }
 
+    /// Whether there is no message.
     pub fn is_empty(&self) -> bool
         ensures { result ≡ (length self.now.items == 0) }
     {
@@ -200,7 +201,8 @@ impl Messages {
         message.close();
     }
 
-    /// The same with a message that stays where it lies, without headers and bytes.
+    /// Moves a message into the place of message number `k`, whose reference goes back; where there is none, the new
+    /// message's reference goes back. `message` stays where it lies, without headers and bytes.
     pub fn replace_from(&mut self, k: usize, message: &mut PoolMessage, pool: &mut Pool)
         requires { Covers pool.old (refs (slice_index_or self.old.items k message.old)) }
         ensures set { self.new ≡ buffer (slice_set self.old.items k message.old) self.old.capacity }

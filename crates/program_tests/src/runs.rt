@@ -114,6 +114,7 @@ pub(crate) fn left_by(
     left_over(alloc, &words, shelf, puts, &mut links, &mut clock)
 }
 
+/// The words of a command line, in order, each in memory of its own.
 pub(crate) fn words(alloc: Global, texts: &[&str]) -> Result<Vec<String>, AllocError> {
     let mut words = Vec::new(alloc);
     for text in texts {
@@ -122,6 +123,7 @@ pub(crate) fn words(alloc: Global, texts: &[&str]) -> Result<Vec<String>, AllocE
     Ok(words)
 }
 
+/// A file of this name with these bytes.
 pub(crate) fn named(alloc: Global, name: &str, bytes: &[u8]) -> Result<NamedFile, AllocError> {
     Ok(NamedFile {
         name: String::from_str(alloc, name)?,

@@ -24,7 +24,7 @@ const TRACES: &[u8] = b"\
         set 0.e[peer] = (in.0 + 1)\nout up Cast(peer,body)\nentry plan 1 case 1\n\
         out up Send(peer,body)\nend\n";
 
-/// The same, but for what a packet's number sets.
+/// Traces of COUNTER that set another number from a packet's: they raise it by 2, not by 1.
 const OTHER: &[u8] = b"\
         bypasses 1\nentry cast case 1\nbind t.0 = peer\nbind t.1 = 0.k\nset 0.k = (0.k + 1)\n\
         out down Cast(t.0,body) cnt.num(t.1)\nentry send case 1\n\

@@ -44,6 +44,7 @@ impl Digits {
         self.bytes.as_slice() == bytes
     }
 
+    /// The digits of the bytes: two for each, in lower case.
     pub(crate) fn slice(&self) -> &[u8]
         ensures { result.now ≡ encode_lower self.now }
     {

@@ -88,7 +88,7 @@ sooner (Some x) (Some y) = if nat_lt y x then Some y else Some x
 abbrev pub sooner_of : (Item → Option Mark) → (Way → Option Group) → Way → Option ℕ → Ranked → Option ℕ
 sooner_of items groups way found ranked = sooner found (lack_line (items (item_for way ranked)) (groups way))
 
--- the same of all deliveries of a segment
+-- the first of a line and the lines at which the deliveries of a segment are lacking
 abbrev pub sooner_in : (Item → Option Mark) → (Way → Option Group) → Option ℕ → Ended → Option ℕ
 sooner_in items groups found one = fold (sooner_of items groups one.way) found one.deliveries.items
 

@@ -38,7 +38,7 @@ abbrev pub Takes : {A : Type 0} → Option (A × List Word) → Option A → Lis
 Takes taken (Some value) following = taken ≡ Some (value, following)
 Takes taken None following = taken ≡ None
 
--- the same of a word
+-- what a form of one word took from the words, and the words after it
 abbrev pub TakesWord : Option (Word × List Word) → Option (Bor (List ℕ)) → List Word → Type 0
 TakesWord taken (Some word) following = taken ≡ Some (word.now, following)
 TakesWord taken None following = taken ≡ None

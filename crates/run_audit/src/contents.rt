@@ -54,6 +54,7 @@ pub(crate) fn count<'a>(
     Ok(counts)
 }
 
+/// What a delivery says: the peer whose cast it is, and the body as it is spelled.
 pub(crate) fn content_of<'a>(entry: &Entry<'a>) -> Content<'a>
     ensures { result ≡ content_of entry.now }
 {
@@ -77,6 +78,7 @@ fn next_rank<'a>(
     Ok(place)
 }
 
+/// How often a content was counted so far.
 pub(crate) fn count_of<'a>(counts: &HashMap<Content<'a>, usize>, content: Content<'a>) -> usize
     ensures { result ≡ unwrap_or (hash.get same_content_key counts.now content.entry) 0 }
 {

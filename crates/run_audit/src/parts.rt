@@ -18,6 +18,7 @@ pub(crate) struct Parts<'a> {
 }
 
 impl<'a> Parts<'a> {
+    /// All lines of a text; the last may lack its line feed.
     pub(crate) fn lines(text: &'a [u8]) -> Parts<'a>
         ensures { parts_left result ≡ lines_of text.now }
     {
@@ -33,6 +34,7 @@ impl<'a> Parts<'a> {
         }
     }
 
+    /// All words of a line, with a space between.
     pub(crate) fn words(line: &'a [u8]) -> Parts<'a>
         ensures { parts_left result ≡ words_of line.now }
     {
@@ -51,6 +53,7 @@ impl<'a> Parts<'a> {
         values::number_within(high, word)
     }
 
+    /// The next word, if it spells a body; it is given as it is spelled.
     #[tactic(auto, using(crate::proofs::Bodies::there, crate::proofs::Bodies::absent))]
     pub(crate) fn body(&mut self) -> Option<&'a [u8]>
         ensures { TakesWord (spec.a_spelled_body (parts_left self.old)) result (parts_left self.new) }
@@ -63,6 +66,7 @@ impl<'a> Parts<'a> {
         }
     }
 
+    /// Succeeds where no part is left.
     pub(crate) fn end(&mut self) -> Option<()>
         ensures { Takes (form.ends tt (parts_left self.old)) result (parts_left self.new) }
     {

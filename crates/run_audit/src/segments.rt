@@ -34,6 +34,7 @@ pub(crate) struct Segments {
 }
 
 impl Segments {
+    /// Each member in its first segment, before any line.
     pub(crate) fn first() -> Segments
         ensures { Stands result [] }
     {
@@ -46,6 +47,7 @@ impl Segments {
         }
     }
 
+    /// The segment that a member is in, if it is in one.
     pub(crate) fn of(&self, member: u8) -> Option<Segment>
         ensures { option_map segment_shown result ≡ standing self.now member }
     {

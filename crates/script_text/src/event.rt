@@ -97,6 +97,7 @@ fn any_event(alloc: Global, members: u8, mut words: Words<'_>) -> Result<ScriptE
     }
 }
 
+/// The cast that a line asks for, from the words after its first: a member and a body.
 pub(crate) fn cast(
     alloc: Global,
     members: u8,
@@ -110,6 +111,7 @@ pub(crate) fn cast(
     Ok(ScriptEvent::Cast(member_below(members, member)?, body))
 }
 
+/// The send that a line asks for, from the words after its first: a member, the rank that it goes to, and a body.
 pub(crate) fn send(
     alloc: Global,
     members: u8,
@@ -124,6 +126,7 @@ pub(crate) fn send(
     Ok(ScriptEvent::Send(member_below(members, member)?, rank, body))
 }
 
+/// The leave that a line asks for, from the word after its first: a member.
 pub(crate) fn leave(members: u8, mut words: Words<'_>) -> Result<ScriptEvent, LineError>
     ensures { IsEvent members (spec.leave_line (words_left words.entry)) result }
 {

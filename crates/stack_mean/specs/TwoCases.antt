@@ -72,6 +72,7 @@ FlipPlans =
 abbrev pub looping : StatementTree
 looping = each 1 (number 2) 2 (block [])
 
+-- The cast that came, sent down with the header `none`.
 abbrev pub plain_cast : StatementTree
 plain_cast = sends Down Cast (local 0) (message 0) 0 []
 

@@ -50,7 +50,7 @@ const ORDERED: [u8; 40] = [
     1, 0, 0, 0, 0, 0, 0, 0, 0, b'a',
 ];
 
-/// The same cast in its short form.
+/// The cast over four layers of the library in its short form.
 const ORDERED_SHORT: [u8; 33] = [
     0xE6, 0, 0, 0, 1, 0, 0, 0, 1, 0, 0, 0, 0, 0, 0, 0, 3, 0, 0xFF, 0, 0, 0, 0, 0, 0, 0, 0, 0, 0, 0,
     0, 0, b'a',

@@ -60,7 +60,7 @@ takes_number (Packet dest plan) = true
 takes_number (Nowhere plan) = true
 takes_number _ = false
 
--- The same, sent short under this plan if it takes a number.
+-- An output, sent short under this plan, if there is one, where it takes one of the numbers of plans.
 abbrev pub under : Option ℕ → What → What
 under plan (Packet dest _) = Packet dest plan
 under plan (Nowhere _) = Nowhere plan

@@ -52,6 +52,7 @@ impl KeptList {
         self.count
     }
 
+    /// The outputs, in order.
     pub fn slice(&self) -> &[Kept]
         ensures { result.now ≡ self.now.items }
     {

@@ -240,6 +240,7 @@ impl Numbers {
         Numbers { expressions }
     }
 
+    /// The expressions in order, of which there are at most four.
     pub fn slice(&self) -> &[Expression]
         ensures value { result.now ≡ self.now }
         ensures few { length result.now ≤ most_fields }

@@ -79,7 +79,7 @@ impl Model for World {
         (plans_tree (rc_value w.plans)) w.group w.stamp w.members.items };
 }
 
-/// The same stack and plans once more.
+/// This stack and these plans, shared once more.
 fn share(stack: &Rc<Stack>, plans: &Rc<Plans>) -> Result<(Rc<Stack>, Rc<Plans>), AllocError>
     ensures stack { IfOk result (λ shared. rc_value shared.0 ≡ rc_value stack.now) }
     ensures plans { IfOk result (λ shared. rc_value shared.1 ≡ rc_value plans.now) }

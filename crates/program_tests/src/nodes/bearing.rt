@@ -14,7 +14,7 @@ const TICKS: &[u8] = b"> tick 0 5\n> tick 1 5\n> tick 2 5\n";
 const BORNE: &[u8] =
     b"> tick 0 5\n> tick 1 5\n> tick 2 5\ndeaf 1\n> cast 0 6869\npacket 1 0 all cnt.num(0) 6869\n> tick 0 6\n> tick 1 6\n> tick 2 6\n> raw 1 e50000000100000007000000000000000700ff01000000006869\ndeliver 1 cast 0 6869\n> raw 2 e50000000100000007000000000000000700ff01000000006869\ndeliver 2 cast 0 6869\n> cast 2 7a\npacket 2 2 all cnt.num(0) 7a\nend 10\n";
 
-/// The same in bypass mode, where both casts and their deliveries are common: each packet goes short.
+/// What that node writes in bypass mode, where both casts and their deliveries are common: each packet goes short.
 const BORNE_SHORT: &[u8] =
     b"> tick 0 5\n> tick 1 5\n> tick 2 5\ndeaf 1\n> cast 0 6869\npacket 1 0 all cnt.num(0) 6869\n> tick 0 6\n> tick 1 6\n> tick 2 6\n> raw 1 e60000000100000007000000000000000700ff00000000006869\ndeliver 1 cast 0 6869\n> raw 2 e60000000100000007000000000000000700ff00000000006869\ndeliver 2 cast 0 6869\n> cast 2 7a\npacket 2 2 all cnt.num(0) 7a\nend 10\n";
 

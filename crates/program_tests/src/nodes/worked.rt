@@ -13,7 +13,7 @@ const NODE: [&str; 9] = [
     "node", "f", "p", "--turns", "200", "--me", "0,1,2", "--run", "layered",
 ];
 
-/// The same in bypass mode.
+/// The words of the node in bypass mode.
 const SHORT_NODE: [&str; 7] = ["node", "f", "p", "--turns", "200", "--me", "0,1,2"];
 
 const REPLAY: [&str; 5] = ["replay", "f", "p", "--run", "layered"];
@@ -49,7 +49,8 @@ fn left_of<N: Links, C: Clock>(
     left_by(alloc, texts, shelf, out, err, links, clock)
 }
 
-/// The same over a network in memory, and a clock that shows the number of the turn.
+/// What the words leave over the counter layer and another file, over a network in memory and with a clock that shows
+/// the number of the turn.
 fn left_in_memory(alloc: Global, texts: &[&str], other: &[u8]) -> Result<Left, AllocError> {
     let mut moments = Vec::new(alloc);
     for turn in 0..200 {

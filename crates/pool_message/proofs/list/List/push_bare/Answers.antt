@@ -118,7 +118,8 @@ stored c = elim c.match-pop.branch [
       ))
 ]
 
--- the same once its number is the first where there was none
+-- the number is put after the others, an event without a message stands there, and where there was no number it is the
+-- first
 placed : (c : goal.In-Ok) →
     Stored c c.if-is_empty.self-inside c.match-pop.k (c.if-is_empty.self-inside.order.items ++ c.match-pop.k ∷ [])
 placed c =
