@@ -17,8 +17,8 @@ use Rattle.handler_laws.specs.Handled.{step_input}
 use Rattle.member_laws.specs.Members.{IsEntered}
 use Rattle.miss_laws.specs.Asked.{AllAsked, miss_asked}
 use Rattle.miss_laws.specs.Told.{AreChecksOf, MissesAreTold}
-use Rattle.miss_mean.specs.Lacks as lack
-use Rattle.miss_mean.specs.Lacks.{entry_named, miss_by, miss_of}
+use Rattle.lack_mean.specs.Lacks as lack
+use Rattle.lack_mean.specs.Lacks.{entry_named, miss_by, miss_of}
 use Rattle.stack_shapes.specs.Entries.{entry_for, planned_entry}
 use Rattle.stack_shapes.specs.declared.entry.EntryOf.{EntryOf}
 use Rattle.step_misses.specs.Misses.{entry_meant, miss_meant}

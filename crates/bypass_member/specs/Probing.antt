@@ -5,7 +5,7 @@ use Rattle.stack_mean.specs.Plan.{Plan}
 use Rattle.packet_mean.specs.declared.here.Here.{Here}
 use Rattle.run_mean.specs.Common.{is_common}
 use Rattle.run_mean.specs.Member.{Input, Output, Refusal, Step}
-use Rattle.miss_mean.specs.Lacks.{miss_of}
+use Rattle.lack_mean.specs.Lacks.{miss_of}
 use Rattle.step_misses.specs.Misses.{miss_meant}
 use Rattle.step_misses.specs.declared.miss.Miss.{Miss}
 use Rattle.step_misses.specs.declared.miss.Probed.{Probed}

@@ -5,7 +5,7 @@ ghost use Rattle.bypass_laws.specs.Making.{IsSound};
 ghost use Rattle.run_mean.specs.Mode.{bypass};
 ghost use Rattle.member_laws.specs.Members.{IsEntered};
 ghost use Rattle.miss_laws.specs.Told.{AreChecksOf};
-ghost use Rattle.miss_mean.specs.Lacks.{entry_named};
+ghost use Rattle.lack_mean.specs.Lacks.{entry_named};
 ghost use Rattle.packet_mean.specs.declared.here.Here as stands;
 ghost use Rattle.run_mean.specs.Member as member;
 ghost use Rattle.stack_mean.specs.Acceptance.{largest_weight};

@@ -1,10 +1,11 @@
 -- The limits of a file, and of a layer's text. (Those of places, headers and rows stand beside the headers of
--- messages.)
+-- messages, those of sizes beside what layers mean.)
 use Rattle.std.specs.Prelude.{ℕ, Bool, true, ◌&&◌, nat_le, if◌then◌else◌, List, [], ◌∷◌, ◌++◌, flat_map, filter, drop}
 use Rattle.std.specs.Option.{option_map_or}
 use Rattle.layer_ast.specs.declared.names.At.{At}
 use Rattle.layer_ast.specs.Tree.{DeclarationTree, rows_cell, rows_array, ItemTree, LayerTree, PlaceTree, SizeTree}
 use Rattle.layer_ast.specs.Tree.{fixed, sized, StatementTree, each}
+use Rattle.layer_mean.specs.Limits.{largest_capacity, longest_loop}
 use Rattle.fault_mean.specs.Kinds.{a_number, allows}
 use Rattle.fault_mean.specs.Places.{param_value}
 use Rattle.fault_mean.specs.Scope.{layer_statements}
@@ -29,14 +30,6 @@ most_handlers = 64
 -- The most names that a handler declares, at its head and in its blocks.
 abbrev pub most_names : ℕ
 most_names = 64
-
--- The largest capacity of a queue, in rows; for an array of queues, that of each.
-abbrev pub largest_capacity : ℕ
-largest_capacity = 64
-
--- The largest maximum of a loop: how many times its block may run.
-abbrev pub longest_loop : ℕ
-longest_loop = 32
 
 -- The numbers of a row beyond the most.
 abbrev pub numbers_beyond : List ItemTree → List ItemTree

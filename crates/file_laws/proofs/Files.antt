@@ -31,7 +31,8 @@ use Rattle.fault_mean.specs.Limits.{LimitedSize, is_within, is_within_at, sizes_
 use Rattle.fault_mean.specs.Earliest.{unless}
 use Rattle.fault_mean.specs.Declared.{is_param}
 use Rattle.fault_mean.specs.Forms.{declared_as}
-use Rattle.file_laws.specs.Named.{NamedStack, FilesAreNamed}
+use Rattle.chain_laws.specs.Named.{NamedStack}
+use Rattle.file_laws.specs.Named.{FilesAreNamed}
 use Rattle.file_laws.proofs.Handlers.{layer_typed}
 use Rattle.file_laws.proofs.NamedLayers.{layer_named, given_within}
 

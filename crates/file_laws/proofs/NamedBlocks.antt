@@ -28,7 +28,7 @@ use Rattle.file_mean.specs.Names.{Names, Placed, carried_as, carried_in, numbers
 use Rattle.file_mean.specs.Values.{queue_row, queue_carries, argument_number, argument_message}
 use Rattle.file_mean.specs.Statements.{pushed_tag, pushed_fields, emission_of, pushed_row}
 use Rattle.file_mean.specs.Layers.{layer_of}
-use Rattle.file_laws.specs.Named.{Named, NamedMessage, NamedOption, NamedContent}
+use Rattle.chain_laws.specs.Named.{Named, NamedMessage, NamedOption, NamedContent}
 use Rattle.file_laws.proofs.Lists.{nils, each_nil, unless_nil, zip_each, last_map}
 use Rattle.file_laws.proofs.Messages.{IsLastMessage, inner_number}
 use Rattle.file_laws.proofs.Emissions.{kind_arguments, unmapped}

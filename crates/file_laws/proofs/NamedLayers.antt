@@ -40,8 +40,8 @@ use Rattle.file_mean.specs.Layers.{popped_tag, expected_of, handler_names, handl
 use Rattle.layer_ast.specs.declared.names.At.{At}
 use Rattle.fault_mean.specs.Limits.{LimitedSize, capacity_in, is_within, maximum_in, number_outside, sizes_in}
 use Rattle.fault_mean.specs.Places.{param_value}
-use Rattle.file_laws.specs.Named.{Named, NamedAll, NamedExpected, event_number_count, slots_of, NamedHandler, NamedForm}
-use Rattle.file_laws.specs.Named.{NamedLayer, IsSize}
+use Rattle.chain_laws.specs.Named.{Named, NamedAll, NamedExpected, event_number_count, slots_of, NamedHandler}
+use Rattle.chain_laws.specs.Named.{NamedForm, NamedLayer, IsSize}
 use Rattle.file_laws.proofs.Lists.{nils, each_nil, each_parts, unless_nil, filter_map_each, each_both, map_nil}
 use Rattle.file_laws.proofs.Own.{declares_it, headed}
 use Rattle.file_laws.proofs.Messages.{LastMessages}

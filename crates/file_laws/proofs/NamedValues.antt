@@ -34,7 +34,7 @@ use Rattle.file_mean.specs.Names.{Names, Placed, cell_of, carried_as, carried_in
 use Rattle.file_mean.specs.Values.{named_number, queue_row, queue_cell, number_of, queue_index, message_of, built_of}
 use Rattle.file_mean.specs.Values.{argument_number, argument_message}
 use Rattle.file_mean.specs.Layers.{row_items, cell_in, layer_of}
-use Rattle.file_laws.specs.Named.{shape_in, alone_in, among_in, form_at, NamesNumber, NamesRows, Named, NamedMessage}
+use Rattle.chain_laws.specs.Named.{shape_in, alone_in, among_in, form_at, NamesNumber, NamesRows, Named, NamedMessage}
 use Rattle.file_laws.proofs.Lists.{nils, unless_nil, find_where}
 use Rattle.file_laws.proofs.Own.{Declares, declares_it, cell_listed}
 use Rattle.file_laws.proofs.Messages.{found_passes}

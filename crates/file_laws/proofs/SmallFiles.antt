@@ -15,7 +15,7 @@ use Rattle.chain_laws.proofs.Runs.{run_from_a_task, stands_typed}
 use Rattle.chain_laws.proofs.Statements.{event_is}
 use Rattle.chain_laws.proofs.Visits.{fresh_is_chained}
 use Rattle.file_laws.specs.Literals.{LiteralFile}
-use Rattle.file_laws.specs.Named.{NamedStack}
+use Rattle.chain_laws.specs.Named.{NamedStack}
 use Rattle.file_laws.specs.Samples.{CounterIsTyped, QueuesAreTyped, SmallFilesAreNamed, first_cast, CounterRuns}
 use Rattle.file_laws.proofs.Files.{files_are_named, files_are_typed}
 

@@ -12,7 +12,7 @@ use Rattle.file_mean.specs.CounterFile as counter
 use Rattle.file_mean.specs.QueuesFile as queues
 use Rattle.chain_laws.specs.Runs.{TypedStack, IsChainedTask, IsChainedLine}
 use Rattle.file_laws.specs.Literals.{LiteralFile}
-use Rattle.file_laws.specs.Named.{NamedStack}
+use Rattle.chain_laws.specs.Named.{NamedStack}
 
 -- Their numbers are in range and they have no faults, so their stacks are typed.
 abbrev pub CounterIsTyped : Type 0

@@ -28,7 +28,7 @@ use Rattle.chain_laws.specs.Typed.{Queue, queue_in, queue_at}
 use Rattle.chain_laws.specs.Runs.{AreChainedStates}
 use Rattle.chain_laws.proofs.Lists.{zip_at}
 use Rattle.chain_laws.proofs.Sorts.{Kept, kept, rows_at_kept, row_at_kept, message_in_body}
-use Rattle.file_laws.specs.Named.{NamedStack, shape_in, form_at}
+use Rattle.chain_laws.specs.Named.{NamedStack, shape_in, form_at}
 use Rattle.trace_mean.specs.Trace.{number, TraceNumber, atom, me, count, ltime, element, square, rows, item, size}
 use Rattle.trace_mean.specs.Trace.{binary, apply, pick, body, TraceMessage, core, held, cut, tail, join, Operation}
 use Rattle.trace_mean.specs.Trace.{bind, note, check, set, set_square, push, take, output}

@@ -3,7 +3,7 @@ use Rattle.std.specs.Prelude.{◌≡◌, true, List, Option, Some, None}
 use Rattle.layer_mean.specs.Tree.{LayerTree}
 use Rattle.layer_mean.specs.declared.run.Case.{Case}
 use Rattle.layer_mean.specs.declared.run.Case.TheVariants.{First, Second}
-use Rattle.miss_mean.specs.Lacks.{Lack, missed, Miss}
+use Rattle.lack_mean.specs.Lacks.{Lack, missed, Miss}
 use Rattle.miss_mean.specs.Text.{known_at}
 use Rattle.run_mean.specs.Common.{is_short}
 use Rattle.stack_mean.specs.Plan.{Plan}

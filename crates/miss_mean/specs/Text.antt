@@ -18,8 +18,7 @@ use Rattle.bypass_mean.specs.Lines.{reason_text}
 use Rattle.run_mean.specs.Common.{plan_entry}
 use Rattle.run_mean.specs.Lines.{line}
 use Rattle.run_mean.specs.Report.{Moment, run_of, end_line}
-use Rattle.run_mean.specs.World.{Did, taken}
-use Rattle.miss_mean.specs.Lacks.{Lack, no_plan, absent, missed, Entry, cast, send, plan, none, Miss, miss_of}
+use Rattle.lack_mean.specs.Lacks.{Lack, no_plan, absent, missed, Entry, cast, send, plan, none, Miss, missed_in}
 use Rattle.miss_mean.specs.Spots.{Spot, shape_spots}
 
 -- `cast`, `send`, `plan K`, or `none` for a packet that fits no plan.
@@ -69,11 +68,6 @@ miss_line file stack plans event id miss = let known = known_at plans miss.entry
     (codes "miss" ∷ decimal event ∷ decimal id ∷ entry_text miss.entry
     ∷ lack_text stack (entry_spots First file stack known) miss.first
     ∷ second_text stack (entry_spots Second file stack known) miss.second)
-
--- What the step of an event lacked, if it was taken and wasn't common.
-abbrev pub missed_in : List LayerTree → List Plan → Did → Option Miss
-missed_in stack plans (taken s) = miss_of stack plans s
-missed_in stack plans _ = None
 
 -- The line of an event, which is given with its number, if its step was taken and lacked something.
 abbrev pub event_misses : FileTree → List LayerTree → List Plan → ℕ × Moment → List (List ℕ)

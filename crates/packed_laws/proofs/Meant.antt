@@ -15,7 +15,7 @@ use Rattle.msg_core.specs.Headers.{most_fields}
 use Rattle.chain_laws.specs.Runs.{TypedStack}
 use Rattle.chain_laws.proofs.Lists.{Where}
 use Rattle.file_laws.specs.Bounds.{HoldsDeclaration, HoldsLayer, HoldsPlaced, placed_at}
-use Rattle.file_laws.specs.Named.{NamedStack}
+use Rattle.chain_laws.specs.Named.{NamedStack}
 use Rattle.file_laws.proofs.Files.{NamesLayer, file_parts, files_are_typed, files_are_named}
 use Rattle.file_laws.proofs.HeldLayers.{files_are_held}
 use Rattle.file_laws.proofs.Lists.{filter_map_each}

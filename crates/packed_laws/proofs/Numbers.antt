@@ -14,8 +14,8 @@ use Rattle.layer_ast.specs.declared.syntax.Shape.TheVariants.{One, Array, Square
 use Rattle.layer_ast.specs.Printed.{function_sign, operator_sign}
 use Rattle.layer_ast.specs.Spelling.{reserved, symbols}
 use Rattle.layer_mean.specs.Tree.{Carried, CellTree, Form, ItemsTree, LayerTree, numbers, queue, queues}
-use Rattle.file_laws.specs.Named as named
-use Rattle.file_laws.specs.Named.{shape_in, alone_in, among_in}
+use Rattle.chain_laws.specs.Named as named
+use Rattle.chain_laws.specs.Named.{shape_in, alone_in, among_in}
 use Rattle.trace_mean.specs.Trace.{Atom, number, peer, field, bound, taken_number, value, TraceNumber, atom, me, count}
 use Rattle.trace_mean.specs.Trace.{ltime, element, square, rows, item, size, binary, apply, pick, TraceMessage, core}
 use Rattle.trace_mean.specs.Trace.{held, cut, tail, join}

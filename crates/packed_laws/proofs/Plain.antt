@@ -24,7 +24,7 @@ use Rattle.layer_ast.specs.Printed.{direction_sign, function_sign, operator_sign
 use Rattle.layer_ast.specs.Spelling.{is_word_byte, kinds, kind_word, reserved, symbols}
 use Rattle.layer_mean.specs.Headers.{header_of_tag}
 use Rattle.layer_mean.specs.Tree.{Carried, Form, HeaderTree, ItemsTree, LayerTree, numbers, queue, queues}
-use Rattle.file_laws.specs.Named.{shape_in, alone_in, among_in}
+use Rattle.chain_laws.specs.Named.{shape_in, alone_in, among_in}
 use Rattle.chain_laws.proofs.Lists.{each_append}
 use Rattle.trace_mean.specs.Trace as trace
 use Rattle.trace_mean.specs.Trace.{Atom, Core, TraceNumber, TraceMessage, Link, Chained, Operation}

@@ -2,8 +2,8 @@
 use Rattle.std.specs.Prelude.{List, None, option_map}
 use Rattle.layer_mean.specs.State.{State}
 use Rattle.trace_mean.specs.Worth.{Input}
-use Rattle.miss_mean.specs.Lacks as lack
-use Rattle.miss_mean.specs.Lacks.{Entry, Miss}
+use Rattle.lack_mean.specs.Lacks as lack
+use Rattle.lack_mean.specs.Lacks.{Entry, Miss}
 use Rattle.miss_laws.specs.Asked.{lack_at}
 use Rattle.stack_checks.specs.Trees.{EntryAsked}
 

@@ -6,7 +6,7 @@ ghost use Rattle.std.specs.Option.{option_map_or};
 ghost use Rattle.check_mean.specs.Checks.{check_at};
 ghost use Rattle.msg_core.specs.Parts.{longest_body};
 ghost use Rattle.msg_core.specs.View.{most_members};
-ghost use Rattle.miss_mean.specs.Lacks as lack;
+ghost use Rattle.lack_mean.specs.Lacks as lack;
 ghost use Rattle.file_layer.specs.Layer.{IsInOrder, state_in};
 ghost use Rattle.trace_reads.specs.Registers.{IsEmpty, input_of};
 ghost use Rattle.step_misses.specs.Misses.{entry_meant, lack_meant, miss_meant};

@@ -20,9 +20,9 @@ use Rattle.stack_mean.specs.NoShape.{NoShape}
 use Rattle.stack_mean.specs.NoShape as no_shape
 use Rattle.weight_laws.proofs.Nodes.{found}
 use Rattle.chain_laws.proofs.Lists.{each_append}
-use Rattle.file_laws.specs.Named as named
-use Rattle.file_laws.specs.Named.{NamedMessage, NamesRows, NamesQueue, NamedOption, NamedContent, NamedStatement}
-use Rattle.file_laws.specs.Named.{NamedAll, NamedExpected, slots_of, NamedHandler, NamedStack}
+use Rattle.chain_laws.specs.Named as named
+use Rattle.chain_laws.specs.Named.{NamedMessage, NamesRows, NamesQueue, NamedOption, NamedContent, NamedStatement}
+use Rattle.chain_laws.specs.Named.{NamedAll, NamedExpected, slots_of, NamedHandler, NamedStack}
 use Rattle.trace_mean.specs.Trace as trace
 use Rattle.trace_mean.specs.Trace.{Atom, Core, TraceNumber, TraceMessage, Link, Chained, Operation, bind, note}
 use Rattle.trace_mean.specs.Scope.{Names, Worded, traced_number, traced_message}

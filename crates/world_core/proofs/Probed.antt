@@ -8,7 +8,7 @@ use Rattle.layer_mean.specs.Tree.{LayerTree}
 use Rattle.stack_mean.specs.Plan.{Plan}
 use Rattle.run_mean.specs.Member.{Member, inside, out, Input, Output, Refusal, Step}
 use Rattle.run_mean.specs.World.{World, Happening, only, Did, taken, refused, absent, shown, member_at, step_happening}
-use Rattle.miss_mean.specs.Text.{missed_in}
+use Rattle.lack_mean.specs.Lacks.{missed_in}
 use Rattle.step_misses.specs.Misses.{miss_meant}
 use Rattle.step_misses.specs.declared.miss.Miss.{Miss}
 use Rattle.step_misses.specs.declared.miss.Probed.{Probed}

@@ -11,6 +11,7 @@ use Rattle.stack_mean.specs.Plan.{Plan}
 use Rattle.stack_mean.specs.Shape.{Known, Shape, shape, has_second_case}
 use Rattle.run_mean.specs.Common.{entry_of, longest_shape, is_common, first_missed}
 use Rattle.run_mean.specs.Member.{Entered, app_cast, app_send, app_leave, clock_tick, from_peer, Step}
+use Rattle.run_mean.specs.World.{Did, taken}
 
 -- A case lacks a plan, where its packet fits none; or a shape within the limits, for a reason; or its run left the
 -- prediction, first at the decision of this number, counted from 0 through all its visits.
@@ -66,3 +67,8 @@ miss_by stack s known entry =
 unfoldable pub miss_of : List LayerTree → List Plan → Step → Option Miss
 miss_of stack plans s = if is_common stack plans s then None
     else option_map (miss_by stack s (entry_of plans s.entered)) (entry_named plans s.entered)
+
+-- What the step of an event lacked, if one was taken.
+abbrev pub missed_in : List LayerTree → List Plan → Did → Option Miss
+missed_in stack plans (taken s) = miss_of stack plans s
+missed_in stack plans _ = None
