@@ -16,7 +16,7 @@ use event_graph::Stack;
 use file_layer::Maker;
 use member_reads::Shown;
 use msg_core::{Headers, View};
-use packet_full::{Scan, member_count};
+use packet_full::Scan;
 use packet_mean::Here;
 use packet_short::{Known, Layouts};
 use stack_checks::StackChecks;
@@ -27,6 +27,7 @@ use std::rc::Rc;
 use step_misses::Probed;
 use step_outputs::Outputs;
 use view_core::{Input, Refusal, Stepped};
+use view_masks::member_count;
 
 /// The most rows with messages that a member's layers may keep.
 const MOST_ROWS: u32 = 8192;
