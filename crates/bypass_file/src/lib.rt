@@ -11,3 +11,4 @@ mod replace;
 
 pub use error::BypassError;
 pub use read::read_bypasses;
+pub use trace_file::LONGEST_FILE;

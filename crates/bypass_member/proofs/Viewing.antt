@@ -6,12 +6,11 @@ use Rattle.std.specs.List.{AllByRecursion, position_or_len}
 use Rattle.std.specs.Option.{option_map_or}
 use Rattle.slot_pool.specs.References.{Exact}
 use Rattle.slot_pool.proofs.References.{exact-moved}
-use Rattle.msg_core.specs.View.{ids, member_count, rank}
+use Rattle.msg_core.specs.View.{ids, member_count, rank, next_view}
 use Rattle.msg_core.specs.declared.packet.View.{View}
 use Rattle.layer_mean.specs.State.{State}
 use Rattle.layer_mean.specs.Tree.{LayerTree}
 use Rattle.layer_mean.specs.Visit.{fresh}
-use Rattle.run_mean.specs.View.{next_view}
 use Rattle.run_mean.specs.Member.{inside, out, opened_member}
 use Rattle.chain_laws.proofs.Lists.{each_so}
 use Rattle.pool_laws.proofs.Views.{views_shrink}

@@ -10,11 +10,11 @@ ghost use Rattle.bypass_member.specs.Placing.{IsCountIn, IsRankIn};
 use bypass_codes::Codes;
 use event_graph::Stack;
 use msg_core::{Headers, View};
-use packet_full::member_count;
 use packet_mean::Here;
 use stack_shapes::{EntryShapes, PlanStarts, Plans};
 use std::rc::Rc;
-use view_core::{Change, rank};
+use view_core::Change;
+use view_masks::{member_count, rank};
 
 /// What a member in a view works over: its stack with what is known of it, the code by which it runs, if any, a list of
 /// no headers, where it stands, how many members its view has, its id, and how many members its first view had.

@@ -12,11 +12,11 @@ use crate::scratch::{close_scratch, share};
 use crate::steps::take;
 use crate::views::Seat;
 use bypass_codes::Codes;
-use event_graph::Stack;
+use event_graph::{MOST_ROWS, Stack};
 use file_layer::Maker;
 use member_reads::Shown;
 use msg_core::{Headers, View};
-use packet_full::{Scan, member_count};
+use packet_full::Scan;
 use packet_mean::Here;
 use packet_short::{Known, Layouts};
 use stack_checks::StackChecks;
@@ -27,9 +27,7 @@ use std::rc::Rc;
 use step_misses::Probed;
 use step_outputs::Outputs;
 use view_core::{Input, Refusal, Stepped};
-
-/// The most rows with messages that a member's layers may keep.
-const MOST_ROWS: u32 = 8192;
+use view_masks::member_count;
 
 /// A member of a group, run layer by layer, or by the code of its bypasses. It takes memory as it begins, and no more.
 /// It can't be let go: it is closed.

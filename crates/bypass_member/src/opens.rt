@@ -24,13 +24,12 @@ use cell_store::Membership;
 use event_graph::Stack;
 use file_layer::{FileLayer, Maker};
 use msg_core::{Memory, View};
-use packet_full::member_count;
 use packet_short::Layouts;
 use pool_message::Events;
 use slot_pool::Pool;
 use stack_queue::{Tasks, events_for};
 use std::alloc::{AllocError, Global};
-use view_core::rank;
+use view_masks::{member_count, rank};
 
 /// How many slots a member's pool has beyond one for each row with a message: one for the body of the event that begins
 /// a run, and one for each join of the run.

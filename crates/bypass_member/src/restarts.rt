@@ -9,8 +9,7 @@ use crate::views::{Seat, reset_all};
 use crate::works::Works;
 use cell_store::Membership;
 use file_layer::FileLayer;
-use packet_full::member_count;
-use view_core::rank;
+use view_masks::{member_count, rank};
 
 /// Whether each layer has at least this many members now.
 fn are_among(layers: &[FileLayer], count: u32) -> bool

@@ -16,10 +16,10 @@ use cell_store::Membership;
 use event_graph::Stack;
 use file_layer::FileLayer;
 use msg_core::View;
-use packet_full::member_count;
 use slot_pool::Pool;
 use step_outputs::Outputs;
-use view_core::{Change, next_view, rank};
+use view_core::Change;
+use view_masks::{member_count, next_view, rank};
 
 /// A member in a view that others may follow: its stack, how many members its first view had, the view, and its id.
 #[derive(Clone, Copy)]

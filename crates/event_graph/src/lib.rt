@@ -16,4 +16,6 @@ mod table;
 
 pub use acceptance::accept;
 pub use error::StackError;
+pub use judge::WEIGHT_LIMIT;
+pub use rows::MOST_ROWS;
 pub use stack::Stack;

@@ -10,6 +10,9 @@ ghost use Rattle.event_graph.specs.Rows.{rows_of_cell, rows_of_layer};
 
 use typed_layer::{Cell, Form, Items, Typed, TypedLayer};
 
+/// The most rows with messages that a member's layers may keep.
+pub const MOST_ROWS: u32 = 8_192;
+
 /// How many rows with messages a queue of a capacity keeps at most.
 fn rows_for(items: &Items, capacity: u8) -> u32
     ensures { result ≡ limits.capacity_for (items_tree items.now) capacity }

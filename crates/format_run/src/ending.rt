@@ -8,7 +8,7 @@ ghost use Rattle.format_run.specs.declared.ending.Ending.TheVariants as ending;
 ghost use Rattle.format_run.specs.Ends.{Said, token_line};
 
 use layer_ast::At;
-use outside::{ShelfError, Sink, SinkError, say_line};
+use outside::{NO_MEMORY, ShelfError, Sink, SinkError, say_line};
 use std::alloc::{AllocError, Global};
 
 /// How a run ended.
@@ -62,9 +62,6 @@ impl From<SinkError> for Ending {
 
 /// The status where a file is refused.
 const FILE_REFUSED: u8 = 1;
-
-/// The status where memory ran out.
-pub const NO_MEMORY: u8 = 7;
 
 /// Says how a run ended, and answers the program's status.
 pub(crate) fn say<E: Sink>(alloc: Global, ending: Ending, err: &mut E) -> u8

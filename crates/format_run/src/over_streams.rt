@@ -5,9 +5,9 @@ ghost use Rattle.format_run.specs.Ends.{name_of};
 ghost use Rattle.format_run.specs.Through.{RunsThrough, Delivers, end_after_delivery};
 ghost use Rattle.program_streams.specs.Streams.{over};
 
-use crate::ending::{Ending, NO_MEMORY, say};
+use crate::ending::{Ending, say};
 use crate::over_sinks::perform;
-use outside::{FileShelf, Shelf, Sink, StdSink};
+use outside::{FileShelf, NO_MEMORY, Shelf, Sink, StdSink};
 use program_streams::{begin, hand_on};
 use std::alloc::Global;
 use std::io::Write;

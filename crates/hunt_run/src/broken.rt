@@ -7,15 +7,13 @@ ghost use Rattle.hunt_run.specs.Reading.{request_shown};
 use crate::words::Request;
 use file_judge::{FileError, judge};
 use group_mean::Mode;
+use job_text::MOST_GENERATED;
 use outside::StillSink;
 use play_jobs::{PlayError, Wanted, play};
 use run_audit::{AuditError, Finding, Law, audit};
 use script_mean::Script;
 use script_text::{ScriptError, read_script};
 use std::alloc::{AllocError, Global};
-
-/// The most events of a script.
-const MOST_EVENTS: usize = 99_999;
 
 /// A report, and the two lines of it that break a law.
 #[derive(Drop)]
@@ -77,7 +75,7 @@ fn within(request: Request<'_>, script: Script) -> Option<Script>
     let events = script.events.slice().len();
     if script.members > request.members
         || events > request.events as usize
-        || events > MOST_EVENTS
+        || events > MOST_GENERATED as usize
     {
         return None;
     }

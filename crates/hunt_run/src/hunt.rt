@@ -10,7 +10,7 @@ use crate::found::find;
 use crate::told::holds_line;
 use crate::watch::Watch;
 use crate::words::Request;
-use event_graph::Stack;
+use event_graph::{MOST_ROWS, Stack};
 use file_judge::judge;
 use hunt_search::{Aim, Search, SearchError};
 use job_ends::Ending;
@@ -18,9 +18,6 @@ use outside::Clock;
 use report_lines::Line;
 use std::alloc::Global;
 use std::io::Write;
-
-/// The most rows with messages of a member.
-const MOST_ROWS: u32 = 8_192;
 
 /// What is written, and whether it is a breach.
 #[derive(Drop)]

@@ -2,8 +2,7 @@
 
 use crate::streams::run_through;
 use crate::watch::Watch;
-use job_ends::NO_MEMORY;
-use outside::{FileShelf, RunClock};
+use outside::{FileShelf, NO_MEMORY, RunClock};
 use program_streams::begin;
 use std::io::{IsTerminal, Write};
 use std::rt::{Clock as SystemClock, Env, Files};

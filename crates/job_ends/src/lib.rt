@@ -6,4 +6,4 @@ mod lines;
 mod saying;
 
 pub use ending::Ending;
-pub use saying::{NO_MEMORY, say};
+pub use saying::say;

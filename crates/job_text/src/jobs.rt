@@ -14,11 +14,13 @@ use group_mean::Mode;
 use msg_core::MOST_MEMBERS;
 use std::alloc::{AllocError, Global};
 
-/// The most events of a generated script, members of a group, turns of a node and failed receives that it bears.
-const MOST_GENERATED: u32 = 99_999;
+/// The most events of a generated script.
+pub const MOST_GENERATED: u32 = 99_999;
 
+/// The most turns of a node.
 const MOST_NODE_TURNS: u32 = 1_000_000;
 
+/// The most failed receives that a node bears.
 const MOST_PATIENCE: u32 = 1_000;
 
 /// The job of what was given, if it is one.

@@ -14,7 +14,7 @@ use event_graph::Stack;
 use msg_core::{Fields, Header, Headers};
 
 /// The most numbers that a header carries.
-const MOST_FIELDS: u8 = 4;
+const MOST_FIELDS: u8 = msg_core::MOST_FIELDS as u8;
 
 /// The bytes that are left of a datagram.
 #[derive(Clone, Copy)]

@@ -20,7 +20,7 @@ use audit_mean::{Finding, Law};
 use std::alloc::{AllocError, Global};
 
 /// The most bytes of a report.
-const LONGEST_REPORT: usize = 67_108_864;
+pub const LONGEST_REPORT: usize = 67_108_864;
 
 /// Judges a law of the group on a finished run, by its report. It fails where the text is too large, where it is no
 /// report (then it names the first line out of form), and where memory runs out.

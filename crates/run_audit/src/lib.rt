@@ -16,5 +16,5 @@ mod segments;
 mod values;
 
 pub use crate::error::AuditError;
-pub use crate::judge::audit;
+pub use crate::judge::{LONGEST_REPORT, audit};
 pub use audit_mean::{Finding, Law};

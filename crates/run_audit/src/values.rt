@@ -6,8 +6,7 @@ ghost use Rattle.std.specs.Str.Parse.{digits_value};
 ghost use Rattle.script_mean.specs.Words as spec;
 ghost use Rattle.run_audit.specs.Reading.{is_hex_digit};
 
-/// The most digits of a body: two for each of 65,507 bytes.
-const MOST_DIGITS: usize = 131_014;
+use script_text::MOST_DIGITS;
 
 /// A number of plain decimal digits, from 0 to the highest.
 pub(crate) fn number_within(high: u64, word: &[u8]) -> Option<u64>

@@ -16,7 +16,7 @@ use Rattle.chart_mean.specs.Words.{Request}
 use Rattle.chart_mean.specs.Runs.{surrounding, Draws, Comes}
 use Rattle.chart_mean.specs.declared.types.Ending.{Ending}
 use Rattle.chart_mean.specs.declared.types.Ending.TheVariants.{Done, TooLarge, Line, Words, Read, Write, Memory}
-use Rattle.run_chart.specs.declared.over_sinks.TheConstants.{LONGEST_REPORT}
+use Rattle.run_audit.specs.declared.judge.TheConstants.{LONGEST_REPORT}
 use Rattle.run_chart.specs.Charts.{IsNone, Charts, IsFound, IsPicture, IsRefused, StopsAt, Fetches, Writes}
 
 -- where memory ran out over the words, nothing was done

@@ -13,10 +13,8 @@ use crate::saying::say;
 use crate::words::{Request, asked_for};
 use chart_mean::Ending;
 use outside::{Got, Shelf, Sink, put_line};
+use run_audit::LONGEST_REPORT;
 use std::alloc::Global;
-
-/// The most bytes of a report.
-const LONGEST_REPORT: u64 = 67_108_864;
 
 /// Draws the picture that the words ask for, the program's own name left out, on `out`, and answers the program's
 /// status. Where it ends with another status than 0, one line on `err` says why.
@@ -89,7 +87,7 @@ fn fetch_text<S: Shelf>(
         result }
 {
     let mut text = Vec::new(alloc);
-    match shelf.read(request.file, &mut text, LONGEST_REPORT)? {
+    match shelf.read(request.file, &mut text, LONGEST_REPORT as u64)? {
         Got::Whole => Ok(text),
         Got::TooLong => Err(Ending::TooLarge),
     }

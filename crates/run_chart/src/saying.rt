@@ -8,14 +8,11 @@ ghost use Rattle.chart_mean.specs.Ends.{Said};
 ghost use Rattle.chart_mean.specs.declared.types.Ending.TheVariants as ending;
 
 use chart_mean::Ending;
-use outside::{Sink, say_line};
+use outside::{NO_MEMORY, Sink, say_line};
 use std::alloc::{AllocError, Global};
 
 /// The status where the file is refused.
 const FILE_REFUSED: u8 = 1;
-
-/// The status where memory ran out.
-pub(crate) const NO_MEMORY: u8 = 7;
 
 /// Says how the program ended, and answers its status.
 pub(crate) fn say<E: Sink>(alloc: Global, ending: Ending, err: &mut E) -> u8

@@ -1,7 +1,6 @@
 //! The program over the system's arguments, files and streams.
-use crate::saying::NO_MEMORY;
 use crate::streams::run_through;
-use outside::FileShelf;
+use outside::{FileShelf, NO_MEMORY};
 use program_streams::begin;
 use std::io::Write;
 use std::rt::{Env, Files};

@@ -24,8 +24,7 @@ use Rattle.packet_mean.specs.Plan.{kind_of}
 use Rattle.stack_mean.specs.Plan.{Plan}
 use Rattle.packet_mean.specs.Received.{received}
 use Rattle.packet_mean.specs.declared.here.Here.{Here}
-use Rattle.msg_core.specs.View.{member_count, rank}
-use Rattle.run_mean.specs.View.{next_view}
+use Rattle.msg_core.specs.View.{member_count, rank, next_view}
 
 -- A member is in a view, with the states of its layers, lowest first, or it is out.
 pub data Member : Type 0 where

@@ -13,8 +13,7 @@ use Rattle.script_mean.specs.declared.event.ScriptEvent.TheVariants as script
 use Rattle.stack_mean.specs.Plan.{Plan}
 use Rattle.packet_mean.specs.Spelling.{full_bytes}
 use Rattle.packet_mean.specs.declared.here.Here.{Here}
-use Rattle.msg_core.specs.View.{rank}
-use Rattle.run_mean.specs.View.{first_view}
+use Rattle.msg_core.specs.View.{rank, first_view}
 use Rattle.run_mean.specs.Member.{Member, inside, out, opened_member, Input, cast, send, leave, tick, datagram, Refusal}
 use Rattle.run_mean.specs.Member.{is_out, Entered, entered_input, Step, step_from, member_following, packet_in}
 

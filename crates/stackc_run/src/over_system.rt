@@ -1,8 +1,7 @@
 //! The program over the system's arguments, files, streams, sockets and clock.
 
 use crate::over_streams::run_through;
-use job_ends::NO_MEMORY;
-use outside::{FileShelf, RunClock};
+use outside::{FileShelf, NO_MEMORY, RunClock};
 use program_streams::begin;
 use std::io::Write;
 use std::net::Net;

@@ -25,10 +25,11 @@ use crate::view::{OutputView, Signal};
 use layer_ast::{Dir, Kind};
 use layer_mean::Envelope;
 use msg_core::{Dest, Headers};
-use packet_full::{PacketView, member_count, put_body};
+use packet_full::{PacketView, put_body};
 use packet_mean::Here;
 use pool_message::PoolEvent;
 use slot_pool::Pool;
+use view_masks::member_count;
 
 /// A range of bytes.
 #[derive(Clone, Copy)]

@@ -16,7 +16,7 @@ use trace_core::{Atom, Atoms};
 use trace_words::{LineError, Name, Scope, Text, fields_of, layer_at, tag_named};
 
 /// The most fields of a header.
-pub(crate) const MOST_FIELDS: u32 = 4;
+pub(crate) const MOST_FIELDS: u32 = msg_core::MOST_FIELDS as u32;
 
 /// A header of a layer.
 #[derive(Clone, Copy)]

@@ -5,8 +5,7 @@ use Rattle.std.proofs.lemmas.List.FromFn.{get_or-range_with_len, length-range_wi
 use Rattle.std.proofs.lemmas.List.Sums.{AllPass-from_list_all}
 use Rattle.std.proofs.lemmas.Slice.Eq.{bytes_eq-Decides}
 use Rattle.std.specs.List.{range_with_len, list_all, position}
-use Rattle.msg_core.specs.View.{ids, member_count, rank}
-use Rattle.run_mean.specs.View.{first_view}
+use Rattle.msg_core.specs.View.{ids, member_count, rank, first_view}
 
 -- what holds of each number below another holds of one
 each_below : (p : ℕ → Bool) (n k : ℕ) → list_all p (range_with_len 0 n) ≡ true → k < n → p k ≡ true

@@ -9,7 +9,7 @@ use Rattle.std.specs.List.{range_with_len}
 use Rattle.msg_core.specs.declared.packet.View.{View}
 use Rattle.stack_mean.specs.Acceptance.{rows_of, most_rows}
 use Rattle.run_mean.specs.Member.{opened_member}
-use Rattle.run_mean.specs.View.{first_view}
+use Rattle.msg_core.specs.View.{first_view}
 use Rattle.file_layer.specs.Making.{Making}
 use Rattle.bypass_member.specs.Opening.{IsOpen, Opens, mode_in, plans_in, rows_in, stack_in}
 use Rattle.bypass_member.specs.Placed.{Placed}

@@ -10,7 +10,7 @@ use Rattle.layer_mean.specs.Tree.{LayerTree}
 use Rattle.stack_mean.specs.Plan.{Plan}
 use Rattle.run_mean.specs.Member.{Member, opened_member}
 use Rattle.run_mean.specs.Mode.{Mode}
-use Rattle.run_mean.specs.View.{first_view}
+use Rattle.msg_core.specs.View.{first_view}
 use Rattle.run_mean.specs.World.{first_world}
 use Rattle.bypass_member.specs.Placed.{Placed, SamePlace}
 use Rattle.bypass_member.specs.Restarting.{IsRestarted}

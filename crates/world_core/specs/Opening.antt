@@ -5,7 +5,7 @@ use Rattle.std.specs.declared.alloc.Global.{Global}
 use Rattle.std.specs.declared.vec.Vec.{Vec}
 use Rattle.stack_mean.specs.Acceptance.{rows_of, most_rows}
 use Rattle.run_mean.specs.Member.{opened_member}
-use Rattle.run_mean.specs.View.{first_view}
+use Rattle.msg_core.specs.View.{first_view}
 use Rattle.run_mean.specs.World.{first_world}
 use Rattle.file_layer.specs.Making.{Making}
 use Rattle.bypass_member.specs.Making.{MadeAtMost}

@@ -2,7 +2,7 @@
 use Rattle.std.specs.Prelude.{◌≡◌, Bool, true, false, List, map, length}
 use Rattle.msg_core.specs.declared.packet.View.{View}
 use Rattle.run_mean.specs.Member.{Member, opened_member}
-use Rattle.run_mean.specs.View.{first_view}
+use Rattle.msg_core.specs.View.{first_view}
 use Rattle.run_mean.specs.World.{first_world}
 use Rattle.bypass_member.specs.Placed.{Placed}
 use Rattle.group_feed.specs.Standing.{Peopled, Stands}

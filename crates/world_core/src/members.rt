@@ -1,8 +1,7 @@
 //! The members of a group, as they are opened and let go.
 
-ghost use Rattle.std.specs.Prelude.{◌≡◌, ◌^◌, ◌≤◌};
+ghost use Rattle.std.specs.Prelude.{◌^◌, ◌≤◌};
 ghost use Rattle.file_layer.specs.Making.{making};
-ghost use Rattle.run_mean.specs.View as views;
 ghost use Rattle.bypass_member.specs.Opening.{CanOpen};
 ghost use Rattle.world_core.specs.Opening.{OpensAll};
 ghost use Rattle.world_core.specs.Restarting.{RestartsAll};
@@ -10,19 +9,9 @@ ghost use Rattle.msg_core.specs.View.{most_members};
 
 use bypass_member::{Member, OpenError, Opening};
 use file_layer::Maker;
-use msg_core::{MOST_MEMBERS, View};
+use msg_core::MOST_MEMBERS;
 use std::alloc::Global;
-
-/// The first view of a group of n members: all of them.
-fn first_view(n: u8) -> View
-    requires { n ≤ most_members }
-    ensures { result ≡ views.first_view n }
-{
-    View {
-        ltime: 0,
-        mask: ((1u64 << n) - 1) as u32,
-    }
-}
+use view_masks::first_view;
 
 /// Opens the members of a group, in the first view. On an error none is left open.
 pub fn open_all(

@@ -1,6 +1,5 @@
 use Rattle.std.proofs.Common.{◌≡◌, ◌∙◌, Some, refl, sym, ap, arith}
-use Rattle.msg_core.specs.View.{rank}
-use Rattle.run_mean.specs.View.{next_view}
+use Rattle.msg_core.specs.View.{rank, next_view}
 use Rattle.event_graph.specs.Answer.{stack_tree}
 use Rattle.bypass_member.specs.Viewing.{input_at}
 use Rattle.bypass_member.proofs.Members.{counts_are}

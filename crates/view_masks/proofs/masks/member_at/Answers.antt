@@ -1,7 +1,7 @@
 use Rattle.std.proofs.Common.{◌∙◌, sym, arith, ap, ◌+◌}
-use Rattle.node_loop.proofs.Ids.{ranked_from, ranked_begins, ranked_ends, ranked_here, ranked_past, ranked_without}
-use Rattle.node_loop.proofs.receivers.member_at.Goals as goal
-use Rattle.node_loop.proofs.receivers.member_at.Goals.{then-has+else-left-eq0, else-has}
+use Rattle.view_masks.proofs.Ranked.{ranked_from, ranked_begins, ranked_ends, ranked_here, ranked_past, ranked_without}
+use Rattle.view_masks.proofs.masks.member_at.Goals as goal
+use Rattle.view_masks.proofs.masks.member_at.Goals.{then-has+else-left-eq0, else-has}
 
 pub loop-id-init : goal.loop-id-init
 loop-id-init c = ranked_begins c.args.view c.args.rank

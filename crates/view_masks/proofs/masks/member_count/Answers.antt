@@ -1,7 +1,7 @@
 use Rattle.std.proofs.Common.{arith}
 use Rattle.std.proofs.lemmas.Nat.{ones-le}
-use Rattle.packet_full.proofs.Members.{members_counted}
-use Rattle.packet_full.proofs.front.member_count.Goals as goal
+use Rattle.view_masks.proofs.Counting.{members_counted}
+use Rattle.view_masks.proofs.masks.member_count.Goals as goal
 
 pub returns-clause-count : goal.returns-clause-count
 returns-clause-count c = members_counted c.args.view (omega arith)

@@ -1,7 +1,7 @@
 use Rattle.std.proofs.Common.{◌∙◌, sym, arith, ap, ◌+◌}
-use Rattle.view_core.proofs.Ids.{rank_from, rank_begins, rank_ends, rank_here, rank_past, rank_without}
-use Rattle.view_core.proofs.views.rank.Goals as goal
-use Rattle.view_core.proofs.views.rank.Goals.{then-has+else-other-id, else-has}
+use Rattle.view_masks.proofs.Ids.{rank_from, rank_begins, rank_ends, rank_here, rank_past, rank_without}
+use Rattle.view_masks.proofs.masks.rank.Goals as goal
+use Rattle.view_masks.proofs.masks.rank.Goals.{then-has+else-other-id, else-has}
 
 pub loop-other-init : goal.loop-other-init
 loop-other-init c = (omega arith, rank_begins c.args.view c.args.id)

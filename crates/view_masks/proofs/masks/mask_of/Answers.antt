@@ -1,9 +1,9 @@
 use Rattle.std.proofs.Common.{◌≡◌, ℕ, ◌∙◌, sym, ap, ◌+◌, ◌<◌, ◌*◌, ◌^◌, ◌%◌, arith, add-one, zero-add}
 use Rattle.std.proofs.Math.Nat.{pow-suc, mod-eq_of_lt}
 use Rattle.std.proofs.Math.Pow.{pow-lt}
-use Rattle.view_core.proofs.Ids.{mask_from, mask_begins, mask_ends, mask_set, mask_unset, mask_without}
-use Rattle.view_core.proofs.views.mask_of.Goals as goal
-use Rattle.view_core.proofs.views.mask_of.Goals.{then-has, then-has-2, else-has-2, else-has}
+use Rattle.view_masks.proofs.Ids.{mask_from, mask_begins, mask_ends, mask_set, mask_unset, mask_without}
+use Rattle.view_masks.proofs.masks.mask_of.Goals as goal
+use Rattle.view_masks.proofs.masks.mask_of.Goals.{then-has, then-has-2, else-has-2, else-has}
 
 doubled : (at : ℕ) → 2 ^ (at + 1) ≡ 2 ^ at * 2
 doubled at = ap (λ n. 2 ^ n) (add-one at) ∙ pow-suc 2 at

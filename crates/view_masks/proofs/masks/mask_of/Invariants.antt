@@ -1,7 +1,7 @@
 use Rattle.std.specs.Prelude.{◌≡◌, ◌≤◌, ◌<◌, ◌+◌, ◌^◌}
-use Rattle.run_mean.specs.View as views
-use Rattle.view_core.proofs.Ids.{mask_from}
-use Rattle.view_core.proofs.views.mask_of.Given as goal
+use Rattle.msg_core.specs.View as views
+use Rattle.view_masks.proofs.Ids.{mask_from}
+use Rattle.view_masks.proofs.masks.mask_of.Given as goal
 
 abbrev pub invariant-loop-id : goal.invariant-loop-id
 invariant-loop-id l =

@@ -9,7 +9,6 @@ use Rattle.std.proofs.lemmas.Iterator.Adapters.{position_from-zero}
 use Rattle.std.proofs.lemmas.List.Sums.{sum_by-cons}
 use Rattle.msg_core.specs.View as members
 use Rattle.msg_core.specs.declared.packet.View.{View}
-use Rattle.run_mean.specs.View as views
 
 first_of : (a b : ℕ) → a < b → range_with_len a (b - a) ≡ a ∷ range_with_len (a + 1) (b - (a + 1))
 first_of a b small = let one_more : b - a ≡ suc (b - (a + 1)) = omega arith in ap (range_with_len a) one_more
@@ -82,7 +81,7 @@ bit_of ranks x = if bit_at ranks x.0 == 1 then 2 ^ x.1 else 0
 pub mask_from : View → ℕ → ℕ → ℕ → ℕ
 mask_from view ranks rank at = sum_by (bit_of ranks) (enumerate_from rank (ids_from view at))
 
-pub mask_begins : (view : View) (ranks : ℕ) → views.mask_of view ranks ≡ mask_from view ranks 0 0
+pub mask_begins : (view : View) (ranks : ℕ) → members.mask_of view ranks ≡ mask_from view ranks 0 0
 unfolding mask_from
 mask_begins view ranks = ap (λ ids. sum_by (bit_of ranks) (enumerate_from 0 ids)) (ids_begin view)
 
