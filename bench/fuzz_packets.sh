@@ -1,6 +1,6 @@
 #!/usr/bin/env bash
 # Feeds random and mutated datagrams of both forms to a member with the fifteen library layers, and counts how many are taken, refused, and
-# taken but not written and read again as the same packet in both forms. It builds a small program over copies of the crates in a
+# taken but not written and read again as the same packet in both forms, by a member that runs by code and by a layered one. It builds a small program over copies of the crates in a
 # folder of its own, unproved, and runs it on the interpreter: fuzz_packets.sh [TURNS].
 set -eu
 top=$(cd "$(dirname "$0")/.." && pwd)
@@ -8,7 +8,7 @@ room=$(mktemp -d)
 trap 'rm -rf "$room"' EXIT
 tar -C "$top" --exclude=out -cf - crates crates.txt | tar -C "$room" -xf -
 mkdir -p "$room/crates/bench/src"
-below=$(grep -E '^(file_judge|packet_short):' "$top/crates.txt" | tr -d ':' | tr ' ' '\n' | sort -u | tr '\n' ' ')
+below=$(grep -E '^(file_judge|packet_short|packet_wire):' "$top/crates.txt" | tr -d ':' | tr ' ' '\n' | sort -u | tr '\n' ' ')
 echo "bench: $below" >>"$room/crates.txt"
 {
   cat <<'RATTLE'
@@ -17,9 +17,10 @@ echo "bench: $below" >>"$room/crates.txt"
 use event_graph::Stack;
 use file_judge::judge;
 use msg_core::{Dest, Fields, Header, Headers, Memory, View};
-use packet_full::{PacketView, Scan, form_at, put_full_of, room_of, scan_full};
+use packet_full::{PacketView, Scan, form_at};
 use packet_mean::Here;
-use packet_short::{fits, fits_scan, put_short_of, scan_packet};
+use packet_short::{Known, Layouts, fits_scan, most_fields, scan_packet};
+use packet_wire::{put_wire, wire_room_of};
 use stack_shapes::{Plan, Plans, StackShapes};
 use std::alloc::Global;
 use std::io;
@@ -50,24 +51,12 @@ fn ranked(rank: u8) -> Here {
     Here { group: HERE.group, stamp: HERE.stamp, view: HERE.view, rank }
 }
 
-/// What a scan tells of, in full.
-fn full_of(alloc: Global, scan: &Scan, bytes: &[u8]) -> Result<Vec<u8>, Memory> {
-    let body = &bytes[scan.body as usize..];
-    let mut full = Vec::with_capacity(alloc, room_of(&scan.headers, body))?;
-    put_full_of(&ranked(scan.sender), scan.dest, &scan.headers, body, &mut full);
-    Ok(full)
-}
-
-/// The same short under a plan; None where it doesn't fit.
-fn short_of(alloc: Global, plans: &Plans, number: u8, scan: &Scan, bytes: &[u8]) -> Result<Option<Vec<u8>>, Memory> {
-    let body = &bytes[scan.body as usize..];
-    let Some(plan) = plans.get(number) else { return Ok(None) };
-    let mut short = Vec::with_capacity(alloc, room_of(&scan.headers, body) + 1)?;
-    let packet = PacketView { dest: scan.dest, headers: &scan.headers, body, plan: Some(number) };
-    match put_short_of(plan, number, &ranked(scan.sender), &packet, &mut short) {
-        Ok(()) => Ok(Some(short)),
-        Err(_) => Ok(None),
-    }
+/// What a scan tells of, as it is sent under a plan, or in full.
+fn sent(alloc: Global, plans: &Plans, plan: Option<u8>, scan: &Scan, bytes: &[u8]) -> Result<Vec<u8>, Memory> {
+    let packet = PacketView { dest: scan.dest, headers: &scan.headers, body: &bytes[scan.body as usize..], plan };
+    let mut sent = Vec::with_capacity(alloc, wire_room_of(&packet))?;
+    put_wire(plans, &ranked(scan.sender), &packet, &mut sent);
+    Ok(sent)
 }
 RATTLE
   cat <<'RATTLE'
@@ -80,26 +69,42 @@ fn next(seed: &mut u64) -> usize {
     (*seed >> 33) as usize
 }
 
-/// Whether a datagram that is taken is written and read again as the same packet, in both forms.
-fn is_kept(alloc: Global, stack: &Stack, plans: &Plans, bytes: &[u8]) -> Result<Option<bool>, Memory> {
+/// Whether a datagram that is taken is written and read again as the same packet, in both forms, and fits the plan that reading tells.
+fn is_kept(alloc: Global, known: &Known<'_>, fields: &mut Vec<u32>, bytes: &[u8]) -> Result<Option<bool>, Memory> {
+    let plans = known.plans;
     let mut scan = Scan::none();
-    let Ok(()) = scan_packet(stack, plans, &HERE, bytes, &mut scan) else { return Ok(None) };
-    let full = full_of(alloc, &scan, bytes)?;
+    let Ok(told) = scan_packet(known, &HERE, bytes, &mut scan, fields) else { return Ok(None) };
+    let mut kept = Vec::new(alloc);
+    kept.extend_from_slice(fields.as_slice())?;
+    let number = fits_scan(plans, &scan, fields);
+    if told.is_some() && (told != number || kept.as_slice() != fields.as_slice()) { return Ok(Some(false)); }
+    let full = sent(alloc, plans, None, &scan, bytes)?;
     let mut again = Scan::none();
-    let Ok(()) = scan_full(stack, &HERE, full.as_slice(), &mut again) else { return Ok(Some(false)) };
-    let number = fits(plans, scan.dest, &scan.headers);
-    if number != fits_scan(plans, &again) { return Ok(Some(false)); }
-    let Some(number) = number else { return Ok(Some(bytes == full.as_slice())) };
-    let Some(short) = short_of(alloc, plans, number, &scan, bytes)? else { return Ok(Some(false)) };
-    let Ok(()) = scan_packet(stack, plans, &HERE, short.as_slice(), &mut again) else { return Ok(Some(false)) };
-    let twice = full_of(alloc, &again, short.as_slice())?;
+    let Ok(_) = scan_packet(known, &HERE, full.as_slice(), &mut again, fields) else { return Ok(Some(false)) };
+    if number != fits_scan(plans, &again, fields) { return Ok(Some(false)); }
+    if number.is_none() { return Ok(Some(bytes == full.as_slice())); }
+    let short = sent(alloc, plans, number, &scan, bytes)?;
+    let Ok(_) = scan_packet(known, &HERE, short.as_slice(), &mut again, fields) else { return Ok(Some(false)) };
+    let twice = sent(alloc, plans, None, &again, short.as_slice())?;
     Ok(Some(twice.as_slice() == full.as_slice()))
+}
+
+/// The same by a member that runs by code and by a layered one: what both say, or that something is wrong.
+fn is_kept_by_both(alloc: Global, laid: &Known<'_>, plain: &Known<'_>, fields: &mut Vec<u32>, bytes: &[u8]) -> Result<Option<bool>, Memory> {
+    let first = is_kept(alloc, laid, fields, bytes)?;
+    let second = is_kept(alloc, plain, fields, bytes)?;
+    if first == second { Ok(first) } else { Ok(Some(false)) }
 }
 
 fn fuzz(rt: &HostRuntime, alloc: Global, stack: &Stack, plans: &Plans) -> io::Result<()> {
     let scan = Scan { sender: 0, dest: Dest::All, headers: headers_of(stack, &plans.slice()[0]), body: 0 };
-    let Ok(full) = full_of(alloc, &scan, b"hi") else { return Ok(()) };
-    let Ok(Some(short)) = short_of(alloc, plans, 0, &scan, b"hi") else { return Ok(()) };
+    let Ok(full) = sent(alloc, plans, None, &scan, b"hi") else { return Ok(()) };
+    let Ok(short) = sent(alloc, plans, Some(0), &scan, b"hi") else { return Ok(()) };
+    let Ok(layouts) = Layouts::of(alloc, stack, plans) else { return Ok(()) };
+    let none = Layouts::none(alloc);
+    let laid = Known { stack, plans, layouts: &layouts };
+    let plain = Known { stack, plans, layouts: &none };
+    let Ok(mut fields) = Vec::with_capacity(alloc, most_fields(plans)) else { return Ok(()) };
     let mut seed = 1_u64;
     let (mut taken, mut refused, mut wrong) = (0_u64, 0_u64, 0_u64);
     let Ok(mut bytes) = Vec::with_capacity(alloc, 9000) else { return Ok(()) };
@@ -121,7 +126,7 @@ fn fuzz(rt: &HostRuntime, alloc: Global, stack: &Stack, plans: &Plans) -> io::Re
         if turn % 16 == 15 {
             for place in 19..bytes.len() { bytes[place] = (next(&mut seed) % 256) as u8; }
         }
-        match is_kept(alloc, stack, plans, bytes.as_slice()) {
+        match is_kept_by_both(alloc, &laid, &plain, &mut fields, bytes.as_slice()) {
             Ok(None) => refused += 1,
             Ok(Some(true)) => taken += 1,
             Ok(Some(false)) => wrong += 1,

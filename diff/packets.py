@@ -3,8 +3,9 @@
 
 Run it from any folder: diff/packets.py [STACKS] [DATAGRAMS] [SEED]. It builds a small program over copies of the crates in a folder of its own,
 unproved, and hands it random stacks of the library's layers, each with random and mutated datagrams in full and short. For each datagram the
-sender, the destination, the headers, the body and the least plan that they fit, or the cause for which it is refused, must be those of the
-reading. It prints each difference and ends with 1 where there is one.
+sender, the destination, the headers, the body, the least plan that they fit and the fields that this plan leaves variable, or the cause for
+which it is refused, must be those of the reading: read as by a member that runs by code, and again as by a layered one. It prints each difference
+and ends with 1 where there is one.
 """
 import os
 import random
@@ -28,8 +29,8 @@ use file_judge::judge;
 use msg_core::{Dest, Stray, View};
 use packet_full::Scan;
 use packet_mean::Here;
-use packet_short::{fits_scan, scan_packet};
-use stack_shapes::{Plans, StackShapes};
+use packet_short::{Known, Layouts, fits_scan, most_fields, scan_packet};
+use stack_shapes::StackShapes;
 use std::fs;
 use std::io;
 
@@ -70,7 +71,7 @@ fn cause(stray: Stray) -> &'static str {
     }
 }
 
-fn say(rt: &HostRuntime, plans: &Plans, scan: &Scan) -> io::Result<()> {
+fn say(rt: &HostRuntime, plan: Option<u8>, fields: &[u32], scan: &Scan) -> io::Result<()> {
     let sender = scan.sender;
     let body = scan.body;
     print!(rt; "{sender} ")?;
@@ -78,10 +79,14 @@ fn say(rt: &HostRuntime, plans: &Plans, scan: &Scan) -> io::Result<()> {
         Dest::All => print!(rt; "all ")?,
         Dest::Rank(rank) => print!(rt; "{rank} ")?,
     }
-    match fits_scan(plans, scan) {
+    match plan {
         Some(plan) => print!(rt; "{plan} ")?,
         None => print!(rt; "- ")?,
     }
+    for field in fields {
+        print!(rt; "{field},")?;
+    }
+    print!(rt; " ")?;
     for place in 0..scan.headers.len() {
         if let Some(header) = scan.headers.at(place) {
             let layer = header.layer;
@@ -116,15 +121,31 @@ fn section(rt: &HostRuntime, input: &mut Input<'_>) -> io::Result<()> {
     let Ok(StackShapes { plans, starts: _, entries: _ }) = StackShapes::of(rt.alloc(), &stack) else {
         return println!(rt; "no memory");
     };
+    let Ok(laid) = Layouts::of(rt.alloc(), &stack, &plans) else {
+        return println!(rt; "no memory");
+    };
+    let none = Layouts::none(rt.alloc());
+    let Ok(mut fields) = Vec::with_capacity(rt.alloc(), most_fields(&plans)) else {
+        return println!(rt; "no memory");
+    };
     let mut scan = Scan::none();
     for _ in 0..count {
         let size = input.number() as usize;
         let datagram = input.bytes(size);
-        match scan_packet(&stack, &plans, &here, datagram, &mut scan) {
-            Ok(()) => say(rt, &plans, &scan)?,
-            Err(stray) => {
-                let why = cause(stray);
-                println!(rt; "{why}")?;
+        for layouts in [&laid, &none] {
+            let known = Known { stack: &stack, plans: &plans, layouts };
+            match scan_packet(&known, &here, datagram, &mut scan, &mut fields) {
+                Ok(told) => {
+                    let plan = match told {
+                        Some(plan) => Some(plan),
+                        None => fits_scan(&plans, &scan, &mut fields),
+                    };
+                    say(rt, plan, fields.as_slice(), &scan)?;
+                }
+                Err(stray) => {
+                    let why = cause(stray);
+                    println!(rt; "{why}")?;
+                }
             }
         }
     }
@@ -210,7 +231,10 @@ class Group:
         plans = [k for k, plan in enumerate(self.world.plans) if running.fits(plan, packet["kind"], headers)]
         chain = "".join(f"{place}.{tag}({''.join(f'{field},' for field in fields)})" for place, tag, fields in headers)
         dest = "all" if packet["dest"] is None else packet["dest"]
-        return f"{packet['sender']} {dest} {plans[0] if plans else '-'} {chain} {len(data) - len(body)}"
+        given = [field for _, _, fields in headers for field in fields]
+        planned = self.world.plans[plans[0]][2] if plans else []
+        kept = "".join(f"{field}," for field, plan in zip(given, planned) if plan is None)
+        return f"{packet['sender']} {dest} {plans[0] if plans else '-'} {kept} {chain} {len(data) - len(body)}"
 
     def section(self, datagrams):
         member = self.member
@@ -252,7 +276,7 @@ def main():
             file.write(b"".join(group.section(datagrams) for group, datagrams in given))
         ran = subprocess.run(["rt", "try", "--seconds", "600", "--data", f"input={room}/input"], cwd=f"{room}/crates/packets", stdout=subprocess.PIPE, stderr=subprocess.PIPE, check=False)
     lines = ran.stdout.decode().splitlines()
-    pairs = [(group, data) for group, datagrams in given for data in datagrams]
+    pairs = [(group, data) for group, datagrams in given for data in datagrams for _ in ("by code", "layered")]
     if len(lines) < len(pairs):
         sys.exit(f"the program ended early: {ran.stdout.decode()[-400:]} {ran.stderr.decode()[-2000:]}")
     at = next(k for k in range(len(lines)) if len(lines) - k == len(pairs))
@@ -262,7 +286,7 @@ def main():
         if got.strip() != wanted:
             differences += 1
             print(f"{group.text.decode().strip()} {data.hex()[:200]}: the program reads {got!r}, the reading {wanted!r}")
-    print(f"{len(pairs)} datagrams, {differences} differences")
+    print(f"{len(pairs) // 2} datagrams, read twice, {differences} differences")
     sys.exit(1 if differences else 0)
 
 

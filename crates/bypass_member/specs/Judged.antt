@@ -3,7 +3,7 @@ use Rattle.std.specs.Prelude.{◌≡◌, ℕ, ◌≤◌, List, [], drop, length,
 use Rattle.packet_mean.specs.declared.here.Here.{Here}
 use Rattle.packet_full.specs.Scanned.{packet_scanned}
 use Rattle.packet_mean.specs.Plan.{kind_of}
-use Rattle.packet_short.specs.Layouts.{IsLeastFor, IsReadAs}
+use Rattle.packet_short.specs.Layouts.{IsReadAs}
 use Rattle.stack_mean.specs.Plan.{Plan}
 use Rattle.run_mean.specs.Member as member
 use Rattle.run_mean.specs.Member.{Entered, app_cast, app_send, app_leave, clock_tick, from_peer}
@@ -40,8 +40,3 @@ LiesWithin _ = Unit {0}
 abbrev pub IsKnown : List Plan → (kept : List ℕ) → Entry → Type 0
 IsKnown plans kept (Packet scan bytes known) = IsReadAs plans known (kind_of scan.now.dest) scan.now.headers kept
 IsKnown plans kept _ = Unit {0}
-
--- What reading told of a packet's plan holds, whatever the fields that the plan leaves variable.
-abbrev pub IsPlanned : List Plan → Entry → Type 0
-IsPlanned plans (Packet scan bytes known) = IsLeastFor plans known (kind_of scan.now.dest) scan.now.headers
-IsPlanned plans _ = Unit {0}

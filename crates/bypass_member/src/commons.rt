@@ -24,7 +24,7 @@ ghost use Rattle.bypass_member.specs.Trying.{fields_given, AreGiven, Handles, Is
 ghost use Rattle.bypass_member.specs.Viewing.{IsIn};
 ghost use Rattle.bypass_member.specs.Working.{states_in, IsReady};
 
-use crate::entry::{Entry, entry_of};
+use crate::entry::Entry;
 use crate::ground::Ground;
 use crate::scratch::Scratch;
 use crate::works::Works;
@@ -33,7 +33,7 @@ use handler_laws::steps_are_handled;
 use layer_mean::Case;
 use packet_full::Scan;
 use packet_mean::Here;
-use packet_short::fits_with_fields;
+use packet_short::fits_scan;
 use stack_shapes::{EntryOf, Plans};
 use step_outputs::Outputs;
 use trace_reads::{Given, Values};
@@ -61,7 +61,7 @@ fn keep_packet(plans: &Plans, scan: &Scan, known: Option<u8>, fields: &mut Vec<u
 {
     match known {
         Some(number) => Some(number),
-        None => fits_with_fields(plans, scan, fields),
+        None => fits_scan(plans, scan, fields),
     }
 }
 
@@ -97,22 +97,6 @@ pub(crate) fn keep_entry(plans: &Plans, entry: &Entry<'_>, fields: &mut Vec<u32>
             Some(number) => EntryOf::Plan(number),
             None => EntryOf::None,
         },
-    }
-}
-
-/// The entry that tells whether a step is common; where the step may be made by code, the fields that the code is given
-/// are kept.
-#[inline(always)]
-pub(crate) fn entry_in(ground: &Ground<'_>, entry: &Entry<'_>, fields: &mut Vec<u32>) -> EntryOf
-    requires room { AllByRecursion (HasAtMost (vec_capacity fields.old)) (plans_in ground.now) }
-    requires known { IsKnown (plans_in ground.now) fields.old.items entry.now }
-    ensures what { (here : stands.Here) → result ≡ entry_for (plans_in ground.now) (entry_meant here entry.now) }
-    ensures fields { AreGiven ground.now entry.now fields.new.items }
-    ensures capacity { vec_capacity fields.new ≡ vec_capacity fields.old }
-{
-    match ground.codes {
-        Some(_) => keep_entry(ground.plans, entry, fields),
-        None => entry_of(ground.plans, entry),
     }
 }
 

@@ -1,28 +1,25 @@
 //! What a member's input enters as.
 
-ghost use Rattle.std.specs.Prelude.{◌≡◌, ℕ, ◌≤◌, nat_lt, List, length, IfOk, vec_capacity};
+ghost use Rattle.std.specs.Prelude.{◌≡◌, ◌≤◌, nat_lt, length, IfOk, vec_capacity};
 ghost use Rattle.std.specs.List.{AllByRecursion};
 ghost use Rattle.event_graph.specs.Answer.{stack_tree};
-ghost use Rattle.stack_shapes.specs.Entries.{entry_for};
 ghost use Rattle.member_laws.specs.Members.{IsInput};
 ghost use Rattle.msg_core.specs.Parts.{longest_body};
-ghost use Rattle.packet_full.specs.Scanned.{packet_scanned};
-ghost use Rattle.packet_mean.specs.Plan.{kind_of, least_fit};
+ghost use Rattle.packet_full.specs.Scanned.{Scans};
+ghost use Rattle.packet_mean.specs.Plan.{kind_of};
 ghost use Rattle.packet_mean.specs.Received.{received};
 ghost use Rattle.packet_mean.specs.Spelling.{AreBytes};
-ghost use Rattle.packet_mean.specs.declared.here.Here.{Here};
 ghost use Rattle.stack_shapes.specs.Trees.{plans_tree};
 ghost use Rattle.packet_short.specs.Keeping.{HasAtMost};
-ghost use Rattle.packet_short.specs.Layouts.{AreLaidOut, IsLeastFor, IsReadAs, Reads};
+ghost use Rattle.packet_short.specs.Layouts.{AreLaidOut, IsReadAs};
 ghost use Rattle.run_mean.specs.Member.{entered_input};
 ghost use Rattle.view_core.specs.Steps.{input_meant};
-ghost use Rattle.bypass_member.specs.Judged.{entry_meant, IsKnown, IsPlanned, Judges, LiesWithin};
+ghost use Rattle.bypass_member.specs.Judged.{IsKnown, Judges, LiesWithin};
 
 use msg_core::{LONGEST_BODY, Stray};
 use packet_full::Scan;
 use packet_mean::Here;
-use packet_short::{Known, fits_scan, scan_known};
-use stack_shapes::{EntryOf, Plans};
+use packet_short::{Known, scan_packet};
 use view_core::{Input, Refusal};
 
 /// An input that isn't refused.
@@ -56,7 +53,7 @@ fn read(
     requires laid { AreLaidOut (stack_tree known.now.stack.now) (plans_tree known.now.plans.now)
         known.now.layouts.now }
     requires room { AllByRecursion (HasAtMost (vec_capacity fields.old)) (plans_tree known.now.plans.now) }
-    ensures read { Reads here.now bytes.now
+    ensures read { Scans here.now bytes.now
         (received (stack_tree known.now.stack.now) (plans_tree known.now.plans.now) here.now bytes.now)
         result scan.new }
     ensures within { IfOk result (λ _. scan.new.body ≤ length bytes.now) }
@@ -65,7 +62,7 @@ fn read(
     ensures capacity { vec_capacity fields.new ≡ vec_capacity fields.old }
     ensures bytes { AreBytes bytes.now }
 {
-    scan_known(known, here, bytes, scan, fields)
+    scan_packet(known, here, bytes, scan, fields)
 }
 
 /// What a member in a view makes of an input, or why it refuses it. A datagram is read into `scan`; where reading tells
@@ -106,36 +103,6 @@ pub(crate) fn judge<'b>(
         Input::Datagram(bytes) => match read(known, here, bytes, scan, fields) {
             Ok(number) => Ok(Entry::Packet(scan, bytes, number)),
             Err(cause) => Err(Refusal::Stray(cause)),
-        },
-    }
-}
-
-/// The number of the least plan that the packet of a scan fits, which is looked for if it isn't known.
-fn least_of(plans: &Plans, scan: &Scan, known: Option<u8>) -> Option<u8>
-    requires { IsLeastFor (plans_tree plans.now) known (kind_of scan.now.dest) scan.now.headers }
-    ensures { (here : Here) (bytes : List ℕ) →
-        result ≡ least_fit (plans_tree plans.now) (packet_scanned here bytes scan.now) }
-{
-    match known {
-        Some(number) => Some(number),
-        None => fits_scan(plans, scan),
-    }
-}
-
-/// The entry that tells whether a step is common.
-#[inline(always)]
-pub(crate) fn entry_of(plans: &Plans, entry: &Entry<'_>) -> EntryOf
-    requires known { IsPlanned (plans_tree plans.now) entry.now }
-    ensures { (here : Here) → result ≡ entry_for (plans_tree plans.now) (entry_meant here entry.now) }
-{
-    match entry {
-        Entry::Cast(_) => EntryOf::Cast,
-        Entry::Send(_, _) => EntryOf::Send,
-        Entry::Leave => EntryOf::None,
-        Entry::Tick(_) => EntryOf::None,
-        Entry::Packet(scan, _, known) => match least_of(plans, scan, *known) {
-            Some(number) => EntryOf::Plan(number),
-            None => EntryOf::None,
         },
     }
 }

@@ -15,7 +15,7 @@ ghost use Rattle.bypass_member.specs.Trying.{AreGiven, MakesByCode};
 ghost use Rattle.bypass_member.specs.Viewing.{IsIn};
 ghost use Rattle.bypass_member.specs.Working.{states_in, taken_in, IsReady};
 
-use crate::commons::{entry_in, make_common};
+use crate::commons::{keep_entry, make_common};
 use crate::enters::enter;
 use crate::entry::Entry;
 use crate::gathers::gather;
@@ -132,7 +132,7 @@ fn make(
     ensures spare { IsSpare (codes_in ground.now) (plans_in ground.now) kit.new.scratch }
     ensures places { out.new.places ≡ out.old.places }
 {
-    let what = entry_in(ground, &entry, &mut kit.scratch.fields);
+    let what = keep_entry(ground.plans, &entry, &mut kit.scratch.fields);
     if make_by_code(kit, ground, what, &entry, out) {
         return true;
     }

@@ -1,8 +1,8 @@
 -- What a full datagram is made of.
-use Rattle.std.proofs.Common.{◌≡◌, ℕ, zero, suc, Fits, w8, get_or, ◌≤◌, ◌≢◌, Bool, true, false, ◌⊎◌, inl, inr, List, []}
+use Rattle.std.proofs.Common.{◌≡◌, ℕ, zero, suc, Fits, w8, get_or, ◌≤◌, true, ◌⊎◌, inl, inr, List, []}
 use Rattle.std.proofs.Common.{◌∷◌, ◌++◌, Some, None, refl, sym, ap, ◌∙◌, subst, arith, length}
-use Rattle.std.specs.Prelude.{Ok, Err, flat_map, ◌==◌, ◌||◌}
-use Rattle.std.proofs.lemmas.Bool.{eqb-true, le-leb}
+use Rattle.std.specs.Prelude.{Ok, Err, flat_map, ◌==◌}
+use Rattle.std.proofs.lemmas.Bool.{le-leb}
 use Rattle.msg_core.specs.Parts.{longest_body}
 use Rattle.std.proofs.Math.Facts.{Fits-lt-pow}
 use Rattle.msg_core.specs.declared.message.Header.{Header}
@@ -12,7 +12,7 @@ use Rattle.layer_mean.specs.Tree.{LayerTree}
 use Rattle.stack_mean.specs.Plan.{Plan}
 use Rattle.packet_mean.specs.Reading.{Preamble, chain}
 use Rattle.packet_mean.specs.Received.{◌>>=◌, unless, packet_of}
-use Rattle.packet_mean.specs.Spelling.{full_form, short_form, full_bytes, preamble_bytes, header_bytes, AreBytes}
+use Rattle.packet_mean.specs.Spelling.{full_form, full_bytes, preamble_bytes, header_bytes, AreBytes}
 use Rattle.packet_mean.specs.Spelling.{SpellsShort}
 use Rattle.packet_mean.specs.declared.here.Here.{Here}
 use Rattle.packet_laws.specs.Lengths.{IsWithinLimits}
@@ -34,15 +34,6 @@ are_bytes [] fits k d below = absurd (omega arith)
 are_bytes (b ∷ bs) fits zero d below = Fits-lt-pow (fits 0)
 are_bytes (b ∷ bs) fits (suc k) d below = are_bytes bs (λ i. fits (suc i)) k d (omega arith)
 
--- a form that isn't the short one is the full one
-pub full_by : (form : ℕ) → ((form == full_form) || (form == short_form)) ≡ true → form ≢ short_form →
-    (form == full_form) ≡ true
-full_by form is other = go (form == full_form) refl
-  where
-    go : (full : Bool) → (form == full_form) ≡ full → (form == full_form) ≡ true
-    go true full = full
-    go false full = let short = rw full at is in absurd (other (eqb-true form short_form short))
-
 -- the headers of a full datagram
 pub full_contents : (stack : List LayerTree) (plans : List Plan) (p : Preamble) (following : List ℕ) (hs : List Header)
     (body : List ℕ) →
@@ -56,13 +47,6 @@ pub no_full_contents : (stack : List LayerTree) (plans : List Plan) (p : Preambl
     chain stack 0 following ≡ None → contents stack plans p following ≡ Err cause.Chain
 unfolding contents
 no_full_contents stack plans p following full none = rw (full, none) refl
-
--- where there are no plans, a short datagram is refused for its plan
-pub no_plans : (stack : List LayerTree) (p : Preamble) (following : List ℕ) → p.form ≡ short_form →
-    contents stack [] p following ≡ Err cause.Plan
-unfolding contents
-no_plans stack p [] short = rw short refl
-no_plans stack p (k ∷ following) short = rw short refl
 
 -- how a full datagram ends that isn't too long
 pub record Ends (bytes body : List ℕ) : Type 0 where

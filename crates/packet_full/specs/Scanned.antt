@@ -17,9 +17,9 @@ packet_scanned here bytes scan = record {
   message = record { headers = scan.headers; body = drop scan.body bytes };
 }
 
--- What reading into a scan answers: the packet received is the one that the scan tells of, or the answer is the cause
--- for which none is.
-abbrev pub Scans : Here → List ℕ → Result Packet Stray → Result (Unit {0}) Stray → Scan → Type 0
+-- What reading into a scan answers: the packet received is the one that the scan tells of, whatever else is answered;
+-- or the answer is the cause for which none is received.
+abbrev pub Scans : {A : Type 0} → Here → List ℕ → Result Packet Stray → Result A Stray → Scan → Type 0
 Scans here bytes is_received (Ok _) scan = is_received ≡ Ok (packet_scanned here bytes scan)
 Scans here bytes is_received (Err cause) scan = is_received ≡ Err cause
 

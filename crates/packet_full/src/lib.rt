@@ -17,6 +17,6 @@ pub use form::{Form, form_at};
 pub use front::{FULL_FORM, Preamble, SHORT_FORM};
 pub use laws::{read_in_steps, written_is_read};
 pub use opened::Opened;
-pub use scan::{Scan, scan_full};
+pub use scan::Scan;
 pub use view::PacketView;
 pub use write::{put_body, put_full_of, put_number, put_preamble, room_of};

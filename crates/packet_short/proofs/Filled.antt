@@ -1,7 +1,7 @@
 -- Plans that are laid out, and what is read by them.
 use Rattle.std.proofs.Common.{◌≡◌, ℕ, zero, suc, ◌≤◌, Bool, true, false, List, [], ◌∷◌, ◌++◌, Option, Some, None, refl}
 use Rattle.std.proofs.Common.{sym, ap, ◌∙◌, subst, arith, length, get_or, map}
-use Rattle.std.specs.Prelude.{IfSome, slice_get, flat_map, bytes_eq, if◌then◌else◌}
+use Rattle.std.specs.Prelude.{IfSome, slice_get, flat_map, bytes_eq, if◌then◌else◌, position}
 use Rattle.std.specs.List.{AllByRecursion}
 use Rattle.std.proofs.lemmas.Slice.Eq.{bytes_eq-Decides}
 use denote.Enum.Bare.{true_same}
@@ -19,7 +19,7 @@ use Rattle.packet_short.specs.Dealing.{dealing}
 use Rattle.packet_short.specs.Fits.{fits_headers}
 use Rattle.packet_short.specs.Keeping.{HasAtMost}
 use Rattle.packet_short.specs.Laid.{all_own, filled, loose_from, with_variable, HasRoom, IsWithin}
-use Rattle.packet_short.specs.Layouts.{looses, IsFirst, IsLaidOut, IsLeastFor, IsNamed, IsReadAs}
+use Rattle.packet_short.specs.Layouts.{looses, IsFirst, IsLaidOut, IsNamed, IsReadAs}
 use Rattle.packet_short.specs.declared.layout.Layout.{Layout}
 use Rattle.packet_short.proofs.Laid.{dealing_agrees, few_own, laid_out}
 use Rattle.packet_short.proofs.Least.{begun, found_least, printed}
@@ -102,7 +102,8 @@ at_place (y ∷ ys) (suc k) x is = at_place ys k x is
 -- the plan by which headers were read is the least that they fit, if no plan before it has its print
 least_read : (plans : List Plan) (k : ℕ) (plan : Plan) (kind : Kind) (hs : List Header) →
     slice_get plans k ≡ Some plan → IsNext plans (plan_print plan) 0 (Some k) → plan.kind ≡ kind →
-    map (λ h. h.tag) hs ≡ plan.tags → fits_headers kind hs plan ≡ true → IsLeastFor plans (Some k) kind hs
+    map (λ h. h.tag) hs ≡ plan.tags → fits_headers kind hs plan ≡ true →
+    Some k ≡ position (fits_headers kind hs) plans
 least_read plans k plan kind hs listed first same tagged fits =
     let print : ℕ = print_of kind (map (λ h. h.tag) hs) in
     let same_print : plan_print plan ≡ print = printed kind hs plan fits in

@@ -1,16 +1,11 @@
 -- What it means that the plans of a stack are laid out.
 use Rattle.std.specs.Prelude.{◌≡◌, ℕ, true, List, [], map, flat_map, length, slice_get, position, Option, Some}
-use Rattle.std.specs.Prelude.{None, Result, Ok, Err}
+use Rattle.std.specs.Prelude.{None}
 use Rattle.layer_ast.specs.declared.tokens.Kind.{Kind}
 use Rattle.layer_mean.specs.Tree.{LayerTree}
 use Rattle.msg_core.specs.declared.message.Header.{Header}
 use Rattle.msg_core.specs.declared.packet.Dest.{Dest}
-use Rattle.msg_core.specs.declared.packet.Packet.{Packet}
-use Rattle.msg_core.specs.declared.packet.Stray.{Stray}
-use Rattle.packet_full.specs.Scanned.{packet_scanned}
-use Rattle.packet_full.specs.declared.scan.Scan.{Scan}
 use Rattle.packet_mean.specs.Plan.{kind_of}
-use Rattle.packet_mean.specs.declared.here.Here.{Here}
 use Rattle.stack_mean.specs.Plan.{Plan}
 use Rattle.stack_shapes.specs.Prints.{IsNext, plan_print, print_of}
 use Rattle.packet_short.specs.Contents.{plan_named}
@@ -48,18 +43,12 @@ abbrev pub AreLaidOut : List LayerTree → List Plan → Layouts → Type 0
 AreLaidOut stack plans layouts = (k : ℕ) (layout : Layout) → slice_get layouts.list.items k ≡ Some (Some layout) →
     IsLaidOut stack plans k layout
 
--- What is known of headers of a packet of a kind after they were read: the number of the least plan that they fit, or
--- nothing.
-abbrev pub IsLeastFor : List Plan → Option ℕ → Kind → List Header → Type 0
-IsLeastFor plans None kind headers = Unit {0}
-IsLeastFor plans (Some k) kind headers = Some k ≡ position (fits_headers kind headers) plans
-
--- What is known of headers of a packet of a kind after they were read: the number of the least plan that they fit, and
--- then the headers' fields that it leaves variable are kept; or nothing.
+-- What is known of headers of a packet of a kind after they were read: nothing, or the number of the least plan that
+-- they fit; then their fields that this plan leaves variable are kept.
 abbrev pub IsReadAs : List Plan → Option ℕ → Kind → List Header → (kept : List ℕ) → Type 0
 IsReadAs plans None kind headers kept = Unit {0}
-IsReadAs plans (Some k) kind headers kept =
-    IsLeastFor plans (Some k) kind headers × (kept ≡ kept_by plans (Some k) (flat_map (λ h. h.fields) headers))
+IsReadAs plans (Some k) kind headers kept = (Some k ≡ position (fits_headers kind headers) plans) ×
+    (kept ≡ kept_by plans (Some k) (flat_map (λ h. h.fields) headers))
 
 -- The plan whose number is read is one of the destination's kind, and it is laid out.
 pub record IsNamed (stack : List LayerTree) (plans : List Plan) (dest : Dest) (k : ℕ) (layout : Layout)
@@ -67,9 +56,3 @@ pub record IsNamed (stack : List LayerTree) (plans : List Plan) (dest : Dest) (k
   pub laid : IsLaidOut stack plans k layout
   pub named : plan_named plans dest bytes ≡ Some (laid.plan, following)
   pub kind : laid.plan.kind ≡ kind_of dest
-
--- What reading into a scan answers: the scanned packet is the one that is received, or the cause is the one for which
--- the bytes are stray.
-abbrev pub Reads : Here → List ℕ → Result Packet Stray → Result (Option ℕ) Stray → Scan → Type 0
-Reads here bytes is_received (Ok number) scan = is_received ≡ Ok (packet_scanned here bytes scan)
-Reads here bytes is_received (Err cause) scan = is_received ≡ Err cause

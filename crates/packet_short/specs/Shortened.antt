@@ -1,12 +1,11 @@
 -- Packets in their short forms.
 use Rattle.std.specs.Prelude.{◌≡◌, ℕ, suc, if◌then◌else◌, List, ◌++◌, flat_map, slice_get, Option, Some, None}
-use Rattle.std.specs.Prelude.{option_and_then, Result, Ok, Err}
+use Rattle.std.specs.Prelude.{option_and_then}
 use Rattle.msg_core.specs.declared.packet.Packet.{Packet}
 use Rattle.packet_mean.specs.Plan.{fits, variable}
 use Rattle.packet_mean.specs.Spelling.{number_bytes, short_bytes}
 use Rattle.stack_mean.specs.Plan.{Plan}
 use Rattle.packet_full.specs.Room.{room_needed}
-use Rattle.packet_short.specs.declared.error.NotFitting as refused
 
 -- A packet's short form under a plan and its number; nothing where the packet doesn't fit it.
 abbrev pub short_under : Plan → (k : ℕ) → Packet → Option (List ℕ)
@@ -16,12 +15,6 @@ short_under plan k packet = if fits plan packet then Some (short_bytes k plan pa
 -- plan.
 abbrev pub shortened : List Plan → (k : ℕ) → Packet → Option (List ℕ)
 shortened plans k packet = option_and_then (λ plan. short_under plan k packet) (slice_get plans k)
-
--- The bytes are put after others; where there are none, nothing changes.
-abbrev pub Puts : Option (List ℕ) → (old new : List ℕ) → Result (Unit {0}) refused.NotFitting → Type 0
-Puts (Some bytes) old new (Ok done) = new ≡ old ++ bytes
-Puts None old new (Err refusal) = new ≡ old
-Puts _ old new _ = ⊥
 
 -- How much room a short form is given: that of the full one, and a byte for its plan.
 abbrev pub short_room : Packet → ℕ

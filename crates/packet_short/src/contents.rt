@@ -38,8 +38,8 @@ fn named<'a>(plans: &'a Plans, dest: Dest, cursor: &mut Cursor<'_>) -> Option<(u
     }
 }
 
-/// Reads the headers after a datagram's preamble; the bytes that are left are its body.
-pub(crate) fn contents(
+/// Reads the headers after a datagram's preamble, one after the other; the bytes that are left are its body.
+fn contents_in_turn(
     stack: &Stack,
     plans: &Plans,
     front: &Preamble,
@@ -80,7 +80,7 @@ fn laid_out<'a>(known: &Known<'a>, dest: Dest, cursor: &mut Cursor<'_>) -> Optio
 /// Reads the headers after a datagram's preamble; the bytes that are left are its body. For a short datagram whose plan
 /// is laid out, it also answers the least plan that the headers fit, if that is known; `fields` then has the fields
 /// that this plan leaves variable, in place of what it held.
-pub(crate) fn known_contents(
+pub(crate) fn contents(
     known: &Known<'_>,
     front: &Preamble,
     cursor: &mut Cursor<'_>,
@@ -106,7 +106,7 @@ pub(crate) fn known_contents(
             return Ok(layout.known(number));
         }
     }
-    match contents(known.stack, known.plans, front, cursor, headers) {
+    match contents_in_turn(known.stack, known.plans, front, cursor, headers) {
         Ok(()) => Ok(None),
         Err(cause) => Err(cause),
     }

@@ -4,7 +4,6 @@
 
 mod agreement;
 mod contents;
-mod error;
 mod fields;
 mod fit;
 mod known;
@@ -15,11 +14,10 @@ mod planned;
 mod scan;
 mod write;
 
-pub use error::NotFitting;
-pub use fields::{most_fields, variable_fields};
-pub use fit::{fits, fits_scan, fits_with_fields, kind_of};
+pub use fields::most_fields;
+pub use fit::{fits_scan, kind_of};
 pub use known::Known;
 pub use laws::written_short_is_read;
 pub use layouts::Layouts;
-pub use scan::{scan_known, scan_packet};
-pub use write::{put_short, put_short_of, short_room_of};
+pub use scan::scan_packet;
+pub use write::{put_short, short_room_of};

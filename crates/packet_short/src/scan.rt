@@ -8,48 +8,20 @@ ghost use Rattle.packet_mean.specs.Plan.{kind_of};
 ghost use Rattle.packet_mean.specs.Received.{received};
 ghost use Rattle.stack_shapes.specs.Trees.{plans_tree};
 ghost use Rattle.packet_short.specs.Keeping.{HasAtMost};
-ghost use Rattle.packet_short.specs.Layouts.{AreLaidOut, IsReadAs, Reads};
+ghost use Rattle.packet_short.specs.Layouts.{AreLaidOut, IsReadAs};
 
-use crate::contents::{contents, known_contents};
+use crate::contents::contents;
 use crate::known::Known;
-use event_graph::Stack;
 use msg_core::Stray;
 use packet_full::{Opened, Scan, close, open};
 use packet_mean::Here;
-use stack_shapes::Plans;
 
-/// Reads what a datagram, full or short, says to a member of a stack with these plans into `scan`, without memory; or
-/// answers the first cause for which it is refused, and then `scan` is of no use. The headers are whole: the constants
-/// of a plan stand in them.
+/// Reads what a datagram, full or short, says to a member of a stack into `scan`; or answers the first cause for which
+/// it is refused, and then `scan` is of no use. The headers are whole: the constants of a plan stand in them. For a
+/// short datagram, it also answers the least plan that its packet fits, if that is known; `fields` then has the fields
+/// that this plan leaves variable, in place of what it held, and otherwise what it holds is of no use. It takes no
+/// memory: there must be room for the fields of each plan.
 pub fn scan_packet(
-    stack: &Stack,
-    plans: &Plans,
-    here: &Here,
-    bytes: &[u8],
-    scan: &mut Scan,
-) -> Result<(), Stray>
-    ensures read { Scans here.now bytes.now (received (stack_tree stack.now) (plans_tree plans.now) here.now bytes.now)
-        result scan.new }
-    ensures within { IfOk result (λ _. scan.new.body ≤ length bytes.now) }
-{
-    stack.is_within_limits();
-    let Opened { front, mut cursor } = match open(here, bytes) {
-        Ok(opened) => opened,
-        Err(cause) => return Err(cause),
-    };
-    match contents(stack, plans, &front, &mut cursor, &mut scan.headers) {
-        Ok(()) => {}
-        Err(cause) => return Err(cause),
-    }
-    close(bytes, &front, &cursor, scan)
-}
-
-/// Reads what a datagram, full or short, says to a member of a stack into `scan`, by plans that are laid out; or
-/// answers the first cause for which it is refused, and then `scan` is of no use. For a short datagram, it also answers
-/// the least plan that its packet fits, if that is known; `fields` then has the fields that this plan leaves variable,
-/// in place of what it held, and otherwise what it holds is of no use. It takes no memory: there must be room for the
-/// fields of each plan.
-pub fn scan_known(
     known: &Known<'_>,
     here: &Here,
     bytes: &[u8],
@@ -59,7 +31,7 @@ pub fn scan_known(
     requires laid { AreLaidOut (stack_tree known.now.stack.now) (plans_tree known.now.plans.now)
         known.now.layouts.now }
     requires room { AllByRecursion (HasAtMost (vec_capacity fields.old)) (plans_tree known.now.plans.now) }
-    ensures read { Reads here.now bytes.now
+    ensures read { Scans here.now bytes.now
         (received (stack_tree known.now.stack.now) (plans_tree known.now.plans.now) here.now bytes.now)
         result scan.new }
     ensures within { IfOk result (λ _. scan.new.body ≤ length bytes.now) }
@@ -72,7 +44,7 @@ pub fn scan_known(
         Ok(opened) => opened,
         Err(cause) => return Err(cause),
     };
-    let number = match known_contents(known, &front, &mut cursor, &mut scan.headers, fields) {
+    let number = match contents(known, &front, &mut cursor, &mut scan.headers, fields) {
         Ok(number) => number,
         Err(cause) => return Err(cause),
     };

@@ -7,10 +7,8 @@ ghost use Rattle.packet_mean.specs.Plan.{variable};
 ghost use Rattle.packet_mean.specs.Spelling as spelling;
 ghost use Rattle.packet_mean.specs.declared.here.Here.{Here};
 ghost use Rattle.stack_shapes.specs.Lists.{plan_tree};
-ghost use Rattle.packet_short.specs.Shortened.{Puts, PutsVariable, short_room, short_under};
+ghost use Rattle.packet_short.specs.Shortened.{PutsVariable, short_room};
 
-use crate::error::NotFitting;
-use crate::fit::{is_fitting, kind_of};
 use msg_core::{Fields, Headers};
 use packet_full::{PacketView, SHORT_FORM, put_body, put_number, put_preamble};
 use packet_mean::Here;
@@ -93,27 +91,4 @@ pub fn put_short(plan: &Plan, number: u8, here: &Here, packet: &PacketView<'_>, 
     into.push_reserved(number);
     put_headers(plan, packet.headers, into);
     put_body(packet.body, into);
-}
-
-/// Puts the short form of a packet that fits a plan, as `put_short` does. Err exactly where it doesn't fit the plan;
-/// then nothing changes.
-pub fn put_short_of(
-    plan: &Plan,
-    number: u8,
-    here: &Here,
-    packet: &PacketView<'_>,
-    into: &mut Vec<u8>,
-) -> Result<(), NotFitting>
-    requires { vec_len into.old + short_room
-        (sent_packet here.now packet.now.dest packet.now.headers.now packet.now.body.now) ≤ vec_capacity into.old }
-    ensures items { Puts (short_under (plan_tree plan.now) number
-        (sent_packet here.now packet.now.dest packet.now.headers.now packet.now.body.now))
-        into.old.items into.new.items result }
-    ensures capacity { vec_capacity into.old ≤ vec_capacity into.new }
-{
-    if !is_fitting(plan, kind_of(packet.dest), packet.headers) {
-        return Err(NotFitting);
-    }
-    put_short(plan, number, here, packet, into);
-    Ok(())
 }

@@ -1,39 +1,98 @@
-//! What a member sends, in vectors of their own.
+//! What members send and read, by the calls that the program makes.
 
-use packet_full::{PacketView, Scan, put_full_of, room_of};
+use event_graph::Stack;
+use msg_core::{Memory, Stray};
+use packet_full::{PacketView, Scan};
 use packet_mean::Here;
-use packet_short::put_short_of;
-use stack_shapes::Plan;
+use packet_short::{Known, Layouts, fits_scan, most_fields, scan_packet};
+use packet_wire::{put_wire, wire_room_of};
+use stack_shapes::Plans;
 use std::alloc::{AllocError, Global};
 
-/// The packet of which a scan tells, with this body.
-pub fn scanned<'b>(scan: &'b Scan, body: &'b [u8]) -> PacketView<'b> {
+/// The packet of which a scan tells, with this body, under a plan or in full.
+pub fn scanned<'b>(scan: &'b Scan, body: &'b [u8], plan: Option<u8>) -> PacketView<'b> {
     PacketView {
         dest: scan.dest,
         headers: &scan.headers,
         body,
-        plan: None,
+        plan,
     }
 }
 
-/// In full.
-pub fn full(alloc: Global, here: &Here, packet: &PacketView<'_>) -> Result<Vec<u8>, AllocError> {
-    let mut bytes = Vec::with_capacity(alloc, room_of(packet.headers, packet.body))?;
-    put_full_of(here, packet.dest, packet.headers, packet.body, &mut bytes);
-    Ok(bytes)
-}
-
-/// Short under plan 0; no bytes where it doesn't fit.
-pub fn short(
+/// A packet as it is sent, in a vector of its own.
+pub fn sent(
     alloc: Global,
-    plan: &Plan,
+    plans: &Plans,
     here: &Here,
     packet: &PacketView<'_>,
 ) -> Result<Vec<u8>, AllocError> {
-    let Some(room) = room_of(packet.headers, packet.body).checked_add(1) else {
-        return Err(AllocError);
-    };
-    let mut bytes = Vec::with_capacity(alloc, room)?;
-    let _is_put = put_short_of(plan, 0, here, packet, &mut bytes);
+    let mut bytes = Vec::with_capacity(alloc, wire_room_of(packet))?;
+    put_wire(plans, here, packet, &mut bytes);
     Ok(bytes)
+}
+
+/// How a member runs: a member by code reads by layouts, a layered one by none.
+#[derive(Clone, Copy)]
+pub enum Run {
+    ByCode,
+    Layered,
+}
+
+/// Both ways to run.
+pub const RUNS: [Run; 2] = [Run::ByCode, Run::Layered];
+
+/// What is known of a packet's plan: its number, and the fields that it leaves variable.
+#[derive(Drop)]
+pub struct Told {
+    pub plan: Option<u8>,
+    pub fields: Vec<u32>,
+}
+
+/// The least plan that a packet fits, and its fields that this plan leaves variable.
+pub fn fitting(alloc: Global, plans: &Plans, scan: &Scan) -> Result<Told, AllocError> {
+    let mut fields = Vec::with_capacity(alloc, most_fields(plans))?;
+    let plan = fits_scan(plans, scan, &mut fields);
+    Ok(Told { plan, fields })
+}
+
+/// A member that reads: its stack, the stack's plans, where it is, and how it runs.
+#[derive(Drop)]
+pub struct Reader<'a> {
+    pub stack: &'a Stack,
+    pub plans: &'a Plans,
+    pub here: &'a Here,
+    pub run: Run,
+}
+
+impl Reader<'_> {
+    /// What it takes of a datagram, which is read into a scan, or why it refuses it.
+    pub fn read(
+        &self,
+        alloc: Global,
+        bytes: &[u8],
+        scan: &mut Scan,
+    ) -> Result<Result<Told, Stray>, Memory> {
+        let layouts = match self.run {
+            Run::ByCode => Layouts::of(alloc, self.stack, self.plans)?,
+            Run::Layered => Layouts::none(alloc),
+        };
+        let known = Known {
+            stack: self.stack,
+            plans: self.plans,
+            layouts: &layouts,
+        };
+        let mut fields = Vec::with_capacity(alloc, most_fields(self.plans))?;
+        match scan_packet(&known, self.here, bytes, scan, &mut fields) {
+            Ok(plan) => Ok(Ok(Told { plan, fields })),
+            Err(cause) => Ok(Err(cause)),
+        }
+    }
+
+    /// The cause for which it refuses a datagram; none where it takes it.
+    pub fn refusal(&self, alloc: Global, bytes: &[u8]) -> Result<Option<Stray>, Memory> {
+        match self.read(alloc, bytes, &mut Scan::none())? {
+            Ok(_) => Ok(None),
+            Err(cause) => Ok(Some(cause)),
+        }
+    }
 }

@@ -12,7 +12,10 @@ use Rattle.bypass_member.proofs.steps.make.Goals as goal
 pub make_by_code-requires-clause-spare : goal.make_by_code-requires-clause-spare
 make_by_code-requires-clause-spare c =
     spare_on (codes_in c.args.ground.now) (plans_in c.args.ground.now) c.args.kit.now.scratch _ refl
-    c.entry_in-what.ensures.capacity c.requires.spare
+    c.keep_entry-what.ensures.capacity c.requires.spare
+
+pub make_by_code-requires-clause-fields : goal.make_by_code-requires-clause-fields
+make_by_code-requires-clause-fields c = λ codes is here. c.keep_entry-what.ensures.fields here
 
 pub play-predicted-requires-clause-ready : goal.play-predicted-requires-clause-ready
 play-predicted-requires-clause-ready c =
@@ -39,7 +42,7 @@ returns-clause-gone c =
     (c.is_common.ensures.common (stack_of c.args.ground.now) (plans_in c.args.ground.now)
     (step_over c.args.ground.now (states_in c.make_by_code.new.kit.works) what)
     (c.deref.ensures ∙ c.requires.ground.entries)
-    (c.entry_in-what.ensures.what c.args.ground.now.here.now) (ap (λ (p : Predicted). p.first) played.predicted)
+    (c.keep_entry-what.ensures.what c.args.ground.now.here.now) (ap (λ (p : Predicted). p.first) played.predicted)
     (ap (λ (p : Predicted). p.second) played.predicted))
 
 pub returns-then-make_by_code-clause-gone : goal.returns-then-make_by_code-clause-gone

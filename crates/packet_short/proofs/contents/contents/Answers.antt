@@ -1,39 +1,40 @@
-use Rattle.std.proofs.lemmas.Bool.{eq-eqb}
+use Rattle.std.proofs.Common.{sym, subst, vec_capacity}
 use Rattle.event_graph.specs.Answer.{stack_tree}
 use Rattle.packet_full.specs.Taking.{left, preamble_tree}
+use Rattle.packet_mean.specs.Plan.{kind_of}
 use Rattle.stack_shapes.specs.Trees.{plans_tree}
-use Rattle.packet_full.proofs.Taken.{full_contents, no_full_contents}
-use Rattle.packet_short.proofs.Short.{no_full, no_plan, not_dealt, dealt_contents}
+use Rattle.packet_short.specs.Layouts.{IsReadAs}
+use Rattle.packet_short.proofs.Filled.{filled_read, has_room_for, not_filled, read_as}
+use Rattle.packet_short.proofs.Short.{no_full, not_dealt, dealt_contents}
 use Rattle.packet_short.proofs.contents.contents.Goals as goal
 
-pub returns-in_default : goal.returns-in_default
-returns-in_default c =
-    no_full_contents (stack_tree c.args.stack.now) (plans_tree c.args.plans.now) (preamble_tree c.args.front.now)
-    (left c.args.cursor.now)
-    (eq-eqb _ _ c.if-front.true) c.in_default.ensures.read
+pub read-requires : goal.read-requires
+read-requires c = record {
+  room = has_room_for (stack_tree c.args.known.now.stack.now) (plans_tree c.args.known.now.plans.now) c.in-Some.number
+      c.in-Some.layout.now (vec_capacity c.args.fields.now) c.in-Some.ensures.laid c.requires.room;
+}
 
-pub returns-then-front : goal.returns-then-front
-returns-then-front c =
-    full_contents (stack_tree c.args.stack.now) (plans_tree c.args.plans.now) (preamble_tree c.args.front.now)
-    (left c.args.cursor.now) _ _
-    (eq-eqb _ _ c.if-front.true) c.in-Some.ensures.read
+pub returns-in_default-read-clause-read : goal.returns-in_default-read-clause-read
+returns-in_default-read-clause-read c =
+    not_dealt (stack_tree c.args.known.now.stack.now) (plans_tree c.args.known.now.plans.now)
+    (preamble_tree c.args.front.now) (left c.args.cursor.now) _ _ (no_full _ c.if-front.true) c.in-Some.ensures.named
+    (not_filled (stack_tree c.args.known.now.stack.now) (plans_tree c.args.known.now.plans.now) c.in-Some.number
+    c.in-Some.layout.now (left c.laid_out.new.cursor) c.in-Some.ensures.laid c.in_default-read.ensures.read)
 
-pub returns-in_default-named : goal.returns-in_default-named
-returns-in_default-named c =
-    no_plan (stack_tree c.args.stack.now) (plans_tree c.args.plans.now) (preamble_tree c.args.front.now)
-    (left c.args.cursor.now)
-    (no_full _ c.if-front.false) c.in_default-named.ensures.plan
+pub returns-in-Some-clause-read : goal.returns-in-Some-clause-read
+returns-in-Some-clause-read c =
+    dealt_contents (stack_tree c.args.known.now.stack.now) (plans_tree c.args.known.now.plans.now)
+    (preamble_tree c.args.front.now) (left c.args.cursor.now) _ _ c.read.new.headers (left c.read.new.cursor)
+    (no_full _ c.if-front.true) c.in-Some.ensures.named
+    (filled_read (stack_tree c.args.known.now.stack.now) (plans_tree c.args.known.now.plans.now) c.in-Some.number
+    c.in-Some.layout.now (left c.laid_out.new.cursor) c.read.new.headers c.read.new.fields.items
+    (left c.read.new.cursor) c.in-Some.ensures.laid c.in-Some-read.ensures.read).0
 
-pub returns-in_default-chain : goal.returns-in_default-chain
-returns-in_default-chain c =
-    not_dealt (stack_tree c.args.stack.now) (plans_tree c.args.plans.now) (preamble_tree c.args.front.now)
-    (left c.args.cursor.now) _ _
-    (no_full _ c.if-front.false) c.in-Some-named.ensures.plan
-    (rw (← c.of-planned.ensures.tags, ← c.of-planned.ensures.fields) c.in_default-chain.ensures.read)
-
-pub returns : goal.returns
-returns c =
-    dealt_contents (stack_tree c.args.stack.now) (plans_tree c.args.plans.now) (preamble_tree c.args.front.now)
-    (left c.args.cursor.now) _ _ _ _
-    (no_full _ c.if-front.false) c.in-Some-named.ensures.plan
-    (rw (← c.of-planned.ensures.tags, ← c.of-planned.ensures.fields) c.in-Some-chain.ensures.read)
+pub returns-in-Some-clause-known : goal.returns-in-Some-clause-known
+returns-in-Some-clause-known c =
+    subst (λ number. IsReadAs (plans_tree c.args.known.now.plans.now) number (kind_of c.args.front.now.dest)
+    c.read.new.headers c.read.new.fields.items) (sym c.known.ensures)
+    (read_as (stack_tree c.args.known.now.stack.now) (plans_tree c.args.known.now.plans.now) c.in-Some.number
+    c.in-Some.layout.now (kind_of c.args.front.now.dest) (left c.laid_out.new.cursor) c.read.new.headers
+    c.read.new.fields.items (left c.read.new.cursor) c.in-Some.ensures.laid c.in-Some.ensures.kind
+    c.in-Some-read.ensures.read)
