@@ -13,6 +13,7 @@ mod layout;
 mod layouts;
 mod planned;
 mod scan;
+mod wire;
 mod write;
 
 pub use error::NotFitting;
@@ -22,4 +23,5 @@ pub use known::Known;
 pub use laws::written_short_is_read;
 pub use layouts::Layouts;
 pub use scan::{scan_known, scan_packet};
+pub use wire::{put_wire, wire_room_of};
 pub use write::{put_short, put_short_of, short_room_of};

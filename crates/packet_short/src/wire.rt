@@ -7,9 +7,9 @@ ghost use Rattle.packet_short.specs.Shortened.{short_room};
 ghost use Rattle.run_mean.specs.Common.{wire};
 ghost use Rattle.stack_shapes.specs.Trees.{plans_tree};
 
+use crate::write::{put_short, short_room_of};
 use packet_full::{PacketView, put_full_of};
 use packet_mean::Here;
-use packet_short::{put_short, short_room_of};
 use stack_shapes::Plans;
 
 /// Puts a packet under the plan of a number: short where there is such a plan, and else in full. The packet is told anew
