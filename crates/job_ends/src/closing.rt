@@ -5,7 +5,8 @@ ghost use Rattle.job_ends.specs.Shown.{shown_end};
 ghost use Rattle.job_streams.specs.Closes.{Closes, end_after_delivery};
 ghost use Rattle.program_streams.specs.Streams.{over};
 
-use job_ends::{Ending, say};
+use crate::ending::Ending;
+use crate::saying::say;
 use outside::{Sink, StdSink};
 use program_streams::hand_on;
 use std::alloc::Global;
