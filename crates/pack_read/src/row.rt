@@ -14,11 +14,11 @@ ghost use Rattle.trace_operations.specs.Reading.{ReadsMessage, ReadsNumbers};
 
 use crate::chain::chained;
 use crate::header::MOST_FIELDS;
+use crate::read::number;
 use layer_ast::Word;
 use msg_core::Fields;
 use std::alloc::AllocError;
 use trace_core::{Arena, Chained, Links};
-use trace_expressions::number;
 use trace_words::{LineError, Scope, Text};
 use typed_layer::Items;
 

@@ -5,10 +5,11 @@ ghost use Rattle.event_graph.specs.Answer.{stack_tree};
 ghost use Rattle.trace_core.specs.Trees.{trace_tree};
 ghost use Rattle.trace_file.specs.Open.{Adds, AreParts, IsEmpty, LeavesAfter, Names, Puts, SaysIn, held_in};
 
+use crate::line::operation;
+use crate::store::Store;
 use event_graph::Stack;
 use std::alloc::{AllocError, Global};
 use trace_core::{Arena, Links, Operation, Trace};
-use trace_operations::{Store, operation};
 use trace_words::{LineError, Scope, Spot};
 
 /// How many operations a case may have beside its notes.

@@ -8,10 +8,10 @@ ghost use Rattle.trace_words.specs.Reading.{Takes, left};
 ghost use Rattle.trace_words.specs.View.{layers_in, named_in};
 ghost use Rattle.trace_operations.specs.Reading.{ReadsOperation};
 
+use crate::read::queue;
 use crate::row::{row_message, row_numbers};
 use crate::store::Store;
 use trace_core::Operation;
-use trace_expressions::queue;
 use trace_words::{LineError, Scope, Text, items_named};
 
 /// A row that is pushed, after `push`.

@@ -8,9 +8,10 @@ ghost use Rattle.trace_words.specs.Reading.{Takes, left};
 ghost use Rattle.trace_words.specs.View.{layers_in, named_in};
 ghost use Rattle.trace_operations.specs.Reading.{ReadsOperation, set_of};
 
+use crate::read::{message, number, target};
 use crate::store::Store;
+use crate::targeted::Target;
 use trace_core::Operation;
-use trace_expressions::{Target, message, number, target};
 use trace_words::{LineError, Scope, Text};
 
 /// These bytes, the digits of a number, and ` = `.
