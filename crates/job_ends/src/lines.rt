@@ -105,25 +105,5 @@ fn cycle(alloc: Global, place: u8, kind: Kind) -> Result<String, AllocError>
     ensures { IfOk result (λ line. string_bytes line ≡ codes "file: cycle " ++ decimal place ++ codes " " ++
         spelling.kind_word kind ++ codes "\n") }
 {
-    format!(in alloc; "file: cycle {place} {}\n", kind_word(kind))
-}
-
-/// The word of a kind of event.
-fn kind_word(kind: Kind) -> &'static str
-    ensures { result.now ≡ spelling.kind_word kind }
-{
-    match kind {
-        Kind::Cast => "Cast",
-        Kind::Send => "Send",
-        Kind::Timer => "Timer",
-        Kind::Suspect => "Suspect",
-        Kind::Stable => "Stable",
-        Kind::Ack => "Ack",
-        Kind::Elect => "Elect",
-        Kind::Block => "Block",
-        Kind::BlockOk => "BlockOk",
-        Kind::Flushed => "Flushed",
-        Kind::View => "View",
-        Kind::Leave => "Leave",
-    }
+    format!(in alloc; "file: cycle {place} {}\n", kind.word())
 }

@@ -9,14 +9,14 @@ use crate::sent::{sent_message, what_is_sent};
 use crate::store::Store;
 use layer_ast::{Dir, Kind};
 use trace_core::Operation;
-use trace_words::{LineError, Scope, Text, direction_of, kind_named};
+use trace_words::{LineError, Scope, Text, kind_named};
 
 /// The direction of an output.
 fn direction(text: &mut Text<'_>) -> Result<Dir, LineError>
     ensures { Takes (a_direction (left text.old)) result (left text.new) }
 {
     let word = text.word();
-    match direction_of(word) {
+    match Dir::of_word(word) {
         Some(dir) => Ok(dir),
         None => Err(LineError::Form),
     }

@@ -15,7 +15,6 @@ use crate::cells::push_cell_name;
 use crate::headers::{push_after, push_atoms, push_chained};
 use crate::numbers::{push_cell, push_core, push_indexed, push_number};
 use crate::scope::Scope;
-use crate::words::{direction_text, kind_text};
 use crate::written::{Indexes, Spot};
 use layer_ast::{Dir, Kind};
 use msg_core::{Fields, Memory};
@@ -286,9 +285,9 @@ fn push_output(
         (line.new ≡ line.old ++ operation_text scope.now (operations.Output way.dir way.kind numbers.now message)) }
 {
     line.text(b"out ")?;
-    line.text(direction_text(way.dir))?;
+    line.text(way.dir.word().as_bytes())?;
     line.text(b" ")?;
-    line.text(kind_text(way.kind))?;
+    line.text(way.kind.word().as_bytes())?;
     push_arguments(line, scope, numbers, message)?;
     push_output_headers(line, scope, message)
 }

@@ -16,7 +16,7 @@ pub use cells::{
     cell_at, cell_named, fields_of, item_named, items_named, layer_at, load_at, tag_named,
 };
 pub use error::LineError;
-pub use kinds::{direction_of, function_named, function_of, kind_named};
+pub use kinds::{function_named, function_of, kind_named};
 pub use name::Name;
 pub use operators::operator_of;
 pub use scope::Scope;

@@ -1,17 +1,15 @@
--- How words, symbols and numbers are spelled in bytes.
-use Rattle.std.specs.Prelude.{ℕ, ⊤, ◌+◌, ◌-◌, ◌*◌, Bool, ◌||◌, nat_eq, List, [], ◌∷◌, find, fold, codes, Option}
+-- How words and symbols are spelled in bytes.
+use Rattle.std.specs.Prelude.{ℕ, ⊤, Bool, ◌||◌, nat_eq, List, [], ◌∷◌, ◌++◌, find, codes, Option}
 use Rattle.std.specs.Char.{is_ascii_alphanumeric}
-use Rattle.std.specs.List.{starts_with}
 use Rattle.std.specs.Option.{option_map, option_map_or}
 use Rattle.std.specs.Str.{bytes_eq}
 use denote.Enum.Bare.{sameb}
-use Rattle.layer_ast.specs.contracts.tokens.Kind.{the_type}
-use Rattle.layer_ast.specs.declared.tokens.Kind.{Kind}
-use Rattle.layer_ast.specs.declared.tokens.Kind.TheVariants as kind
-use Rattle.layer_ast.specs.declared.tokens.Sign.{Sign}
-use Rattle.layer_ast.specs.declared.tokens.Sign.TheVariants as sign
-use Rattle.layer_ast.specs.declared.tokens.Token.{Token}
-use Rattle.layer_ast.specs.declared.tokens.Token.TheVariants as token
+use Rattle.layer_words.specs.contracts.events.Kind as kind_type
+use Rattle.layer_words.specs.contracts.signs.Sign as sign_type
+use Rattle.layer_words.specs.declared.events.Kind.{Kind}
+use Rattle.layer_words.specs.declared.events.Kind.TheVariants as kind
+use Rattle.layer_words.specs.declared.signs.Sign.{Sign}
+use Rattle.layer_words.specs.declared.signs.Sign.TheVariants as sign
 
 -- the bytes that separate tokens: space, tab, carriage return and line feed
 abbrev pub is_blank : ℕ → Bool
@@ -91,16 +89,11 @@ kinds =
 
 -- the word of a kind of event
 abbrev pub kind_word : Kind → List ℕ
-kind_word kind = option_map_or (λ entry. entry.0) (find (λ entry. sameb the_type entry.1 kind) kinds) []
+kind_word kind = option_map_or (λ entry. entry.0) (find (λ entry. sameb kind_type.the_type entry.1 kind) kinds) []
 
 -- what stands beside a spelling in a table
 abbrev pub beside : {X : Type 0} → List (List ℕ × X) → List ℕ → Option X
 beside table spelling = option_map (λ entry. entry.1) (find (λ entry. bytes_eq entry.0 spelling) table)
-
--- the token of a word: that of a reserved one, or else a name
-unfoldable pub word_token : List ℕ → Token
-word_token word = option_map_or token.Sign (beside reserved word)
-    (option_map_or token.Kind (beside kinds word) (token.Name word))
 
 -- the symbols, those of two bytes before those that they begin with
 unfoldable pub symbols : List (List ℕ × Sign)
@@ -130,15 +123,12 @@ symbols =
     ∷ (codes "^", sign.Caret)
     ∷ []
 
--- the longest symbol that a text begins with, and its bytes
-unfoldable pub symbol_at : List ℕ → Option (List ℕ × Sign)
-symbol_at text = find (λ entry. starts_with nat_eq text entry.0) symbols
+-- the word or symbol of a sign
+abbrev pub sign_text : Sign → List ℕ
+sign_text sign =
+    option_map_or (λ entry. entry.0) (find (λ entry. sameb sign_type.the_type entry.1 sign) (symbols ++ reserved)) []
 
 -- these tables, which a proof that looks words up unfolds at once
 unfoldable pub tables : ⊤
 unfolding reserved kinds symbols
 tables = tt
-
--- the number that decimal digits spell
-abbrev pub number_of : List ℕ → ℕ
-number_of digits = fold (λ n digit. 10 * n + (digit - 48)) 0 digits

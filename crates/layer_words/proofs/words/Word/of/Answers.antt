@@ -1,7 +1,7 @@
 use Rattle.std.proofs.Common.{◌≡◌, ℕ, ◌≤◌, List, ◌++◌, length, drop, replicate, arith, ap, length-append, length-drop}
 use Rattle.std.proofs.lemmas.List.{length-replicate}
-use Rattle.layer_ast.specs.WordBytes.{longest_word, zeros_after}
-use Rattle.layer_ast.proofs.names.Word.of.Goals as goal
+use Rattle.layer_words.specs.WordBytes.{longest_word, zeros_after}
+use Rattle.layer_words.proofs.words.Word.of.Goals as goal
 
 length_kept : (word front : List ℕ) → front ≡ word → length word ≤ longest_word →
     length (front ++ drop (length word) (replicate longest_word 0)) ≡ longest_word
