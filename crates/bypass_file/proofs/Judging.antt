@@ -8,9 +8,9 @@ use Rattle.pack_mean.specs.File.{traces_in}
 use Rattle.pack_mean.specs.Accepted.{longest_file}
 use Rattle.trace_core.specs.declared.bypass.Bypasses.{Bypasses}
 use Rattle.trace_core.specs.Bypasses.{bypasses_tree}
-use Rattle.trace_file.specs.View.{Reads}
-use Rattle.trace_file.specs.declared.error.ReadError.{ReadError}
-use Rattle.trace_file.specs.declared.error.ReadError.TheVariants as read
+use Rattle.pack_read.specs.Files.{Reads}
+use Rattle.pack_read.specs.declared.error.ReadError.{ReadError}
+use Rattle.pack_read.specs.declared.error.ReadError.TheVariants as read
 use Rattle.bypass_file.specs.declared.error.BypassError.{BypassError}
 use Rattle.bypass_file.specs.declared.error.BypassError.TheVariants.{TooLarge, Line, Differs, Memory}
 use Rattle.bypass_file.specs.Due.{all_cases}

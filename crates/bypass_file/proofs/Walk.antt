@@ -8,7 +8,7 @@ use Rattle.trace_mean.specs.Trace.{Operation}
 use Rattle.bypass_mean.specs.Bypasses.{Made, fused, absent}
 use Rattle.pack_mean.specs.File.{Due}
 use Rattle.pack_mean.specs.Accepted.{SameActs, DiffersIn}
-use Rattle.pack_laws.specs.Replaced.{filled_case, second_filled}
+use Rattle.pack_laws.specs.Accepted.{filled_case, second_filled}
 use Rattle.synth.specs.Cases.{MadeCases}
 use Rattle.bypass_file.specs.Filling.{Owned, own_case, made_owned, second_owned, cases_owned, all_owned, AreSame}
 use Rattle.bypass_file.specs.Filling.{FirstOther, cases_filled, all_filled, Filled, Fills}

@@ -20,9 +20,9 @@ use Rattle.bypass_laws.specs.Making.{made_with, made_of, bypasses_of, simplest, 
 use Rattle.pack_mean.specs.File.{due_of, traces_in}
 use Rattle.pack_mean.specs.Accepted.{longest_file, IsFault, differs}
 use Rattle.pack_laws.specs.Form.{InForm}
-use Rattle.pack_laws.specs.Replaced.{with_entry, from_entries}
+use Rattle.pack_laws.specs.Accepted.{with_entry, from_entries}
 use Rattle.pack_laws.proofs.Reading.{what_is_read_is_in_form}
-use Rattle.pack_laws.proofs.Replaced.{accepted_are_of_stack}
+use Rattle.pack_laws.proofs.Accepted.{accepted_are_of_stack}
 use Rattle.stack_shapes.specs.declared.types.Plan as code
 use Rattle.stack_shapes.specs.Lists.{plan_tree}
 use Rattle.synth.specs.Cases.{MadeCases, cases_of, cases_tree}

@@ -8,7 +8,7 @@ use Rattle.bypass_mean.specs.Bypasses.{Made, fused, absent}
 use Rattle.bypass_laws.specs.Making.{simplest}
 use Rattle.pack_mean.specs.File.{Due}
 use Rattle.pack_mean.specs.Accepted.{DifferAt}
-use Rattle.pack_laws.specs.Replaced.{chosen_trace, filled_case, second_filled}
+use Rattle.pack_laws.specs.Accepted.{chosen_trace, filled_case, second_filled}
 use Rattle.synth.specs.Cases.{MadeCases}
 use Rattle.trace_core.specs.declared.bypass.Bypass.{Bypass}
 use Rattle.trace_core.specs.Trees.{trace_tree, guarded_tree}

@@ -3,7 +3,7 @@ use Rattle.std.specs.Prelude.{◌≡◌, ℕ, List, Result, Ok, Err}
 use Rattle.layer_mean.specs.Tree.{LayerTree}
 use Rattle.bypass_mean.specs.Bypasses.{Bypasses}
 use Rattle.pack_mean.specs.Accepted.{Accepts, IsFault, too_large, bad_line, differs}
-use Rattle.pack_laws.specs.Replaced.{from_file}
+use Rattle.pack_laws.specs.Accepted.{from_file}
 use Rattle.trace_core.specs.declared.bypass.Bypasses as code
 use Rattle.trace_core.specs.Bypasses.{bypasses_tree}
 use Rattle.bypass_file.specs.declared.error.BypassError.{BypassError}

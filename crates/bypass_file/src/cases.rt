@@ -3,7 +3,7 @@
 ghost use Rattle.std.specs.List.{AllByRecursion};
 ghost use Rattle.std.specs.Prelude.{◌≤◌, length, map, option_map};
 ghost use Rattle.layer_mean.specs.declared.run.Case.TheVariants.{First};
-ghost use Rattle.pack_laws.specs.Replaced.{filled_case, second_filled};
+ghost use Rattle.pack_laws.specs.Accepted.{filled_case, second_filled};
 ghost use Rattle.stack_shapes.specs.declared.types.TheConstants.{MOST_PLANS};
 ghost use Rattle.synth.specs.Cases.{cases_tree};
 ghost use Rattle.trace_core.specs.Bypasses.{made_tree};

@@ -4,7 +4,7 @@ ghost use Rattle.std.specs.Prelude.{◌≡◌, ◌≤◌, ◌∷◌, ◌++◌, I
 ghost use Rattle.stack_shapes.specs.declared.types.TheConstants.{MOST_PLANS};
 ghost use Rattle.synth.specs.Cases.{cases_tree};
 ghost use Rattle.trace_core.specs.Bypasses.{made_tree};
-ghost use Rattle.trace_file.specs.View.{bare, due_tree};
+ghost use Rattle.pack_read.specs.Files.{bare, due_tree};
 ghost use Rattle.bypass_file.specs.Due.{all_cases, all_due, cases_due, count_varying, made_due, plan_varying};
 ghost use Rattle.bypass_file.specs.Due.{second_due};
 
@@ -12,7 +12,7 @@ use layer_mean::Case;
 use stack_shapes::Plan;
 use std::alloc::{AllocError, Global};
 use trace_core::{Bypasses, Cases, Made};
-use trace_file::Due;
+use pack_read::Due;
 
 /// The number of the entry of the first plan's packet.
 pub(crate) const FIRST_PLAN: u32 = 2;

@@ -8,7 +8,7 @@ use layer_mean::Case;
 use msg_core::Memory as NoMemory;
 use std::alloc::{AllocError, AllocFailed};
 use thiserror::Error;
-use trace_file::ReadError;
+use pack_read::ReadError;
 
 /// Why a file of traces isn't run for a stack: what is wrong with it first, or want of memory.
 #[derive(Clone, Copy, Debug, PartialEq, Eq, Error)]

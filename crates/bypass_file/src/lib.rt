@@ -11,4 +11,4 @@ mod replace;
 
 pub use error::BypassError;
 pub use read::read_bypasses;
-pub use trace_file::LONGEST_FILE;
+pub use pack_read::LONGEST_FILE;

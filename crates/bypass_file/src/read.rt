@@ -22,7 +22,7 @@ use std::alloc::Global;
 use std::collections::VecDeque;
 use synth::synth;
 use trace_core::Bypasses;
-use trace_file::{LONGEST_FILE, read_traces};
+use pack_read::{LONGEST_FILE, read_traces};
 
 /// The bypasses that a file of traces gives for a stack, if it is accepted: of each case its trace, where that joins no
 /// more than the stack's own, and else the latter, with their handlers. The file is refused for its length, else for

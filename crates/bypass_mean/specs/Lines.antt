@@ -5,8 +5,8 @@ use Rattle.std.specs.Fmt.{decimal}
 use Rattle.std.specs.List.{flat_map, sum_by}
 use Rattle.std.specs.Option.{option_flatten}
 use Rattle.layer_mean.specs.Tree.{LayerTree}
-use Rattle.layer_ast.specs.declared.tokens.Kind.{Kind}
-use Rattle.layer_ast.specs.declared.tokens.Kind.TheVariants.{Cast}
+use Rattle.layer_words.specs.declared.events.Kind.{Kind}
+use Rattle.layer_words.specs.declared.events.Kind.TheVariants.{Cast}
 use Rattle.stack_mean.specs.NoShape as no_shape
 use Rattle.stack_mean.specs.NoShape.{NoShape}
 use Rattle.stack_mean.specs.Plan.{Plan}

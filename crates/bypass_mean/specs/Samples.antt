@@ -1,7 +1,7 @@
 -- Bypasses of small stacks, written out.
 use Rattle.std.specs.Prelude.{◌≡◌, ℕ, Bool, true, false, List, [], ◌∷◌, map, length, take, codes, Option, Some, None}
 use Rattle.std.specs.Prelude.{Result, Ok, Err}
-use Rattle.layer_ast.specs.declared.syntax.Operator.TheVariants.{Add, Equal}
+use Rattle.layer_words.specs.declared.operators.Operator.TheVariants.{Add, Equal}
 use Rattle.layer_mean.specs.declared.run.Case.TheVariants.{First, Second}
 use Rattle.layer_mean.specs.Tree.{LayerTree}
 use Rattle.stack_mean.specs.NoShape as no_shape

@@ -1,27 +1,19 @@
 -- How the operations of traces are written, each on a line of its own.
-use Rattle.std.specs.Prelude.{ℕ, ◌+◌, Bool, true, false, List, [], ◌∷◌, ◌++◌, map, length, find, slice_get}
+use Rattle.std.specs.Prelude.{ℕ, ◌+◌, Bool, true, false, List, [], ◌∷◌, ◌++◌, map, length, slice_get}
 use Rattle.std.specs.Prelude.{slice_index_or, codes, Option, Some, option_to_list}
 use Rattle.std.specs.Fmt.{decimal}
 use Rattle.std.specs.List.{fold, join_by}
 use Rattle.std.specs.Option.{option_map_or}
-use denote.Enum.Bare.{sameb}
-use Rattle.layer_ast.specs.contracts.tokens.Sign.{the_type}
-use Rattle.layer_ast.specs.declared.tokens.Sign.{Sign}
-use Rattle.layer_ast.specs.declared.syntax.Shape.TheVariants.{One}
-use Rattle.layer_ast.specs.Printed.{direction_sign, function_sign, operator_sign}
-use Rattle.layer_ast.specs.Spelling.{reserved, symbols}
+use Rattle.layer_words.specs.declared.sorts.Shape.TheVariants.{One}
+use Rattle.layer_words.specs.Signs.{direction_sign, function_sign, operator_sign}
 use Rattle.layer_mean.specs.Headers.{header_of_tag}
 use Rattle.layer_mean.specs.Tree.{Form, numbers, queue, queues, CellTree, LayerTree, no_layer}
-use Rattle.layer_ast.specs.Spelling.{kind_word}
+use Rattle.layer_words.specs.Spelling.{kind_word, sign_text}
 use Rattle.trace_mean.specs.Trace.{Atom, number, peer, field, bound, taken_number, value, Core, body, noted}
 use Rattle.trace_mean.specs.Trace.{taken_message, nothing, TraceNumber, atom, me, count, ltime, element, square, rows}
 use Rattle.trace_mean.specs.Trace.{item, size, binary, apply, pick, TraceMessage, core, held, cut, tail, join, Link}
 use Rattle.trace_mean.specs.Trace.{Chained, Operation, bind, note, check, set, set_square, push, take, output}
 use Rattle.trace_mean.specs.Fuse.{form_at}
-
--- The word or symbol of a sign, as files have it.
-abbrev pub sign_text : Sign → List ℕ
-sign_text sign = option_map_or (λ entry. entry.0) (find (λ entry. sameb the_type entry.1 sign) (symbols ++ reserved)) []
 
 -- Parts in brackets, with commas between.
 abbrev pub bracketed_list : List (List ℕ) → List ℕ

@@ -8,8 +8,8 @@ use Rattle.msg_core.specs.Chain.{Content}
 use Rattle.msg_core.specs.declared.packet.Dest.{Dest}
 use Rattle.msg_core.specs.declared.packet.Dest.TheVariants as dest
 use Rattle.msg_core.specs.declared.packet.Packet.{Packet}
-use Rattle.layer_ast.specs.declared.tokens.Dir.TheVariants as dir
-use Rattle.layer_ast.specs.declared.tokens.Kind.{Kind}
+use Rattle.layer_words.specs.declared.events.Dir.TheVariants as dir
+use Rattle.layer_words.specs.declared.events.Kind.{Kind}
 use Rattle.layer_mean.specs.declared.envelope.Envelope.{Envelope}
 use Rattle.layer_mean.specs.Event.{event_of}
 use Rattle.layer_mean.specs.declared.run.Event.{Event}

@@ -6,7 +6,7 @@ use Rattle.std.proofs.lemmas.List.{append-nil}
 use Rattle.slot_pool.specs.Held.{Held}
 use Rattle.slot_pool.specs.References.{Moved, Covers}
 use Rattle.slot_pool.proofs.References.{moved-same}
-use Rattle.layer_ast.specs.declared.tokens.Dir.{Dir}
+use Rattle.layer_words.specs.declared.events.Dir.{Dir}
 use Rattle.layer_mean.specs.declared.run.Event.{Event}
 use Rattle.pool_message.specs.Moves.{Returned}
 use Rattle.pool_message.specs.Seen.{event_refs, event_seen, EventLies}

@@ -2,7 +2,7 @@
 use Rattle.std.proofs.Common.{◌≡◌, ◌∙◌, ℕ, ◌+◌, List, [], ◌++◌, map, flat_map, ap, subst}
 use Rattle.circular_buffer.specs.Buffer.{buffer}
 use Rattle.slot_pool.specs.References.{Moved, Exact}
-use Rattle.layer_ast.specs.declared.tokens.Dir.{Dir}
+use Rattle.layer_words.specs.declared.events.Dir.{Dir}
 use Rattle.layer_mean.specs.Tree.{LayerTree}
 use Rattle.layer_mean.specs.Queue.{Work}
 use Rattle.layer_eval.specs.Did.{as_predicted}

@@ -7,7 +7,7 @@ use Rattle.slot_pool.proofs.References.{slots-shared}
 use Rattle.msg_core.specs.Headers.{most_places}
 use Rattle.msg_core.specs.Parts.{longest_body}
 use Rattle.msg_core.specs.View.{member_count, most_members}
-use Rattle.layer_ast.specs.declared.tokens.Dir.{Dir}
+use Rattle.layer_words.specs.declared.events.Dir.{Dir}
 use Rattle.layer_mean.specs.declared.run.Case.{Case}
 use Rattle.layer_mean.specs.declared.run.Event.{Event}
 use Rattle.layer_mean.specs.State.{State}

@@ -3,7 +3,7 @@ use Rattle.std.specs.Prelude.{◌≡◌, ◌+◌, ◌≤◌, List, ◌++◌, len
 use Rattle.std.specs.List.{AllByRecursion}
 use Rattle.slot_pool.specs.Held.{Held, spare}
 use Rattle.slot_pool.specs.References.{Moved, Covers}
-use Rattle.layer_ast.specs.declared.tokens.Dir.{Dir}
+use Rattle.layer_words.specs.declared.events.Dir.{Dir}
 use Rattle.layer_mean.specs.Event.{carries}
 use Rattle.pool_message.specs.Sent.{sent_refs, SentLie}
 use Rattle.pool_message.specs.declared.event.PoolEvent.{PoolEvent}

@@ -11,7 +11,7 @@ use Rattle.stack_mean.specs.Acceptance.{largest_weight}
 use Rattle.run_mean.specs.Mode.{Mode, layered, bypass}
 use Rattle.run_mean.specs.Common.{is_common_in, case_of}
 use Rattle.run_mean.specs.Member.{Entered, from_peer}
-use Rattle.trace_step_laws.specs.Steps.{entry_fields}
+use Rattle.handler_laws.specs.Steps.{entry_fields}
 use Rattle.stack_shapes.specs.Entries.{entry_for}
 use Rattle.trace_reads.specs.Registers.{input_of}
 use Rattle.bypass_codes.specs.Codes.{CodesTree, code_at}

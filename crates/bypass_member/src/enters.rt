@@ -2,8 +2,8 @@
 
 ghost use Rattle.std.specs.Prelude.{◌≡◌, ◌<◌, ◌≤◌, [], ◌∷◌, drop, length};
 ghost use Rattle.circular_buffer.specs.Buffer.{buffer};
-ghost use Rattle.layer_ast.specs.declared.tokens.Dir.TheVariants as dir;
-ghost use Rattle.layer_ast.specs.declared.tokens.Kind.TheVariants as kind;
+ghost use Rattle.layer_words.specs.declared.events.Dir.TheVariants as dir;
+ghost use Rattle.layer_words.specs.declared.events.Kind.TheVariants as kind;
 ghost use Rattle.packet_mean.specs.Plan as mean;
 ghost use Rattle.event_graph.specs.Answer.{stack_tree};
 ghost use Rattle.msg_core.specs.Parts.{longest_body};
@@ -17,7 +17,7 @@ ghost use Rattle.bypass_member.specs.Stepping.{stack_of};
 use crate::entry::Entry;
 use crate::ground::Ground;
 use event_graph::Stack;
-use layer_ast::{Dir, Kind};
+use layer_words::{Dir, Kind};
 use layer_mean::Envelope;
 use msg_core::Headers;
 use packet_full::Scan;

@@ -16,7 +16,7 @@ ghost use Rattle.msg_core.specs.View.{most_members};
 use crate::initial::initial_value;
 use crate::membership::Membership;
 use crate::rings::Rings;
-use layer_ast::Shape;
+use layer_words::Shape;
 use std::alloc::{AllocError, Global};
 use typed_layer::{Cell, Form};
 

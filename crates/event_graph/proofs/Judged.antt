@@ -4,11 +4,11 @@ use Rattle.std.proofs.Common.{length, slice_index, Option, Some, None, Result, O
 use Rattle.std.proofs.Common.{arith, lt-ltb, le-ltb}
 use Rattle.std.specs.Prelude.{if◌then◌else◌, is_ok}
 use Rattle.std.specs.List.{find, range_with_len}
-use Rattle.layer_ast.specs.declared.tokens.Dir.{Dir}
-use Rattle.layer_ast.specs.declared.tokens.Kind.{Kind}
+use Rattle.layer_words.specs.declared.events.Dir.{Dir}
+use Rattle.layer_words.specs.declared.events.Kind.{Kind}
 use Rattle.layer_mean.specs.Tree.{LayerTree}
-use Rattle.layer_ast.specs.declared.tokens.Dir.TheVariants.{Up, Down}
-use Rattle.layer_ast.specs.declared.tokens.Kind.TheVariants.{Cast, Send, Timer, Leave}
+use Rattle.layer_words.specs.declared.events.Dir.TheVariants.{Up, Down}
+use Rattle.layer_words.specs.declared.events.Kind.TheVariants.{Cast, Send, Timer, Leave}
 use Rattle.stack_mean.specs.Graph.{Node, nodes, nodes_of, first_on_cycle, is_on_cycle}
 use Rattle.stack_mean.specs.Acceptance.{Refusal, acceptance, without_cycle, cycle, too_many, too_many_joins}
 use Rattle.stack_mean.specs.Acceptance.{held_at_most}

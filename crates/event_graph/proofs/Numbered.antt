@@ -1,8 +1,8 @@
 -- Nodes with neighbouring tags have neighbouring numbers.
 use Rattle.std.proofs.Common.{◌≡◌, ℕ, zero, suc, ◌+◌, ◌≤◌, List, ◌∷◌, map, refl, ap, ◌∙◌, arith}
 use Rattle.std.specs.List.{range_with_len}
-use Rattle.layer_ast.specs.declared.tokens.Dir.{Dir}
-use Rattle.layer_ast.specs.declared.tokens.Kind.{Kind}
+use Rattle.layer_words.specs.declared.events.Dir.{Dir}
+use Rattle.layer_words.specs.declared.events.Kind.{Kind}
 use Rattle.stack_mean.specs.Graph.{Node, arrow_to}
 use Rattle.stack_mean.specs.Acceptance.{held_at_most}
 use Rattle.layer_mean.specs.Queue.{beyond}

@@ -11,7 +11,7 @@ ghost use Rattle.typed_layer.specs.View.{message_tree, emission_tree, content_tr
 ghost use Rattle.event_graph.specs.Edges.{node_tree, edge_tree, emission_edge};
 ghost use Rattle.typed_layer.specs.Places.{typed_tree};
 
-use layer_ast::{Dir, Kind};
+use layer_words::{Dir, Kind};
 use std::alloc::AllocError;
 use typed_layer::{Block, Content, Emission, MessageExpression, Statement, Typed};
 

@@ -3,7 +3,7 @@
 ghost use Rattle.std.specs.Prelude.{◌≡◌};
 ghost use Rattle.event_graph.specs.declared.error.StackError.TheVariants.{Memory};
 
-use layer_ast::Kind;
+use layer_words::Kind;
 use std::alloc::{AllocError, AllocFailed};
 use thiserror::Error;
 

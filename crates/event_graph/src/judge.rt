@@ -22,7 +22,7 @@ use crate::rounds::{Measure, costs_in, largest_cost};
 use crate::search::first_met;
 use crate::steady::{all_fall, steady_costs};
 use crate::table::{Vertex, nodes, table, tags_to};
-use layer_ast::{Dir, Kind};
+use layer_words::{Dir, Kind};
 use std::alloc::{AllocError, Global};
 use typed_layer::Typed;
 

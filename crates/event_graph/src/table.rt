@@ -3,8 +3,8 @@
 ghost use Rattle.std.specs.Prelude.{◌≡◌, ◌≤◌, ◌++◌, OnOk, IfOk, fold, length, map, option_map, option_to_list};
 ghost use Rattle.std.specs.Prelude.{replicate};
 ghost use Rattle.std.specs.List.{flat_map, range_with_len};
-ghost use Rattle.layer_ast.specs.Spelling.{kinds};
-ghost use Rattle.layer_ast.specs.declared.tokens.Dir.TheVariants as direction;
+ghost use Rattle.layer_words.specs.Spelling.{kinds};
+ghost use Rattle.layer_words.specs.declared.events.Dir.TheVariants as direction;
 ghost use Rattle.layer_mean.specs.Queue.{layer_at};
 ghost use Rattle.stack_mean.specs.Graph as graph;
 ghost use Rattle.weight_laws.specs.Tables.{edge_of, no_vertex, table_of, vertex_of, with_node, empty_table};
@@ -14,7 +14,7 @@ ghost use Rattle.typed_layer.specs.Places.{typed_tree};
 
 use crate::edges::{Edge, Node, Tags, add_block, carries, edge_to, number_at};
 use crate::joins::of_handler;
-use layer_ast::{Dir, Kind};
+use layer_words::{Dir, Kind};
 use std::alloc::{AllocError, Global};
 use typed_layer::Typed;
 
@@ -185,7 +185,7 @@ fn add_kinds(stack: &Typed, at: u8, kinds: &[Kind], nodes: &mut Vec<Node>) -> Re
 }
 
 /// Adds the nodes of a place.
-#[tactic(auto, unfolding(layer_ast::specs::Spelling::kinds))]
+#[tactic(auto, unfolding(layer_words::specs::Spelling::kinds))]
 fn add_place(stack: &Typed, at: u8, nodes: &mut Vec<Node>) -> Result<(), AllocError>
     ensures { OnOk result (map node_tree nodes.new.items ≡ map node_tree nodes.old.items ++
         nodes_at (typed_tree stack.now) at) }

@@ -3,7 +3,7 @@
 use Rattle.std.specs.Prelude.{ℕ, ◌+◌, Bool, true, false, List, [], ◌∷◌, bytes_eq, Option, Some, None, option_map}
 use Rattle.std.specs.List.{find, filter, position}
 use Rattle.layer_ast.specs.declared.names.Name.{Name}
-use Rattle.layer_ast.specs.declared.names.Word.{Word}
+use Rattle.layer_words.specs.declared.words.Word.{Word}
 use Rattle.layer_ast.specs.Tree.{DeclarationTree, param, int, rows_cell, rows_array, header, ItemTree, ItemsTree}
 use Rattle.layer_ast.specs.Tree.{LayerTree, NamesTree}
 

@@ -1,6 +1,6 @@
 -- What may be at fault in a file that a text spells.
 use Rattle.std.specs.Prelude.{ℕ, List}
-use Rattle.layer_ast.specs.declared.names.At.{At}
+use Rattle.layer_words.specs.declared.places.At.{At}
 use Rattle.fault_mean.specs.Earliest.{key_at}
 
 -- A fault of names at a place: a name that isn't declared or visible there, a name or a handler that is there already,

@@ -2,11 +2,11 @@
 use Rattle.std.specs.Prelude.{Bool, true, false, List, []}
 use Rattle.std.specs.Option.{option_map_or}
 use denote.Enum.Bare.{sameb}
-use Rattle.layer_ast.specs.contracts.syntax.Shape as shape_row
+use Rattle.layer_words.specs.contracts.sorts.Shape as shape_row
 use Rattle.layer_ast.specs.declared.names.Name.{Name}
-use Rattle.layer_ast.specs.declared.names.Word.{Word}
+use Rattle.layer_words.specs.declared.words.Word.{Word}
 use Rattle.layer_ast.specs.declared.syntax.Ending.TheVariants.{Ends}
-use Rattle.layer_ast.specs.declared.syntax.Shape.{Shape}
+use Rattle.layer_words.specs.declared.sorts.Shape.{Shape}
 use Rattle.layer_ast.specs.Tree.{DeclarationTree, int, rows_cell, rows_array, header, ItemTree, LayerTree, QueueTree}
 use Rattle.layer_ast.specs.Tree.{queue, queue_at}
 use Rattle.fault_mean.specs.Declared.{declaration_of, items_in, names_in}

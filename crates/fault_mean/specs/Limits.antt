@@ -2,7 +2,7 @@
 -- messages, those of sizes beside what layers mean.)
 use Rattle.std.specs.Prelude.{ℕ, Bool, true, ◌&&◌, nat_le, if◌then◌else◌, List, [], ◌∷◌, ◌++◌, flat_map, filter, drop}
 use Rattle.std.specs.Option.{option_map_or}
-use Rattle.layer_ast.specs.declared.names.At.{At}
+use Rattle.layer_words.specs.declared.places.At.{At}
 use Rattle.layer_ast.specs.Tree.{DeclarationTree, rows_cell, rows_array, ItemTree, LayerTree, PlaceTree, SizeTree}
 use Rattle.layer_ast.specs.Tree.{fixed, sized, StatementTree, each}
 use Rattle.layer_mean.specs.Limits.{largest_capacity, longest_loop}

@@ -2,8 +2,8 @@
 use Rattle.std.specs.Prelude.{ℕ, List, ◌++◌, map, flat_map, filter_map, bytes_eq, find, Option, Some, None, option_map}
 use Rattle.std.specs.Prelude.{option_and_then, unwrap_or, is_some, if◌then◌else◌}
 use Rattle.std.specs.Option.{option_or}
-use Rattle.layer_ast.specs.declared.names.At.{At}
-use Rattle.layer_ast.specs.declared.names.Word.{Word}
+use Rattle.layer_words.specs.declared.places.At.{At}
+use Rattle.layer_words.specs.declared.words.Word.{Word}
 use Rattle.layer_ast.specs.Tree.{DeclarationTree, param, GivenTree, LayerTree, PlaceTree, FileTree}
 use Rattle.fault_mean.specs.Declared.{declaration_of}
 

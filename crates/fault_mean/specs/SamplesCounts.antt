@@ -3,10 +3,10 @@ use Rattle.std.specs.Prelude.{◌≡◌, ℕ, ◌+◌, List, [], ◌∷◌, map,
 use Rattle.std.specs.List.{enumerate_from, range_with_len}
 use Rattle.layer_ast.specs.declared.names.Name.{Name}
 use Rattle.layer_ast.specs.declared.syntax.Ending.TheVariants.{Passes}
-use Rattle.layer_ast.specs.declared.syntax.Shape.TheVariants.{One}
-use Rattle.layer_ast.specs.declared.tokens.Dir.TheVariants.{Up}
+use Rattle.layer_words.specs.declared.sorts.Shape.TheVariants.{One}
+use Rattle.layer_words.specs.declared.events.Dir.TheVariants.{Up}
 use Rattle.layer_ast.specs.Samples.{at, name_at}
-use Rattle.layer_ast.specs.Spelling.{kinds}
+use Rattle.layer_words.specs.Spelling.{kinds}
 use Rattle.layer_ast.specs.Tree.{DeclarationTree, HandlerTree, FileTree, StatementTrees, bind, header, int, more, none}
 use Rattle.layer_ast.specs.Tree.{number, param}
 use Rattle.fault_mean.specs.Faults.{too_many}

@@ -2,7 +2,7 @@
 use Rattle.std.proofs.Common.{◌≡◌, ℕ, zero, suc, nat_eq, true, false, cond, List, [], ◌∷◌, ◌++◌, length, take, drop}
 use Rattle.std.proofs.Common.{refl, sym, ap, ◌∙◌, arith, append_assoc}
 use Rattle.std.specs.Prelude.{Result, Err}
-use Rattle.layer_ast.specs.Spelling.{is_blank}
+use Rattle.layer_words.specs.Spelling.{is_blank}
 use Rattle.outside.proofs.Gaining.{gains_none, gains_then, cut_short}
 use Rattle.outside.proofs.Turns.{wrote_both, wrote_as}
 use Rattle.outside.specs.Lines.{Gains, Wrote}

@@ -1,7 +1,7 @@
 -- The last byte of a line that is no blank, byte by byte.
 use Rattle.std.proofs.Common.{◌≡◌, ℕ, zero, suc, ◌+◌, ◌≤◌, nat_eq, Bool, true, false, cond, List, [], ◌∷◌, length, refl}
 use Rattle.std.proofs.Common.{sym, ap, ◌∙◌, arith}
-use Rattle.layer_ast.specs.Spelling.{is_blank}
+use Rattle.layer_words.specs.Spelling.{is_blank}
 use Rattle.format_mean.specs.Pieces.{one_more, comment_length}
 
 -- what is found of a line after its first bytes were seen, by how many they were and how many are left

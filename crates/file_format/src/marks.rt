@@ -1,7 +1,7 @@
 //! What a text has at its front.
 ghost use Rattle.std.specs.Prelude.{◌≡◌, ◌≤◌, length, nat_eq};
 ghost use Rattle.std.specs.List.{prefix_len};
-ghost use Rattle.layer_ast.specs.Spelling as spelling;
+ghost use Rattle.layer_words.specs.Spelling as spelling;
 ghost use Rattle.format_mean.specs.Pieces as spec;
 
 /// How many bytes of a comment, of a word or number, or of a sign stand after its first.

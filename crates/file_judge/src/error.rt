@@ -7,7 +7,7 @@ use event_graph::StackError;
 use file_names::NameError;
 use file_parse::ParseError;
 use file_types::TypeError;
-use layer_ast::{At, Kind};
+use layer_words::{At, Kind};
 use thiserror::Error;
 
 /// Why a file is refused: the first cause, in the order in which they stand here; of causes at places in the text, the

@@ -7,12 +7,12 @@ use Rattle.std.specs.Option.{option_map_or}
 use Rattle.std.proofs.lemmas.Bool.{eqb-true}
 use Rattle.std.proofs.lemmas.List.{length-map}
 use Rattle.msg_core.specs.declared.message.Header.{Header}
-use Rattle.layer_ast.specs.declared.names.At.{At}
-use Rattle.layer_ast.specs.declared.syntax.Sort.{Sort}
-use Rattle.layer_ast.specs.declared.syntax.Sort.TheVariants.{Int, Msg, Part}
-use Rattle.layer_ast.specs.declared.tokens.Dir.{Dir}
-use Rattle.layer_ast.specs.declared.tokens.Kind.{Kind}
-use Rattle.layer_ast.specs.declared.tokens.Kind.TheVariants as kinds
+use Rattle.layer_words.specs.declared.places.At.{At}
+use Rattle.layer_words.specs.declared.sorts.Sort.{Sort}
+use Rattle.layer_words.specs.declared.sorts.Sort.TheVariants.{Int, Msg, Part}
+use Rattle.layer_words.specs.declared.events.Dir.{Dir}
+use Rattle.layer_words.specs.declared.events.Kind.{Kind}
+use Rattle.layer_words.specs.declared.events.Kind.TheVariants as kinds
 use Rattle.layer_ast.specs.Tree as ast
 use Rattle.layer_mean.specs.Event.{carries}
 use Rattle.fault_mean.specs.Earliest.{unless}

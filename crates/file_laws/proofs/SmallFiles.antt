@@ -2,7 +2,7 @@
 use Rattle.std.proofs.Common.{◌≡◌, ℕ, zero, suc, ◌<◌, [], ◌∷◌, map, Some, refl, subst, arith}
 use Rattle.std.specs.Prelude.{codes, slice_index_or}
 use Rattle.msg_core.specs.Chain.{plain}
-use Rattle.layer_ast.specs.declared.tokens.Kind.TheVariants.{Cast}
+use Rattle.layer_words.specs.declared.events.Kind.TheVariants.{Cast}
 use Rattle.layer_ast.specs.Reader.{file_of}
 use Rattle.layer_mean.specs.Visit.{fresh, no_state}
 use Rattle.file_mean.specs.CounterFile as counter

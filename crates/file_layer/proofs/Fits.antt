@@ -4,7 +4,7 @@ use Rattle.std.proofs.lemmas.List.{length-drop, take-append-drop}
 use Rattle.slot_pool.specs.Held.{Held}
 use Rattle.slot_pool.specs.Times.{times}
 use Rattle.slot_pool.proofs.References.{times-most}
-use Rattle.layer_ast.specs.declared.tokens.Dir.{Dir}
+use Rattle.layer_words.specs.declared.events.Dir.{Dir}
 use Rattle.layer_desk.specs.Need.{Layout}
 use Rattle.layer_desk.specs.Spent.{Begun}
 use Rattle.pool_message.specs.Seen.{refs, refs_if, event_refs}

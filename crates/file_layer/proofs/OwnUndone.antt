@@ -3,7 +3,7 @@ use Rattle.std.proofs.Common.{◌≡◌, ℕ, zero, suc, ◌-◌, true, List, []
 use Rattle.std.proofs.Common.{set, slice_index, refl, sym, ap, subst, ◌∙◌, Option}
 use Rattle.std.proofs.lemmas.Iterator.Adapters.{option_map_id}
 use Rattle.std.proofs.lemmas.List.{length-map, map-id, set-get_or, set-set}
-use Rattle.layer_ast.specs.declared.syntax.Shape.TheVariants.{One}
+use Rattle.layer_words.specs.declared.sorts.Shape.TheVariants.{One}
 use Rattle.layer_mean.specs.State as state
 use Rattle.layer_mean.specs.State.{State, Contents, no_cell, numbers_in, rows_at, row_at, has_room}
 use Rattle.layer_mean.specs.State.{with_element, with_rows, with_row, without_front}

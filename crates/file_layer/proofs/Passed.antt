@@ -1,7 +1,7 @@
 -- The first event that is taken, and those after it.
 use Rattle.std.proofs.Common.{◌≡◌, List, [], ◌∷◌, ◌++◌, refl}
 use Rattle.slot_pool.specs.Held.{Held}
-use Rattle.layer_ast.specs.declared.tokens.Dir.{Dir}
+use Rattle.layer_words.specs.declared.events.Dir.{Dir}
 use Rattle.layer_stage.specs.Front.{after_first}
 use Rattle.pool_message.specs.Seen.{event_refs, EventLies}
 use Rattle.pool_message.specs.Sent.{sent_refs, SentLie, first_sent}

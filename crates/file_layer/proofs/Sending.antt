@@ -8,7 +8,7 @@ use Rattle.slot_pool.specs.References.{Covers}
 use Rattle.slot_pool.proofs.References.{moved-same}
 use Rattle.msg_core.specs.Chain.{plain}
 use Rattle.msg_core.specs.declared.message.Header.{Header}
-use Rattle.layer_ast.specs.declared.tokens.Dir.{Dir}
+use Rattle.layer_words.specs.declared.events.Dir.{Dir}
 use Rattle.layer_mean.specs.Effect.{sent_as}
 use Rattle.layer_desk.specs.Laid.{lifted, sends, sends_first, passes_on}
 use Rattle.layer_mean.specs.Envelope.{event_in}

@@ -4,8 +4,8 @@ use Rattle.std.proofs.Common.{slice_get, take, length, refl, sym, ap, subst, ◌
 use Rattle.circular_buffer.specs.Buffer.{last_item}
 use Rattle.msg_core.specs.declared.message.Header.{Header}
 use Rattle.slot_pool.specs.Held.{Held}
-use Rattle.layer_ast.specs.declared.tokens.Dir.{Dir}
-use Rattle.layer_ast.specs.declared.tokens.Dir.TheVariants.{Up, Down}
+use Rattle.layer_words.specs.declared.events.Dir.{Dir}
+use Rattle.layer_words.specs.declared.events.Dir.TheVariants.{Up, Down}
 use Rattle.layer_mean.specs.Effect.{sent_as}
 use Rattle.pool_message.specs.Moves.{Derived}
 use Rattle.pool_message.specs.Piled.{without_last, with_header_last}

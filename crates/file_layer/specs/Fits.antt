@@ -3,7 +3,7 @@ use Rattle.std.specs.Prelude.{◌≡◌, ℕ, ◌+◌, ◌*◌, ◌≤◌, List,
 use Rattle.std.specs.List.{AllByRecursion}
 use Rattle.circular_buffer.specs.Buffer.{Buffer}
 use Rattle.slot_pool.specs.Times.{times}
-use Rattle.layer_ast.specs.declared.tokens.Dir.{Dir}
+use Rattle.layer_words.specs.declared.events.Dir.{Dir}
 use Rattle.cell_store.specs.Kept.{KeptCell, queues_kept, capacity_of}
 use Rattle.layer_desk.specs.Need.{Layout, most_above}
 use Rattle.pool_message.specs.declared.message.PoolMessage.{PoolMessage}

@@ -4,7 +4,7 @@ use Rattle.std.specs.Prelude.{◌≡◌, ◌+◌, List, map, length}
 use Rattle.std.proofs.Common.{ap, arith}
 use Rattle.std.proofs.lemmas.List.{length-map, length-reverse}
 use Rattle.slot_pool.specs.Held.{Held}
-use Rattle.layer_ast.specs.declared.tokens.Dir.{Dir}
+use Rattle.layer_words.specs.declared.events.Dir.{Dir}
 use Rattle.layer_desk.specs.Need.{Layout}
 use Rattle.layer_desk.specs.Spent.{Begun}
 use Rattle.pool_message.specs.Seen.{content_seen, event_seen}

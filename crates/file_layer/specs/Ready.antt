@@ -1,7 +1,7 @@
 -- A desk as its fields make it out, and that it is in order.
 use Rattle.std.specs.Prelude.{◌≡◌, ℕ, ◌-◌, ◌≤◌, List, Option, map, length, vec_capacity}
 use Rattle.slot_pool.specs.Held.{Held, spare}
-use Rattle.layer_ast.specs.declared.syntax.Shape.{Shape}
+use Rattle.layer_words.specs.declared.sorts.Shape.{Shape}
 use Rattle.layer_desk.specs.Need.{Layout, Room}
 use Rattle.layer_desk.specs.Spent.{Begun}
 use Rattle.cell_store.specs.Kept.{capacity_of}

@@ -1,8 +1,8 @@
 -- Messages as they are sent.
 use Rattle.std.specs.Prelude.{◌≡◌, List, [], ◌∷◌, ◌++◌, Option, Some, None}
 use Rattle.msg_core.specs.declared.message.Header.{Header}
-use Rattle.layer_ast.specs.declared.tokens.Dir.{Dir}
-use Rattle.layer_ast.specs.declared.tokens.Dir.TheVariants.{Up, Down}
+use Rattle.layer_words.specs.declared.events.Dir.{Dir}
+use Rattle.layer_words.specs.declared.events.Dir.TheVariants.{Up, Down}
 use Rattle.pool_message.specs.Piled.{with_header_last}
 use Rattle.pool_message.specs.declared.message.PoolMessage.{PoolMessage}
 

@@ -2,7 +2,7 @@
 
 use crate::desk::FileDesk;
 use crate::{enters, leaves, lifts, puts, reads, sends, takes, writes};
-use layer_ast::Dir;
+use layer_words::Dir;
 use layer_desk::{Desk, NoRoom, Queue, RowAt, Sending, Square, Start};
 use layer_mean::Envelope;
 use msg_core::Fields;

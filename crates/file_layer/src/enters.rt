@@ -13,7 +13,7 @@ ghost use Rattle.file_layer.specs.Stock.{laid};
 
 use crate::desk::FileDesk;
 use crate::leaves::forget_messages;
-use layer_ast::Kind;
+use layer_words::Kind;
 use layer_desk::Start;
 use layer_mean::Envelope;
 use msg_core::Fields;

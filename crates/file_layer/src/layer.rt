@@ -10,7 +10,7 @@ use crate::makes::{close, make, restart};
 use crate::passes::{lets_pass, none_header};
 use crate::visits::visit;
 use cell_store::Membership;
-use layer_ast::Dir;
+use layer_words::Dir;
 use layer_eval::Predicted;
 use layer_stage::Stage;
 use pool_message::{Events, PoolEvent, PoolRow, pass_message};

@@ -2,13 +2,13 @@
 
 ghost use Rattle.std.specs.Prelude.{◌≡◌, List};
 ghost use Rattle.slot_pool.specs.Held.{Held};
-ghost use Rattle.layer_ast.specs.declared.tokens.Dir.TheVariants.{Up};
+ghost use Rattle.layer_words.specs.declared.events.Dir.TheVariants.{Up};
 ghost use Rattle.layer_mean.specs.Visit as spec;
 ghost use Rattle.layer_stage.specs.Passes.{is_passed};
 ghost use Rattle.pool_message.specs.Seen.{seen_if, event_seen};
 ghost use Rattle.typed_layer.specs.View.{layer_tree};
 
-use layer_ast::Dir;
+use layer_words::Dir;
 use msg_core::{Fields, Header};
 use pool_message::{MessagePlace, PoolEvent};
 use typed_layer::TypedLayer;

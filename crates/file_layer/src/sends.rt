@@ -20,7 +20,7 @@ ghost use Rattle.file_layer.specs.Ready.{stock_of, room_of, IsReady};
 
 use crate::desk::{FileDesk, MOST_ABOVE};
 use crate::leaves::{forget_rest, leave};
-use layer_ast::Dir;
+use layer_words::Dir;
 use layer_desk::{NoRoom, Sending, Start};
 use layer_mean::Envelope;
 use msg_core::Fields;

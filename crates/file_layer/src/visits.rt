@@ -17,7 +17,7 @@ ghost use Rattle.file_layer.specs.Rest.{IsAtRest, begins, ends};
 ghost use Rattle.file_layer.specs.Stock.{kept_refs};
 
 use crate::desk::FileDesk;
-use layer_ast::Dir;
+use layer_words::Dir;
 use layer_eval::{Predicted, Visit, take_event};
 use layer_mean::Envelope;
 use pool_message::Events;

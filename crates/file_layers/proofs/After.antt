@@ -4,7 +4,7 @@ use Rattle.std.proofs.Common.{length-append}
 use Rattle.std.proofs.Math.Seq.{drop-append_seam}
 use Rattle.layer_ast.specs.Tree as ast
 use Rattle.layer_ast.specs.declared.names.Name.{Name}
-use Rattle.layer_ast.specs.declared.names.Word.{Word}
+use Rattle.layer_words.specs.declared.words.Word.{Word}
 use Rattle.file_mean.specs.Names.{Names, Slots, in_slots, with_messages, with_numbers}
 use Rattle.file_mean.specs.Statements.{after_block, following, after_all, with_taken}
 

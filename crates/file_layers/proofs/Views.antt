@@ -1,6 +1,6 @@
 -- The trees that the statements of a typed layer are, form by form.
 use Rattle.std.proofs.Common.{◌≡◌, ℕ, sym, ap, ap₂, ◌∙◌}
-use Rattle.layer_ast.specs.declared.syntax.Likely.{Likely}
+use Rattle.layer_words.specs.declared.sorts.Likely.{Likely}
 use Rattle.layer_mean.specs.Tree as tree
 use Rattle.layer_mean.specs.Tree.{StatementTree, StatementTrees}
 use Rattle.typed_layer.specs.View.{expression_tree, row_tree, taken_tree, emission_tree, statement_of, block_of}

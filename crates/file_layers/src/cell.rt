@@ -19,7 +19,8 @@ ghost use Rattle.msg_core.specs.Headers.{most_fields};
 use file_numbers::{PlacedLayer, VisibleNames, field_count, number, numbers_of};
 use file_scope::items;
 use layer_ast as ast;
-use layer_ast::{Declaration, Ending, Word};
+use layer_ast::{Declaration, Ending};
+use layer_words::Word;
 use std::alloc::{AllocError, Global};
 use typed_layer::{Carried, Cell, Expression, Form, HeaderForm, ItemMessage, Items};
 

@@ -20,7 +20,8 @@ use file_numbers::{
 };
 use file_scope::written;
 use layer_ast as ast;
-use layer_ast::{Arguments, Dir, Kind, Name, Pushed, Queue};
+use layer_ast::{Arguments, Name, Pushed, Queue};
+use layer_words::{Dir, Kind};
 use std::alloc::{AllocError, Global};
 use typed_layer::{Carried, Content, Emission, MessageExpression, Row, Taken, TakenMessage};
 

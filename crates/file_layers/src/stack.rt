@@ -12,7 +12,8 @@ ghost use Rattle.msg_core.specs.Headers.{most_places};
 
 use crate::layer::layer;
 use file_scope::is_same;
-use layer_ast::{File, Layer, Place, Word};
+use layer_ast::{File, Layer, Place};
+use layer_words::Word;
 use std::alloc::{AllocError, Global};
 use std::rc::Rc;
 use typed_layer::{Blank, Typed, TypedLayer};

@@ -20,7 +20,8 @@ use crate::made::made;
 use crate::row::{Way, emission, pushed_row, take_row};
 use file_numbers::{VisibleNames, number, queue_index};
 use layer_ast as ast;
-use layer_ast::{Arguments, Likely, Name, Pushed, Queue, Size};
+use layer_ast::{Arguments, Name, Pushed, Queue, Size};
+use layer_words::Likely;
 use std::alloc::{AllocError, Global};
 use typed_layer::{Block, Expression, Statement, Taken};
 

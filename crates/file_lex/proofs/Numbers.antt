@@ -1,7 +1,7 @@
 -- A number that grows too large while its digits are read is too large.
 use Rattle.std.proofs.Common.{◌≡◌, ℕ, zero, suc, ◌+◌, ◌-◌, ◌*◌, ◌<◌, ◌≤◌, List, [], ◌∷◌, length, take, get_or, fold}
 use Rattle.std.proofs.Common.{arith, subst}
-use Rattle.layer_ast.specs.Spelling.{number_of}
+use Rattle.layer_ast.specs.Cut.{number_of}
 
 -- further digits don't make a number smaller
 grows : (a : ℕ) (digits : List ℕ) → a ≤ fold (λ n digit. 10 * n + (digit - 48)) a digits

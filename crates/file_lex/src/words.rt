@@ -2,12 +2,14 @@
 ghost use Rattle.std.specs.Prelude.{◌≡◌, ◌≤◌, ◌++◌, ◌∷◌, [], OnOk, true, nat_eq, length, find};
 ghost use Rattle.std.specs.Option.{option_map};
 ghost use Rattle.std.specs.Str.{bytes_eq};
-ghost use Rattle.layer_ast.specs.Spelling.{word_token as token_of, beside, reserved};
+ghost use Rattle.layer_ast.specs.Cut.{word_token as token_of};
+ghost use Rattle.layer_words.specs.Spelling.{beside, reserved};
 ghost use Rattle.file_lex.specs.Parts.{begins_part};
 ghost use Rattle.file_lex.specs.Tables.{shown_table, shown_groups, beside_in_group, are_in_row};
-ghost use Rattle.layer_ast.specs.WordBytes.{longest_word};
+ghost use Rattle.layer_words.specs.WordBytes.{longest_word};
 
-use layer_ast::{At, Kind, Lexed, Sign, Token, Word};
+use layer_words::{At, Kind, Sign, Word};
+use layer_ast::{Lexed, Token};
 use std::alloc::AllocError;
 
 /// Each reserved word that isn't a kind, under its first letter; the letters follow one another.
@@ -96,7 +98,7 @@ static RESERVED: [(u8, &[(&[u8], Sign)]); 23] = [
 ];
 
 /// Adds the token of a word at its place.
-#[tactic(auto, unfolding(layer_ast::specs::Spelling::word_token))]
+#[tactic(auto, unfolding(layer_ast::specs::Cut::word_token))]
 pub fn push_word(tokens: &mut Vec<Lexed>, word: &[u8], at: At) -> Result<(), AllocError>
     requires { 1 ≤ length word.now × length word.now ≤ longest_word }
     ensures { OnOk result (tokens.new.items ≡ tokens.old.items ++ record { token = token_of word.now; at = at } ∷ []) }

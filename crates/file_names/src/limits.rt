@@ -13,7 +13,8 @@ ghost use Rattle.file_names.specs.Rows.{followed_faults};
 use crate::found::{Cause, Found, note_unless};
 use crate::names::{too_many, twice};
 use file_scope::items;
-use layer_ast::{Item, Items, Name, Size, Sort};
+use layer_ast::{Item, Items, Name, Size};
+use layer_words::Sort;
 use std::alloc::{AllocError, Global};
 
 /// The most rows of a queue.

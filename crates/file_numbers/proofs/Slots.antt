@@ -6,7 +6,7 @@ use Rattle.std.specs.Map.{lookup}
 use Rattle.std.proofs.lemmas.List.{map-append, reverse-append, length-reverse, length-map}
 use Rattle.std.proofs.Math.Seq.{drop-append_seam}
 use Rattle.layer_ast.specs.declared.names.Name.{Name}
-use Rattle.layer_ast.specs.declared.names.Word.{Word}
+use Rattle.layer_words.specs.declared.words.Word.{Word}
 use Rattle.file_mean.specs.Names.{in_slots}
 use Rattle.file_numbers.specs.Visible.{entry, entries}
 use Rattle.file_numbers.specs.declared.visible.VisibleName.{VisibleName}

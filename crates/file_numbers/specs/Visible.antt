@@ -1,6 +1,6 @@
 -- Names that are visible, as a value of the program shows them.
 use Rattle.std.specs.Prelude.{ℕ, List, map, reverse}
-use Rattle.layer_ast.specs.declared.names.Word.{Word}
+use Rattle.layer_words.specs.declared.words.Word.{Word}
 use Rattle.file_numbers.specs.declared.visible.VisibleName.{VisibleName}
 
 -- Names with their slots, the newest in front, and how many slots are taken.

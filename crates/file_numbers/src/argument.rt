@@ -14,7 +14,8 @@ ghost use Rattle.msg_core.specs.Headers.{most_fields};
 
 use crate::scope::VisibleNames;
 use crate::value::argument_number;
-use layer_ast::{Argument, Arguments, Kind};
+use layer_ast::{Argument, Arguments};
+use layer_words::Kind;
 use std::alloc::{AllocError, Global};
 use typed_layer::{Expression, Numbers};
 

@@ -12,7 +12,8 @@ ghost use Rattle.file_mean.specs.Names as spec;
 ghost use Rattle.file_numbers.specs.Placed.{words_of};
 
 use file_scope::{Words, declared_name, is_same};
-use layer_ast::{Declaration, Given, Item, Items, Name, Names, Sort, Word};
+use layer_ast::{Declaration, Given, Item, Items, Name, Names};
+use layer_words::{Sort, Word};
 use std::alloc::{AllocError, Global};
 
 /// Whether a declaration declares a cell.

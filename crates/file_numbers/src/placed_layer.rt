@@ -21,7 +21,8 @@ use crate::declared::{
     cell_words, declared_value, given_among, header_words, item_number, last_sort, rows,
 };
 use file_scope::{Scope, Words};
-use layer_ast::{Declaration, Given, Items, Layer, Name, Size, Sort, Word};
+use layer_ast::{Declaration, Given, Items, Layer, Name, Size};
+use layer_words::{Sort, Word};
 use std::alloc::{AllocError, Global};
 use typed_layer::{Blank, Carried};
 

@@ -6,7 +6,8 @@ ghost use Rattle.std.specs.Map.{lookup};
 ghost use Rattle.file_mean.specs.Names.{in_slots};
 
 use file_scope::is_same;
-use layer_ast::{Name, Word};
+use layer_ast::Name;
+use layer_words::Word;
 use std::alloc::{AllocError, Global};
 use std::marker::Model;
 

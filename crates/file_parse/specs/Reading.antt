@@ -4,9 +4,9 @@ use Rattle.std.specs.Prelude.{◌≡◌, ◌≢◌, ◌<◌, ℕ, Bool, true, fa
 use Rattle.std.specs.Prelude.{None, Result, Ok, Err}
 use Rattle.std.specs.Borrow.{Bor}
 use Rattle.layer_ast.specs.declared.tokens.Lexed.{Lexed}
-use Rattle.layer_ast.specs.declared.tokens.Sign.{Sign}
-use Rattle.layer_ast.specs.declared.tokens.Sign.TheVariants.{Stack, LeftBrace, RightBrace, LeftParen, RightParen}
-use Rattle.layer_ast.specs.declared.tokens.Sign.TheVariants.{LeftBracket, RightBracket, Comma, With, Star, Assign, Else}
+use Rattle.layer_words.specs.declared.signs.Sign.{Sign}
+use Rattle.layer_words.specs.declared.signs.Sign.TheVariants.{Stack, LeftBrace, RightBrace, LeftParen, RightParen}
+use Rattle.layer_words.specs.declared.signs.Sign.TheVariants.{LeftBracket, RightBracket, Comma, With, Star, Assign, Else}
 use Rattle.layer_ast.specs.declared.tokens.Token.TheVariants as token
 use Rattle.layer_ast.specs.Depth.{room_after}
 use Rattle.layer_ast.specs.Print.{file, layer, places as print_places}

@@ -1,6 +1,6 @@
 -- The first fault that is found as a file is judged, part by part.
 use Rattle.std.specs.Prelude.{◌≡◌, ℕ, List, map, Option, Some, None, option_map}
-use Rattle.layer_ast.specs.declared.names.At.{At}
+use Rattle.layer_words.specs.declared.places.At.{At}
 use Rattle.fault_mean.specs.Earliest.{earlier, earliest, key_at}
 use Rattle.file_scope.specs.declared.found.Fault.{Fault}
 use Rattle.file_scope.specs.declared.found.Found.{Found}

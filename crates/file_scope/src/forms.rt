@@ -9,7 +9,8 @@ ghost use Rattle.fault_mean.specs.Sorts as sorts;
 ghost use Rattle.file_scope.specs.Scope.{scope_of};
 
 use crate::scope::Scope;
-use layer_ast::{Declaration, Ending, Shape, Word};
+use layer_ast::{Declaration, Ending};
+use layer_words::{Shape, Word};
 
 /// Whether a declaration declares a cell of numbers of this shape.
 fn is_numbers(shape: Shape, d: &Declaration) -> bool

@@ -2,7 +2,7 @@
 use Rattle.std.specs.Prelude.{ℕ, zero, suc, Bool, true, false, ◌&&◌, ◌||◌, nat_eq, if◌then◌else◌, List, [], ◌∷◌, map}
 use Rattle.std.specs.Prelude.{take}
 use Rattle.std.specs.List.{prefix_len}
-use Rattle.layer_ast.specs.Spelling.{is_blank, is_word_byte}
+use Rattle.layer_words.specs.Spelling.{is_blank, is_word_byte}
 
 -- a token or a comment as it is spelled, and how many line feeds stand before it: two, where there are more
 pub record Piece : Type 0 where

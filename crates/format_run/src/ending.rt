@@ -7,7 +7,7 @@ ghost use Rattle.format_run.specs.Causes.{unread, unwritten};
 ghost use Rattle.format_run.specs.declared.ending.Ending.TheVariants as ending;
 ghost use Rattle.format_run.specs.Ends.{Said, token_line};
 
-use layer_ast::At;
+use layer_words::At;
 use outside::{NO_MEMORY, ShelfError, Sink, SinkError, say_line};
 use std::alloc::{AllocError, Global};
 

@@ -9,7 +9,8 @@ ghost use Rattle.format_run.specs.Ends as spec;
 use crate::ending::{Ending, say};
 use file_format::lay_out;
 use file_lex::cut;
-use layer_ast::{At, LONGEST_FILE};
+use layer_words::At;
+use layer_ast::LONGEST_FILE;
 use outside::{Got, Shelf, Sink};
 use std::alloc::{AllocError, Global};
 

@@ -9,9 +9,9 @@ use Rattle.std.specs.Prelude.{option_and_then, Ok}
 use Rattle.msg_core.specs.Chain.{Content}
 use Rattle.msg_core.specs.Parts.{longest_body}
 use Rattle.msg_core.specs.declared.message.Header.{Header}
-use Rattle.layer_ast.specs.declared.tokens.Kind.{Kind}
-use Rattle.layer_ast.specs.declared.syntax.Shape.{Shape}
-use Rattle.layer_ast.specs.declared.syntax.Shape.TheVariants.{One, Array, Square}
+use Rattle.layer_words.specs.declared.events.Kind.{Kind}
+use Rattle.layer_words.specs.declared.sorts.Shape.{Shape}
+use Rattle.layer_words.specs.declared.sorts.Shape.TheVariants.{One, Array, Square}
 use Rattle.layer_mean.specs.declared.run.Case.{Case}
 use Rattle.layer_mean.specs.declared.run.Event.{Event}
 use Rattle.layer_mean.specs.declared.run.Row.{Row}

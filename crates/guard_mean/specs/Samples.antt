@@ -1,9 +1,9 @@
 -- Guards of small traces, made by evaluation.
 use Rattle.std.specs.Prelude.{◌≡◌, ℕ, List, [], ◌∷◌, Option, Some, None, Ok, codes}
-use Rattle.layer_ast.specs.declared.tokens.Dir.TheVariants.{Up, Down}
-use Rattle.layer_ast.specs.declared.tokens.Kind.TheVariants.{Cast}
-use Rattle.layer_ast.specs.declared.syntax.Likely.TheVariants as likely
-use Rattle.layer_ast.specs.declared.syntax.Operator.TheVariants.{Add, Subtract, Equal, Less, And, BitAnd}
+use Rattle.layer_words.specs.declared.events.Dir.TheVariants.{Up, Down}
+use Rattle.layer_words.specs.declared.events.Kind.TheVariants.{Cast}
+use Rattle.layer_words.specs.declared.sorts.Likely.TheVariants as likely
+use Rattle.layer_words.specs.declared.operators.Operator.TheVariants.{Add, Subtract, Equal, Less, And, BitAnd}
 use Rattle.layer_mean.specs.Tree as tree
 use Rattle.layer_mean.specs.Tree.{part, local, message, branch, none, always, common, ExpressionTree, LayerTree}
 use Rattle.layer_mean.specs.declared.run.Case.TheVariants.{First}

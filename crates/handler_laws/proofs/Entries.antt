@@ -13,8 +13,8 @@ use Rattle.std.proofs.lemmas.Slice.Eq.{bytes_eq-Decides}
 use denote.Enum.Bare.{sameb, same_true}
 use Rattle.msg_core.specs.declared.message.Header.{Header}
 use Rattle.msg_core.specs.declared.packet.Packet.{Packet}
-use Rattle.layer_ast.specs.contracts.tokens.Kind as kind_row
-use Rattle.layer_ast.specs.declared.tokens.Dir.TheVariants.{Up}
+use Rattle.layer_words.specs.contracts.events.Kind as kind_row
+use Rattle.layer_words.specs.declared.events.Dir.TheVariants.{Up}
 use Rattle.layer_mean.specs.declared.run.Event.{Event}
 use Rattle.layer_mean.specs.Event.{event_of}
 use Rattle.layer_mean.specs.Headers.{header_of_tag}
@@ -38,7 +38,7 @@ use Rattle.trace_mean.specs.Fuse as fuse
 use Rattle.trace_mean.specs.Fuse.{field_atoms, entry_chain, entry_task}
 use Rattle.trace_laws.proofs.Later.{nth}
 use Rattle.trace_laws.proofs.Law.{traces_are_right}
-use Rattle.trace_step_laws.specs.Steps.{entry_fields, entry_input, input_of, EntriesBegin, StepsFollowTraces}
+use Rattle.handler_laws.specs.Steps.{entry_fields, entry_input, input_of, EntriesBegin, StepsFollowTraces}
 use Rattle.trace_mean.specs.Worth.{Input, Kept, nothing_kept, atom_at, header_at}
 
 -- the numbers of a plan's packet

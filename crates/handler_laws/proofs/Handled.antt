@@ -34,8 +34,8 @@ use Rattle.trace_mean.specs.Fuse.{entry_task}
 use Rattle.trace_laws.specs.Members.{AreOf}
 use Rattle.trace_laws.specs.Right.{answer_for, Enters}
 use Rattle.trace_form_laws.specs.Entries.{entry_node}
-use Rattle.trace_step_laws.specs.Steps.{entry_fields}
-use Rattle.trace_step_laws.proofs.Entries.{entries_begin}
+use Rattle.handler_laws.specs.Steps.{entry_fields}
+use Rattle.handler_laws.proofs.Entries.{entries_begin}
 use Rattle.guard_mean.specs.Code.{Code}
 use Rattle.guard_mean.specs.Machine.{Tested, steps, tested, begun, run_code}
 use Rattle.guard_mean.specs.Perform.{End, end_of, answer_end, holds}

@@ -13,7 +13,7 @@ use Rattle.chain_laws.specs.Runs.{TypedStack}
 use Rattle.member_laws.specs.Steps.{IsStep}
 use Rattle.trace_mean.specs.Worth.{Input}
 use Rattle.trace_laws.specs.Members.{AreOf}
-use Rattle.trace_step_laws.specs.Steps.{entry_fields, input_of}
+use Rattle.handler_laws.specs.Steps.{entry_fields, input_of}
 use Rattle.guard_mean.specs.Code.{Code}
 use Rattle.guard_mean.specs.Machine.{tested, run_code}
 use Rattle.guard_mean.specs.Perform.{End}

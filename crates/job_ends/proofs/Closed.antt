@@ -4,7 +4,7 @@ use Rattle.outside.specs.Said.{Errors, SaysLine, whole, failed, no_memory, error
 use Rattle.end_mean.specs.Status.{Ended, done, breached, status_number, error_line}
 use Rattle.job_ends.specs.Shown.{Said}
 use Rattle.program_streams.specs.Streams.{HandsOn, Stream}
-use Rattle.job_streams.specs.Closes.{Closes, end_after_delivery}
+use Rattle.job_ends.specs.Closes.{Closes, end_after_delivery}
 
 -- the status of a line that is said is its own, or 7
 not_said : (line : List ℕ) (n m : ℕ) (e : Errors) → SaysLine line n e → (n ≡ m → ⊥) → (7 ≡ m → ⊥) → e.status ≡ m → ⊥

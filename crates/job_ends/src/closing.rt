@@ -2,7 +2,7 @@
 
 ghost use Rattle.std.specs.Prelude.{◌≡◌};
 ghost use Rattle.job_ends.specs.Shown.{shown_end};
-ghost use Rattle.job_streams.specs.Closes.{Closes, end_after_delivery};
+ghost use Rattle.job_ends.specs.Closes.{Closes, end_after_delivery};
 ghost use Rattle.program_streams.specs.Streams.{over};
 
 use crate::ending::Ending;

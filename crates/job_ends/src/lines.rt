@@ -5,12 +5,12 @@ ghost use Rattle.pack_mean.specs.Accepted.{differs};
 ghost use Rattle.pack_mean.specs.File as file;
 ghost use Rattle.std.specs.String.{string_bytes};
 ghost use Rattle.std.specs.Fmt.{decimal};
-ghost use Rattle.layer_ast.specs.Spelling as spelling;
+ghost use Rattle.layer_words.specs.Spelling as spelling;
 ghost use Rattle.end_mean.specs.Status as status;
 ghost use Rattle.job_ends.specs.Shown.{file_end};
 
 use file_judge::FileError;
-use layer_ast::{At, Kind};
+use layer_words::{At, Kind};
 use layer_mean::Case;
 use std::alloc::{AllocError, Global};
 

@@ -1,7 +1,7 @@
 -- How the room of a desk is spent, and what it means where there is none.
 use Rattle.std.specs.Prelude.{◌≡◌, ℕ, ◌+◌, ◌<◌, ◌≤◌, List, Option, Result, Ok, Err}
 use Rattle.slot_pool.specs.Held.{Held}
-use Rattle.layer_ast.specs.declared.syntax.Shape.{Shape}
+use Rattle.layer_words.specs.declared.sorts.Shape.{Shape}
 use Rattle.layer_desk.specs.Need.{Layout, Room, Need, most_above}
 use Rattle.layer_desk.specs.declared.no_room.NoRoom.{NoRoom}
 use Rattle.layer_desk.specs.declared.no_room.NoRoom.TheVariants as lack

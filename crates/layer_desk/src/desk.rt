@@ -6,7 +6,7 @@ ghost use Rattle.slot_pool.specs.Held.{Held};
 ghost use Rattle.slot_pool.specs.References.{Moved};
 ghost use Rattle.msg_core.specs.Chain.{plain};
 ghost use Rattle.msg_core.specs.Parts as parts;
-ghost use Rattle.layer_ast.specs.declared.syntax.Shape.{Shape};
+ghost use Rattle.layer_words.specs.declared.sorts.Shape.{Shape};
 ghost use Rattle.layer_mean.specs.State.{number_at, flat_index, rows_at, row_at, has_room};
 ghost use Rattle.layer_mean.specs.Value.{number_in, message_in};
 ghost use Rattle.typed_layer.specs.View.{carried_tree, taken_tree};
@@ -23,7 +23,7 @@ ghost use Rattle.layer_desk.specs.Spent.{Begun, SpentAtMost, Spent, Lifted, Suff
 
 use crate::no_room::NoRoom;
 use crate::places::{Queue, RowAt, Sending, Square};
-use layer_ast::Dir;
+use layer_words::Dir;
 use layer_mean::Envelope;
 use msg_core::Fields;
 use slot_pool::Pool;

@@ -1,6 +1,6 @@
 //! What operations name of a layer's cells, and of what is sent.
 
-use layer_ast::Dir;
+use layer_words::Dir;
 use layer_mean::Envelope;
 use msg_core::Header;
 

@@ -1,6 +1,6 @@
 -- The trees that branches and loops of a program are.
 use Rattle.std.proofs.Common.{◌≡◌, ℕ, sym, ap, ap₂, ◌∙◌}
-use Rattle.layer_ast.specs.declared.syntax.Likely.{Likely}
+use Rattle.layer_words.specs.declared.sorts.Likely.{Likely}
 use Rattle.layer_mean.specs.Tree.{StatementTree, StatementTrees, branch, each}
 use Rattle.layer_mean.specs.Tree as tree
 use Rattle.typed_layer.specs.declared.tree.Block.{Block}

@@ -18,7 +18,7 @@ ghost use Rattle.layer_eval.specs.Owed.{sets_number, number_set};
 use crate::message::make;
 use crate::predicted::Predicted;
 use crate::value::{fields, fill, nth_number, number};
-use layer_ast::Kind;
+use layer_words::Kind;
 use layer_desk::{Desk, NoRoom, Queue, Sending, Square, Start};
 use layer_mean::Envelope;
 use msg_core::{Fields, Header};

@@ -15,7 +15,7 @@ use crate::last::run_last_block;
 use crate::pending::Owed;
 use crate::predicted::Predicted;
 use crate::value::number;
-use layer_ast::Dir;
+use layer_words::Dir;
 use layer_desk::{Desk, NoRoom, Sending, Start};
 use layer_mean::Envelope;
 use msg_core::{Fields, Header};

@@ -5,15 +5,15 @@ use Rattle.std.proofs.Common.{sym, ap, subst, arith}
 use mathlib.Core.Logic.{inl, inr}
 use base.Stored.{Gv, gnil, gnum, gcons, coded_unit}
 use Rattle.msg_core.specs.declared.message.Header.{Header}
-use Rattle.layer_ast.specs.declared.tokens.Dir.{Dir}
-use Rattle.layer_ast.specs.declared.tokens.Kind.{Kind}
-use Rattle.layer_ast.specs.declared.syntax.Shape.{Shape}
-use Rattle.layer_ast.specs.contracts.tokens.Dir as dir
-use Rattle.layer_ast.specs.contracts.tokens.Kind as kind
-use Rattle.layer_ast.specs.contracts.syntax.Function as function
-use Rattle.layer_ast.specs.contracts.syntax.Likely as likely
-use Rattle.layer_ast.specs.contracts.syntax.Operator as operator
-use Rattle.layer_ast.specs.contracts.syntax.Shape as shape
+use Rattle.layer_words.specs.declared.events.Dir.{Dir}
+use Rattle.layer_words.specs.declared.events.Kind.{Kind}
+use Rattle.layer_words.specs.declared.sorts.Shape.{Shape}
+use Rattle.layer_words.specs.contracts.events.Dir as dir
+use Rattle.layer_words.specs.contracts.events.Kind as kind
+use Rattle.layer_words.specs.contracts.operators.Function as function
+use Rattle.layer_words.specs.contracts.sorts.Likely as likely
+use Rattle.layer_words.specs.contracts.operators.Operator as operator
+use Rattle.layer_words.specs.contracts.sorts.Shape as shape
 use Rattle.layer_mean.specs.Tree.{Carried, part, whole, ExpressionTree, number, me, count, ltime, local, element}
 use Rattle.layer_mean.specs.Tree.{square, rows, item, size, binary, apply, pick, MessageTree, message, nothing, held}
 use Rattle.layer_mean.specs.Tree.{cut, tail, join, ContentTree, EmissionTree, RowTree, TakenTree, StatementTree, bind}

@@ -1,7 +1,7 @@
 -- Who made what: a player of the queue with a log of its visits and outputs, and of the maker of each.
 use Rattle.std.specs.Prelude.{ℕ, List, [], ◌∷◌, ◌++◌, map, length, Option, Some, None}
 use Rattle.std.specs.List.{enumerate_from}
-use Rattle.layer_ast.specs.declared.tokens.Dir.{Dir}
+use Rattle.layer_words.specs.declared.events.Dir.{Dir}
 use Rattle.layer_mean.specs.Queue.{Task, Turn, Player, Line, starting}
 
 -- The maker of an event: a visit, counted from 0 in the order of visits, and an emission of it, counted from 0 in the

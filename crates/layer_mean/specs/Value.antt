@@ -7,12 +7,12 @@ use Rattle.std.specs.Int.Bits.{bit_and, bit_or, bit_xor}
 use Rattle.std.specs.Int.Count.{ones_in, count_trailing_zeros}
 use Rattle.msg_core.specs.Chain.{Content, plain}
 use Rattle.msg_core.specs.Parts as parts
-use Rattle.layer_ast.specs.declared.syntax.Function.{Function}
-use Rattle.layer_ast.specs.declared.syntax.Function.TheVariants.{Not, Bit, Count, Lowest}
-use Rattle.layer_ast.specs.declared.syntax.Operator.{Operator}
-use Rattle.layer_ast.specs.declared.syntax.Operator.TheVariants.{Add, Subtract, Multiply, Equal, NotEqual, Less}
-use Rattle.layer_ast.specs.declared.syntax.Operator.TheVariants.{LessOrEqual, Greater, GreaterOrEqual, And, Or, BitAnd}
-use Rattle.layer_ast.specs.declared.syntax.Operator.TheVariants.{BitOr, BitXor}
+use Rattle.layer_words.specs.declared.operators.Function.{Function}
+use Rattle.layer_words.specs.declared.operators.Function.TheVariants.{Not, Bit, Count, Lowest}
+use Rattle.layer_words.specs.declared.operators.Operator.{Operator}
+use Rattle.layer_words.specs.declared.operators.Operator.TheVariants.{Add, Subtract, Multiply, Equal, NotEqual, Less}
+use Rattle.layer_words.specs.declared.operators.Operator.TheVariants.{LessOrEqual, Greater, GreaterOrEqual, And, Or, BitAnd}
+use Rattle.layer_words.specs.declared.operators.Operator.TheVariants.{BitOr, BitXor}
 use Rattle.layer_mean.specs.declared.run.Row.{Row}
 use Rattle.layer_mean.specs.Tree.{Carried, part, whole, ExpressionTree, number, me, count, ltime, local, element}
 use Rattle.layer_mean.specs.Tree.{square, rows, item, size, binary, apply, pick, MessageTree, message, nothing, held}

@@ -35,6 +35,7 @@ impl Model for Word {
 }
 
 impl Word {
+    /// The word of these bytes, of which there are 1 to `LONGEST_WORD`.
     pub fn of(text: &[u8]) -> Word
         requires { 1 ≤ length text.now × length text.now ≤ longest_word }
         ensures { result ≡ text.now }
@@ -48,6 +49,7 @@ impl Word {
         }
     }
 
+    /// The bytes of the word.
     pub fn bytes(&self) -> &[u8]
         ensures { result.now ≡ self.now }
     {

@@ -1,7 +1,7 @@
 -- The small stack, rule by rule.
 use Rattle.std.proofs.Common.{[], Some, refl, arith}
 use Rattle.std.specs.Prelude.{codes}
-use Rattle.layer_ast.specs.Spelling.{kinds}
+use Rattle.layer_words.specs.Spelling.{kinds}
 use Rattle.layer_mean.specs.Queue.{run}
 use Rattle.layer_mean.specs.Tree as mean
 use Rattle.layer_mean.specs.Visit.{step}

@@ -1,7 +1,7 @@
 -- The laws of steps where parts are read.
 use Rattle.std.specs.Prelude.{◌≡◌, ◌+◌, true, false, List, [], ◌∷◌, map, length, Some, codes, Ok}
-use Rattle.layer_ast.specs.declared.tokens.Dir.TheVariants.{Down}
-use Rattle.layer_ast.specs.declared.tokens.Kind.TheVariants as kind
+use Rattle.layer_words.specs.declared.events.Dir.TheVariants.{Down}
+use Rattle.layer_words.specs.declared.events.Kind.TheVariants as kind
 use Rattle.layer_mean.specs.declared.run.Case.TheVariants.{First}
 use Rattle.layer_mean.specs.Tree as mean
 use Rattle.layer_mean.specs.Tree.{LayerTree}

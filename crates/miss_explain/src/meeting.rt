@@ -12,7 +12,8 @@ ghost use Rattle.typed_layer.specs.View.{handler_tree};
 
 use event_graph::Stack;
 use file_scope::is_same;
-use layer_ast::{Dir, File, Handler, Kind, Layer, Place, Word};
+use layer_words::{Dir, Kind, Word};
+use layer_ast::{File, Handler, Layer, Place};
 use shape_core::ShapeVisit;
 
 /// The tag that is popped from an event with this first tag; going down, none is popped.

@@ -5,9 +5,9 @@ use Rattle.std.specs.List.{enumerate_from, flat_map, position}
 use Rattle.std.specs.Option.{option_map_or}
 use Rattle.layer_ast.specs.Tree as ast
 use Rattle.layer_ast.specs.Tree.{FileTree}
-use Rattle.layer_ast.specs.declared.syntax.Likely.TheVariants as likely
-use Rattle.layer_ast.specs.declared.tokens.Dir.{Dir}
-use Rattle.layer_ast.specs.declared.tokens.Dir.TheVariants.{Up, Down}
+use Rattle.layer_words.specs.declared.sorts.Likely.TheVariants as likely
+use Rattle.layer_words.specs.declared.events.Dir.{Dir}
+use Rattle.layer_words.specs.declared.events.Dir.TheVariants.{Up, Down}
 use Rattle.layer_mean.specs.Tree.{LayerTree, no_layer}
 use Rattle.layer_mean.specs.Visit.{is_for}
 use Rattle.layer_mean.specs.declared.run.Case.{Case}

@@ -22,13 +22,13 @@ use Rattle.trace_form_laws.proofs.There.{traces_name_well}
 use Rattle.bypass_mean.specs.Bypasses.{Entry, entries_of, Made, fused, Bypasses}
 use Rattle.bypass_laws.specs.Stack.{lack_of}
 use Rattle.bypass_laws.specs.Making.{made_with, made_of, second_of, IsSound, simplest}
-use Rattle.symbol_laws.specs.Replaced.{Replaces, IsReplaced, IsSecondReplaced, FirstReplaces, SecondReplaces}
-use Rattle.symbol_laws.proofs.Replaced.{replaced_are_of_stack}
+use Rattle.pack_laws.specs.Replacement.{Replaces, IsReplaced, IsSecondReplaced, FirstReplaces, SecondReplaces}
+use Rattle.pack_laws.proofs.Replacement.{replaced_are_of_stack}
 use Rattle.pack_mean.specs.File.{Due, within_limit, due_from, due_of}
 use Rattle.pack_mean.specs.Accepted.{SameActs}
 use Rattle.pack_laws.specs.Form.{at_first, InForm}
-use Rattle.pack_laws.specs.Replaced.{chosen_trace, filled_case, second_filled, with_entry, from_entries, from_file}
-use Rattle.pack_laws.specs.Replaced.{AcceptedAreOfStack, OwnTracesGiveOwn, MayReplace, AcceptedMayReplace}
+use Rattle.pack_laws.specs.Accepted.{chosen_trace, filled_case, second_filled, with_entry, from_entries, from_file}
+use Rattle.pack_laws.specs.Accepted.{AcceptedAreOfStack, OwnTracesGiveOwn, MayReplace, AcceptedMayReplace}
 use Rattle.pack_laws.proofs.Readers.{some_same}
 use Rattle.pack_laws.proofs.Reading.{what_is_read_is_in_form}
 

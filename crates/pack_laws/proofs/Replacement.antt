@@ -13,11 +13,11 @@ use Rattle.bypass_laws.specs.Stack.{HasOutputs, IsTrace, IsFused, IsMade, IsSeco
 use Rattle.bypass_laws.specs.Making.{made_of, second_of, simplest}
 use Rattle.bypass_laws.proofs.Guards.{hoisted_guards, simplified_guards}
 use Rattle.bypass_laws.proofs.Making.{simplest_are_of_stack}
-use Rattle.symbol_laws.specs.Replaced.{Replaces, IsReplaced, IsSecondReplaced, FirstReplaces, SecondReplaces}
-use Rattle.symbol_laws.specs.Replaced.{ReplacedAreOfStack}
-use Rattle.symbol_laws.proofs.Same.{same_acts_follow_alike}
-use Rattle.symbol_laws.proofs.Safe.{same_acts_are_safe}
-use Rattle.symbol_laws.proofs.Counts.{same_writes, same_outputs}
+use Rattle.pack_laws.specs.Replacement.{Replaces, IsReplaced, IsSecondReplaced, FirstReplaces, SecondReplaces}
+use Rattle.pack_laws.specs.Replacement.{ReplacedAreOfStack}
+use Rattle.pack_laws.proofs.SameActs.{same_acts_follow_alike}
+use Rattle.pack_laws.proofs.SafeActs.{same_acts_are_safe}
+use Rattle.pack_laws.proofs.Counts.{same_writes, same_outputs}
 
 module _ (stack : List LayerTree) (e : Entry) where
   -- it is a trace of the entry

@@ -17,11 +17,11 @@ use Rattle.symbol_mean.specs.Value as value
 use Rattle.symbol_mean.specs.Value.{Seen, Act}
 use Rattle.symbol_mean.specs.Symbolic.{Values, no_values, number_value, message_value, with_bound, with_noted}
 use Rattle.symbol_mean.specs.Symbolic.{with_taken, with_written, acts_of, symbolic}
-use Rattle.symbol_laws.specs.Safe.{SameActsAreSafe}
-use Rattle.symbol_laws.proofs.Course.{Course, worth, sent_of, acts}
-use Rattle.symbol_laws.proofs.Stands.{Stands, stands_bound, stands_noted, stands_taken, stands_written}
-use Rattle.symbol_laws.proofs.Same.{course, checked, worth_is, set_is, set_square_is, row_is, push_is, take_is}
-use Rattle.symbol_laws.proofs.Same.{event_is, output_is, first_cells, first_stands}
+use Rattle.pack_laws.specs.SafeActs.{SameActsAreSafe}
+use Rattle.pack_laws.proofs.Course.{Course, worth, sent_of, acts}
+use Rattle.pack_laws.proofs.Stands.{Stands, stands_bound, stands_noted, stands_taken, stands_written}
+use Rattle.pack_laws.proofs.SameActs.{course, checked, worth_is, set_is, set_square_is, row_is, push_is, take_is}
+use Rattle.pack_laws.proofs.SameActs.{event_is, output_is, first_cells, first_stands}
 
 -- each of two propositions yields the other
 record Both (P Q : Type 0) : Type 0 where

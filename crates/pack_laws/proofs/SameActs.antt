@@ -2,8 +2,8 @@
 use Rattle.std.proofs.Common.{◌≡◌, ℕ, ◌+◌, Bool, true, false, if◌then◌else◌, List, [], ◌∷◌, ◌++◌, map, Option}
 use Rattle.std.proofs.Common.{option_map, refl, sym, ap, ◌∙◌}
 use Rattle.std.specs.Prelude.{drop}
-use Rattle.layer_ast.specs.declared.tokens.Dir.{Dir}
-use Rattle.layer_ast.specs.declared.tokens.Kind.{Kind}
+use Rattle.layer_words.specs.declared.events.Dir.{Dir}
+use Rattle.layer_words.specs.declared.events.Kind.{Kind}
 use Rattle.layer_mean.specs.declared.run.Row.{Row}
 use Rattle.layer_mean.specs.Event.{event_of}
 use Rattle.layer_mean.specs.State as state
@@ -19,10 +19,10 @@ use Rattle.symbol_mean.specs.Value.{Seen}
 use Rattle.symbol_mean.specs.Value as value
 use Rattle.symbol_mean.specs.Symbolic.{Values, no_values, number_value, message_value, atom_value, chained_value}
 use Rattle.symbol_mean.specs.Symbolic.{with_bound, with_noted, with_taken, with_written, acts_of, symbolic}
-use Rattle.symbol_laws.specs.Same.{SameActsFollowAlike}
-use Rattle.symbol_laws.proofs.Course.{Course, worth, sent_of, writes, takes, acts, answer}
-use Rattle.symbol_laws.proofs.Stands.{past, later_same, Stands, number_is, numbers_are, atoms_are, sent_is}
-use Rattle.symbol_laws.proofs.Stands.{stands_bound, stands_noted, stands_taken, stands_written}
+use Rattle.pack_laws.specs.SameActs.{SameActsFollowAlike}
+use Rattle.pack_laws.proofs.Course.{Course, worth, sent_of, writes, takes, acts, answer}
+use Rattle.pack_laws.proofs.Stands.{past, later_same, Stands, number_is, numbers_are, atoms_are, sent_is}
+use Rattle.pack_laws.proofs.Stands.{stands_bound, stands_noted, stands_taken, stands_written}
 
 -- the course of a trail
 abbrev pub course : Values → Trail → (Seen → Contents) → Course

@@ -19,7 +19,7 @@ use Rattle.symbol_mean.specs.Value.{Seen, number, nothing}
 use Rattle.symbol_mean.specs.Symbolic.{Values, writes_to, cell_seen, taken_row, atom_value, core_value, number_value}
 use Rattle.symbol_mean.specs.Symbolic.{message_value, link_value, chained_value, with_bound, with_noted, with_taken}
 use Rattle.symbol_mean.specs.Symbolic.{with_written}
-use Rattle.symbol_laws.proofs.Course.{Past, row_in, rows_of, worth, content, header_of, sent_of, holding}
+use Rattle.pack_laws.proofs.Course.{Past, row_in, rows_of, worth, content, header_of, sent_of, holding}
 
 -- what is so of all that was written and taken stays so
 pub record Later (written : List (ℕ × ℕ)) (taken : ℕ) (h u : Past) : Type 0 where

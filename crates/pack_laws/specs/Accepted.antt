@@ -8,7 +8,7 @@ use Rattle.trace_mean.specs.Counts.{trace_joins}
 use Rattle.bypass_mean.specs.Bypasses.{Entry, entries_of, Made, fused, absent, Bypasses}
 use Rattle.bypass_laws.specs.Stack.{AreOfStack}
 use Rattle.bypass_laws.specs.Making.{made_of, second_of, bypasses_of, IsSound, simplest}
-use Rattle.symbol_laws.specs.Replaced.{Replaces}
+use Rattle.pack_laws.specs.Replacement.{Replaces}
 use Rattle.pack_mean.specs.File.{Due, due_of}
 use Rattle.pack_mean.specs.Accepted.{Accepts}
 

@@ -5,7 +5,7 @@ use Rattle.stack_mean.specs.SampleLayers.{counter}
 use Rattle.trace_mean.specs.Fuse.{trace_of}
 use Rattle.bypass_mean.specs.Bypasses.{cast_entry}
 use Rattle.symbol_mean.specs.Samples.{counting_trace, written_out}
-use Rattle.symbol_laws.specs.Replaced.{Replaces}
+use Rattle.pack_laws.specs.Replacement.{Replaces}
 
 -- The counter's cast with its binds written out where they can be.
 abbrev pub WrittenOutReplaces : Type 0

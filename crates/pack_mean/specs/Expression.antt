@@ -1,8 +1,8 @@
 -- How expressions of traces are read. Each bracket, round or square, goes one deeper.
 use Rattle.std.specs.Prelude.{ℕ, zero, suc, List, [], ◌∷◌, take, bytes_eq, codes, Option, Some, None, option_map}
 use Rattle.std.specs.Prelude.{if◌then◌else◌}
-use Rattle.layer_ast.specs.declared.syntax.Function.{Function}
-use Rattle.layer_ast.specs.declared.syntax.Shape.TheVariants.{One, Array, Square}
+use Rattle.layer_words.specs.declared.operators.Function.{Function}
+use Rattle.layer_words.specs.declared.sorts.Shape.TheVariants.{One, Array, Square}
 use Rattle.layer_mean.specs.Tree.{Carried, Form, LayerTree, numbers, queue, queues}
 use Rattle.trace_mean.specs.Trace.{Atom, number, Core, TraceNumber, atom, me, count, ltime, element, square, rows, item}
 use Rattle.trace_mean.specs.Trace.{size, binary, apply, pick, TraceMessage, core, held, cut, tail, join}

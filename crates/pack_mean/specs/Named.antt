@@ -2,21 +2,22 @@
 use Rattle.std.specs.Prelude.{ℕ, ◌+◌, nat_lt, List, [], ◌∷◌, ◌++◌, length, map, slice_index_or, bytes_eq, codes, Option}
 use Rattle.std.specs.Prelude.{Some, None, option_map, unwrap_or, if◌then◌else◌}
 use Rattle.std.specs.List.{find, position}
-use Rattle.layer_ast.specs.declared.syntax.Function.{Function}
-use Rattle.layer_ast.specs.declared.syntax.Function.TheVariants.{Not, Bit, Count, Lowest}
-use Rattle.layer_ast.specs.declared.syntax.Operator.{Operator}
-use Rattle.layer_ast.specs.declared.syntax.Operator.TheVariants.{Add, Subtract, Multiply, Equal, NotEqual, Less}
-use Rattle.layer_ast.specs.declared.syntax.Operator.TheVariants.{LessOrEqual, Greater, GreaterOrEqual, And, Or, BitAnd}
-use Rattle.layer_ast.specs.declared.syntax.Operator.TheVariants.{BitOr, BitXor}
-use Rattle.layer_ast.specs.declared.tokens.Kind.{Kind}
-use Rattle.layer_ast.specs.Printed.{function_sign, operator_sign}
-use Rattle.layer_ast.specs.Spelling.{beside, kinds}
+use Rattle.layer_words.specs.declared.operators.Function.{Function}
+use Rattle.layer_words.specs.declared.operators.Function.TheVariants.{Not, Bit, Count, Lowest}
+use Rattle.layer_words.specs.declared.operators.Operator.{Operator}
+use Rattle.layer_words.specs.declared.operators.Operator.TheVariants.{Add, Subtract, Multiply, Equal, NotEqual, Less}
+use Rattle.layer_words.specs.declared.operators.Operator.TheVariants.{LessOrEqual, Greater, GreaterOrEqual, And, Or, BitAnd}
+use Rattle.layer_words.specs.declared.operators.Operator.TheVariants.{BitOr, BitXor}
+use Rattle.layer_words.specs.declared.events.Kind.{Kind}
+use Rattle.layer_words.specs.Signs.{function_sign, operator_sign}
+use Rattle.layer_words.specs.Spelling.{beside, kinds}
 use Rattle.script_mean.specs.Words.{◌>>=◌, number_of}
 use Rattle.layer_mean.specs.Tree.{Form, ItemsTree, LayerTree, queue, queues}
 use Rattle.trace_mean.specs.Trace.{Atom, number, peer, field, bound, taken_number, Core, body, noted, taken_message}
 use Rattle.trace_mean.specs.Trace.{nothing, Operation, bind, note, take}
 use Rattle.trace_mean.specs.Fuse.{form_at}
-use Rattle.bypass_mean.specs.Text.{layer_of, sign_text}
+use Rattle.bypass_mean.specs.Text.{layer_of}
+use Rattle.layer_words.specs.Spelling.{sign_text}
 
 -- What may be named on a line: n variable fields, numbers bound before and messages noted before, and of each row
 -- taken before what its queue's rows have.

@@ -2,10 +2,8 @@
 use Rattle.std.specs.Prelude.{ℕ, zero, suc, ◌+◌, ◌==◌, List, [], ◌∷◌, ◌++◌, length, map, take, replicate, bytes_eq}
 use Rattle.std.specs.Prelude.{codes, Option, Some, None, if◌then◌else◌}
 use Rattle.std.specs.Fmt.{decimal}
-use Rattle.layer_ast.specs.declared.tokens.Dir.{Dir}
-use Rattle.layer_ast.specs.declared.tokens.Dir.TheVariants.{Up, Down}
-use Rattle.layer_ast.specs.Printed.{direction_sign}
-use Rattle.layer_ast.specs.Spelling.{beside}
+use Rattle.layer_words.specs.Signs.{directions}
+use Rattle.layer_words.specs.Spelling.{beside}
 use Rattle.layer_mean.specs.Headers.{header_none}
 use Rattle.layer_mean.specs.Tree.{Carried, LayerTree}
 use Rattle.msg_core.specs.Headers.{most_fields}
@@ -13,7 +11,7 @@ use Rattle.trace_mean.specs.Trace as trace
 use Rattle.trace_mean.specs.Trace.{Atom, Core, TraceNumber, element, square, Link, Chained, Operation, bind, note}
 use Rattle.trace_mean.specs.Trace.{check, set, set_square, push, output}
 use Rattle.trace_mean.specs.Fuse.{fields_of}
-use Rattle.bypass_mean.specs.Text.{layer_of, sign_text}
+use Rattle.bypass_mean.specs.Text.{layer_of}
 use Rattle.pack_mean.specs.Reader.{Reader, ◌>>=◌, yields, option_reader, nowhere, the_text, a_name, a_word, whole}
 use Rattle.pack_mean.specs.Reader.{each_of}
 use Rattle.pack_mean.specs.Named.{Named, items_at, place_of, atom_named, core_named, kind_named}
@@ -144,10 +142,6 @@ chained_after stack s None = yields None
 chained_after stack s (Some c) = do
   chain ← a_chain stack s 0
   yields (Some (record { chain = chain; core = c }))
-
--- Directions by their words.
-abbrev pub directions : List (List ℕ × Dir)
-directions = (sign_text (direction_sign Up), Up) ∷ (sign_text (direction_sign Down), Down) ∷ []
 
 -- What is set, after its text: a number of a cell.
 abbrev pub setting : TraceNumber → TraceNumber → Option Operation

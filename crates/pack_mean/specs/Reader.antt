@@ -2,7 +2,7 @@
 use Rattle.std.specs.Prelude.{ℕ, ◌==◌, ◌||◌, Bool, not, List, ◌∷◌, [], length, take, drop, bytes_eq, codes, Option}
 use Rattle.std.specs.Prelude.{Some, None, option_and_then, option_map, if◌then◌else◌}
 use Rattle.std.specs.List.{position_or_len, slice_split}
-use Rattle.layer_ast.specs.Spelling.{is_word_byte}
+use Rattle.layer_words.specs.Spelling.{is_word_byte}
 
 -- A reader takes bytes from the front: what they spell and the bytes after them, or nothing where they don't fit.
 abbrev pub Reader : Type 0 → Type 0

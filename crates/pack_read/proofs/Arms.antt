@@ -1,7 +1,7 @@
 -- What each form of number and message takes.
 use Rattle.std.proofs.Common.{◌≡◌, ℕ, List, [], ◌∷◌, Option, Some, None, option_map, codes, refl, sym, ap}
-use Rattle.layer_ast.specs.declared.syntax.Function.{Function}
-use Rattle.layer_ast.specs.declared.syntax.Operator.{Operator}
+use Rattle.layer_words.specs.declared.operators.Function.{Function}
+use Rattle.layer_words.specs.declared.operators.Operator.{Operator}
 use Rattle.layer_mean.specs.Tree.{Carried, LayerTree}
 use Rattle.pack_mean.specs.Reader.{◌>>=◌, yields, option_reader, the_text, a_name, a_word}
 use Rattle.pack_mean.specs.Named.{items_at, operator_named}
@@ -17,9 +17,9 @@ use Rattle.trace_core.specs.Arena.{Made}
 use Rattle.trace_core.proofs.Makes.{rows_made, item_made, size_made, pick_made, apply_made, binary_made, held_made}
 use Rattle.trace_core.proofs.Makes.{cut_made, tail_made, join_made}
 use Rattle.trace_words.specs.View.{item_in}
-use Rattle.trace_expressions.specs.declared.queued.Queue.{Queue}
-use Rattle.trace_expressions.specs.Reading.{queue_in, MessageRead, NumberRead, QueueRead}
-use Rattle.trace_expressions.proofs.Took.{onto, number_read, message_read}
+use Rattle.pack_read.specs.declared.queued.Queue.{Queue}
+use Rattle.pack_read.specs.Expressions.{queue_in, MessageRead, NumberRead, QueueRead}
+use Rattle.pack_read.proofs.Took.{onto, number_read, message_read}
 
 -- A text begins with a wanted one, and this is what stands after it.
 abbrev Text : List ℕ → List ℕ → List ℕ → Type 0

@@ -10,7 +10,7 @@ use Rattle.pack_mean.specs.Operation.{operation_said}
 use Rattle.pack_mean.specs.File.{Due, Reading, Stage, opening, idle, within, ended, begun, case_line, first_line}
 use Rattle.pack_mean.specs.File.{heading, line_read, most_operations, next_case, operation_line, traces_at_end}
 use Rattle.pack_mean.specs.File.{traces_from, with_operation}
-use Rattle.trace_file.specs.View.{bare}
+use Rattle.pack_read.specs.Files.{bare}
 
 abbrev bare_stage : Stage → Stage
 bare_stage (opening due) = opening (map bare due)

@@ -14,13 +14,13 @@ use Rattle.trace_words.specs.View.{layers_in, named_in, pair_of}
 use Rattle.trace_words.specs.declared.spot.Spot.{Spot}
 use Rattle.trace_words.specs.declared.error.LineError.{LineError}
 use Rattle.trace_words.specs.declared.scope.Scope.{Scope}
-use Rattle.trace_expressions.specs.declared.queued.Queue.{Queue}
-use Rattle.trace_expressions.specs.declared.sort.Sort.{Sort}
-use Rattle.trace_expressions.specs.Sorts.{queue_by_sort, sort_of}
-use Rattle.trace_expressions.proofs.Cells.{no_queue_by, queue_by}
-use Rattle.trace_expressions.specs.Inside.{inner}
-use Rattle.trace_expressions.specs.declared.targeted.Target.{Target}
-use Rattle.trace_expressions.specs.Reading.{ReadsMessage, ReadsNumber, ReadsQueue, ReadsTarget, a_target}
+use Rattle.pack_read.specs.declared.queued.Queue.{Queue}
+use Rattle.pack_read.specs.declared.sort.Sort.{Sort}
+use Rattle.pack_read.specs.Sorts.{queue_by_sort, sort_of}
+use Rattle.pack_read.proofs.Cells.{no_queue_by, queue_by}
+use Rattle.pack_read.specs.Inside.{inner}
+use Rattle.pack_read.specs.declared.targeted.Target.{Target}
+use Rattle.pack_read.specs.Expressions.{ReadsMessage, ReadsNumber, ReadsQueue, ReadsTarget, a_target}
 
 module _ (s : Scope) (t : List ℕ) where
   -- no bracket may be opened

@@ -1,7 +1,7 @@
 -- What is read of cells.
 use Rattle.std.proofs.Common.{◌≡◌, ℕ, List, Option, Some, None, option_and_then, option_map, Result, refl, sym, ap}
 use Rattle.std.proofs.Common.{subst, ◌∙◌}
-use Rattle.layer_ast.specs.declared.syntax.Shape.TheVariants as shapes
+use Rattle.layer_words.specs.declared.sorts.Shape.TheVariants as shapes
 use Rattle.layer_mean.specs.Tree.{Form, LayerTree, numbers, queue, queues}
 use Rattle.bypass_mean.specs.Text.{layer_of}
 use Rattle.trace_mean.specs.Fuse.{form_at}
@@ -18,13 +18,13 @@ use Rattle.trace_core.proofs.Makes.{following, element_made, is_number, made_as,
 use Rattle.trace_words.specs.View.{pair_of}
 use Rattle.trace_words.specs.declared.error.LineError.{LineError}
 use Rattle.trace_words.specs.declared.spot.Spot.{Spot}
-use Rattle.trace_expressions.specs.declared.sort.Sort.{Sort}
-use Rattle.trace_expressions.specs.declared.sort.Sort.TheVariants as sorts
-use Rattle.trace_expressions.specs.declared.targeted.Target.{Target}
-use Rattle.trace_expressions.specs.declared.targeted.Target.TheVariants as targets
-use Rattle.trace_expressions.specs.Sorts.{number_by_sort, queue_by_sort, sort_of}
-use Rattle.trace_expressions.specs.Reading.{NumberRead, QueueRead, ReadsTarget, TargetRead}
-use Rattle.trace_expressions.proofs.Took.{number_read, onto}
+use Rattle.pack_read.specs.declared.sort.Sort.{Sort}
+use Rattle.pack_read.specs.declared.sort.Sort.TheVariants as sorts
+use Rattle.pack_read.specs.declared.targeted.Target.{Target}
+use Rattle.pack_read.specs.declared.targeted.Target.TheVariants as targets
+use Rattle.pack_read.specs.Sorts.{number_by_sort, queue_by_sort, sort_of}
+use Rattle.pack_read.specs.Expressions.{NumberRead, QueueRead, ReadsTarget, TargetRead}
+use Rattle.pack_read.proofs.Took.{number_read, onto}
 
 number_is_by : (inner : Inner) (p c : ℕ) (form : Option Form) → number_of_cell inner p c form ≡
     number_by_sort inner p c (option_map sort_of form)

@@ -14,10 +14,10 @@ use Rattle.trace_core.proofs.Earlier.{some_of}
 use Rattle.trace_words.specs.Reading.{Passes, Stays, StartsOther}
 use Rattle.trace_words.specs.declared.error.LineError.{LineError}
 use Rattle.trace_words.specs.declared.error.LineError.TheVariants.{Form, Memory}
-use Rattle.trace_operations.specs.declared.header.Header.{Header}
-use Rattle.trace_operations.specs.Reading.{ChainRead, ReadsChain, TakesAs, header_at}
+use Rattle.pack_read.specs.declared.header.Header.{Header}
+use Rattle.pack_read.specs.Operations.{ChainRead, ReadsChain, TakesAs, header_at}
 use Rattle.trace_core.proofs.Growing.{none_more, more_then, linked_more}
-use Rattle.trace_operations.proofs.Listing.{with_first, one_less}
+use Rattle.pack_read.proofs.Listing.{with_first, one_less}
 
 -- The chain of no headers is there.
 pub none_there : (ls : List Link) → IsChain (chains ls) 0

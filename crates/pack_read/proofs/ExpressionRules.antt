@@ -1,7 +1,7 @@
 -- Lemmas that go together, for the functions whose goals want them.
-use Rattle.trace_expressions.proofs.Cells.{element_read, square_read}
+use Rattle.pack_read.proofs.Cells.{element_read, square_read}
 use Rattle.trace_core.proofs.Makes.{number_made, made_two, made_three, message_three}
-use Rattle.trace_expressions.proofs.Arms.{no_item, not_held}
+use Rattle.pack_read.proofs.Arms.{no_item, not_held}
 
 -- For `cell_number`.
 pub ruleset of_cell_number = (element_read, square_read, number_made)

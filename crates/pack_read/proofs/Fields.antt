@@ -9,9 +9,9 @@ use Rattle.trace_core.specs.declared.node.Atom.{Atom}
 use Rattle.trace_core.specs.View.{atom_tree}
 use Rattle.trace_words.specs.declared.error.LineError.{LineError}
 use Rattle.trace_words.specs.declared.error.LineError.TheVariants.{Form, Memory}
-use Rattle.trace_operations.specs.Reading.{AreTaken, TakesAtoms, TakesAs}
-use Rattle.trace_operations.proofs.Listing.{with_first, each_step, each_none, more_step, more_no_comma, more_none}
-use Rattle.trace_operations.proofs.Listing.{one_less}
+use Rattle.pack_read.specs.Operations.{AreTaken, TakesAtoms, TakesAs}
+use Rattle.pack_read.proofs.Listing.{with_first, each_step, each_none, more_step, more_no_comma, more_none}
+use Rattle.pack_read.proofs.Listing.{one_less}
 
 abbrev Taken : Type 0
 Taken = Option (List trace.Atom × List ℕ)

@@ -11,10 +11,10 @@ use Rattle.trace_core.specs.Operations.{AllNumbers}
 use Rattle.trace_core.proofs.Makes.{number_made}
 use Rattle.trace_words.specs.declared.error.LineError.{LineError}
 use Rattle.trace_words.specs.declared.error.LineError.TheVariants.{Form, Memory}
-use Rattle.trace_expressions.specs.Reading.{NumberMade, NumberRead}
-use Rattle.trace_operations.specs.Reading.{NumbersRead, ReadsNumbers}
+use Rattle.pack_read.specs.Expressions.{NumberMade, NumberRead}
+use Rattle.pack_read.specs.Operations.{NumbersRead, ReadsNumbers}
 use Rattle.trace_core.proofs.Growing.{made_more, more_then, none_more, numbers_stay, numbers_with}
-use Rattle.trace_operations.proofs.Listing.{with_first, each_step, each_none, more_step, more_no_comma, more_none}
+use Rattle.pack_read.proofs.Listing.{with_first, each_step, each_none, more_step, more_no_comma, more_none}
 
 abbrev Taken : Type 0
 Taken = Option (List TraceNumber × List ℕ)

@@ -12,11 +12,11 @@ use Rattle.trace_core.specs.View.{terms}
 use Rattle.trace_core.specs.Links.{chains}
 use Rattle.trace_core.specs.Operations.{IsPart}
 use Rattle.trace_core.specs.Operations.{operation_in, operations_of}
-use Rattle.trace_operations.specs.Reading.{OperationSaid, Says}
+use Rattle.pack_read.specs.Operations.{OperationSaid, Says}
 use Rattle.trace_core.proofs.Growing.{one_after, parts_stay}
 use Rattle.trace_words.specs.declared.error.LineError.{LineError}
-use Rattle.trace_file.specs.declared.open.Open.{Open}
-use Rattle.trace_file.specs.Open.{AreParts, IsAdded, IsPut, LeavesAfter, SaysIn, left_after, named_of}
+use Rattle.pack_read.specs.declared.open.Open.{Open}
+use Rattle.pack_read.specs.Open.{AreParts, IsAdded, IsPut, LeavesAfter, SaysIn, left_after, named_of}
 
 -- One more operation, that a line says.
 pub added : (stack : List LayerTree) (line : List ℕ) (old middle now new : Open) (r : Result Operation LineError)

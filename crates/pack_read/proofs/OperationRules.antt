@@ -1,6 +1,6 @@
 -- Lemmas that go together, for the functions whose goals want them.
-use Rattle.trace_operations.proofs.Fields.{no_fields, field_more, no_comma as no_comma_in_fields, no_field}
-use Rattle.trace_operations.proofs.Numbering.{
+use Rattle.pack_read.proofs.Fields.{no_fields, field_more, no_comma as no_comma_in_fields, no_field}
+use Rattle.pack_read.proofs.Numbering.{
   numbers_next,
   no_comma as no_comma_in_numbering,
   no_number,
@@ -8,7 +8,7 @@ use Rattle.trace_operations.proofs.Numbering.{
   first_there,
   no_first,
 }
-use Rattle.trace_operations.proofs.Sending.{ends_sent, more_sent, no_more_sent, no_sent}
+use Rattle.pack_read.proofs.Sending.{ends_sent, more_sent, no_more_sent, no_sent}
 
 -- For `more_fields`.
 pub ruleset of_more_fields = (no_fields, field_more, no_comma_in_fields, no_field)

@@ -12,9 +12,9 @@ use Rattle.trace_core.specs.declared.node.Atom.{Atom}
 use Rattle.trace_core.specs.View.{atom_tree, core_tree}
 use Rattle.trace_words.specs.declared.error.LineError.{LineError}
 use Rattle.trace_words.specs.declared.error.LineError.TheVariants.{Form, Memory}
-use Rattle.trace_operations.specs.declared.sent.Sent.{Sent}
-use Rattle.trace_operations.specs.Reading.{ReadsSent, SentRead}
-use Rattle.trace_operations.proofs.Listing.{one_less}
+use Rattle.pack_read.specs.declared.sent.Sent.{Sent}
+use Rattle.pack_read.specs.Operations.{ReadsSent, SentRead}
+use Rattle.pack_read.proofs.Listing.{one_less}
 
 abbrev Taken : Type 0
 Taken = Option (operation.Sent × List ℕ)

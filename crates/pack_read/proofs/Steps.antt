@@ -17,18 +17,18 @@ use Rattle.pack_mean.specs.File.{Due, line_read, next_case, operation_line, trac
 use Rattle.trace_words.specs.declared.error.LineError.{LineError}
 use Rattle.trace_words.specs.declared.error.LineError.TheVariants.{Form, Memory}
 use Rattle.pack_mean.specs.Accepted.{longest_file}
-use Rattle.trace_file.proofs.Bare.{read_alike}
-use Rattle.trace_file.specs.declared.due.Due as heads
-use Rattle.trace_file.specs.declared.reading.Reading.{Reading}
-use Rattle.trace_file.specs.declared.reading.FilePart.TheVariants.{Idle, Within}
-use Rattle.trace_file.specs.Open.{Adds, held_in, left_after, named_of}
+use Rattle.pack_read.proofs.Bare.{read_alike}
+use Rattle.pack_read.specs.declared.due.Due as heads
+use Rattle.pack_read.specs.declared.reading.Reading.{Reading}
+use Rattle.pack_read.specs.declared.reading.FilePart.TheVariants.{Idle, Within}
+use Rattle.pack_read.specs.Open.{Adds, held_in, left_after, named_of}
 use Rattle.trace_core.specs.Trees.{trace_tree}
-use Rattle.trace_file.specs.declared.error.ReadError.{ReadError}
+use Rattle.pack_read.specs.declared.error.ReadError.{ReadError}
 use Rattle.trace_core.specs.declared.trace.Trace.{Trace}
 use Rattle.std.specs.declared.alloc.Global.{Global}
 use Rattle.std.specs.Prelude.{Vec}
-use Rattle.trace_file.specs.View.{Goes, Reads, bare, begins, begun_after, due_tree, line_from, onward, reading_in}
-use Rattle.trace_file.specs.View.{stage_in, traces_of}
+use Rattle.pack_read.specs.Files.{Goes, Reads, bare, begins, begun_after, due_tree, line_from, onward, reading_in}
+use Rattle.pack_read.specs.Files.{stage_in, traces_of}
 
 -- the line with which the next case begins
 next_is : (due : List Due) (traces : List (List trace.Operation)) (line : List ℕ) (b : Bool) → b ≡ begins due line →

@@ -5,7 +5,7 @@ use Rattle.trace_core.specs.declared.node.Node.{Node}
 use Rattle.trace_core.specs.View.{a_message, a_number}
 use Rattle.trace_core.specs.Arena.{Made}
 use Rattle.trace_core.proofs.Makes.{is_message, is_number, made_as}
-use Rattle.trace_expressions.specs.Reading.{MessageRead, NumberRead}
+use Rattle.pack_read.specs.Expressions.{MessageRead, NumberRead}
 
 -- The first of two steps gave something, and the second this.
 pub onto : {X Y : Type 0} (next : X → Option Y) {o : Option X} {x : X} {y : Option Y} → o ≡ Some x → next x ≡ y →

@@ -19,16 +19,16 @@ use Rattle.trace_core.specs.Links.{chains}
 use Rattle.trace_core.specs.Operations.{chained_in}
 use Rattle.trace_core.specs.View.{number_in, terms}
 use Rattle.trace_core.proofs.Makes.{number_made}
-use Rattle.trace_expressions.specs.declared.targeted.Target.{Target}
-use Rattle.trace_expressions.specs.declared.targeted.Target.TheVariants as targets
-use Rattle.trace_expressions.specs.Reading.{NumberRead, QueueRead, TargetRead, a_target, queue_in}
-use Rattle.trace_expressions.specs.declared.queued.Queue.{Queue}
+use Rattle.pack_read.specs.declared.targeted.Target.{Target}
+use Rattle.pack_read.specs.declared.targeted.Target.TheVariants as targets
+use Rattle.pack_read.specs.Expressions.{NumberRead, QueueRead, TargetRead, a_target, queue_in}
+use Rattle.pack_read.specs.declared.queued.Queue.{Queue}
 use Rattle.trace_words.specs.declared.error.LineError.{LineError}
 use Rattle.trace_words.specs.declared.spot.Spot.{Spot}
 use Rattle.trace_words.specs.Reading.{Takes}
 use Rattle.trace_words.specs.View.{row_of}
-use Rattle.trace_operations.specs.declared.store.Store.{Store}
-use Rattle.trace_operations.specs.Reading.{MessageRead, NumbersRead, OperationRead, set_of}
+use Rattle.pack_read.specs.declared.store.Store.{Store}
+use Rattle.pack_read.specs.Operations.{MessageRead, NumbersRead, OperationRead, set_of}
 use Rattle.trace_core.proofs.Growing.{made_more, more_then, number_stays, same_more}
 
 -- the number of a row that is taken

@@ -10,9 +10,9 @@ use Rattle.trace_core.specs.Arena.{Made}
 use Rattle.trace_core.specs.View.{Term, a_message, a_number, message_in, number_in, terms}
 use Rattle.trace_words.specs.declared.error.LineError.{LineError}
 use Rattle.trace_words.specs.declared.error.LineError.TheVariants.{Form, Memory}
-use Rattle.trace_expressions.specs.declared.queued.Queue.{Queue}
-use Rattle.trace_expressions.specs.declared.targeted.Target.{Target}
-use Rattle.trace_expressions.specs.declared.targeted.Target.TheVariants as targets
+use Rattle.pack_read.specs.declared.queued.Queue.{Queue}
+use Rattle.pack_read.specs.declared.targeted.Target.{Target}
+use Rattle.pack_read.specs.declared.targeted.Target.TheVariants as targets
 
 -- A queue, and a number of a cell, by nodes.
 abbrev pub queue_in : List Term → Queue → QueueNamed

@@ -11,14 +11,14 @@ use Rattle.trace_core.specs.declared.trace.Trace.{Trace}
 use Rattle.trace_core.specs.Trees.{trace_tree}
 use Rattle.trace_words.specs.declared.error.LineError.{LineError}
 use Rattle.trace_words.specs.declared.error.LineError.TheVariants as fault
-use Rattle.trace_file.specs.declared.due.Due.{Due}
-use Rattle.trace_file.specs.declared.error.ReadError.{ReadError}
-use Rattle.trace_file.specs.declared.error.ReadError.TheVariants.{Line, Memory}
-use Rattle.trace_file.specs.declared.open.Open.{Open}
-use Rattle.trace_file.specs.declared.reading.Reading.{Reading}
-use Rattle.trace_file.specs.declared.reading.FilePart.{FilePart}
-use Rattle.trace_file.specs.declared.reading.FilePart.TheVariants.{Idle, Within, Ended}
-use Rattle.trace_file.specs.Open.{AreParts, held_in, named_of}
+use Rattle.pack_read.specs.declared.due.Due.{Due}
+use Rattle.pack_read.specs.declared.error.ReadError.{ReadError}
+use Rattle.pack_read.specs.declared.error.ReadError.TheVariants.{Line, Memory}
+use Rattle.pack_read.specs.declared.open.Open.{Open}
+use Rattle.pack_read.specs.declared.reading.Reading.{Reading}
+use Rattle.pack_read.specs.declared.reading.FilePart.{FilePart}
+use Rattle.pack_read.specs.declared.reading.FilePart.TheVariants.{Idle, Within, Ended}
+use Rattle.pack_read.specs.Open.{AreParts, held_in, named_of}
 
 -- A case that is due, without the stack's own trace.
 abbrev pub bare : file.Due → file.Due

@@ -2,12 +2,12 @@
 use Rattle.std.specs.Prelude.{ℕ, ◌≡◌, List, ◌++◌, map, option_map, Option, Some, None, Result, Ok, Err}
 use Rattle.trace_mean.specs.Trace as trace
 use Rattle.trace_mean.specs.Trace.{TraceNumber}
-use Rattle.layer_ast.specs.declared.tokens.Dir.{Dir}
-use Rattle.layer_ast.specs.declared.tokens.Kind.{Kind}
-use Rattle.layer_ast.specs.Spelling.{beside}
+use Rattle.layer_words.specs.declared.events.Dir.{Dir}
+use Rattle.layer_words.specs.declared.events.Kind.{Kind}
+use Rattle.layer_words.specs.Spelling.{beside}
 use Rattle.pack_mean.specs.Named.{kind_named}
 use Rattle.pack_mean.specs.Operation as operation
-use Rattle.pack_mean.specs.Operation.{directions}
+use Rattle.layer_words.specs.Signs.{directions}
 use Rattle.pack_mean.specs.Reader.{Reader, ◌>>=◌, option_reader, a_name, a_word}
 use Rattle.trace_core.specs.declared.node.Atom.{Atom}
 use Rattle.trace_core.specs.declared.node.Node.{Node}
@@ -15,17 +15,17 @@ use Rattle.trace_core.specs.declared.links.Link.{Link}
 use Rattle.trace_core.specs.declared.operation.Chained.{Chained}
 use Rattle.trace_core.specs.declared.operation.Operation.{Operation}
 use Rattle.trace_core.specs.declared.operation.Operation.TheVariants as operations
-use Rattle.trace_expressions.specs.declared.targeted.Target.{Target}
-use Rattle.trace_expressions.specs.declared.targeted.Target.TheVariants as targets
+use Rattle.pack_read.specs.declared.targeted.Target.{Target}
+use Rattle.pack_read.specs.declared.targeted.Target.TheVariants as targets
 use Rattle.trace_core.specs.Grown.{Grown}
 use Rattle.trace_core.specs.View.{atom_tree, core_tree, number_in, terms}
 use Rattle.trace_core.specs.Links.{IsChain, chain_in, chains}
 use Rattle.trace_core.specs.Operations.{AllNumbers, HasChain, IsPart, chained_in, operation_in}
 use Rattle.trace_words.specs.declared.error.LineError.{LineError}
 use Rattle.trace_words.specs.declared.error.LineError.TheVariants.{Form, Memory}
-use Rattle.trace_operations.specs.declared.store.Store.{Store}
-use Rattle.trace_operations.specs.declared.header.Header.{Header}
-use Rattle.trace_operations.specs.declared.sent.Sent.{Sent}
+use Rattle.pack_read.specs.declared.store.Store.{Store}
+use Rattle.pack_read.specs.declared.header.Header.{Header}
+use Rattle.pack_read.specs.declared.sent.Sent.{Sent}
 
 -- What a reader took from the front, as the definitions see it, and the bytes after it; or that it takes nothing. Want
 -- of memory says nothing.

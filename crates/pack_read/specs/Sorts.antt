@@ -1,12 +1,12 @@
 -- What cells are, by their forms.
 use Rattle.std.specs.Prelude.{ℕ, Option, Some}
-use Rattle.layer_ast.specs.declared.syntax.Shape.TheVariants as shapes
+use Rattle.layer_words.specs.declared.sorts.Shape.TheVariants as shapes
 use Rattle.layer_mean.specs.Tree.{Form, numbers, queue, queues}
 use Rattle.trace_mean.specs.Trace.{TraceNumber, atom, element, number, square}
 use Rattle.pack_mean.specs.Reader.{Reader, ◌>>=◌, yields, nowhere}
 use Rattle.pack_mean.specs.Expression.{Inner, QueueNamed, an_index}
-use Rattle.trace_expressions.specs.declared.sort.Sort.{Sort}
-use Rattle.trace_expressions.specs.declared.sort.Sort.TheVariants as sorts
+use Rattle.pack_read.specs.declared.sort.Sort.{Sort}
+use Rattle.pack_read.specs.declared.sort.Sort.TheVariants as sorts
 
 abbrev pub sort_of : Form → Sort
 sort_of (numbers shapes.One initial) = sorts.Number

@@ -5,7 +5,7 @@ ghost use Rattle.pack_mean.specs.Operation as operation;
 ghost use Rattle.trace_core.specs.Links.{IsChain, MakesChain, chain_in, chains};
 ghost use Rattle.trace_words.specs.Reading.{left};
 ghost use Rattle.trace_words.specs.View.{layers_in, named_in};
-ghost use Rattle.trace_operations.specs.Reading.{ReadsChain, ReadsChained, header_at};
+ghost use Rattle.pack_read.specs.Operations.{ReadsChain, ReadsChained, header_at};
 
 use crate::atoms::core;
 use crate::header::{Header, read_header};

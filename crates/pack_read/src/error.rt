@@ -14,7 +14,7 @@ pub enum ReadError {
 }
 
 impl From<AllocError> for ReadError {
-    ghost use Rattle.trace_file.specs.declared.error.ReadError.TheVariants.{Memory};
+    ghost use Rattle.pack_read.specs.declared.error.ReadError.TheVariants.{Memory};
 
     ghost from_gives = { λ _ e. e ≡ Memory };
 

@@ -6,14 +6,14 @@ ghost use Rattle.pack_mean.specs.Named as named;
 ghost use Rattle.trace_words.specs.Names.{words_in};
 ghost use Rattle.trace_words.specs.Reading.{left};
 ghost use Rattle.trace_words.specs.View.{layers_in, named_in};
-ghost use Rattle.trace_expressions.specs.Inside.{Opens, inner};
-ghost use Rattle.trace_expressions.specs.Reading.{ReadsMessage, ReadsNumber, ReadsQueue, ReadsTarget};
-ghost use Rattle.trace_expressions.specs.Sorts.{number_by_sort, queue_by_sort};
+ghost use Rattle.pack_read.specs.Inside.{Opens, inner};
+ghost use Rattle.pack_read.specs.Expressions.{ReadsMessage, ReadsNumber, ReadsQueue, ReadsTarget};
+ghost use Rattle.pack_read.specs.Sorts.{number_by_sort, queue_by_sort};
 
 use crate::queued::Queue;
 use crate::sort::{CellNamed, Sort, sort_at};
 use crate::targeted::Target;
-use layer_ast::Function;
+use layer_words::Function;
 use trace_core::{Arena, Atom, Node};
 use trace_words::{
     LineError, Name, Scope, Text, atom_named, cell_named, core_named, function_of, item_named,

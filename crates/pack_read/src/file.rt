@@ -5,8 +5,8 @@ ghost use Rattle.audit_mean.specs.Text.{lines_of};
 ghost use Rattle.event_graph.specs.Answer.{stack_tree};
 ghost use Rattle.pack_mean.specs.Accepted.{longest_file};
 ghost use Rattle.pack_mean.specs.File as file;
-ghost use Rattle.trace_file.specs.Lines.{lines_left};
-ghost use Rattle.trace_file.specs.View.{Reads, Tells, bare, begun_after, due_tree};
+ghost use Rattle.pack_read.specs.Lines.{lines_left};
+ghost use Rattle.pack_read.specs.Files.{Reads, Tells, bare, begun_after, due_tree};
 
 use crate::due::Due;
 use crate::error::ReadError;

@@ -8,7 +8,7 @@ ghost use Rattle.trace_core.specs.View.{atom_tree};
 ghost use Rattle.trace_words.specs.Names.{words_in};
 ghost use Rattle.trace_words.specs.Reading.{left};
 ghost use Rattle.trace_words.specs.View.{layers_in, named_in};
-ghost use Rattle.trace_operations.specs.Reading.{TagIs, TakesAs, TakesAtoms, header_at};
+ghost use Rattle.pack_read.specs.Operations.{TagIs, TakesAs, TakesAtoms, header_at};
 
 use crate::atoms::atom;
 use std::alloc::AllocError;

@@ -4,7 +4,7 @@ ghost use Rattle.std.specs.Prelude.{◌≡◌, ◌++◌, bytes_eq, map};
 ghost use Rattle.pack_mean.specs.File as file;
 ghost use Rattle.pack_mean.specs.Reader as reader;
 ghost use Rattle.trace_words.specs.Reading.{Takes, left};
-ghost use Rattle.trace_file.specs.View.{begins, due_tree};
+ghost use Rattle.pack_read.specs.Files.{begins, due_tree};
 
 use crate::due::Due;
 use layer_mean::Case;

@@ -3,7 +3,7 @@
 ghost use Rattle.pack_mean.specs.Operation as operation;
 ghost use Rattle.trace_words.specs.Reading.{left};
 ghost use Rattle.trace_words.specs.View.{layers_in, named_in};
-ghost use Rattle.trace_operations.specs.Reading.{ReadsOperation, Says};
+ghost use Rattle.pack_read.specs.Operations.{ReadsOperation, Says};
 
 use crate::output::output;
 use crate::queues::{push, take};

@@ -3,7 +3,7 @@
 ghost use Rattle.std.specs.Prelude.{◌≡◌};
 ghost use Rattle.std.specs.Iterator.{YieldsFirstRef, item_count};
 ghost use Rattle.audit_mean.specs.Text as audit;
-ghost use Rattle.trace_file.specs.Lines.{lines_left};
+ghost use Rattle.pack_read.specs.Lines.{lines_left};
 
 use script_text::cut;
 

@@ -3,7 +3,7 @@
 ghost use Rattle.std.specs.Prelude.{◌≡◌, ◌+◌, IfOk};
 ghost use Rattle.event_graph.specs.Answer.{stack_tree};
 ghost use Rattle.trace_core.specs.Trees.{trace_tree};
-ghost use Rattle.trace_file.specs.Open.{Adds, AreParts, IsEmpty, LeavesAfter, Names, Puts, SaysIn, held_in};
+ghost use Rattle.pack_read.specs.Open.{Adds, AreParts, IsEmpty, LeavesAfter, Names, Puts, SaysIn, held_in};
 
 use crate::line::operation;
 use crate::store::Store;

@@ -6,7 +6,7 @@ ghost use Rattle.pack_mean.specs.Operation as operation;
 ghost use Rattle.pack_mean.specs.Reader as reader;
 ghost use Rattle.trace_words.specs.Reading.{Takes, left};
 ghost use Rattle.trace_words.specs.View.{layers_in, named_in};
-ghost use Rattle.trace_operations.specs.Reading.{ReadsOperation};
+ghost use Rattle.pack_read.specs.Operations.{ReadsOperation};
 
 use crate::read::queue;
 use crate::row::{row_message, row_numbers};

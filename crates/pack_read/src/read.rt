@@ -4,7 +4,7 @@ ghost use Rattle.std.specs.Prelude.{◌≡◌};
 ghost use Rattle.pack_mean.specs.Expression.{a_message, a_number, a_queue};
 ghost use Rattle.trace_words.specs.Reading.{left};
 ghost use Rattle.trace_words.specs.View.{layers_in, named_in};
-ghost use Rattle.trace_expressions.specs.Reading.{ReadsMessage, ReadsNumber, ReadsQueue, ReadsTarget, a_target};
+ghost use Rattle.pack_read.specs.Expressions.{ReadsMessage, ReadsNumber, ReadsQueue, ReadsTarget, a_target};
 
 use crate::expressions;
 use crate::queued::Queue;

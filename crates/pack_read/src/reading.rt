@@ -3,11 +3,11 @@
 ghost use Rattle.std.specs.Prelude.{◌≡◌, List, map};
 ghost use Rattle.event_graph.specs.Answer.{stack_tree};
 ghost use Rattle.pack_mean.specs.File as file;
-ghost use Rattle.trace_file.specs.Open.{AreParts, held_in};
+ghost use Rattle.pack_read.specs.Open.{AreParts, held_in};
 ghost use Rattle.layer_mean.specs.Tree.{LayerTree};
 ghost use Rattle.trace_core.specs.Trees.{trace_tree};
-ghost use Rattle.trace_file.specs.declared.reading.FilePart.TheVariants.{Within};
-ghost use Rattle.trace_file.specs.View.{Closes, Goes, GoesOn, IsBegun, Reads, due_tree, line_from, reading_in};
+ghost use Rattle.pack_read.specs.declared.reading.FilePart.TheVariants.{Within};
+ghost use Rattle.pack_read.specs.Files.{Closes, Goes, GoesOn, IsBegun, Reads, due_tree, line_from, reading_in};
 
 use crate::due::Due;
 use crate::error::ReadError;

@@ -10,12 +10,12 @@ ghost use Rattle.trace_core.specs.View.{terms};
 ghost use Rattle.typed_layer.specs.View.{items_tree};
 ghost use Rattle.trace_words.specs.Reading.{Takes, left};
 ghost use Rattle.trace_words.specs.View.{items_shown, layers_in, named_in};
-ghost use Rattle.trace_operations.specs.Reading.{ReadsMessage, ReadsNumbers};
+ghost use Rattle.pack_read.specs.Operations.{ReadsMessage, ReadsNumbers};
 
 use crate::chain::chained;
 use crate::header::MOST_FIELDS;
 use crate::read::number;
-use layer_ast::Word;
+use layer_words::Word;
 use msg_core::Fields;
 use std::alloc::AllocError;
 use trace_core::{Arena, Chained, Links};

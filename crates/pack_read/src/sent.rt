@@ -7,7 +7,7 @@ ghost use Rattle.trace_core.specs.View.{core_tree};
 ghost use Rattle.trace_words.specs.Names.{words_in};
 ghost use Rattle.trace_words.specs.Reading.{left};
 ghost use Rattle.trace_words.specs.View.{layers_in, named_in};
-ghost use Rattle.trace_operations.specs.Reading.{ReadsMessage, ReadsSent};
+ghost use Rattle.pack_read.specs.Operations.{ReadsMessage, ReadsSent};
 
 use crate::chain::chain;
 use crate::header::MOST_FIELDS;

@@ -5,10 +5,10 @@ ghost use Rattle.bypass_mean.specs.Text.{layer_of};
 ghost use Rattle.event_graph.specs.Answer.{stack_tree};
 ghost use Rattle.trace_mean.specs.Fuse.{form_at};
 ghost use Rattle.typed_layer.specs.View.{form_tree};
-ghost use Rattle.trace_expressions.specs.Sorts.{sort_of};
+ghost use Rattle.pack_read.specs.Sorts.{sort_of};
 
 use event_graph::Stack;
-use layer_ast::Shape;
+use layer_words::Shape;
 use trace_words::{Spot, cell_at};
 use typed_layer::Form;
 

@@ -30,7 +30,7 @@ use Rattle.trace_form_laws.proofs.There.{traces_name_well}
 use Rattle.bypass_mean.specs.Bypasses.{Entry, plan_entry, entries_of}
 use Rattle.pack_mean.specs.File.{Due, within_limit, due_in, due_from, due_of}
 use Rattle.pack_laws.specs.Form.{at_first}
-use Rattle.pack_laws.proofs.Replaced.{fields_vary}
+use Rattle.pack_laws.proofs.Accepted.{fields_vary}
 use Rattle.packed_laws.proofs.Packable.{CanBeRead, EntryFits, CanBePacked}
 use Rattle.packed_laws.proofs.Traced.{traces_fit}
 

@@ -15,7 +15,7 @@ use Rattle.std.proofs.lemmas.List.Folds.{list_all-append}
 use Rattle.std.proofs.lemmas.List.Splits.{slice_split_at, slice_split_none}
 use Rattle.std.proofs.lemmas.Slice.Eq.{bytes_eq-Decides}
 use Rattle.std.proofs.lemmas.Str.Parse.{numerals_by_value, tells_all_ascii_digits}
-use Rattle.layer_ast.specs.Spelling.{is_word_byte}
+use Rattle.layer_words.specs.Spelling.{is_word_byte}
 use Rattle.script_mean.specs.Words.{is_plain, within, number_of}
 use Rattle.pack_mean.specs.Reader.{Reader, ◌>>=◌, yields, option_reader, the_text, run_of, is_name_byte, a_name}
 use Rattle.packed_laws.specs.Told.{IsWord}

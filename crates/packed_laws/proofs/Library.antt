@@ -9,7 +9,8 @@ use Rattle.layer_ast.specs.declared.tokens.Token.{Token}
 use Rattle.layer_ast.specs.Cut.{text_tokens, piece}
 use Rattle.layer_ast.specs.Depth.{room_after, IsWithin, WithRoom}
 use Rattle.layer_ast.specs.Print as print
-use Rattle.layer_ast.specs.Spelling.{reserved, kinds, symbols, word_token, symbol_at}
+use Rattle.layer_words.specs.Spelling.{reserved, kinds, symbols}
+use Rattle.layer_ast.specs.Cut.{word_token, symbol_at}
 use Rattle.layer_ast.specs.Tree.{LayerTree, FileTree}
 use Rattle.file_library.specs.Reliable.{bottom, mnak, pt2pt}
 use Rattle.file_library.specs.Flow.{pt2ptw, mflow, frag}

@@ -4,15 +4,15 @@ use Rattle.std.proofs.Common.{slice_index_or, Option, Some, None, option_map, op
 use Rattle.std.proofs.Common.{sym, ap, ◌∙◌, subst, arith, append_assoc, append-nil, inl, inr}
 use Rattle.std.specs.Prelude.{if◌then◌else◌}
 use Rattle.std.specs.List.{list_all}
-use Rattle.layer_ast.specs.declared.syntax.Function.{Function}
-use Rattle.layer_ast.specs.declared.syntax.Function.TheVariants.{Not, Bit, Count, Lowest}
-use Rattle.layer_ast.specs.declared.syntax.Operator.{Operator}
-use Rattle.layer_ast.specs.declared.syntax.Operator.TheVariants.{Add, Subtract, Multiply, Equal, NotEqual, Less}
-use Rattle.layer_ast.specs.declared.syntax.Operator.TheVariants.{LessOrEqual, Greater, GreaterOrEqual, And, Or, BitAnd}
-use Rattle.layer_ast.specs.declared.syntax.Operator.TheVariants.{BitOr, BitXor}
-use Rattle.layer_ast.specs.declared.syntax.Shape.TheVariants.{One, Array, Square}
-use Rattle.layer_ast.specs.Printed.{function_sign, operator_sign}
-use Rattle.layer_ast.specs.Spelling.{reserved, symbols}
+use Rattle.layer_words.specs.declared.operators.Function.{Function}
+use Rattle.layer_words.specs.declared.operators.Function.TheVariants.{Not, Bit, Count, Lowest}
+use Rattle.layer_words.specs.declared.operators.Operator.{Operator}
+use Rattle.layer_words.specs.declared.operators.Operator.TheVariants.{Add, Subtract, Multiply, Equal, NotEqual, Less}
+use Rattle.layer_words.specs.declared.operators.Operator.TheVariants.{LessOrEqual, Greater, GreaterOrEqual, And, Or, BitAnd}
+use Rattle.layer_words.specs.declared.operators.Operator.TheVariants.{BitOr, BitXor}
+use Rattle.layer_words.specs.declared.sorts.Shape.TheVariants.{One, Array, Square}
+use Rattle.layer_words.specs.Signs.{function_sign, operator_sign}
+use Rattle.layer_words.specs.Spelling.{reserved, symbols}
 use Rattle.layer_mean.specs.Tree.{Carried, CellTree, Form, ItemsTree, LayerTree, numbers, queue, queues}
 use Rattle.chain_laws.specs.Named as named
 use Rattle.chain_laws.specs.Named.{shape_in, alone_in, among_in}
@@ -25,7 +25,8 @@ use Rattle.trace_form_laws.specs.Closed.{AtomIsMade, IsMade}
 use Rattle.trace_form_laws.specs.There.{HasNumber, HasSquare, HasRows, HasQueue, IsThere}
 use Rattle.bypass_mean.specs.Text.{layer_of, bracketed_index, bracketed_list, with_index, cell_name, cell_text}
 use Rattle.bypass_mean.specs.Text.{number_text}
-use Rattle.bypass_mean.specs.Text.{message_text, sign_text}
+use Rattle.bypass_mean.specs.Text.{message_text}
+use Rattle.layer_words.specs.Spelling.{sign_text}
 use Rattle.pack_mean.specs.Reader.{Reader, ◌>>=◌, yields, option_reader, the_text, is_name_byte, a_name, a_word}
 use Rattle.pack_mean.specs.Named.{Named, items_in, no_items, items_at, atom_named, core_named, cell_named}
 use Rattle.pack_mean.specs.Named.{function_named, operator_named}

@@ -7,12 +7,12 @@ use Rattle.std.specs.List.{AllByRecursion, list_all}
 use Rattle.std.specs.Option.{option_map_or}
 use Rattle.std.proofs.lemmas.List.{length-map}
 use Rattle.std.proofs.lemmas.List.FromFn.{get_or-map-range_with_len}
-use Rattle.layer_ast.specs.declared.tokens.Dir.{Dir}
-use Rattle.layer_ast.specs.declared.tokens.Dir.TheVariants.{Up, Down}
-use Rattle.layer_ast.specs.declared.tokens.Kind.{Kind}
-use Rattle.layer_ast.specs.declared.tokens.Kind.TheVariants as kind
-use Rattle.layer_ast.specs.Printed.{direction_sign}
-use Rattle.layer_ast.specs.Spelling.{beside, kinds, kind_word, reserved, symbols}
+use Rattle.layer_words.specs.declared.events.Dir.{Dir}
+use Rattle.layer_words.specs.declared.events.Dir.TheVariants.{Up, Down}
+use Rattle.layer_words.specs.declared.events.Kind.{Kind}
+use Rattle.layer_words.specs.declared.events.Kind.TheVariants as kind
+use Rattle.layer_words.specs.Signs.{direction_sign}
+use Rattle.layer_words.specs.Spelling.{beside, kinds, kind_word, reserved, symbols}
 use Rattle.layer_mean.specs.Tree.{Carried, ItemsTree, LayerTree}
 use Rattle.msg_core.specs.Headers.{most_fields}
 use Rattle.trace_mean.specs.Trace as trace
@@ -23,7 +23,8 @@ use Rattle.trace_mean.specs.Fuse.{form_at}
 use Rattle.trace_form_laws.specs.Names.{AtomNames, SentNames, NumberNames, OperationNames}
 use Rattle.trace_form_laws.specs.Closed.{CoreIsMade, IsMade}
 use Rattle.trace_form_laws.specs.There.{HasQueue, IsThere}
-use Rattle.bypass_mean.specs.Text.{layer_of, sign_text, bracketed_list, atom_text, core_text, cell_name, cell_text}
+use Rattle.bypass_mean.specs.Text.{layer_of, bracketed_list, atom_text, core_text, cell_name, cell_text}
+use Rattle.layer_words.specs.Spelling.{sign_text}
 use Rattle.bypass_mean.specs.Text.{number_text}
 use Rattle.bypass_mean.specs.Text.{message_text, following, pushed_text}
 use Rattle.pack_mean.specs.Reader.{Reader, ◌>>=◌, yields, option_reader, the_text, is_name_byte, a_name, a_word}
@@ -33,7 +34,8 @@ use Rattle.pack_mean.specs.Named.{Named, items_at, atom_named, core_named, cell_
 use Rattle.pack_mean.specs.Expression.{QueueNamed, Inner, inside, most_brackets, number_of_cell, a_cell, a_number}
 use Rattle.pack_mean.specs.Expression.{a_message, a_queue}
 use Rattle.pack_mean.specs.Operation.{a_chain, a_chained, row_message, Sent, nothing_sent, with_number, a_last}
-use Rattle.pack_mean.specs.Operation.{or_no_more, sent_by, sent_within, what_is_sent, chained_after, directions}
+use Rattle.pack_mean.specs.Operation.{or_no_more, sent_by, sent_within, what_is_sent, chained_after}
+use Rattle.layer_words.specs.Signs.{directions}
 use Rattle.pack_mean.specs.Operation.{setting, operation_by, operation_said}
 use Rattle.pack_laws.specs.Written.{note_name, written_with, line_with}
 use Rattle.pack_laws.proofs.Spelled.{reach_of}

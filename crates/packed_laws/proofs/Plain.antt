@@ -9,19 +9,19 @@ use Rattle.std.specs.Option.{option_map_or}
 use Rattle.std.proofs.lemmas.Bool.{and_parts, eqb-true}
 use Rattle.std.proofs.lemmas.Bool.Decides.{nat_tests}
 use Rattle.std.proofs.lemmas.List.Folds.{list_all-append}
-use Rattle.layer_ast.specs.declared.tokens.Dir.{Dir}
-use Rattle.layer_ast.specs.declared.tokens.Dir.TheVariants.{Up, Down}
-use Rattle.layer_ast.specs.declared.tokens.Kind.{Kind}
-use Rattle.layer_ast.specs.declared.tokens.Kind.TheVariants as kind
-use Rattle.layer_ast.specs.declared.syntax.Function.{Function}
-use Rattle.layer_ast.specs.declared.syntax.Function.TheVariants.{Not, Bit, Count, Lowest}
-use Rattle.layer_ast.specs.declared.syntax.Operator.{Operator}
-use Rattle.layer_ast.specs.declared.syntax.Operator.TheVariants.{Add, Subtract, Multiply, Equal, NotEqual, Less}
-use Rattle.layer_ast.specs.declared.syntax.Operator.TheVariants.{LessOrEqual, Greater, GreaterOrEqual, And, Or, BitAnd}
-use Rattle.layer_ast.specs.declared.syntax.Operator.TheVariants.{BitOr, BitXor}
-use Rattle.layer_ast.specs.declared.syntax.Shape.TheVariants.{One, Array, Square}
-use Rattle.layer_ast.specs.Printed.{direction_sign, function_sign, operator_sign}
-use Rattle.layer_ast.specs.Spelling.{is_word_byte, kinds, kind_word, reserved, symbols}
+use Rattle.layer_words.specs.declared.events.Dir.{Dir}
+use Rattle.layer_words.specs.declared.events.Dir.TheVariants.{Up, Down}
+use Rattle.layer_words.specs.declared.events.Kind.{Kind}
+use Rattle.layer_words.specs.declared.events.Kind.TheVariants as kind
+use Rattle.layer_words.specs.declared.operators.Function.{Function}
+use Rattle.layer_words.specs.declared.operators.Function.TheVariants.{Not, Bit, Count, Lowest}
+use Rattle.layer_words.specs.declared.operators.Operator.{Operator}
+use Rattle.layer_words.specs.declared.operators.Operator.TheVariants.{Add, Subtract, Multiply, Equal, NotEqual, Less}
+use Rattle.layer_words.specs.declared.operators.Operator.TheVariants.{LessOrEqual, Greater, GreaterOrEqual, And, Or, BitAnd}
+use Rattle.layer_words.specs.declared.operators.Operator.TheVariants.{BitOr, BitXor}
+use Rattle.layer_words.specs.declared.sorts.Shape.TheVariants.{One, Array, Square}
+use Rattle.layer_words.specs.Signs.{direction_sign, function_sign, operator_sign}
+use Rattle.layer_words.specs.Spelling.{is_word_byte, kinds, kind_word, reserved, symbols}
 use Rattle.layer_mean.specs.Headers.{header_of_tag}
 use Rattle.layer_mean.specs.Tree.{Carried, Form, HeaderTree, ItemsTree, LayerTree, numbers, queue, queues}
 use Rattle.chain_laws.specs.Named.{shape_in, alone_in, among_in}
@@ -32,7 +32,8 @@ use Rattle.trace_mean.specs.Fuse.{form_at}
 use Rattle.trace_form_laws.specs.Names.{AtomNames, LinkNames, SentNames, NumberNames, MessageNames, OperationNames}
 use Rattle.trace_form_laws.specs.Closed.{AtomIsMade, CoreIsMade, IsMade}
 use Rattle.trace_form_laws.specs.There.{HasNumber, HasRows, HasQueue, HasItem, IsThere}
-use Rattle.bypass_mean.specs.Text.{layer_of, sign_text, bracketed_list, bracketed_index, with_index, atom_text}
+use Rattle.bypass_mean.specs.Text.{layer_of, bracketed_list, bracketed_index, with_index, atom_text}
+use Rattle.layer_words.specs.Spelling.{sign_text}
 use Rattle.bypass_mean.specs.Text.{core_text, cell_name}
 use Rattle.bypass_mean.specs.Text.{cell_text, number_text, message_text, link_text, chain_text, following, pushed_text}
 use Rattle.pack_mean.specs.Named.{Named, items_at, atom_named, core_named, cell_named}

@@ -6,12 +6,12 @@ use Rattle.std.specs.Prelude.{◌==◌, ◌&&◌, find}
 use Rattle.std.specs.List.{AllByRecursion, last_or}
 use Rattle.std.specs.Option.{option_or, option_map_or}
 use Rattle.std.proofs.lemmas.List.{length-map}
-use Rattle.layer_ast.specs.declared.names.At.{At}
+use Rattle.layer_words.specs.declared.places.At.{At}
 use Rattle.layer_ast.specs.declared.names.Name.{Name}
-use Rattle.layer_ast.specs.declared.syntax.Sort.{Sort}
-use Rattle.layer_ast.specs.declared.syntax.Sort.TheVariants.{Int}
-use Rattle.layer_ast.specs.declared.tokens.Dir.{Dir}
-use Rattle.layer_ast.specs.declared.tokens.Kind.{Kind}
+use Rattle.layer_words.specs.declared.sorts.Sort.{Sort}
+use Rattle.layer_words.specs.declared.sorts.Sort.TheVariants.{Int}
+use Rattle.layer_words.specs.declared.events.Dir.{Dir}
+use Rattle.layer_words.specs.declared.events.Kind.{Kind}
 use Rattle.layer_ast.specs.Tree as ast
 use Rattle.layer_mean.specs.Event.{carries}
 use Rattle.layer_mean.specs.Tree.{Carried, part, ExpressionTree, number, local, element}
@@ -29,7 +29,7 @@ use Rattle.fault_mean.specs.Sorts.{held_sort, message_sort, message_at, argument
 use Rattle.fault_mean.specs.TypeFaults.{pushes, suits, ends_with, sent_sort, with_faults, pushed_faults}
 use Rattle.fault_mean.specs.TypeFaults.{emission_faults, row_type_faults, row_sorts}
 use Rattle.fault_mean.specs.Uses.{arguments_in}
-use Rattle.layer_ast.specs.declared.syntax.Shape.TheVariants.{One, Array, Square}
+use Rattle.layer_words.specs.declared.sorts.Shape.TheVariants.{One, Array, Square}
 use Rattle.file_mean.specs.Layers.{row_items, layer_of}
 use Rattle.file_mean.specs.Names.{Names, Placed, cell_of, carried_as, carried_in, number_slot, numbers_among}
 use Rattle.file_mean.specs.Names.{message_among, with_numbers}

@@ -1,7 +1,7 @@
 -- The names of a stack can be told apart where they are written.
 use Rattle.std.specs.Prelude.{◌≡◌, ℕ, true, false, List, [], ◌∷◌, map, bytes_eq, Some}
 use Rattle.std.specs.List.{AllByRecursion, list_all}
-use Rattle.layer_ast.specs.Spelling.{is_word_byte}
+use Rattle.layer_words.specs.Spelling.{is_word_byte}
 use Rattle.layer_mean.specs.Headers.{header_none}
 use Rattle.layer_mean.specs.Tree.{LayerTree}
 use Rattle.bypass_mean.specs.Text.{numbers_called}

@@ -8,7 +8,7 @@ use Rattle.msg_core.specs.declared.packet.Dest.{Dest}
 use Rattle.msg_core.specs.declared.packet.Dest.TheVariants.{All, Rank}
 use Rattle.msg_core.specs.declared.packet.Packet.{Packet}
 use Rattle.msg_core.specs.declared.packet.View.{View}
-use Rattle.layer_ast.specs.contracts.tokens.Kind as kind_row
+use Rattle.layer_words.specs.contracts.events.Kind as kind_row
 use Rattle.layer_mean.specs.Tree.{LayerTree}
 use Rattle.layer_mean.specs.Headers.{header_of_tag}
 use Rattle.packet_mean.specs.Plan.{kind_of}

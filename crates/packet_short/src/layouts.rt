@@ -11,7 +11,7 @@ use crate::fit::print_of;
 use crate::layout::{Layout, loose_of};
 use crate::planned::Planned;
 use event_graph::Stack;
-use layer_ast::Kind;
+use layer_words::Kind;
 use msg_core::{Headers, Memory};
 use packet_full::Cursor;
 use stack_shapes::Plans;

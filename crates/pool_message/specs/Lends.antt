@@ -3,8 +3,8 @@ use Rattle.std.specs.Prelude.{List, [], ◌∷◌, ◌++◌, drop}
 use denote.Struct.Tuple.{Tuple}
 use Rattle.std.specs.Borrow.{Fml, MutBor, Lends}
 use Rattle.circular_buffer.specs.Buffer.{Buffer, buffer}
-use Rattle.layer_ast.specs.declared.tokens.Dir.{Dir}
-use Rattle.layer_ast.specs.contracts.tokens.Dir as dir
+use Rattle.layer_words.specs.declared.events.Dir.{Dir}
+use Rattle.layer_words.specs.contracts.events.Dir as dir
 use Rattle.pool_message.specs.contracts.event.PoolEvent as event
 use Rattle.pool_message.specs.contracts.events.Events.{the_row}
 use Rattle.pool_message.specs.contracts.list.List as list

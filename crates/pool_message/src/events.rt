@@ -19,7 +19,7 @@ use crate::message::PoolMessage;
 use crate::message_place::MessagePlace;
 use crate::messages::Messages;
 use crate::part::Part;
-use layer_ast::Dir;
+use layer_words::Dir;
 use layer_desk::Sending;
 use layer_mean::Envelope;
 use msg_core::{Fields, Header, Headers};
@@ -38,7 +38,7 @@ pub struct Events {
 
 impl Model for Events {
     ghost use Rattle.circular_buffer.specs.Buffer.{Buffer};
-    ghost use Rattle.layer_ast.specs.declared.tokens.Dir.{Dir};
+    ghost use Rattle.layer_words.specs.declared.events.Dir.{Dir};
     ghost use Rattle.pool_message.specs.declared.event.PoolEvent.{PoolEvent};
 
     ghost Value = { Buffer (Dir × PoolEvent) };

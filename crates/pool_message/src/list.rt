@@ -9,7 +9,7 @@ ghost use Rattle.pool_message.specs.Slots.{first_number};
 use crate::event::PoolEvent;
 use crate::message_place::MessagePlace;
 use crate::short_queue::ShortQueue;
-use layer_ast::Dir;
+use layer_words::Dir;
 use layer_mean::Envelope;
 use std::alloc::{AllocError, Global};
 use std::marker::Model;
@@ -30,7 +30,7 @@ pub(crate) struct List {
 impl Model for List {
     ghost use Rattle.std.specs.Prelude.{◌≤◌, length, vec_capacity};
     ghost use Rattle.circular_buffer.specs.Buffer.{Buffer, buffer};
-    ghost use Rattle.layer_ast.specs.declared.tokens.Dir.{Dir};
+    ghost use Rattle.layer_words.specs.declared.events.Dir.{Dir};
     ghost use Rattle.pool_message.specs.Sent.{most_sent};
     ghost use Rattle.pool_message.specs.Slots.{standing, AreParted, IsFirst};
     ghost use Rattle.pool_message.specs.declared.event.PoolEvent.{PoolEvent};

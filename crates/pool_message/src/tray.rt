@@ -15,7 +15,7 @@ use crate::list::begin_event;
 use crate::message::PoolMessage;
 use crate::message_place::MessagePlace;
 use crate::messages::Messages;
-use layer_ast::Dir;
+use layer_words::Dir;
 use layer_desk::Sending;
 use layer_mean::Envelope;
 use msg_core::{Fields, Header};

@@ -1,7 +1,7 @@
 -- Small runs, by evaluation.
 use Rattle.std.specs.Prelude.{codes}
 use Rattle.std.proofs.Common.{◌<◌, refl, arith}
-use Rattle.layer_ast.specs.Spelling.{kinds}
+use Rattle.layer_words.specs.Spelling.{kinds}
 use Rattle.layer_mean.specs.Queue.{run}
 use Rattle.layer_mean.specs.Visit.{step}
 use Rattle.stack_mean.specs.Shape.{drawn_shape, has_second_case}

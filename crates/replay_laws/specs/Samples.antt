@@ -3,7 +3,7 @@
 use Rattle.std.specs.Prelude.{◌≡◌, ℕ, List, [], ◌∷◌, length, map, slice_get, Option, Some, None, codes, Result, Ok}
 use Rattle.std.specs.Prelude.{Err}
 use Rattle.std.specs.List.{AllByRecursion}
-use Rattle.layer_ast.specs.declared.tokens.Kind.TheVariants.{Cast}
+use Rattle.layer_words.specs.declared.events.Kind.TheVariants.{Cast}
 use Rattle.layer_mean.specs.declared.run.Case.TheVariants.{First}
 use Rattle.packet_mean.specs.Spelling.{full_form, short_form}
 use Rattle.stack_mean.specs.NoShape.{NoShape}

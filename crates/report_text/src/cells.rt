@@ -12,7 +12,7 @@ ghost use Rattle.typed_layer.specs.View.{layer_tree};
 ghost use Rattle.report_text.specs.Cells.{index_if, no_row, queue_line};
 
 use group_feed::{RowView, Shows, Spot};
-use layer_ast::Word;
+use layer_words::Word;
 use msg_core::Memory;
 use report_lines::{
     Line, NamedStack, push_cell, push_index, push_lead, push_message_row, push_numbers_row,

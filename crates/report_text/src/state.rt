@@ -14,7 +14,7 @@ ghost use Rattle.report_text.specs.Cells.{cells_shown, layers_shown, numbers_lin
 use crate::cells::{Queues, build_numbers, build_queue};
 use crate::pen::Pen;
 use group_feed::{Shows, Spot};
-use layer_ast::Word;
+use layer_words::Word;
 use msg_core::View;
 use outside::{Sink, SinkError, put_line};
 use report_lines::{NamedStack, state_line, state_out_line};

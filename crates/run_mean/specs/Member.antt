@@ -10,10 +10,10 @@ use Rattle.msg_core.specs.declared.packet.Dest.TheVariants.{All, Rank}
 use Rattle.msg_core.specs.declared.packet.Packet.{Packet}
 use Rattle.msg_core.specs.declared.packet.Stray.{Stray}
 use Rattle.msg_core.specs.declared.packet.View.{View}
-use Rattle.layer_ast.specs.declared.tokens.Dir.{Dir}
-use Rattle.layer_ast.specs.declared.tokens.Dir.TheVariants.{Up, Down}
-use Rattle.layer_ast.specs.declared.tokens.Kind.{Kind}
-use Rattle.layer_ast.specs.declared.tokens.Kind.TheVariants as kind
+use Rattle.layer_words.specs.declared.events.Dir.{Dir}
+use Rattle.layer_words.specs.declared.events.Dir.TheVariants.{Up, Down}
+use Rattle.layer_words.specs.declared.events.Kind.{Kind}
+use Rattle.layer_words.specs.declared.events.Kind.TheVariants as kind
 use Rattle.layer_mean.specs.declared.run.Event.{Event}
 use Rattle.layer_mean.specs.Event.{event_of}
 use Rattle.layer_mean.specs.Tree.{LayerTree}

@@ -7,7 +7,7 @@ use Rattle.std.proofs.lemmas.List.{take_more, map-append}
 use Rattle.std.proofs.lemmas.List.Sums.{sum_by-cons}
 use Rattle.guard_mean.specs.Code as code
 use Rattle.guard_mean.specs.Code.{prepare, require, require_operand}
-use Rattle.check_mean.specs.Checks as mean
+use Rattle.guard_mean.specs.Checks as mean
 use Rattle.trace_code.specs.Trees.{test_tree}
 use Rattle.trace_code.specs.declared.code.Test.{Test}
 use Rattle.trace_reads.specs.Registers.{a_prepare, prepared_numbers}

@@ -1,7 +1,7 @@
 //! What is asked of what is made of an entry.
 
 ghost use Rattle.std.specs.Prelude.{◌≡◌, IfOk, option_map};
-ghost use Rattle.check_mean.specs.Checks.{checks_of};
+ghost use Rattle.guard_mean.specs.Checks.{checks_of};
 ghost use Rattle.guard_mean.specs.Hoist.{hoisted};
 ghost use Rattle.trace_core.specs.Bypasses.{made_tree};
 ghost use Rattle.trace_core.specs.Trees.{trace_tree};

@@ -3,7 +3,7 @@
 ghost use Rattle.std.specs.Prelude.{◌≡◌, ◌≤◌, length, map, option_map, vec_capacity};
 ghost use Rattle.std.specs.List.{AllByRecursion};
 ghost use Rattle.std.specs.Option.{option_map_or};
-ghost use Rattle.check_mean.specs.Checks.{check_at};
+ghost use Rattle.guard_mean.specs.Checks.{check_at};
 ghost use Rattle.msg_core.specs.Parts.{longest_body};
 ghost use Rattle.msg_core.specs.View.{most_members};
 ghost use Rattle.lack_mean.specs.Lacks as lack;

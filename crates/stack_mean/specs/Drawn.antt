@@ -2,9 +2,9 @@
 use Rattle.std.specs.Prelude.{ℕ, ◌==◌, Bool, true, false, if◌then◌else◌, List, [], ◌∷◌, ◌++◌, map, slice_index_or}
 use Rattle.std.specs.Prelude.{slice_set, Option, Some, None, option_map, option_to_list, Result, Ok, Err}
 use Rattle.std.specs.Option.{option_map_or, option_and_then}
-use Rattle.layer_ast.specs.declared.tokens.Dir.{Dir}
-use Rattle.layer_ast.specs.declared.tokens.Dir.TheVariants.{Up, Down}
-use Rattle.layer_ast.specs.declared.tokens.Kind.{Kind}
+use Rattle.layer_words.specs.declared.events.Dir.{Dir}
+use Rattle.layer_words.specs.declared.events.Dir.TheVariants.{Up, Down}
+use Rattle.layer_words.specs.declared.events.Kind.{Kind}
 use Rattle.layer_mean.specs.Tree.{Carried, part, whole, ExpressionTree, number, binary, apply, pick, MessageTree}
 use Rattle.layer_mean.specs.Tree.{message, nothing, held, cut, tail, join, ContentTree, EmissionTree, TakenTree}
 use Rattle.layer_mean.specs.Tree.{HandlerTree, LayerTree}

@@ -1,13 +1,13 @@
 -- Layers of the samples, as trees: some of the library's, as far as they are needed, and some that are made to be
 -- judged.
 use Rattle.std.specs.Prelude.{ℕ, true, false, List, [], ◌∷◌, Some, codes}
-use Rattle.layer_ast.specs.declared.tokens.Dir.{Dir}
-use Rattle.layer_ast.specs.declared.tokens.Dir.TheVariants.{Up, Down}
-use Rattle.layer_ast.specs.declared.tokens.Kind.{Kind}
-use Rattle.layer_ast.specs.declared.tokens.Kind.TheVariants.{Cast, Send}
-use Rattle.layer_ast.specs.declared.syntax.Likely.TheVariants as likely
-use Rattle.layer_ast.specs.declared.syntax.Operator.TheVariants.{Add, Equal, NotEqual, Greater, And}
-use Rattle.layer_ast.specs.declared.syntax.Shape.TheVariants.{One, Array}
+use Rattle.layer_words.specs.declared.events.Dir.{Dir}
+use Rattle.layer_words.specs.declared.events.Dir.TheVariants.{Up, Down}
+use Rattle.layer_words.specs.declared.events.Kind.{Kind}
+use Rattle.layer_words.specs.declared.events.Kind.TheVariants.{Cast, Send}
+use Rattle.layer_words.specs.declared.sorts.Likely.TheVariants as likely
+use Rattle.layer_words.specs.declared.operators.Operator.TheVariants.{Add, Equal, NotEqual, Greater, And}
+use Rattle.layer_words.specs.declared.sorts.Shape.TheVariants.{One, Array}
 use Rattle.layer_mean.specs.Tree.{Carried, whole, ExpressionTree, number, me, local, element, rows, item, size, binary}
 use Rattle.layer_mean.specs.Tree.{MessageTree, message, nothing, held, tail, join, StatementTree, assign, push, take}
 use Rattle.layer_mean.specs.Tree.{branch, each, emit, StatementTrees, none, more, Expected, always, common, rare}

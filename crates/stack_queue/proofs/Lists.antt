@@ -4,7 +4,7 @@ use Rattle.std.proofs.Common.{get_or, slice_get, option_map, refl, sym, ap, subs
 use Rattle.std.proofs.lemmas.List.{length-append, length-map}
 use Rattle.circular_buffer.specs.Buffer.{Buffer, buffer}
 use Rattle.slot_pool.specs.Held.{Held}
-use Rattle.layer_ast.specs.declared.tokens.Dir.{Dir}
+use Rattle.layer_words.specs.declared.events.Dir.{Dir}
 use Rattle.layer_mean.specs.declared.run.Event.{Event}
 use Rattle.layer_mean.specs.Queue.{beyond, tasks_of}
 use Rattle.pool_message.specs.Seen.{event_refs, event_seen}

@@ -7,7 +7,7 @@ ghost use Rattle.stack_queue.specs.Round.{Passes};
 ghost use Rattle.stack_queue.specs.Passing.{Rest, GoesWith, Continues, StaysAt, standing_at};
 
 use crate::places::beyond;
-use layer_ast::Dir;
+use layer_words::Dir;
 use layer_stage::Stage;
 use pool_message::PoolEvent;
 

@@ -7,7 +7,7 @@ ghost use Rattle.stack_mean.specs.Acceptance.{largest_weight};
 use crate::passes::{pass_along, pass_one};
 use crate::places::{beyond, end_first, first_way, go_on, put_place, stand_alone};
 use event_graph::Stack;
-use layer_ast::Dir;
+use layer_words::Dir;
 use layer_eval::Predicted;
 use layer_mean::Envelope;
 use layer_stage::Stage;

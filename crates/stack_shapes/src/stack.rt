@@ -13,7 +13,7 @@ use crate::kept::Plans;
 use crate::made::{all_shapes, app_shapes};
 use crate::starts::PlanStarts;
 use event_graph::Stack;
-use layer_ast::Kind;
+use layer_words::Kind;
 use msg_core::Memory;
 use std::alloc::Global;
 

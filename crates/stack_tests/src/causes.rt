@@ -1,7 +1,7 @@
 //! One table over all causes with their places; small stacks at the limits of weight; and files that are accepted.
 
 use file_judge::{FileError, judge};
-use layer_ast::{At, Kind};
+use layer_words::{At, Kind};
 use std::alloc::{AllocError, Global};
 use std::test::Fail;
 

@@ -3,7 +3,7 @@
 ghost use Rattle.std.specs.Prelude.{◌<◌};
 ghost use Rattle.typed_layer.specs.Table.{IsTagged};
 
-use layer_ast::{Dir, Kind};
+use layer_words::{Dir, Kind};
 use std::alloc::{AllocError, Global};
 use typed_layer::{Block, Expected, Handler, Handlers};
 

@@ -2,7 +2,7 @@
 
 use event_graph::Stack;
 use file_judge::judge;
-use layer_ast::{Dir, Kind};
+use layer_words::{Dir, Kind};
 use shape_core::{Absent, Known, Source, shapes};
 use stack_shapes::{EntryOf, StackShapes};
 use std::alloc::Global;

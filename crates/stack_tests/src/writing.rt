@@ -5,7 +5,7 @@ use msg_core::{Memory, Stray};
 use packet_full::{PacketView, Scan};
 use packet_mean::Here;
 use packet_short::{Known, Layouts, fits_scan, most_fields, scan_packet};
-use packet_wire::{put_wire, wire_room_of};
+use packet_short::{put_wire, wire_room_of};
 use stack_shapes::Plans;
 use std::alloc::{AllocError, Global};
 

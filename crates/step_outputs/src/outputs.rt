@@ -22,7 +22,7 @@ use crate::kept::{
 use crate::list::KeptList;
 use crate::view::OutputView;
 use event_graph::Stack;
-use layer_ast::Dir;
+use layer_words::Dir;
 use layer_mean::Envelope;
 use msg_core::{Headers, LONGEST_BODY, View};
 use packet_mean::Here;

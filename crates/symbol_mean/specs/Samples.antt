@@ -1,8 +1,8 @@
 -- Symbolic lists of small traces, made by evaluation.
 use Rattle.std.specs.Prelude.{◌≡◌, ℕ, List, [], ◌∷◌, Some, None}
-use Rattle.layer_ast.specs.declared.tokens.Dir.TheVariants.{Down}
-use Rattle.layer_ast.specs.declared.tokens.Kind.TheVariants.{Cast}
-use Rattle.layer_ast.specs.declared.syntax.Operator.TheVariants.{Add, Equal}
+use Rattle.layer_words.specs.declared.events.Dir.TheVariants.{Down}
+use Rattle.layer_words.specs.declared.events.Kind.TheVariants.{Cast}
+use Rattle.layer_words.specs.declared.operators.Operator.TheVariants.{Add, Equal}
 use Rattle.trace_mean.specs.Trace as trace
 use Rattle.trace_mean.specs.Trace.{Atom, bound, noted, TraceNumber, atom, core, Operation, bind, note}
 use Rattle.trace_mean.specs.Samples.{lit, cell, link, with_chain}

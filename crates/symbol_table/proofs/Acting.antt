@@ -1,8 +1,8 @@
 -- Acts that are made, and that stay.
 use Rattle.std.proofs.Common.{◌≡◌, ℕ, List, [], ◌∷◌, map, Option, Some, None, sym, ap, subst, ◌∙◌}
 use Rattle.std.specs.List.{AllZip}
-use Rattle.layer_ast.specs.declared.tokens.Dir.{Dir}
-use Rattle.layer_ast.specs.declared.tokens.Kind.{Kind}
+use Rattle.layer_words.specs.declared.events.Dir.{Dir}
+use Rattle.layer_words.specs.declared.events.Kind.{Kind}
 use Rattle.symbol_mean.specs.Value as value
 use Rattle.symbol_mean.specs.Value.{NumberValue, ChainedValue, Act}
 use Rattle.symbol_table.specs.declared.form.Form.{Form}

@@ -2,10 +2,10 @@
 use Rattle.std.proofs.Common.{◌≡◌, ◌==◌, true, refl, ap, ap₂}
 use Rattle.std.proofs.lemmas.Bool.{eqb-true, and_parts, false≢true}
 use denote.Enum.Bare.{sameb, same_true}
-use Rattle.layer_ast.specs.contracts.syntax.Operator as operator_row
-use Rattle.layer_ast.specs.contracts.syntax.Function as function_row
-use Rattle.layer_ast.specs.contracts.tokens.Dir as dir_row
-use Rattle.layer_ast.specs.contracts.tokens.Kind as kind_row
+use Rattle.layer_words.specs.contracts.operators.Operator as operator_row
+use Rattle.layer_words.specs.contracts.operators.Function as function_row
+use Rattle.layer_words.specs.contracts.events.Dir as dir_row
+use Rattle.layer_words.specs.contracts.events.Kind as kind_row
 use Rattle.trace_core.proofs.Exact.{load_exact}
 use Rattle.symbol_table.specs.declared.form.Seen.{Seen}
 use Rattle.symbol_table.specs.declared.form.NumberForm as number_form

@@ -12,7 +12,7 @@ use crate::sending::{atom_row, row, sending};
 use crate::table::Table;
 use crate::values::{number, numbers};
 use crate::walk::Walk;
-use layer_ast::{Dir, Kind};
+use layer_words::{Dir, Kind};
 use msg_core::Fields;
 use std::alloc::AllocError;
 use trace_core::{Atoms, Chained, Operation};

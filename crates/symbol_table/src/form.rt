@@ -1,6 +1,6 @@
 //! Values as they stand in a table: each is made of earlier ones, which it names by their numbers.
 
-use layer_ast::{Dir, Function, Kind, Operator};
+use layer_words::{Dir, Function, Kind, Operator};
 use trace_core::Load;
 
 /// A cell as it is read: how many earlier operations of the trace wrote to it.

@@ -10,7 +10,7 @@ ghost use Rattle.trace_mean.specs.Fuse.{form_at};
 ghost use Rattle.typed_layer.specs.View.{items_tree};
 
 use event_graph::Stack;
-use layer_ast::Shape;
+use layer_words::Shape;
 use msg_core::Memory;
 use report_lines::Line;
 use typed_layer::{Cell, Form, Items, TypedLayer};

@@ -1,12 +1,12 @@
 //! Symbols and words of operators and functions, and what packets of a kind are called.
-#![tactic(auto, unfolding(layer_ast::specs::Spelling::tables))]
+#![tactic(auto, unfolding(layer_words::specs::Spelling::tables))]
 
 ghost use Rattle.std.specs.Prelude.{◌≡◌, ◌++◌, codes};
 ghost use Rattle.bypass_mean.specs.Lines.{packet_word};
-ghost use Rattle.bypass_mean.specs.Text.{sign_text};
-ghost use Rattle.layer_ast.specs.Printed.{function_sign, operator_sign};
+ghost use Rattle.layer_words.specs.Spelling.{sign_text};
+ghost use Rattle.layer_words.specs.Signs.{function_sign, operator_sign};
 
-use layer_ast::{Function, Kind, Operator};
+use layer_words::{Function, Kind, Operator};
 
 /// What stands between the two numbers of an operator.
 pub(crate) fn operator_between(operator: Operator) -> &'static [u8]

@@ -1,8 +1,8 @@
 -- Traces of small stacks, made and followed by evaluation.
 use Rattle.std.specs.Prelude.{◌≡◌, ℕ, ⊤, List, [], ◌∷◌, length, Option, Some, None, Result, Ok, Err, codes}
-use Rattle.layer_ast.specs.declared.tokens.Dir.TheVariants.{Up, Down}
-use Rattle.layer_ast.specs.declared.tokens.Kind.TheVariants.{Cast, Send}
-use Rattle.layer_ast.specs.declared.syntax.Operator.TheVariants.{Add, Equal, Less, Greater, And, BitAnd}
+use Rattle.layer_words.specs.declared.events.Dir.TheVariants.{Up, Down}
+use Rattle.layer_words.specs.declared.events.Kind.TheVariants.{Cast, Send}
+use Rattle.layer_words.specs.declared.operators.Operator.TheVariants.{Add, Equal, Less, Greater, And, BitAnd}
 use Rattle.layer_mean.specs.Tree as tree
 use Rattle.layer_mean.specs.Tree.{part, local, message, none, always, queue, queues, LayerTree}
 use Rattle.layer_mean.specs.declared.run.Case.TheVariants.{First, Second}

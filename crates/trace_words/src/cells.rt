@@ -21,7 +21,7 @@ ghost use Rattle.trace_core.specs.View.{load_tree};
 use crate::name::Name;
 use crate::spot::Spot;
 use event_graph::Stack;
-use layer_ast::Word;
+use layer_words::Word;
 use script_text::number_within;
 use std::alloc::AllocError;
 use trace_core::Load;

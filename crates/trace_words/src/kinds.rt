@@ -1,12 +1,12 @@
 //! Words of kinds and functions.
-#![tactic(auto, unfolding(layer_ast::specs::Spelling::tables))]
+#![tactic(auto, unfolding(layer_words::specs::Spelling::tables))]
 
 ghost use Rattle.std.specs.Prelude.{◌≡◌, ◌∷◌, []};
 ghost use Rattle.pack_mean.specs.Named as named;
 ghost use Rattle.trace_words.specs.Names.{words_in};
 
 use crate::name::Name;
-use layer_ast::{Function, Kind};
+use layer_words::{Function, Kind};
 
 /// The kind of event of a name.
 pub fn kind_named(name: Name<'_>) -> Option<Kind>

@@ -4,7 +4,7 @@ ghost use Rattle.std.specs.Prelude.{◌≡◌};
 ghost use Rattle.pack_mean.specs.Named as named;
 ghost use Rattle.trace_words.specs.Words.{by_word, operator_words};
 
-use layer_ast::Operator;
+use layer_words::Operator;
 
 /// The operator of a word or symbol, by the table.
 fn operator_by(word: &[u8]) -> Option<Operator>

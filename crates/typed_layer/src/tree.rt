@@ -4,7 +4,7 @@ ghost use Rattle.std.specs.Prelude.{◌≤◌};
 ghost use Rattle.msg_core.specs.Headers.{most_fields};
 
 use crate::handlers::Handlers;
-use layer_ast::{Dir, Function, Kind, Likely, Operator, Shape, Word};
+use layer_words::{Dir, Function, Kind, Likely, Operator, Shape, Word};
 use std::marker::Model;
 
 /// A layer at its place. Names are kept for reports alone.

@@ -13,7 +13,7 @@ ghost use Rattle.group_feed.specs.Standing.{spelled_number, spelled_of};
 use msg_core::Memory;
 use packet_full::PacketView;
 use packet_mean::Here;
-use packet_wire::{put_wire, wire_room_of};
+use packet_short::{put_wire, wire_room_of};
 use stack_shapes::Plans;
 use std::alloc::Global;
 use std::marker::Model;

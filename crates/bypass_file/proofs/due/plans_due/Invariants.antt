@@ -1,6 +1,6 @@
 use Rattle.std.proofs.Common.{◌≡◌, ◌+◌, ◌++◌, map, drop}
 use Rattle.synth.specs.Cases.{cases_tree}
-use Rattle.trace_file.specs.View.{bare, due_tree}
+use Rattle.pack_read.specs.Files.{bare, due_tree}
 use Rattle.bypass_file.specs.Due.{all_due, plan_varying}
 use Rattle.bypass_file.proofs.due.plans_due.Given as goal
 

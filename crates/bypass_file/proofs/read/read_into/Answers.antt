@@ -4,7 +4,7 @@ use Rattle.event_graph.specs.Answer.{stack_tree}
 use Rattle.stack_shapes.specs.declared.types.TheConstants.{MOST_PLANS}
 use Rattle.trace_core.specs.Trees.{trace_tree}
 use Rattle.pack_mean.specs.File.{due_of, traces_in}
-use Rattle.trace_file.specs.View.{bare, due_tree}
+use Rattle.pack_read.specs.Files.{bare, due_tree}
 use Rattle.bypass_file.proofs.Whole.{as_many, due_known, simple_known}
 use Rattle.bypass_file.proofs.Judging.{judged, unreadable}
 use Rattle.bypass_file.proofs.read.read_into.Goals as goal

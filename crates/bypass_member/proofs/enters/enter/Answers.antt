@@ -1,6 +1,6 @@
 use Rattle.std.proofs.Common.{None, sym, ap, ◌∙◌, refl}
 use Rattle.msg_core.specs.Chain.{plain}
-use Rattle.layer_ast.specs.declared.tokens.Kind.TheVariants as kind
+use Rattle.layer_words.specs.declared.events.Kind.TheVariants as kind
 use Rattle.packet_full.specs.Scanned.{packet_scanned}
 use Rattle.stack_queue.specs.Pending.{task_seen}
 use Rattle.stack_queue.specs.Put.{task_with}

@@ -3,7 +3,7 @@ use Rattle.std_alloc.specs.Vec.{with_items}
 use Rattle.std_alloc.proofs.VecSteps.Gaps.{with_items_is}
 use Rattle.circular_buffer.specs.Buffer.{Buffer}
 use Rattle.event_graph.specs.Answer.{stack_tree}
-use Rattle.layer_ast.specs.declared.tokens.Dir.{Dir}
+use Rattle.layer_words.specs.declared.events.Dir.{Dir}
 use Rattle.pool_message.specs.declared.event.PoolEvent.{PoolEvent}
 use Rattle.stack_queue.specs.Pending.{first_task}
 use Rattle.stack_queue.specs.declared.tasks.PoolTask.{PoolTask}

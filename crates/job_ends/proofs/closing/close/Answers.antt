@@ -3,7 +3,7 @@ use Rattle.outside.specs.StdSink.{gathered_bytes}
 use Rattle.outside.specs.Said.{errors}
 use Rattle.outside.specs.Tells.{tells}
 use Rattle.job_ends.specs.Shown.{Said}
-use Rattle.job_streams.proofs.closing.close.Goals as goal
+use Rattle.job_ends.proofs.closing.close.Goals as goal
 
 pub returns : goal.returns
 returns g c =

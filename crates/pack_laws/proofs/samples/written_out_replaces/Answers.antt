@@ -2,7 +2,7 @@
 use Rattle.std.proofs.Common.{refl, inl, arith}
 use Rattle.stack_mean.specs.Shape.{drawn_shape, has_second_case}
 use Rattle.trace_mean.specs.Fuse.{made_trace}
-use Rattle.symbol_laws.proofs.samples.written_out_replaces.Goals as goal
+use Rattle.pack_laws.proofs.samples.written_out_replaces.Goals as goal
 
 pub returns : goal.returns
 unfolding drawn_shape has_second_case made_trace

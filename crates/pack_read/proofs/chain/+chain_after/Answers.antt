@@ -1,9 +1,9 @@
 use Rattle.std.proofs.Common.{rules}
 use Rattle.trace_words.specs.Reading.{left}
 use Rattle.trace_words.specs.View.{layers_in, named_in}
-use Rattle.trace_operations.specs.Reading.{header_at}
-use Rattle.trace_operations.proofs.Chaining.{no_places, not_passed, header_fails, rest_fails, put_after_at}
-use Rattle.trace_operations.proofs.chain.+chain_after.Goals as goal
+use Rattle.pack_read.specs.Operations.{header_at}
+use Rattle.pack_read.proofs.Chaining.{no_places, not_passed, header_fails, rest_fails, put_after_at}
+use Rattle.pack_read.proofs.chain.+chain_after.Goals as goal
 
 pub returns-then-most-eq0 : goal.returns-then-most-eq0
 returns-then-most-eq0 t c = no_places (layers_in c.args.scope.now) (named_in c.args.scope.now) c.args.place c.args.most

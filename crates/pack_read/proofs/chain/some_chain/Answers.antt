@@ -1,8 +1,8 @@
 use Rattle.std.proofs.Common.{rules}
 use Rattle.trace_words.specs.Reading.{left}
 use Rattle.trace_words.specs.View.{layers_in, named_in}
-use Rattle.trace_operations.proofs.Chaining.{put_some_at}
-use Rattle.trace_operations.proofs.chain.some_chain.Goals as goal
+use Rattle.pack_read.proofs.Chaining.{put_some_at}
+use Rattle.pack_read.proofs.chain.some_chain.Goals as goal
 
 pub returns : goal.returns
 returns c = put_some_at (layers_in c.args.scope.now) (named_in c.args.scope.now) c.args.place c.in_ok-place.place

@@ -1,12 +1,12 @@
 use Rattle.std.proofs.Common.{rules, sym, ◌∙◌}
 use Rattle.trace_words.specs.Reading.{left}
-use Rattle.trace_expressions.specs.Inside.{inner}
-use Rattle.trace_expressions.proofs.Arms.{choice_read, cut_read, held_read, item_read, join_read, operation_read}
-use Rattle.trace_expressions.proofs.Arms.{tail_read}
-use Rattle.trace_expressions.proofs.Cells.{both_read}
-use Rattle.trace_expressions.proofs.Opened.{message_opened, no_cell, number_opened, operation_opened}
+use Rattle.pack_read.specs.Inside.{inner}
+use Rattle.pack_read.proofs.Arms.{choice_read, cut_read, held_read, item_read, join_read, operation_read}
+use Rattle.pack_read.proofs.Arms.{tail_read}
+use Rattle.pack_read.proofs.Cells.{both_read}
+use Rattle.pack_read.proofs.Brackets.{message_opened, no_cell, number_opened, operation_opened}
 use Rattle.trace_words.specs.Names.{words_in}
-use Rattle.trace_expressions.proofs.expressions.+expressions.Goals as goal
+use Rattle.pack_read.proofs.expressions.+expressions.Goals as goal
 
 pub choice-returns : goal.choice-returns
 choice-returns t c = choice_read (inner c.args.scope.now c.args.room) (left c.args.text.now) _ _ _ _ _ _ _ _ _ _ _ _ _

@@ -1,5 +1,5 @@
 use Rattle.std.proofs.Common.{◌+◌, ◌*◌}
-use Rattle.trace_expressions.proofs.expressions.+expressions.Given as goal
+use Rattle.pack_read.proofs.expressions.+expressions.Given as goal
 
 abbrev pub decreases-index : goal.decreases-index
 decreases-index l = 8 * l.room + 1

@@ -1,10 +1,10 @@
 use Rattle.std.proofs.Common.{rules}
 use Rattle.event_graph.specs.Answer.{stack_tree}
 use Rattle.pack_mean.specs.File.{traces_from}
-use Rattle.trace_file.specs.Lines.{lines_left}
-use Rattle.trace_file.specs.View.{begun_after}
-use Rattle.trace_file.proofs.Steps.{ended_read}
-use Rattle.trace_file.proofs.file.read_after.Goals as goal
+use Rattle.pack_read.specs.Lines.{lines_left}
+use Rattle.pack_read.specs.Files.{begun_after}
+use Rattle.pack_read.proofs.Steps.{ended_read}
+use Rattle.pack_read.proofs.file.read_after.Goals as goal
 
 pub returns : goal.returns
 returns c = ended_read (stack_tree c.args.stack.now) c.loop-line.reading c.loop-line.number

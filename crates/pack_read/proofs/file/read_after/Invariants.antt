@@ -1,10 +1,10 @@
 use Rattle.std.proofs.Common.{◌≡◌, ◌+◌, ◌≤◌, length}
 use Rattle.event_graph.specs.Answer.{stack_tree}
 use Rattle.pack_mean.specs.File.{traces_from}
-use Rattle.trace_file.specs.Lines.{lines_left}
-use Rattle.trace_file.specs.Open.{AreParts}
-use Rattle.trace_file.specs.View.{begun_after, reading_in}
-use Rattle.trace_file.proofs.file.read_after.Given as goal
+use Rattle.pack_read.specs.Lines.{lines_left}
+use Rattle.pack_read.specs.Open.{AreParts}
+use Rattle.pack_read.specs.Files.{begun_after, reading_in}
+use Rattle.pack_read.proofs.file.read_after.Given as goal
 
 abbrev pub invariant-loop-line : goal.invariant-loop-line
 invariant-loop-line l =

@@ -1,10 +1,10 @@
 use Rattle.std.proofs.Common.{rules, sym, subst}
 use Rattle.audit_mean.specs.Text.{lines_of}
 use Rattle.event_graph.specs.Answer.{stack_tree}
-use Rattle.trace_file.specs.Lines.{lines_left}
-use Rattle.trace_file.specs.View.{Reads}
-use Rattle.trace_file.proofs.Steps.{first_read, rest_bound}
-use Rattle.trace_file.proofs.file.read_traces.Goals as goal
+use Rattle.pack_read.specs.Lines.{lines_left}
+use Rattle.pack_read.specs.Files.{Reads}
+use Rattle.pack_read.proofs.Steps.{first_read, rest_bound}
+use Rattle.pack_read.proofs.file.read_traces.Goals as goal
 
 pub read_after-requires : goal.read_after-requires
 read_after-requires c = rest_bound c.args.text.now c.in-Some.first.now (lines_left c.next.new.self) (search rules)

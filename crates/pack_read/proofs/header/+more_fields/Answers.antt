@@ -2,8 +2,8 @@ use Rattle.std.proofs.Common.{rules}
 use Rattle.pack_mean.specs.Operation as operation
 use Rattle.trace_words.specs.Reading.{left}
 use Rattle.trace_words.specs.View.{named_in}
-use Rattle.trace_operations.proofs.Fields.{field_more}
-use Rattle.trace_operations.proofs.header.+more_fields.Goals as goal
+use Rattle.pack_read.proofs.Fields.{field_more}
+use Rattle.pack_read.proofs.header.+more_fields.Goals as goal
 
 pub returns : goal.returns
 returns t c = field_more (operation.an_atom (named_in c.args.scope.now)) c.args.most c.args._place

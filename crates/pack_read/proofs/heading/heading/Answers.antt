@@ -2,8 +2,8 @@ use Rattle.std.proofs.Common.{rules, ◌++◌, codes}
 use Rattle.std.specs.Fmt.{decimal}
 use Rattle.pack_mean.specs.File as file
 use Rattle.trace_words.specs.Reading.{left}
-use Rattle.trace_file.proofs.Headings.{heading_fails, heading_told}
-use Rattle.trace_file.proofs.heading.heading.Goals as goal
+use Rattle.pack_read.proofs.Headings.{heading_fails, heading_told}
+use Rattle.pack_read.proofs.heading.heading.Goals as goal
 
 pub returns-in_err-named_entry : goal.returns-in_err-named_entry
 returns-in_err-named_entry c = heading_fails (codes "entry " ++ file.entry_name c.args.due.now.entry) (codes " case ")

@@ -1,8 +1,8 @@
 use Rattle.std.proofs.Common.{rules, sym, ◌∙◌}
 use Rattle.pack_mean.specs.File as file
 use Rattle.trace_words.specs.Reading.{left}
-use Rattle.trace_file.proofs.Headings.{whole_told}
-use Rattle.trace_file.proofs.heading.is_heading.Goals as goal
+use Rattle.pack_read.proofs.Headings.{whole_told}
+use Rattle.pack_read.proofs.heading.is_heading.Goals as goal
 
 pub returns-in-Ok : goal.returns-in-Ok
 returns-in-Ok c = c.is_empty.ensures

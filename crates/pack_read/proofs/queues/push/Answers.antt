@@ -1,8 +1,8 @@
 use Rattle.std.proofs.Common.{rules}
 use Rattle.trace_words.specs.Reading.{left}
 use Rattle.trace_words.specs.View.{items_shown, layers_in, named_in}
-use Rattle.trace_operations.proofs.Writing.{push_read}
-use Rattle.trace_operations.proofs.queues.push.Goals as goal
+use Rattle.pack_read.proofs.Writing.{push_read}
+use Rattle.pack_read.proofs.queues.push.Goals as goal
 
 pub returns : goal.returns
 returns c = push_read (layers_in c.args.scope.now) (named_in c.args.scope.now) (left c.args.text.now)

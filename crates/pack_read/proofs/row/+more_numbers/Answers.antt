@@ -2,8 +2,8 @@ use Rattle.std.proofs.Common.{rules}
 use Rattle.pack_mean.specs.Expression as expression
 use Rattle.trace_words.specs.Reading.{left}
 use Rattle.trace_words.specs.View.{layers_in, named_in}
-use Rattle.trace_operations.proofs.Numbering.{no_others, others_read}
-use Rattle.trace_operations.proofs.row.+more_numbers.Goals as goal
+use Rattle.pack_read.proofs.Numbering.{no_others, others_read}
+use Rattle.pack_read.proofs.row.+more_numbers.Goals as goal
 
 pub returns-in_default : goal.returns-in_default
 returns-in_default t c = no_others (expression.a_number (layers_in c.args.scope.now) (named_in c.args.scope.now))

@@ -2,8 +2,8 @@ use Rattle.std.proofs.Common.{rules}
 use Rattle.trace_words.specs.Names.{words_in}
 use Rattle.trace_words.specs.Reading.{left}
 use Rattle.trace_words.specs.View.{named_in}
-use Rattle.trace_operations.proofs.Sending.{last_sent}
-use Rattle.trace_operations.proofs.sent.+sent_within.Goals as goal
+use Rattle.pack_read.proofs.Sending.{last_sent}
+use Rattle.pack_read.proofs.sent.+sent_within.Goals as goal
 
 pub returns-in-None : goal.returns-in-None
 returns-in-None t c = last_sent (named_in c.args.scope.now) c.args.most (left c.args.text.now)

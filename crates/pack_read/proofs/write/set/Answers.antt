@@ -1,8 +1,8 @@
 use Rattle.std.proofs.Common.{rules, refl}
 use Rattle.trace_words.specs.Reading.{left}
 use Rattle.trace_words.specs.View.{layers_in, named_in}
-use Rattle.trace_operations.proofs.Writing.{set_read}
-use Rattle.trace_operations.proofs.write.set.Goals as goal
+use Rattle.pack_read.proofs.Writing.{set_read}
+use Rattle.pack_read.proofs.write.set.Goals as goal
 
 pub returns : goal.returns
 returns c = set_read (layers_in c.args.scope.now) (named_in c.args.scope.now) (left c.args.text.now)

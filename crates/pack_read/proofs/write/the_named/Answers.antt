@@ -2,7 +2,7 @@ use Rattle.std.proofs.Common.{rules, ◌++◌, codes}
 use Rattle.std.specs.Fmt.{decimal}
 use Rattle.trace_words.specs.Reading.{left}
 use Rattle.trace_words.proofs.Fronts.{both_texts}
-use Rattle.trace_operations.proofs.write.the_named.Goals as goal
+use Rattle.pack_read.proofs.write.the_named.Goals as goal
 
 pub returns : goal.returns
 returns c = both_texts (c.args.front.now ++ decimal c.args.number) (codes " = ") (left c.args.text.now)

@@ -1,5 +1,5 @@
 use Rattle.std.proofs.Common.{ap, ◌∙◌}
-use Rattle.check_mean.specs.Checks.{checks_of}
+use Rattle.guard_mean.specs.Checks.{checks_of}
 use Rattle.trace_core.specs.Trees.{trace_tree}
 use Rattle.stack_checks.proofs.asked.checks.Goals as goal
 

@@ -1,5 +1,5 @@
 use Rattle.std.proofs.Common.{ℕ, List, drop, length, ap, ◌∙◌, ◌-◌}
-use Rattle.layer_ast.specs.declared.names.Word.{Word}
+use Rattle.layer_words.specs.declared.words.Word.{Word}
 use Rattle.file_numbers.specs.Visible.{Shown, entries}
 use Rattle.file_numbers.proofs.Slots.{entries_take}
 use Rattle.file_numbers.proofs.visible.Visible.leave.Goals as goal

@@ -1,7 +1,7 @@
 use Rattle.std.proofs.Common.{rules, refl}
 use Rattle.event_graph.specs.Answer.{stack_tree}
-use Rattle.trace_file.proofs.Opened.{added}
-use Rattle.trace_file.proofs.open.Open.add.Goals as goal
+use Rattle.pack_read.proofs.OpenCase.{added}
+use Rattle.pack_read.proofs.open.Open.add.Goals as goal
 
 pub returns : goal.returns
 returns c = added (stack_tree c.args.stack.now) c.args.line.now c.args.self.now c.said.new.self

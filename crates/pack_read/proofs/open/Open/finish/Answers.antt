@@ -1,5 +1,5 @@
 use Rattle.trace_core.proofs.Parts.{parts_hold}
-use Rattle.trace_file.proofs.open.Open.finish.Goals as goal
+use Rattle.pack_read.proofs.open.Open.finish.Goals as goal
 
 pub invariant_of-result : goal.invariant_of-result
 invariant_of-result c = record {

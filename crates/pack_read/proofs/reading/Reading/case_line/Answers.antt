@@ -1,7 +1,7 @@
 use Rattle.std.proofs.Common.{rules, refl}
 use Rattle.event_graph.specs.Answer.{stack_tree}
-use Rattle.trace_file.proofs.Steps.{case_added}
-use Rattle.trace_file.proofs.reading.Reading.case_line.Goals as goal
+use Rattle.pack_read.proofs.Steps.{case_added}
+use Rattle.pack_read.proofs.reading.Reading.case_line.Goals as goal
 
 pub returns-then-not-begins : goal.returns-then-not-begins
 returns-then-not-begins c = case_added (stack_tree c.args.stack.now) c.args.self.now
