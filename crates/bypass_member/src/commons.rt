@@ -29,7 +29,7 @@ use crate::ground::Ground;
 use crate::scratch::Scratch;
 use crate::works::Works;
 use bypass_codes::Codes;
-use handler_laws::steps_are_handled;
+use handler_laws::law_steps_are_handled;
 use layer_mean::Case;
 use packet_full::Scan;
 use packet_mean::Here;
@@ -180,7 +180,7 @@ fn try_case(
     let Some(code) = tried.codes.at(tried.entry, case) else {
         return false
     };
-    ground.stack.is_within_limits();
+    ground.stack.law_within_limits();
     let layers = works.layers.as_mut_slice();
     perform(code, &tried.given, layers, &mut works.pool, values, out)
 }
@@ -248,8 +248,8 @@ pub(crate) fn make_common<'x>(
     let Some(codes) = ground.codes else {
         return None
     };
-    steps_are_handled();
-    ground.stack.is_accepted();
+    law_steps_are_handled();
+    ground.stack.law_accepted();
     if let EntryOf::None = what {
         return None;
     }

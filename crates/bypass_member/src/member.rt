@@ -128,9 +128,9 @@ impl Member {
             view: Some(view),
             rank: rank_in(view, id),
             count: member_count(view),
-            scan: Scan::none(),
+            scan: Scan::new(),
             layouts,
-            bare: Headers::none(),
+            bare: Headers::new(),
             kit,
         })
     }
@@ -319,18 +319,18 @@ impl Member {
     }
 
     /// That what its layers keep is chained.
-    pub fn is_chained(&self)
+    pub fn law_chained(&self)
         ensures { IsChainedMember self.now.stack self.now.member }
     {
         let _works = &self.kit.works;
     }
 
     /// That its stack is typed and accepted, and that its plans are the stack's.
-    pub fn is_placed(&self)
+    pub fn law_placed(&self)
         ensures typed { TypedStack self.now.stack }
         ensures plans { self.now.plans ≡ plans_of self.now.stack }
         ensures accepted { acceptance self.now.stack ≡ Ok self.now.stack }
     {
-        self.stack.is_accepted();
+        self.stack.law_accepted();
     }
 }

@@ -46,7 +46,7 @@ impl Lists {
         ensures tasks { IfOk result (λ l. l.tasks ≡ buffer [] (largest_weight (stack_tree stack.now))) }
         ensures outs { IfOk result (λ l. l.outs ≡ buffer [] (largest_weight (stack_tree stack.now))) }
     {
-        let tasks = Tasks::fresh(alloc, stack)?;
+        let tasks = Tasks::new(alloc, stack)?;
         match events_for(alloc, stack) {
             Ok(outs) => Ok(Lists { tasks, outs }),
             Err(error) => {
@@ -94,7 +94,7 @@ fn make_layers(
 {
     let mut layers = Vec::with_capacity(alloc, usize::from(places))?;
     for place in 0..places {
-        match FileLayer::fresh(alloc, maker, place, membership) {
+        match FileLayer::new(alloc, maker, place, membership) {
             Ok(layer) => layers.push_reserved(layer),
             Err(error) => {
                 close_layers(layers, pool);
@@ -156,7 +156,7 @@ pub(crate) fn lay_out(alloc: Global, opening: Opening<'_>) -> Result<Layouts, Me
 {
     match opening.codes {
         Some(_) => Layouts::of(alloc, opening.stack, opening.plans),
-        None => Ok(Layouts::none(alloc)),
+        None => Ok(Layouts::new(alloc)),
     }
 }
 

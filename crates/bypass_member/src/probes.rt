@@ -27,7 +27,7 @@ use crate::ground::Ground;
 use crate::kit::Kit;
 use crate::steps::make_by_code;
 use crate::views::change_view;
-use miss_laws::misses_are_told;
+use miss_laws::law_misses_are_told;
 use stack_checks::StackChecks;
 use stack_shapes::EntryOf;
 use step_misses::{Miss, Probed};
@@ -85,7 +85,7 @@ fn lacked<'x>(
     if !is_told(entry) {
         return None;
     }
-    misses_are_told();
+    law_misses_are_told();
     let given = given_of(
         ground.plans,
         ground.here,

@@ -9,8 +9,8 @@ ghost use Rattle.bypass_member.specs.Working.{CanRun, HasRun};
 use crate::works::Works;
 use event_graph::Stack;
 use layer_eval::Predicted;
-use pool_laws::accepted_is_light;
-use stack_queue::{entries_fit, run};
+use pool_laws::law_accepted_is_light;
+use stack_queue::{law_entries_fit, run};
 
 /// Runs the layers from the only task that is pending. What comes out is kept until it is gathered.
 pub(crate) fn run_layers(works: &mut Works, stack: &Stack, visits: &mut u64) -> Predicted
@@ -20,9 +20,9 @@ pub(crate) fn run_layers(works: &mut Works, stack: &Stack, visits: &mut u64) -> 
     ensures { HasRun (stack_tree stack.now) works.old (first_task works.old.tasks.items) visits.old works.new visits.new
         result }
 {
-    entries_fit();
-    accepted_is_light();
-    stack.is_accepted();
+    law_entries_fit();
+    law_accepted_is_light();
+    stack.law_accepted();
     let layers = works.layers.as_mut_slice();
     run(
         layers,

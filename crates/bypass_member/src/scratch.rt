@@ -26,7 +26,7 @@ fn values_for(alloc: Global, codes: Option<&Rc<Codes>>) -> Result<Values, AllocE
 {
     match codes {
         Some(codes) => codes.values(alloc),
-        None => Values::fresh(alloc, Needs::none()),
+        None => Values::with_room(alloc, Needs::new()),
     }
 }
 

@@ -50,7 +50,7 @@ fn play(
         visits.old visits.new result }
     ensures places { out.new.places ≡ out.old.places }
 {
-    ground.stack.is_accepted();
+    ground.stack.law_accepted();
     enter(entry, ground, &mut works.tasks, &mut works.pool);
     let predicted = run_layers(works, ground.stack, visits);
     out.begin(*ground.here);

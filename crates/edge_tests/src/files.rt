@@ -140,7 +140,7 @@ fn takes_pieces<O: Sink>(alloc: Global, sink: &mut O) -> Result<bool, AllocError
 
 /// Whether a slow stream gets every byte in its order.
 fn slow_gets_all(alloc: Global) -> io::Result<bool> {
-    let mut sink = StdSink::of(alloc, Slow::of(alloc, 1_000_000))?;
+    let mut sink = StdSink::new(alloc, Slow::of(alloc, 1_000_000))?;
     Ok(
         takes_pieces(alloc, &mut sink)?
             && is_whole(&mut sink, 135_537)
@@ -150,7 +150,7 @@ fn slow_gets_all(alloc: Global) -> io::Result<bool> {
 
 /// Whether a stream that breaks got what it took, and the count rose.
 fn broken_is_counted(alloc: Global) -> io::Result<bool> {
-    let mut sink = StdSink::of(alloc, Slow::of(alloc, 4))?;
+    let mut sink = StdSink::new(alloc, Slow::of(alloc, 4))?;
     Ok(
         takes(&mut sink, b"hello")
             && sink.finish() == Err(SinkError::Failed)
@@ -178,7 +178,7 @@ fn pipe_gets_all(
     writer: impl Write + Drop,
     reader: &mut impl Read,
 ) -> io::Result<bool> {
-    let mut sink = StdSink::of(alloc, writer)?;
+    let mut sink = StdSink::new(alloc, writer)?;
     let put = takes(&mut sink, b"one\n") && takes(&mut sink, b"two\n");
     let whole = put && sink.finish() == Ok(());
     drop(sink);
@@ -189,13 +189,13 @@ fn pipe_gets_all(
 
 /// Whether a full device fails, once it is handed what was gathered.
 fn full_fails(alloc: Global, full: impl Write + Drop) -> io::Result<bool> {
-    let mut sink = StdSink::of(alloc, full)?;
+    let mut sink = StdSink::new(alloc, full)?;
     Ok(takes(&mut sink, b"one\n") && sink.finish() == Err(SinkError::Failed))
 }
 
 /// Whether a file of the system is read up to a limit, and what isn't there and a folder fail.
 fn system_is_read<R: Files + Drop>(alloc: Global, files: R, path: &str, bytes: &[u8]) -> bool {
-    let mut shelf = FileShelf::of(files);
+    let mut shelf = FileShelf::new(files);
     gives(alloc, &mut shelf, path, bytes)
         && is_longer(alloc, &mut shelf, path, 39_999)
         && fails(alloc, &mut shelf, "/tmp")
@@ -206,7 +206,7 @@ fn system_is_read<R: Files + Drop>(alloc: Global, files: R, path: &str, bytes: &
 #[test]
 fn shelves_and_sinks_in_memory(rt: HostRuntime) -> Result<(), Fail> {
     let alloc = rt.alloc();
-    let mut shelf = MemShelf::of(files(alloc)?, vec![in alloc; false, true]?);
+    let mut shelf = MemShelf::new(files(alloc)?, vec![in alloc; false, true]?);
     assert!(rt; gives(alloc, &mut shelf, "a", b"hello"));
     assert!(rt; fails(alloc, &mut shelf, "a"));
     let mut still = StillShelf::of(files(alloc)?);
@@ -218,7 +218,7 @@ fn shelves_and_sinks_in_memory(rt: HostRuntime) -> Result<(), Fail> {
 #[test]
 fn sinks_in_memory(rt: HostRuntime) -> Result<(), Fail> {
     let alloc = rt.alloc();
-    let mut sink = MemSink::of(alloc, vec![in alloc; None, Some(2)]?);
+    let mut sink = MemSink::new(alloc, vec![in alloc; None, Some(2)]?);
     assert!(rt; takes(&mut sink, b"one\n"));
     assert!(rt; !takes(&mut sink, b"four\n"));
     assert!(rt; sink.contents() == b"one\nfo".as_slice());

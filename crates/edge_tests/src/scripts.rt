@@ -80,7 +80,7 @@ fn makes_a_script(rt: HostRuntime) -> Result<(), Fail> {
         members: 3,
         raw: true,
     };
-    let mut script = Generation::begin(rt.alloc(), workload)?;
+    let mut script = Generation::new(rt.alloc(), workload)?;
     let first = script.next(rt.alloc())?;
     let second = script.next(rt.alloc())?;
     let third = script.next(rt.alloc())?;

@@ -27,12 +27,12 @@ impl Stack {
     ghost use Rattle.event_graph.specs.Answer.{stack_tree};
 
     /// That it is accepted.
-    pub fn is_accepted(&self)
+    pub fn law_accepted(&self)
         ensures { acceptance (stack_tree self.now) ≡ Ok (stack_tree self.now) }
     {}
 
     /// That it has at most 24 places, and each header that its layers declare at most four numbers.
-    pub fn is_within_limits(&self)
+    pub fn law_within_limits(&self)
         ensures places { length (stack_tree self.now) ≤ most_places }
         ensures fields { All (λ layer. All (λ header. header.fields ≤ most_fields) layer.headers)
             (stack_tree self.now) }

@@ -42,7 +42,7 @@ impl FileLayer {
     /// here. A layer with more rows, or a larger hand, than a desk may have is answered as want of memory; within the
     /// language's limits there are never too many rows.
     #[tactic(auto, unfolding(crate::specs::Making::making))]
-    pub fn fresh(
+    pub fn new(
         alloc: Global,
         maker: &mut Maker,
         place: u8,
@@ -55,7 +55,7 @@ impl FileLayer {
         ensures { Makes place membership.me membership.count membership.ltime (making maker.old) (making maker.new)
             result }
     {
-        maker.stack.is_within_limits();
+        maker.stack.law_within_limits();
         let layer = maker.stack.layer(place).clone()?;
         let desk = make(alloc, &layer, membership)?;
         maker.made += 1;

@@ -36,8 +36,8 @@ impl Lists {
             (λ l. (l.tray ≡ record { arrived = None; messages = buffer [] messages; sent = buffer [] 0 }) ×
             (l.hand ≡ buffer [] hand)) }
     {
-        let tray = Tray::fresh(alloc, messages)?;
-        match Messages::fresh(alloc, hand) {
+        let tray = Tray::with_messages(alloc, messages)?;
+        match Messages::with_places(alloc, hand) {
             Ok(hand) => Ok(Lists { tray, hand }),
             Err(error) => {
                 tray.close();
@@ -114,7 +114,7 @@ pub(crate) fn make(
         usize::from(reserve.messages) + 1,
         reserve.hand as usize,
     )?;
-    match Cells::fresh(alloc, layer, membership) {
+    match Cells::new(alloc, layer, membership) {
         Ok(cells) => {
             let Lists { tray, hand } = lists;
             Ok(FileDesk {

@@ -53,6 +53,6 @@ pub(crate) fn none_header(place: u8) -> Header
     Header {
         layer: place,
         tag: 0,
-        fields: Fields::none(),
+        fields: Fields::new(),
     }
 }

@@ -104,7 +104,7 @@ pub(crate) fn send_first<K: Start>(
 fn nothing_after(sending: &Sending) -> PoolMessage
     ensures { result ≡ sent_after sending.now.direction sending.now.header (bodiless []) }
 {
-    let mut message = PoolMessage::nothing();
+    let mut message = PoolMessage::new();
     match sending.direction {
         Dir::Up => {}
         Dir::Down => message.push_header(sending.header),
@@ -120,7 +120,7 @@ fn send_nothing(tray: &mut Tray, sending: &Sending)
         (Some (sent_after sending.now.direction sending.now.header (bodiless []))) tray.old }
 {
     let mut message = nothing_after(sending);
-    let mut place = MessagePlace::empty();
+    let mut place = MessagePlace::new();
     place.fill(&mut message);
     message.close();
     tray.send_from(sending.direction, sending.envelope, &mut place);

@@ -65,7 +65,7 @@ fn stand_in(carried: Carried) -> PoolMessage
     ensures { StandsIn (carried_tree carried) result }
 {
     match carried {
-        Carried::Part => PoolMessage::nothing(),
+        Carried::Part => PoolMessage::new(),
         Carried::Whole(blank) => PoolMessage::blank(blank.first, blank.count),
     }
 }

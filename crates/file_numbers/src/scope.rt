@@ -33,8 +33,8 @@ impl<'a> VisibleNames<'a> {
     {
         VisibleNames {
             place,
-            numbers: Visible::none(alloc),
-            messages: Visible::none(alloc),
+            numbers: Visible::new(alloc),
+            messages: Visible::new(alloc),
         }
     }
 

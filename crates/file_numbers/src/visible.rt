@@ -47,7 +47,7 @@ impl Visible {
     ghost use Rattle.file_numbers.specs.Visible.{Shown};
 
     /// No names.
-    pub fn none(alloc: Global) -> Visible
+    pub fn new(alloc: Global) -> Visible
         ensures { result ≡ record { names = []; taken = 0 } }
     {
         Visible {

@@ -54,7 +54,7 @@ fn parts_of(alloc: Global, drawn: Drawn, codes: Option<Rc<Codes>>) -> Result<Par
         starts,
         entries,
     } = shapes;
-    let outputs = Outputs::fresh(alloc, stack.stack())?;
+    let outputs = Outputs::new(alloc, stack.stack())?;
     Ok(Parts {
         maker,
         stack,

@@ -18,7 +18,7 @@ pub fn steps_follow_traces()
 
 /// The code of a step's entry in a case passes exactly where the step is common in it, and then does what the step
 /// does.
-pub fn steps_are_handled()
+pub fn law_steps_are_handled()
     ensures { StepsAreHandled }
 {}
 

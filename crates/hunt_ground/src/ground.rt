@@ -109,7 +109,7 @@ impl Ground {
             return Err(OpenError::Memory);
         }
         self.begun += 1;
-        let Ok(outputs) = Outputs::fresh(alloc, &self.stack) else {
+        let Ok(outputs) = Outputs::new(alloc, &self.stack) else {
             return Err(OpenError::Memory);
         };
         let opening = Opening {

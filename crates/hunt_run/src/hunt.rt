@@ -59,7 +59,7 @@ fn look_over<C: Clock + Drop, N: Write + Drop>(
         members: request.members,
         events: request.events,
     };
-    match Search::of(alloc, stack, aim) {
+    match Search::new(alloc, stack, aim) {
         Ok(mut search) => {
             let made = all_runs(alloc, request, file, &mut search, watch);
             search.close();

@@ -39,7 +39,7 @@ pub struct Search {
 
 impl Search {
     /// A search over a stack that is accepted, before its first run.
-    pub fn of(alloc: Global, stack: Stack, aim: Aim) -> Result<Search, SearchError>
+    pub fn new(alloc: Global, stack: Stack, aim: Aim) -> Result<Search, SearchError>
         requires { IsSound (stack_tree stack) }
     {
         Ok(Search {
@@ -118,7 +118,7 @@ impl Search {
     fn wander(&mut self, number: u64) -> Result<Schedule, SearchError> {
         let events = self.aim.events;
         let members = self.aim.members;
-        let mut wander = Wander::of(self.alloc, members, number)?;
+        let mut wander = Wander::new(self.alloc, members, number)?;
         self.ledger.clear(events)?;
         let mut group = self.open(members)?;
         let steps = wander_on(

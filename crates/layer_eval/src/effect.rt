@@ -505,7 +505,7 @@ pub fn no_header() -> Header {
     Header {
         layer: 0,
         tag: 0,
-        fields: Fields::none(),
+        fields: Fields::new(),
     }
 }
 

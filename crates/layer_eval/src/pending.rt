@@ -47,7 +47,7 @@ impl Owed {
     ghost use Rattle.layer_eval.specs.Owed.{with_debt_paid, owing, IsPutOff, may_wait};
 
     /// Nothing is owed.
-    pub fn nothing() -> Owed
+    pub fn new() -> Owed
         ensures { result ≡ None }
     {
         Owed {

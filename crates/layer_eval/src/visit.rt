@@ -109,7 +109,7 @@ fn take_from<K: Start, D: Desk>(
         (need_of_visit K.begun.layout (layer_tree layer.now) visit.now.direction visit.now.envelope
         (D.shown pool.old desk.old)) result }
 {
-    let mut fields = Fields::none();
+    let mut fields = Fields::new();
     let tag = meet::<K, D>(visit.direction, desk, pool, &mut fields);
     match layer
         .handlers
@@ -160,7 +160,7 @@ fn run_handler<K: Start, D: Desk>(
 {
     desk.enter::<K>(pool, visit.envelope, fields, handler);
     let mut predicted = expect::<K, D>(&handler.expected, desk, pool);
-    let mut owed = Owed::nothing();
+    let mut owed = Owed::new();
     run_last_block::<K, D>(
         visit.place,
         &handler.block,
@@ -218,7 +218,7 @@ fn pass<K: Start, D: Desk>(
         header: Header {
             layer: visit.place,
             tag: 0,
-            fields: Fields::none(),
+            fields: Fields::new(),
         },
     };
     desk.pass_on::<K>(pool, &passed)?;

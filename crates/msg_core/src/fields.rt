@@ -39,7 +39,7 @@ impl Model for Fields {
 
 impl Fields {
     /// No number.
-    pub fn none() -> Fields
+    pub fn new() -> Fields
         ensures { result ≡ [] }
     {
         Fields {
@@ -53,7 +53,7 @@ impl Fields {
         requires { length numbers.now ≤ most_fields }
         ensures { result ≡ numbers.now }
     {
-        let mut fields = Fields::none();
+        let mut fields = Fields::new();
         for number in numbers {
             fields.push(*number);
         }

@@ -34,14 +34,14 @@ impl Model for Headers {
 
 impl Headers {
     /// No header.
-    pub fn none() -> Headers
+    pub fn new() -> Headers
         ensures { result ≡ [] }
     {
         Headers {
             places: array::from_fn(|_place| Header {
                 layer: 0,
                 tag: 0,
-                fields: Fields::none(),
+                fields: Fields::new(),
             }),
             first: MOST_HEADERS as u8,
         }
@@ -78,7 +78,7 @@ impl Headers {
     pub fn copy(&self) -> Headers
         ensures { result ≡ self.now }
     {
-        let mut copy = Headers::none();
+        let mut copy = Headers::new();
         copy.copy_from(self);
         copy
     }
@@ -126,7 +126,7 @@ impl Headers {
         if u32::from(count) == self.len() {
             return;
         }
-        let mut kept = Headers::none();
+        let mut kept = Headers::new();
         let all = self.slice();
         for k in (0..usize::from(count)).rev() {
             kept.push_front(all[k].copy());

@@ -65,10 +65,10 @@ fn fields(text: &mut Text<'_>, scope: &Scope<'_>, place: u8, count: u8) -> Resul
         (replicate count place) (left text.old)) result (left text.new) }
 {
     if count == 0 {
-        return Ok(Atoms::none());
+        return Ok(Atoms::new());
     }
     let first = atom(text, scope)?;
-    let fields = with_field(Atoms::none(), first)?;
+    let fields = with_field(Atoms::new(), first)?;
     more_fields(text, scope, place, count - 1, fields)
 }
 

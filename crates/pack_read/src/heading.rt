@@ -54,7 +54,7 @@ fn heading(text: &mut Text<'_>, due: &Due) -> Result<(), LineError>
 fn is_heading(due: &Due, line: &[u8]) -> bool
     ensures { result ≡ bytes_eq line.now (file.heading due.now.entry due.now.case) }
 {
-    let mut text = Text::on(line);
+    let mut text = Text::new(line);
     match heading(&mut text, due) {
         Ok(()) => text.is_empty(),
         Err(_) => false,

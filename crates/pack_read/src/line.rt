@@ -48,7 +48,7 @@ pub fn operation(line: &[u8], scope: &Scope<'_>, store: &mut Store) -> Result<Op
     ensures { Says (operation.operation_said (layers_in scope.now) (named_in scope.now) line.now) store.old store.new
         result }
 {
-    let mut text = Text::on(line);
+    let mut text = Text::new(line);
     let word = text.word();
     let operation = operation_by(&mut text, scope, store, word)?;
     if !text.is_empty() {

@@ -68,10 +68,10 @@ fn some_numbers(
         (left text.old)) nodes.old nodes.new (left text.new) [] result }
 {
     let [_, rest @ ..] = names else {
-        return Ok(Fields::none());
+        return Ok(Fields::new());
     };
     let node = number(text, scope, nodes)?;
-    let numbers = with_node(Fields::none(), node)?;
+    let numbers = with_node(Fields::new(), node)?;
     more_numbers(text, scope, nodes, rest, numbers)
 }
 
@@ -87,7 +87,7 @@ pub(crate) fn row_numbers(
 {
     match items {
         Some(items) => some_numbers(text, scope, nodes, items.numbers.as_slice()),
-        None => Ok(Fields::none()),
+        None => Ok(Fields::new()),
     }
 }
 

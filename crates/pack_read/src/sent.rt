@@ -88,11 +88,11 @@ pub(crate) fn what_is_sent(text: &mut Text<'_>, scope: &Scope<'_>) -> Result<Sen
 {
     if text.is_next(b")") {
         return Ok(Sent {
-            numbers: Atoms::none(),
+            numbers: Atoms::new(),
             message: None,
         });
     }
-    sent_within(text, scope, MOST_FIELDS, Atoms::none())
+    sent_within(text, scope, MOST_FIELDS, Atoms::new())
 }
 
 /// The message that is sent, with its known headers after the bracket.

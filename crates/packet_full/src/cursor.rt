@@ -24,7 +24,7 @@ pub struct Cursor<'a> {
 
 impl<'a> Cursor<'a> {
     /// Before these bytes, of which all are left.
-    pub fn on(bytes: &'a [u8]) -> Cursor<'a>
+    pub fn new(bytes: &'a [u8]) -> Cursor<'a>
         ensures { left result ≡ bytes.now }
     {
         Cursor { bytes }
@@ -61,7 +61,7 @@ impl<'a> Cursor<'a> {
         ensures { Takes (reading.numbers count (left self.old)) result (left self.new) }
     {
         let mut cursor = *self;
-        let mut fields = Fields::none();
+        let mut fields = Fields::new();
         for place in 0..MOST_FIELDS {
             if place == count {
                 *self = cursor;
@@ -83,7 +83,7 @@ impl<'a> Cursor<'a> {
             return None;
         }
         let mut cursor = *self;
-        let mut front = Preamble::none();
+        let mut front = Preamble::new();
         front.form = cursor.byte()?;
         front.group = cursor.number()?;
         front.stamp = cursor.number()?;
@@ -138,7 +138,7 @@ impl<'a> Cursor<'a> {
             (option_map (λ _. headers.new) result) (left self.new) }
         ensures few { IfSome result (λ _. length headers.new + place ≤ length (stack_tree stack.now)) }
     {
-        stack.is_within_limits();
+        stack.law_within_limits();
         let places = stack.places();
         let mut cursor = *self;
         headers.stretch(places - place);
@@ -169,6 +169,6 @@ fn none_of(place: u8) -> Header
     Header {
         layer: place,
         tag: 0,
-        fields: Fields::none(),
+        fields: Fields::new(),
     }
 }

@@ -37,7 +37,7 @@ pub struct Preamble {
 
 impl Preamble {
     /// A preamble that nothing was read into: numbers of 0, to all.
-    pub(crate) fn none() -> Preamble
+    pub(crate) fn new() -> Preamble
         ensures { result ≡ record {
           form = 0;
           group = 0;

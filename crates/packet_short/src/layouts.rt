@@ -48,9 +48,9 @@ impl Layout {
             return Ok(None)
         };
         let zeros = vec![in alloc; 0; plan.fields.len().saturating_mul(NUMBER_BYTES)]?;
-        let mut cursor = Cursor::on(zeros.as_slice());
+        let mut cursor = Cursor::new(zeros.as_slice());
         let mut planned = Planned::of(plan);
-        let mut headers = Headers::none();
+        let mut headers = Headers::new();
         let Some(()) = planned.chain(&mut cursor, stack, 0, &mut headers) else {
             return Ok(None)
         };
@@ -68,7 +68,7 @@ impl Layout {
 
 impl Layouts {
     /// No plan is laid out.
-    pub fn none(alloc: Global) -> Layouts
+    pub fn new(alloc: Global) -> Layouts
         ensures { (stack : List LayerTree) (plans : List mean.Plan) → AreLaidOut stack plans result }
     {
         Layouts {

@@ -65,7 +65,7 @@ impl<'a> Planned<'a> {
             (option_map (λ own. (own, self.new.fields.now)) result) (left cursor.new) }
         ensures tags { self.new.tags ≡ self.old.tags }
     {
-        let mut fields = Fields::none();
+        let mut fields = Fields::new();
         for _ in 0..count {
             let Some((first, rest)) = self.fields.split_first() else {
                 return None
@@ -119,7 +119,7 @@ impl<'a> Planned<'a> {
             self.old.fields.now (left cursor.old)) (option_map (λ _. headers.new) result) (left cursor.new) }
         ensures few { IfSome result (λ _. length headers.new + place ≤ length (stack_tree stack.now)) }
     {
-        stack.is_within_limits();
+        stack.law_within_limits();
         if place == stack.places() {
             if self.is_done() {
                 return Some(());

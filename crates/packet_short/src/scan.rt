@@ -39,7 +39,7 @@ pub fn scan_packet(
         (kind_of scan.new.dest) scan.new.headers fields.new.items) }
     ensures capacity { vec_capacity fields.new ≡ vec_capacity fields.old }
 {
-    known.stack.is_within_limits();
+    known.stack.law_within_limits();
     let Opened { front, mut cursor } = match open(here, bytes) {
         Ok(opened) => opened,
         Err(cause) => return Err(cause),

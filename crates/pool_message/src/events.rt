@@ -51,11 +51,11 @@ impl Events {
     ghost use Rattle.pool_message.specs.Lends.{lends_first};
 
     /// Room for `places` events.
-    pub fn fresh(alloc: Global, places: usize) -> Result<Events, AllocError>
+    pub fn with_places(alloc: Global, places: usize) -> Result<Events, AllocError>
         requires { places ≤ most_sent }
         ensures { IfOk result (λ e. e ≡ buffer [] places) }
     {
-        let list = List::fresh(alloc, places)?;
+        let list = List::with_places(alloc, places)?;
         match Box::new(alloc, list) {
             Ok(list) => Ok(Events { list }),
             Err(error) => {
@@ -280,7 +280,7 @@ pub fn pass_message(direction: Dir, header: Header, message: &mut MessagePlace)
 {
     match direction {
         Dir::Up => {
-            let _tag = message.pop_header(&mut Fields::none());
+            let _tag = message.pop_header(&mut Fields::new());
         }
         Dir::Down => message.push_header(header),
     }

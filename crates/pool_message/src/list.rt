@@ -49,7 +49,7 @@ impl List {
     ghost use Rattle.pool_message.specs.Lends.{lends_listed, lends_last, last_sent};
 
     /// Room for `places` events.
-    pub fn fresh(alloc: Global, places: usize) -> Result<List, AllocError>
+    pub fn with_places(alloc: Global, places: usize) -> Result<List, AllocError>
         requires { places ≤ most_sent }
         ensures { IfOk result (λ e. e ≡ buffer [] places) }
     {
@@ -129,7 +129,7 @@ impl List {
             }
             None => {
                 let k = self.slots.len() as u32;
-                let message = MessagePlace::empty();
+                let message = MessagePlace::new();
                 let event = PoolEvent::of(envelope, message);
                 self.slots.push_reserved((direction, event));
                 k

@@ -28,11 +28,11 @@ impl PoolMessage {
     ghost use Rattle.pool_message.specs.Moves.{CanKeep, Kept, Returned, Derived, Counts, Joined};
 
     /// A message without headers and without bytes.
-    pub fn nothing() -> PoolMessage
+    pub fn new() -> PoolMessage
         ensures { result ≡ bodiless [] }
     {
         PoolMessage {
-            headers: Headers::none(),
+            headers: Headers::new(),
             body: None,
         }
     }
@@ -113,7 +113,7 @@ impl PoolMessage {
         ensures { Derived (λ m. parts.cut m from count) self result }
     {
         let PoolMessage { body, headers: _ } = self;
-        let headers = Headers::none();
+        let headers = Headers::new();
         match body {
             Some(part) => PoolMessage {
                 headers,

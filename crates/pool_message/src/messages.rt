@@ -45,7 +45,7 @@ impl Messages {
     ghost use Rattle.pool_message.specs.PutBody.{PutsBody};
 
     /// No message, with room for `places`.
-    pub fn fresh(alloc: Global, places: usize) -> Result<Messages, AllocError>
+    pub fn with_places(alloc: Global, places: usize) -> Result<Messages, AllocError>
         ensures { IfOk result (λ m. m ≡ buffer [] places) }
     {
         Ok(Messages {
@@ -94,7 +94,7 @@ impl Messages {
         if self.count < self.places.len() {
             self.places[self.count].become_bare();
         } else {
-            self.places.push_reserved(PoolMessage::nothing());
+            self.places.push_reserved(PoolMessage::new());
         }
         self.count += 1;
     }

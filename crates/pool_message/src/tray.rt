@@ -77,11 +77,11 @@ impl Tray {
     ghost use Rattle.pool_message.specs.Tray.{also_sent, message_at};
 
     /// No event, and no message in a scope with room for `messages`.
-    pub fn fresh(alloc: Global, messages: usize) -> Result<Tray, AllocError>
+    pub fn with_messages(alloc: Global, messages: usize) -> Result<Tray, AllocError>
         ensures { IfOk result (λ t. t ≡ record { arrived = None; messages = buffer [] messages; sent = buffer [] 0 }) }
     {
-        let events = Events::fresh(alloc, 1)?;
-        match Messages::fresh(alloc, messages) {
+        let events = Events::with_places(alloc, 1)?;
+        match Messages::with_places(alloc, messages) {
             Ok(messages) => Ok(Tray {
                 front: Front::Gone,
                 events,

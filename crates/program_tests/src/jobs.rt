@@ -7,7 +7,7 @@ use std::test::Fail;
 
 /// Whether the words leave this and no output, where there are no files.
 fn refuses(alloc: Global, texts: &[&str], status: u8, err: &[u8]) -> Result<bool, AllocError> {
-    let mut shelf = MemShelf::of(Vec::new(alloc), Vec::new(alloc));
+    let mut shelf = MemShelf::new(Vec::new(alloc), Vec::new(alloc));
     let left = left_by(alloc, texts, &mut shelf, Vec::new(alloc))?;
     Ok(left.is(refused(status, err)))
 }
@@ -40,7 +40,7 @@ fn leaves(
 ) -> Result<bool, AllocError> {
     let mut files = Vec::new(alloc);
     files.push(named(alloc, "f", file)?)?;
-    let mut shelf = MemShelf::of(files, Vec::new(alloc));
+    let mut shelf = MemShelf::new(files, Vec::new(alloc));
     let left = left_by(alloc, texts, &mut shelf, puts)?;
     Ok(left.is(expected))
 }

@@ -76,7 +76,7 @@ fn fails(
     puts: Vec<Option<u64>>,
     expected: Expected<'_>,
 ) -> Result<bool, AllocError> {
-    let mut shelf = MemShelf::of(pair(alloc, COUNTER, "s", SCRIPT)?, reads);
+    let mut shelf = MemShelf::new(pair(alloc, COUNTER, "s", SCRIPT)?, reads);
     let left = left_by(alloc, REPLAY, &mut shelf, puts)?;
     Ok(left.is(expected))
 }

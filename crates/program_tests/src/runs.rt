@@ -86,8 +86,8 @@ pub(crate) fn left_over(
     links: &mut MemLinks,
     clock: &mut MemClock,
 ) -> Result<Left, AllocError> {
-    let mut out = MemSink::of(alloc, puts);
-    let mut err = MemSink::of(alloc, Vec::new(alloc));
+    let mut out = MemSink::new(alloc, puts);
+    let mut err = MemSink::new(alloc, Vec::new(alloc));
     let status = run_over(alloc, words, shelf, &mut out, &mut err, links, clock);
     Ok(Left {
         status,
@@ -98,7 +98,7 @@ pub(crate) fn left_over(
 
 /// Links to nobody.
 pub(crate) fn no_links(alloc: Global) -> MemLinks {
-    MemLinks::of(alloc, Vec::new(alloc), Vec::new(alloc), Vec::new(alloc))
+    MemLinks::new(alloc, Vec::new(alloc), Vec::new(alloc), Vec::new(alloc))
 }
 
 /// What a job over files left, with the puts that are to fail.
@@ -110,7 +110,7 @@ pub(crate) fn left_by(
 ) -> Result<Left, AllocError> {
     let words = words(alloc, texts)?;
     let mut links = no_links(alloc);
-    let mut clock = MemClock::of(Vec::new(alloc));
+    let mut clock = MemClock::new(Vec::new(alloc));
     left_over(alloc, &words, shelf, puts, &mut links, &mut clock)
 }
 
@@ -152,7 +152,7 @@ pub(crate) fn leaves(
     script: &[u8],
     expected: Expected<'_>,
 ) -> Result<bool, AllocError> {
-    let mut shelf = MemShelf::of(pair(alloc, file, "s", script)?, Vec::new(alloc));
+    let mut shelf = MemShelf::new(pair(alloc, file, "s", script)?, Vec::new(alloc));
     let left = left_by(alloc, texts, &mut shelf, Vec::new(alloc))?;
     Ok(left.is(expected))
 }

@@ -42,7 +42,7 @@ fn leaves(
     let [file, script, traces] = files;
     let mut named_files = pair(alloc, file, "s", script)?;
     named_files.push(named(alloc, "t", traces)?)?;
-    let mut shelf = MemShelf::of(named_files, reads);
+    let mut shelf = MemShelf::new(named_files, reads);
     let left = left_by(alloc, WITH, &mut shelf, Vec::new(alloc))?;
     Ok(left.is(expected))
 }

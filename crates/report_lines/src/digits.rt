@@ -28,7 +28,7 @@ impl Model for Digits {
 impl Digits {
     /// Those of no bytes, which take no memory.
     #[tactic(auto, using(crate::proofs::Spelled::no_digits))]
-    pub(crate) fn none(alloc: Global) -> Digits
+    pub(crate) fn new(alloc: Global) -> Digits
         ensures { result ≡ [] }
     {
         Digits {

@@ -30,7 +30,7 @@ fn tags_of(stack: &Stack, place: u8) -> u8
 
 impl Fronts {
     /// Those of no place.
-    pub(crate) fn none(alloc: Global) -> Result<Fronts, Memory>
+    pub(crate) fn new(alloc: Global) -> Result<Fronts, Memory>
         ensures { IfOk result (λ fronts. (fronts.texts ≡ []) × (fronts.begins.items ≡ 0 ∷ []) ×
             (fronts.firsts.items ≡ 0 ∷ [])) }
     {
@@ -69,7 +69,7 @@ impl Fronts {
             let header = Header {
                 layer: place,
                 tag: number + 1,
-                fields: Fields::none(),
+                fields: Fields::new(),
             };
             self.push(stack, &header)?;
         }

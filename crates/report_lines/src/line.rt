@@ -69,7 +69,7 @@ impl Line {
     {
         Line {
             bytes: Vec::new(alloc),
-            last: Digits::none(alloc),
+            last: Digits::new(alloc),
         }
     }
 

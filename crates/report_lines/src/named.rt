@@ -73,7 +73,7 @@ impl NamedStack {
     {
         let mut texts = Vec::new(alloc);
         let mut places = Vec::new(alloc);
-        let mut fronts = Fronts::none(alloc)?;
+        let mut fronts = Fronts::new(alloc)?;
         places.push(0)?;
         for place in 0..stack.places() {
             push_none(&mut texts, &stack, place)?;

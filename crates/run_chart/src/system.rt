@@ -15,6 +15,6 @@ pub fn program<R: AllocGlobal + Env + Files, O: Write + Drop, E: Write + Drop>(
     let Ok((words, mut out, mut err)) = begin(system, out, err) else {
         return NO_MEMORY;
     };
-    let mut shelf = FileShelf::of(system);
+    let mut shelf = FileShelf::new(system);
     run_through(system.alloc(), &words, &mut shelf, &mut out, &mut err)
 }

@@ -34,7 +34,7 @@ fn any_number_within(low: u32, high: u32, text: &[u8]) -> (Result<u32, LineError
 
 impl<'a> Words<'a> {
     /// All words of a line.
-    pub(crate) fn on(line: &'a [u8]) -> Words<'a>
+    pub(crate) fn new(line: &'a [u8]) -> Words<'a>
         ensures { words_left result ≡ words_of line.now }
     {
         Words { rest: Some(line) }

@@ -140,7 +140,7 @@ impl Row {
         ensures { Adds self.old self.new body.now }
     {
         let last = self.block.len();
-        self.block.push(SlotRecord::fresh());
+        self.block.push(SlotRecord::new());
         self.hold(last, body);
     }
 }

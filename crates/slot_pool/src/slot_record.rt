@@ -19,7 +19,7 @@ pub struct SlotRecord {
 
 impl SlotRecord {
     /// A place that was never used.
-    pub(crate) fn fresh() -> SlotRecord
+    pub(crate) fn new() -> SlotRecord
         ensures { result.len ≡ 0 }
     {
         SlotRecord {

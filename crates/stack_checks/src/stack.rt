@@ -57,7 +57,7 @@ impl StackChecks {
         let plans = all_checks(alloc, bypasses.plans.as_slice())?;
         let apps = larger(case_numbers(&cast), case_numbers(&send));
         let numbers = larger(apps, all_numbers(plans.as_slice()));
-        let values = Values::fresh(
+        let values = Values::with_room(
             alloc,
             Needs {
                 numbers,

@@ -26,7 +26,7 @@ use script_mean::ScriptEvent;
 use script_text::{Generation, Workload};
 use stack_shapes::Plans;
 use std::alloc::Global;
-use step_outputs::{Outputs, an_accepted_stack_is_light};
+use step_outputs::{Outputs, law_accepted_is_light};
 
 /// A load: a workload, and the stack over which its script is played, with the plans of that.
 #[derive(Clone, Copy)]
@@ -53,7 +53,7 @@ pub fn write_counts<G: Feed, O: Sink>(
     ensures { Wrote (tally (stack_tree load.entry.stack.now) (plans_tree load.entry.plans.now) (G.group group.old).mode
         (script_for load.entry.workload)) (tells_of O.Sink out.old) (tells_of O.Sink out.new) result }
 {
-    let mut run = Run::begin(alloc, outputs);
+    let mut run = Run::new(alloc, outputs);
     let mut counts = Tally::new();
     count_events(alloc, group, &mut run, load, &mut counts)?;
     write_tally(&mut run.pen, &counts, out)
@@ -77,7 +77,7 @@ fn count_events<G: Feed>(
         (plans_tree load.entry.plans.now)
         (run_of (stack_tree load.entry.stack.now) (plans_tree load.entry.plans.now) (script_for load.entry.workload))) }
 {
-    let mut script = Generation::begin(alloc, load.workload)?;
+    let mut script = Generation::new(alloc, load.workload)?;
     for _ in 0..load.workload.events {
         let event = script.next(alloc)?;
         count_event(group, run, load, &event, counts)?;
@@ -107,8 +107,8 @@ fn count_event<G: Feed>(
         counts.old counts.new result }
 {
     let did = group.feed(event, &mut run.outputs, &mut run.visits)?;
-    an_accepted_stack_is_light(load.stack);
-    run.outputs.has_places_for_all();
+    law_accepted_is_light(load.stack);
+    run.outputs.law_places_for_all();
     counts.count_event(did, &run.outputs);
     Ok(())
 }

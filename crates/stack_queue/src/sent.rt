@@ -13,6 +13,6 @@ use std::alloc::{AllocError, Global};
 pub fn events_for(alloc: Global, stack: &Stack) -> Result<Events, AllocError>
     ensures { IfOk result (λ events. events ≡ buffer [] (largest_weight (stack_tree stack.now))) }
 {
-    stack.is_accepted();
-    Events::fresh(alloc, stack.weight() as usize)
+    stack.law_accepted();
+    Events::with_places(alloc, stack.weight() as usize)
 }

@@ -74,13 +74,13 @@ impl Tasks {
     ghost use Rattle.stack_queue.specs.Put.{carrying_task, task_with, Puts};
 
     /// No task, with places for the weight of a stack.
-    pub fn fresh(alloc: Global, stack: &Stack) -> Result<Tasks, AllocError>
+    pub fn new(alloc: Global, stack: &Stack) -> Result<Tasks, AllocError>
         ensures { IfOk result (λ tasks. tasks ≡ buffer [] (largest_weight (stack_tree stack.now))) }
     {
-        stack.is_accepted();
+        stack.law_accepted();
         let count = stack.weight() as usize + 1;
         let places = ShortQueue::with_capacity(alloc, count, 0)?;
-        match Events::fresh(alloc, count) {
+        match Events::with_places(alloc, count) {
             Ok(events) => Ok(Tasks { places, events }),
             Err(fault) => {
                 places.destroy_empty();

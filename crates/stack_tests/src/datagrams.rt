@@ -72,7 +72,7 @@ fn a_cast_of_four_layers_is_read_in_both_forms(rt: HostRuntime) -> Result<(), Fa
     let plans = StackShapes::of(alloc, &stack)?.plans;
     for bytes in [ORDERED.as_slice(), ORDERED_SHORT.as_slice()] {
         for run in RUNS {
-            let mut scan = Scan::none();
+            let mut scan = Scan::new();
             let reader = reader(&stack, &plans, run);
             assert!(rt; reader.read(alloc, bytes, &mut scan)?.is_ok());
             let full = sent(alloc, &plans, &FIRST, &scanned(&scan, b"a", None))?;

@@ -74,7 +74,7 @@ impl Reader<'_> {
     ) -> Result<Result<Told, Stray>, Memory> {
         let layouts = match self.run {
             Run::ByCode => Layouts::of(alloc, self.stack, self.plans)?,
-            Run::Layered => Layouts::none(alloc),
+            Run::Layered => Layouts::new(alloc),
         };
         let known = Known {
             stack: self.stack,
@@ -90,7 +90,7 @@ impl Reader<'_> {
 
     /// The cause for which it refuses a datagram; none where it takes it.
     pub fn refusal(&self, alloc: Global, bytes: &[u8]) -> Result<Option<Stray>, Memory> {
-        match self.read(alloc, bytes, &mut Scan::none())? {
+        match self.read(alloc, bytes, &mut Scan::new())? {
             Ok(_) => Ok(None),
             Err(cause) => Ok(Some(cause)),
         }

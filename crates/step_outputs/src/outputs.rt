@@ -60,7 +60,7 @@ impl Model for Outputs {
 
 impl Outputs {
     /// No output, with places for all that a step of a stack may have.
-    pub fn fresh(alloc: Global, stack: &Stack) -> Result<Outputs, AllocError>
+    pub fn new(alloc: Global, stack: &Stack) -> Result<Outputs, AllocError>
         ensures none { IfOk result (λ o. o.outputs ≡ []) }
         ensures places { IfOk result (λ o. o.places ≡ largest_weight (stack_tree stack.now)) }
     {
@@ -72,7 +72,7 @@ impl Outputs {
                 view: View { ltime: 0, mask: 0 },
                 rank: 0,
             },
-            list: KeptList::fresh(alloc, places)?,
+            list: KeptList::with_places(alloc, places)?,
             bytes: Vec::with_capacity(alloc, places * LONGEST_BODY as usize)?,
             places,
         })
@@ -165,7 +165,7 @@ impl Outputs {
     }
 
     /// That there are no more than there are places for.
-    pub fn has_places_for_all(&self)
+    pub fn law_places_for_all(&self)
         ensures { length self.now.outputs ≤ self.now.places }
     {
         let _list = &self.list;

@@ -141,7 +141,7 @@ pub fn first_difference(
     let mut table = Table::new(alloc);
     let acts = acts_of(alloc, &mut table, trace)?;
     let own_acts = acts_of(alloc, &mut table, own)?;
-    table.is_sound();
+    table.law_sound();
     match first_apart(acts.as_slice(), own_acts.as_slice()) {
         None => Ok(None),
         Some(place) => {

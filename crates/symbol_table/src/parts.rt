@@ -45,7 +45,7 @@ pub(crate) fn parts_of(node: Node) -> Fields
         } => Fields::of(&[message, from, length]),
         Node::Tail { message, from } => Fields::of(&[message, from]),
         Node::Join { first, second } => Fields::of(&[first, second]),
-        _ => Fields::none(),
+        _ => Fields::new(),
     }
 }
 

@@ -45,7 +45,7 @@ fn atom_values(
         many result }
 {
     if many == 0 {
-        return Ok(Fields::none());
+        return Ok(Fields::new());
     }
     let mut made = atom_values(table, walk, atoms, many - 1)?;
     let next = atom_value(table, walk, atom_at(atoms, many - 1))?;

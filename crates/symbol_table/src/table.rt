@@ -63,7 +63,7 @@ impl Table {
     }
 
     /// Each value stands once, after its parts.
-    pub fn is_sound(&self)
+    pub fn law_sound(&self)
         ensures once { AreOne self.now }
         ensures well { AreWell [] self.now }
     {

@@ -197,7 +197,7 @@ fn node_values(
     ensures { MakesAll table.old table.new (map (meant_at walk.now) (take many parts.now)) many result }
 {
     if many == 0 {
-        return Ok(Fields::none());
+        return Ok(Fields::new());
     }
     let mut made = node_values(table, walk, above, parts, many - 1)?;
     let next = node_value(table, walk, parts.at(many - 1))?;

@@ -61,7 +61,7 @@ fn word_length(bytes: &[u8]) -> usize
 
 impl<'a> Text<'a> {
     /// All of a line.
-    pub fn on(line: &'a [u8]) -> Text<'a>
+    pub fn new(line: &'a [u8]) -> Text<'a>
         ensures { left result ≡ line.now }
     {
         Text { rest: line }

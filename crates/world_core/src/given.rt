@@ -21,41 +21,41 @@ use view_core::{Input, Stepped};
 
 /// That a number is one of 32 bits.
 #[inline(always)]
-fn is_number(_number: u32)
+fn law_number(_number: u32)
     ensures { IsNumber _number }
 {}
 
 /// That bytes are bytes.
 #[inline(always)]
-fn are_bytes(_bytes: &[u8])
+fn law_bytes(_bytes: &[u8])
     ensures { AreBytes _bytes.now }
 {}
 
 /// That what a member is given is made of bytes and numbers.
 #[inline(always)]
-fn is_in_range(input: &Input<'_>)
+fn law_in_range(input: &Input<'_>)
     ensures { IsInput (input_meant input.now) }
 {
     match input {
-        Input::Cast(body) => are_bytes(body),
+        Input::Cast(body) => law_bytes(body),
         Input::Send(to, body) => {
-            is_number(*to);
-            are_bytes(body);
+            law_number(*to);
+            law_bytes(body);
         }
         Input::Leave => {}
-        Input::Tick(moment) => is_number(*moment),
-        Input::Datagram(bytes) => are_bytes(bytes),
+        Input::Tick(moment) => law_number(*moment),
+        Input::Datagram(bytes) => law_bytes(bytes),
     }
 }
 
 /// That a member is where a step of the definitions begins.
 #[inline(always)]
-fn is_given(member: &Member, input: &Input<'_>)
+fn law_given(member: &Member, input: &Input<'_>)
     ensures { IsGiven member.now (input_meant input.now) }
 {
-    member.is_placed();
-    member.is_chained();
-    is_in_range(input);
+    member.law_placed();
+    member.law_chained();
+    law_in_range(input);
 }
 
 /// A member takes an input, one step, or refuses it.
@@ -72,7 +72,7 @@ pub(crate) fn step_member(
     ensures step { Steps member.old (input_meant input.entry) member.new out.new.outputs visits.old visits.new result }
     ensures places { out.new.places ≡ out.old.places }
 {
-    is_given(member, &input);
+    law_given(member, &input);
     member.step(input, out, visits)
 }
 
@@ -92,6 +92,6 @@ pub(crate) fn probe_member(
     ensures checks { checks.new ≡ checks.old }
     ensures places { out.new.places ≡ out.old.places }
 {
-    is_given(member, &input);
+    law_given(member, &input);
     member.probe(checks, input, out)
 }

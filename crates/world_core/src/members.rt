@@ -26,7 +26,7 @@ pub fn open_all(
 {
     let view = first_view(n);
     let mut members = Vec::with_capacity(alloc, usize::from(n))?;
-    opening.stack.is_within_limits();
+    opening.stack.law_within_limits();
     for id in 0..n {
         match Member::begin(alloc, maker, opening, view, id) {
             Ok(member) => members.push_reserved(member),

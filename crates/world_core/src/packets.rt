@@ -74,7 +74,7 @@ fn make_room(bytes: &mut Vec<u8>, more: usize) -> Result<(), Memory>
 
 impl Packets {
     /// No packet.
-    pub fn none(alloc: Global) -> Packets
+    pub fn new(alloc: Global) -> Packets
         ensures { result ≡ [] }
     {
         Packets {

@@ -109,7 +109,7 @@ impl World {
                 group: opening.group,
                 stamp: opening.stamp,
                 members,
-                packets: Packets::none(alloc),
+                packets: Packets::new(alloc),
             }),
             Err(error) => Err(error),
         }

@@ -64,11 +64,11 @@ pub(crate) fn files(alloc: Global, other: &[u8]) -> Result<Vec<NamedFile>, Alloc
 
 /// Runs the node of a case.
 pub(crate) fn served(alloc: Global, case: Case) -> Result<Left, AllocError> {
-    let shelf = MemShelf::of(files(alloc, PLAN)?, case.reads);
-    let out = MemSink::of(alloc, case.puts);
-    let err = MemSink::of(alloc, case.says);
-    let mut links = MemLinks::of(alloc, case.fates, case.listens, case.receives);
-    let mut clock = MemClock::of(case.moments);
+    let shelf = MemShelf::new(files(alloc, PLAN)?, case.reads);
+    let out = MemSink::new(alloc, case.puts);
+    let err = MemSink::new(alloc, case.says);
+    let mut links = MemLinks::new(alloc, case.fates, case.listens, case.receives);
+    let mut clock = MemClock::new(case.moments);
     let texts = ["node", "f", "p", case.turns, "--me=0,1,2", "--run=layered"];
     left_by(alloc, &texts, shelf, out, err, &mut links, &mut clock)
 }

@@ -43,9 +43,9 @@ fn left_of<N: Links, C: Clock>(
     links: &mut N,
     clock: &mut C,
 ) -> Result<Left, AllocError> {
-    let shelf = MemShelf::of(files(alloc, other)?, Vec::new(alloc));
-    let out = MemSink::of(alloc, Vec::new(alloc));
-    let err = MemSink::of(alloc, Vec::new(alloc));
+    let shelf = MemShelf::new(files(alloc, other)?, Vec::new(alloc));
+    let out = MemSink::new(alloc, Vec::new(alloc));
+    let err = MemSink::new(alloc, Vec::new(alloc));
     left_by(alloc, texts, shelf, out, err, links, clock)
 }
 
@@ -56,8 +56,8 @@ fn left_in_memory(alloc: Global, texts: &[&str], other: &[u8]) -> Result<Left, A
     for turn in 0..200 {
         moments.push(turn)?;
     }
-    let mut links = MemLinks::of(alloc, Vec::new(alloc), Vec::new(alloc), Vec::new(alloc));
-    let mut clock = MemClock::of(moments);
+    let mut links = MemLinks::new(alloc, Vec::new(alloc), Vec::new(alloc), Vec::new(alloc));
+    let mut clock = MemClock::new(moments);
     left_of(alloc, texts, other, &mut links, &mut clock)
 }
 
@@ -118,8 +118,8 @@ fn a_node_over_the_loopback_replays(rt: HostRuntime) -> Result<(), Fail> {
     let alloc = rt.alloc();
     let host = own_host(alloc, process::id(rt.process()))?;
     let plan = plan(alloc, &host)?;
-    let mut links = UdpLinks::of(alloc, &rt)?;
-    let mut clock = RunClock::of(&rt);
+    let mut links = UdpLinks::new(alloc, &rt)?;
+    let mut clock = RunClock::new(&rt);
     let node = left_of(alloc, &SHORT_NODE, plan.as_bytes(), &mut links, &mut clock)?;
     assert_eq!(rt; node.status, 0);
     assert_eq!(rt; node.err.as_slice(), b"".as_slice());

@@ -23,14 +23,14 @@ try_cases-requires-clause-first c =
     let is : codes_in c.args.ground.now ≡ Some c.in-Some.codes.now = search rules in
     handles c.args.ground.now c.args.works.now (entry_meant c.args.ground.now.here.now c.args.entry.now)
     c.requires.ground c.requires.is_in
-    c.steps_are_handled.ensures c.is_accepted.ensures c.requires.entered c.in-Some.codes.now is cases.First
+    c.law_steps_are_handled.ensures c.law_accepted.ensures c.requires.entered c.in-Some.codes.now is cases.First
 
 pub try_cases-requires-clause-second : goal.try_cases-requires-clause-second
 try_cases-requires-clause-second c =
     let is : codes_in c.args.ground.now ≡ Some c.in-Some.codes.now = search rules in
     handles c.args.ground.now c.args.works.now (entry_meant c.args.ground.now.here.now c.args.entry.now)
     c.requires.ground c.requires.is_in
-    c.steps_are_handled.ensures c.is_accepted.ensures c.requires.entered c.in-Some.codes.now is cases.Second
+    c.law_steps_are_handled.ensures c.law_accepted.ensures c.requires.entered c.in-Some.codes.now is cases.Second
 
 pub returns-clause-spare : goal.returns-clause-spare
 returns-clause-spare c =

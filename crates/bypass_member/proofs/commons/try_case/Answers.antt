@@ -25,7 +25,7 @@ perform-requires c =
     (entry_meant c.args.ground.now.here.now c.args._entry.now)
     (code_tree c.in-Some.code.now) (input_of c.args.tried.now.given) c.requires.tried.given c.requires.ready handled
     c.args.out.now
-    c.requires.begun c.args.values.now c.requires.is_in c.is_within_limits.ensures.places c.requires.tried.members
+    c.requires.begun c.args.values.now c.requires.is_in c.law_within_limits.ensures.places c.requires.tried.members
     c.requires.tried.body room
     c.requires.serves.empty)
 

@@ -38,7 +38,7 @@ returns-clause-lacks c =
     lacks_some g c.args.kit.now.works what
     (in_no_case (mode_of g) g (states_in c.args.kit.now.works) what c.requires.mode c.requires.uncommon)
     c.requires.ground c.requires.is_in c.requires.sound c.args.checks.now c.requires.checks c.requires.entered
-    c.misses_are_told.ensures
+    c.law_misses_are_told.ensures
     (sym (c.is_told.ensures g.here.now (plans_in g)) ∙ c.if-not-is_told.false) c.args.what (c.requires.what g.here.now)
     (input_of c.given_of-given.result) c.given_of-given.ensures.given _
     (ap (λ (layers : List FileLayer). map (state_in c.args.kit.now.works.pool) layers) c.as_slice-2.ensures.value)

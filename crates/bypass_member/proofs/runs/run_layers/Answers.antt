@@ -12,20 +12,20 @@ use Rattle.bypass_member.proofs.runs.run_layers.Goals as goal
 
 pub run-requires-clause-slots : goal.run-requires-clause-slots
 run-requires-clause-slots c =
-    let fits = c.entries_fit.ensures (stack_tree c.args.stack.now) _ c.requires.can.chained c.requires.can.enters in
-    let light = c.accepted_is_light.ensures (stack_tree c.args.stack.now) c.is_accepted.ensures in
+    let fits = c.law_entries_fit.ensures (stack_tree c.args.stack.now) _ c.requires.can.chained c.requires.can.enters in
+    let light = c.law_accepted_is_light.ensures (stack_tree c.args.stack.now) c.law_accepted.ensures in
     omega (arith, fits.joins, light.1, c.requires.can.joins)
 
 pub run-requires-clause-tasks : goal.run-requires-clause-tasks
 run-requires-clause-tasks c =
-    let fits = c.entries_fit.ensures (stack_tree c.args.stack.now) _ c.requires.can.chained c.requires.can.enters in (
+    let fits = c.law_entries_fit.ensures (stack_tree c.args.stack.now) _ c.requires.can.chained c.requires.can.enters in (
       ap (λ (b : Buffer PoolTask). b.items) c.requires.can.tasks,
       omega (arith, fits.weight, ap (λ (b : Buffer PoolTask). b.capacity) c.requires.can.tasks),
     )
 
 pub run-requires-clause-out : goal.run-requires-clause-out
 run-requires-clause-out c =
-    let fits = c.entries_fit.ensures (stack_tree c.args.stack.now) _ c.requires.can.chained c.requires.can.enters in
+    let fits = c.law_entries_fit.ensures (stack_tree c.args.stack.now) _ c.requires.can.chained c.requires.can.enters in
     let none : length c.args.works.now.outs.items ≡ 0 = ap (λ (b : Buffer (Dir × PoolEvent)). length b.items)
     c.requires.can.outs in
     let room = ap (λ (b : Buffer (Dir × PoolEvent)). b.capacity) c.requires.can.outs in

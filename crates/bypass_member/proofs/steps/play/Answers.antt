@@ -33,7 +33,7 @@ pub gather-requires-clause-room : goal.gather-requires-clause-room
 gather-requires-clause-room c =
     let few = all_few c.args.ground.now c.args.works.now _ _ _ _ _ _ _ c.requires.ground c.requires.ready
     c.requires.is_in c.requires.entered
-    c.enter.ensures.brings _ c.enter.ensures.only c.run_layers-predicted.ensures c.is_accepted.ensures in
+    c.enter.ensures.brings _ c.enter.ensures.only c.run_layers-predicted.ensures c.law_accepted.ensures in
     let none : length c.begin.new.self.outputs ≡ 0 = ap (λ (o : Gathered). length o.outputs) c.begin.ensures in
     let places : c.begin.new.self.places ≡ c.args.out.now.places = ap (λ (o : Gathered). o.places) c.begin.ensures in
     omega (arith, few, none, places, c.requires.out)

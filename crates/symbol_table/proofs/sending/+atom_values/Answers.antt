@@ -25,7 +25,7 @@ push-requires t c = omega (
 
 pub returns-then-many-eq0 : goal.returns-then-many-eq0
 returns-then-many-eq0 t c = none_some c.args.table.now (known_to c.args.walk.now) c.args.atoms.now c.args.many
-    c.if-many-eq0.true _ c.none.ensures
+    c.if-many-eq0.true _ c.new.ensures
 
 pub returns : goal.returns
 returns t c = next_some (known_to c.args.walk.now) c.args.atoms.now c.in_ok-made.made c.push.new.self c.args.many

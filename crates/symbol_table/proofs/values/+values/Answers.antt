@@ -65,7 +65,7 @@ node_values-push-requires t c =
 
 pub node_values-returns-then-many-eq0 : goal.node_values-returns-then-many-eq0
 node_values-returns-then-many-eq0 t c = none_all c.args.table.now (meant_at c.args.walk.now) c.args.parts.now
-    c.args.many c.if-many-eq0.true _ c.none.ensures
+    c.args.many c.if-many-eq0.true _ c.new.ensures
 
 pub node_values-returns : goal.node_values-returns
 node_values-returns t c = next_all (meant_at c.args.walk.now) c.args.parts.now c.in_ok-made.made c.push.new.self

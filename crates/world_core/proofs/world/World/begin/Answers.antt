@@ -15,4 +15,4 @@ pub returns-in-Ok : goal.returns-in-Ok
 returns-in-Ok c = begun c.args.opening c.args.n (making c.args.maker.now) (making c.open_all.new.maker)
     c.in-Ok.members.items
     _ _ _ _ c.in-Ok.ensures (mode_begun c.args.opening _ c.is_some.ensures)
-    (ap stack_tree c.in_ok-stack.ensures.stack) (ap plans_tree c.in_ok-stack.ensures.plans) c.none.ensures
+    (ap stack_tree c.in_ok-stack.ensures.stack) (ap plans_tree c.in_ok-stack.ensures.plans) c.new.ensures

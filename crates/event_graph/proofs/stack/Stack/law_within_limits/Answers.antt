@@ -7,7 +7,7 @@ use Rattle.layer_mean.specs.Tree.{LayerTree, HeaderTree}
 use Rattle.typed_layer.specs.declared.tree.TypedLayer.{TypedLayer}
 use Rattle.typed_layer.specs.View.{header_tree}
 use Rattle.typed_layer.specs.Places.{rc_tree}
-use Rattle.event_graph.proofs.stack.Stack.is_within_limits.Goals as goal
+use Rattle.event_graph.proofs.stack.Stack.law_within_limits.Goals as goal
 
 abbrev few : HeaderTree → Type 0
 few header = header.fields ≤ 4

@@ -10,13 +10,13 @@ use Rattle.file_layer.specs.Fresh.{IsFresh}
 use Rattle.file_layer.specs.Layer.{place_of, tree_of, refs_of, state_in, most_of, taken_by, IsInOrder}
 use Rattle.file_layer.specs.Making.{making}
 use Rattle.file_layer.proofs.Typed.{made_at}
-use Rattle.file_layer.proofs.layer.FileLayer.fresh.Goals as goal
+use Rattle.file_layer.proofs.layer.FileLayer.new.Goals as goal
 
 pub make-requires-clause-made : goal.make-requires-clause-made
 unfolding making
 make-requires-clause-made c =
     made_at c.args.place (stack_tree (rc_value c.args.maker.now.stack)) (layer_tree c.deref-3.result.now)
-    (subst (λ (s : Stack). length (stack_tree s) ≤ 24) c.deref.ensures c.is_within_limits.ensures.places)
+    (subst (λ (s : Stack). length (stack_tree s) ≤ 24) c.deref.ensures c.law_within_limits.ensures.places)
     c.requires.typed c.requires.place
     (ap layer_tree (c.deref-3.ensures ∙ c.in_ok-layer.ensures.cases) ∙ c.layer.ensures
     ∙ ap (λ (s : Stack). slice_index_or (stack_tree s) c.args.place no_layer) c.deref-2.ensures)

@@ -1,6 +1,6 @@
 use Rattle.std.proofs.Common.{◌≡◌, [], map, length, replicate}
 use Rattle.std.specs.VecDeque.{deque_items, deque_capacity}
-use Rattle.cell_store.proofs.rings.Rings.of.Given as goal
+use Rattle.cell_store.proofs.rings.Rings.with_capacity.Given as goal
 
 abbrev pub invariant-loop : goal.invariant-loop
 invariant-loop g l =
