@@ -1,6 +1,6 @@
 //! What no clause says: that an audit succeeds where there is memory, also at the limit, and what an
 //! error prints.
-use run_audit::{AuditError, Finding, Law, audit};
+use audit_judge::{AuditError, Finding, Law, audit};
 use std::alloc::{AllocError, Global};
 use std::test::Fail;
 

@@ -9,8 +9,8 @@ use Rattle.layer_ast.specs.View.{file_tree}
 use Rattle.layer_mean.specs.Tree.{LayerTree}
 use Rattle.end_mean.specs.Status.{FileFault, Ended, file_refused, read_failed, no_memory}
 use Rattle.output_mean.specs.Judged.{Means, Refuses}
-use Rattle.event_graph.specs.Answer.{stack_tree}
-use Rattle.event_graph.specs.declared.stack.Stack.{Stack}
+use Rattle.stack_judge.specs.Answer.{stack_tree}
+use Rattle.stack_judge.specs.declared.stack.Stack.{Stack}
 use Rattle.file_jobs.specs.declared.stack.StackFile.{StackFile}
 use Rattle.job_ends.specs.Shown.{shown_end}
 use Rattle.job_ends.specs.declared.ending.Ending.{Ending}

@@ -8,7 +8,7 @@ use crate::judged::write;
 use crate::report::fetch_report;
 use job_ends::Ending;
 use outside::{Shelf, Sink};
-use run_audit::Law;
+use audit_judge::Law;
 use std::alloc::Global;
 
 /// Judges a law of the group on a report, and writes the verdict.

@@ -5,7 +5,7 @@ ghost use Rattle.std.specs.Option.{option_map};
 ghost use Rattle.outside.specs.Shelf.{after_read};
 ghost use Rattle.file_jobs.specs.Stack.{Fetches, FetchesFile, JudgesFile, JudgesStack, ReadsText};
 
-use event_graph::Stack;
+use stack_judge::Stack;
 use file_judge::{FileError, judge, read_file};
 use job_ends::Ending;
 use layer_ast::{File, LONGEST_FILE};

@@ -3,7 +3,7 @@
 ghost use Rattle.std.specs.Prelude.{◌≡◌};
 ghost use Rattle.file_judge.specs.Refusals.{names_refused, stack_refused, text_refused, types_refused};
 
-use event_graph::StackError;
+use stack_judge::StackError;
 use file_names::NameError;
 use file_parse::ParseError;
 use file_types::TypeError;

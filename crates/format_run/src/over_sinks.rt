@@ -7,7 +7,7 @@ ghost use Rattle.outside.specs.Tells.{tells_of};
 ghost use Rattle.format_run.specs.Ends as spec;
 
 use crate::ending::{Ending, say};
-use file_format::lay_out;
+use format_layout::lay_out;
 use file_lex::cut;
 use layer_words::At;
 use layer_ast::LONGEST_FILE;

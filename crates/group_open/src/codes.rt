@@ -4,11 +4,11 @@
 ghost use Rattle.std.specs.Prelude.{◌≡◌, IfOk};
 ghost use Rattle.std.specs.Option.{option_map};
 ghost use Rattle.std.specs.Rc.{rc_value};
-ghost use Rattle.bypass_codes.specs.Codes.{codes_of};
+ghost use Rattle.code_table.specs.Codes.{codes_of};
 ghost use Rattle.bypass_laws.specs.Making.{IsSound};
 ghost use Rattle.bypass_laws.specs.Stack.{AreOfStack};
-ghost use Rattle.bypass_member.specs.Serving.{AreCodesOf};
-ghost use Rattle.event_graph.specs.Answer.{stack_tree};
+ghost use Rattle.group_member.specs.Serving.{AreCodesOf};
+ghost use Rattle.stack_judge.specs.Answer.{stack_tree};
 ghost use Rattle.group_mean.specs.Shown.{shown_mode};
 ghost use Rattle.miss_laws.specs.Asked.{all_asked};
 ghost use Rattle.stack_mean.specs.Plans.{plans_of};
@@ -17,10 +17,10 @@ ghost use Rattle.stack_shapes.specs.Trees.{plans_tree};
 ghost use Rattle.trace_core.specs.Bypasses.{bypasses_tree};
 ghost use Rattle.group_open.specs.Opening.{AreExamining, CanRun, CodesFor};
 
-use bypass_codes::Codes;
-use event_graph::Stack;
+use code_table::Codes;
+use stack_judge::Stack;
 use group_mean::Mode;
-use stack_checks::StackChecks;
+use guard_checks::StackChecks;
 use stack_shapes::StackShapes;
 use std::alloc::{AllocError, Global};
 use std::rc::Rc;

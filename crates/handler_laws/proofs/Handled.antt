@@ -48,7 +48,7 @@ use Rattle.guard_laws.proofs.Straight.{code_is_same}
 use Rattle.bypass_mean.specs.Bypasses.{Entry, plan_entry, entries_of, Made, fused, absent, Bypasses}
 use Rattle.bypass_laws.specs.Stack.{IsFused, IsMade, IsSecond, AreOfStack}
 use Rattle.stack_shapes.specs.Entries.{planned_entry}
-use Rattle.bypass_codes.specs.Codes.{code_if, second_code, codes_of, codes_in, code_at}
+use Rattle.code_table.specs.Codes.{code_if, second_code, codes_of, codes_in, code_at}
 use Rattle.handler_laws.specs.Handled.{step_input, HandlesStep, IsHandled, StepsAreHandled}
 use Rattle.handler_laws.proofs.Common.{nothing_lacks, something_lacks, Came, came, left}
 use Rattle.handler_laws.proofs.Nodes.{entry_is_node, entry_is_light}

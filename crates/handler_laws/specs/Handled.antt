@@ -22,7 +22,7 @@ use Rattle.guard_laws.specs.Safe.{SafeCode}
 use Rattle.bypass_mean.specs.Bypasses as mean
 use Rattle.bypass_laws.specs.Stack.{AreOfStack}
 use Rattle.stack_shapes.specs.Entries.{entry_for}
-use Rattle.bypass_codes.specs.Codes.{codes_of, code_at}
+use Rattle.code_table.specs.Codes.{codes_of, code_at}
 
 -- The input of a step's entry.
 abbrev pub step_input : List Plan → Here → Entered → Input

@@ -10,7 +10,7 @@ use group_mean::Mode;
 use job_text::MOST_GENERATED;
 use outside::StillSink;
 use play_jobs::{PlayError, Wanted, play};
-use run_audit::{AuditError, Finding, Law, audit};
+use audit_judge::{AuditError, Finding, Law, audit};
 use script_mean::Script;
 use script_text::{ScriptError, read_script};
 use std::alloc::{AllocError, Global};

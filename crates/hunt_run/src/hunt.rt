@@ -1,7 +1,7 @@
 //! Runs over the stack of a file, until one breaks the law.
 
 ghost use Rattle.std.specs.Prelude.{◌≡◌, true};
-ghost use Rattle.event_graph.specs.Answer.{stack_tree};
+ghost use Rattle.stack_judge.specs.Answer.{stack_tree};
 ghost use Rattle.output_mean.specs.Judged.{Means};
 ghost use Rattle.hunt_run.specs.Looks.{Goes, IsHeldLine, Looks, Makes};
 ghost use Rattle.hunt_run.specs.Reading.{request_shown};
@@ -10,7 +10,7 @@ use crate::found::find;
 use crate::told::holds_line;
 use crate::watch::Watch;
 use crate::words::Request;
-use event_graph::{MOST_ROWS, Stack};
+use stack_judge::{MOST_ROWS, Stack};
 use file_judge::judge;
 use hunt_search::{Aim, Search, SearchError};
 use job_ends::Ending;

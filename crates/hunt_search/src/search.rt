@@ -1,7 +1,7 @@
 //! Runs, one after the other, and what is found in them.
 
 ghost use Rattle.bypass_laws.specs.Making.{IsSound};
-ghost use Rattle.event_graph.specs.Answer.{stack_tree};
+ghost use Rattle.stack_judge.specs.Answer.{stack_tree};
 
 use crate::error::SearchError;
 use crate::judge::is_broken;
@@ -11,7 +11,7 @@ use crate::schedule::{Schedule, Step};
 use crate::text::Text;
 use crate::wander::Wander;
 use audit_mean::Law;
-use event_graph::Stack;
+use stack_judge::Stack;
 use hunt_ground::{Ground, Group};
 use msg_core::MOST_MEMBERS;
 use std::alloc::Global;

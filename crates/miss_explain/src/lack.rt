@@ -4,7 +4,7 @@ ghost use Rattle.std.specs.Prelude.{◌≡◌, ◌++◌, [], OnOk, codes, option
 ghost use Rattle.std.specs.Fmt.{decimal};
 ghost use Rattle.std.specs.Option.{option_map_or};
 ghost use Rattle.bypass_mean.specs.Lines.{reason_text};
-ghost use Rattle.event_graph.specs.Answer.{stack_tree};
+ghost use Rattle.stack_judge.specs.Answer.{stack_tree};
 ghost use Rattle.layer_ast.specs.View.{file_tree};
 ghost use Rattle.layer_mean.specs.Tree.{no_layer};
 ghost use Rattle.miss_mean.specs.Text.{entry_spots, entry_text, known_at, lack_text, spot_text};

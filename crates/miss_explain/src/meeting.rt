@@ -2,7 +2,7 @@
 
 ghost use Rattle.std.specs.Prelude.{◌≡◌, bytes_eq, find, map, option_map};
 ghost use Rattle.std.specs.List.{position};
-ghost use Rattle.event_graph.specs.Answer.{stack_tree};
+ghost use Rattle.stack_judge.specs.Answer.{stack_tree};
 ghost use Rattle.fault_mean.specs.Places as places;
 ghost use Rattle.layer_ast.specs.View as written;
 ghost use Rattle.layer_mean.specs.Visit as mean;
@@ -10,7 +10,7 @@ ghost use Rattle.miss_mean.specs.Spots as spots;
 ghost use Rattle.shape_core.specs.Sketch.{visit_tree};
 ghost use Rattle.typed_layer.specs.View.{handler_tree};
 
-use event_graph::Stack;
+use stack_judge::Stack;
 use file_scope::is_same;
 use layer_words::{Dir, Kind, Word};
 use layer_ast::{File, Handler, Layer, Place};

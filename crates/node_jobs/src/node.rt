@@ -1,7 +1,7 @@
 //! The job `node`.
 
 ghost use Rattle.bypass_laws.specs.Making.{IsSound};
-ghost use Rattle.event_graph.specs.Answer.{stack_tree};
+ghost use Rattle.stack_judge.specs.Answer.{stack_tree};
 ghost use Rattle.job_ends.specs.Comes.{around};
 ghost use Rattle.job_ends.specs.Shown.{shown_end};
 ghost use Rattle.node_loop.specs.Around as outside;
@@ -12,8 +12,8 @@ ghost use Rattle.node_jobs.specs.Plan.{IsServable, RunsPlan, words_of};
 use crate::members::{are_below, as_bytes};
 use crate::plan::fetch_plan;
 use crate::served::ending;
-use bypass_member::OpenError;
-use event_graph::Stack;
+use group_member::OpenError;
+use stack_judge::Stack;
 use file_jobs::fetch_stack;
 use group_open::{Opened, open};
 use job_ends::Ending;

@@ -1,7 +1,7 @@
 -- The acts of a member's outputs, and when these may be passed on.
 use Rattle.std.specs.Prelude.{ℕ, ◌+◌, ◌^◌, ◌<◌, Bool, List, length, Option, IsSomeAnd}
 use Rattle.std.specs.List.{AllByRecursion}
-use Rattle.event_graph.specs.Answer.{stack_tree}
+use Rattle.stack_judge.specs.Answer.{stack_tree}
 use Rattle.stack_shapes.specs.Trees.{plans_tree}
 use Rattle.run_mean.specs.Member.{Output}
 use Rattle.view_core.specs.declared.step.Stepped.{Stepped}

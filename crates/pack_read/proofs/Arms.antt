@@ -16,7 +16,7 @@ use Rattle.trace_core.specs.View.{load_tree, number_in, term_of, terms}
 use Rattle.trace_core.specs.Arena.{Made}
 use Rattle.trace_core.proofs.Makes.{rows_made, item_made, size_made, pick_made, apply_made, binary_made, held_made}
 use Rattle.trace_core.proofs.Makes.{cut_made, tail_made, join_made}
-use Rattle.trace_words.specs.View.{item_in}
+use Rattle.pack_words.specs.View.{item_in}
 use Rattle.pack_read.specs.declared.queued.Queue.{Queue}
 use Rattle.pack_read.specs.Expressions.{queue_in, MessageRead, NumberRead, QueueRead}
 use Rattle.pack_read.proofs.Took.{onto, number_read, message_read}

@@ -10,10 +10,10 @@ use Rattle.pack_mean.specs.Named.{atom_named, cell_named, core_named}
 use Rattle.pack_mean.specs.Expression.{a_cell, a_message, a_number, a_queue, an_operation, inside, most_brackets}
 use Rattle.pack_mean.specs.Expression.{message_named, message_with, number_named, number_with, queue_with}
 use Rattle.trace_core.specs.declared.node.Node.{Node}
-use Rattle.trace_words.specs.View.{layers_in, named_in, pair_of}
-use Rattle.trace_words.specs.declared.spot.Spot.{Spot}
-use Rattle.trace_words.specs.declared.error.LineError.{LineError}
-use Rattle.trace_words.specs.declared.scope.Scope.{Scope}
+use Rattle.pack_words.specs.View.{layers_in, named_in, pair_of}
+use Rattle.pack_words.specs.declared.spot.Spot.{Spot}
+use Rattle.pack_words.specs.declared.error.LineError.{LineError}
+use Rattle.pack_words.specs.declared.scope.Scope.{Scope}
 use Rattle.pack_read.specs.declared.queued.Queue.{Queue}
 use Rattle.pack_read.specs.declared.sort.Sort.{Sort}
 use Rattle.pack_read.specs.Sorts.{queue_by_sort, sort_of}

@@ -15,9 +15,9 @@ use Rattle.trace_core.specs.declared.node.Atom.TheVariants as atoms
 use Rattle.trace_core.specs.View.{a_number, number_in, term_of, terms}
 use Rattle.trace_core.specs.Arena.{Made}
 use Rattle.trace_core.proofs.Makes.{following, element_made, is_number, made_as, stays}
-use Rattle.trace_words.specs.View.{pair_of}
-use Rattle.trace_words.specs.declared.error.LineError.{LineError}
-use Rattle.trace_words.specs.declared.spot.Spot.{Spot}
+use Rattle.pack_words.specs.View.{pair_of}
+use Rattle.pack_words.specs.declared.error.LineError.{LineError}
+use Rattle.pack_words.specs.declared.spot.Spot.{Spot}
 use Rattle.pack_read.specs.declared.sort.Sort.{Sort}
 use Rattle.pack_read.specs.declared.sort.Sort.TheVariants as sorts
 use Rattle.pack_read.specs.declared.targeted.Target.{Target}

@@ -11,9 +11,9 @@ use Rattle.trace_core.specs.declared.links.Link.{Link}
 use Rattle.trace_core.specs.Links.{IsChain, Linked, chain_in, chains}
 use Rattle.trace_core.proofs.Chains.{chain_found, chain_there, chains_long, empty_chain}
 use Rattle.trace_core.proofs.Earlier.{some_of}
-use Rattle.trace_words.specs.Reading.{Passes, Stays, StartsOther}
-use Rattle.trace_words.specs.declared.error.LineError.{LineError}
-use Rattle.trace_words.specs.declared.error.LineError.TheVariants.{Form, Memory}
+use Rattle.pack_words.specs.Reading.{Passes, Stays, StartsOther}
+use Rattle.pack_words.specs.declared.error.LineError.{LineError}
+use Rattle.pack_words.specs.declared.error.LineError.TheVariants.{Form, Memory}
 use Rattle.pack_read.specs.declared.header.Header.{Header}
 use Rattle.pack_read.specs.Operations.{ChainRead, ReadsChain, TakesAs, header_at}
 use Rattle.trace_core.proofs.Growing.{none_more, more_then, linked_more}

@@ -7,8 +7,8 @@ use Rattle.trace_mean.specs.Trace as trace
 use Rattle.pack_mean.specs.Reader.{Reader, the_text, more_of, each_of}
 use Rattle.trace_core.specs.declared.node.Atom.{Atom}
 use Rattle.trace_core.specs.View.{atom_tree}
-use Rattle.trace_words.specs.declared.error.LineError.{LineError}
-use Rattle.trace_words.specs.declared.error.LineError.TheVariants.{Form, Memory}
+use Rattle.pack_words.specs.declared.error.LineError.{LineError}
+use Rattle.pack_words.specs.declared.error.LineError.TheVariants.{Form, Memory}
 use Rattle.pack_read.specs.Operations.{AreTaken, TakesAtoms, TakesAs}
 use Rattle.pack_read.proofs.Listing.{with_first, each_step, each_none, more_step, more_no_comma, more_none}
 use Rattle.pack_read.proofs.Listing.{one_less}

@@ -5,10 +5,10 @@ use Rattle.std.specs.Prelude.{◌==◌, ◌&&◌, bytes_eq, nat_eq}
 use Rattle.std.proofs.lemmas.Bool.{eqb-true}
 use Rattle.std.proofs.lemmas.Option.{none-some}
 use Rattle.pack_mean.specs.Reader.{the_text}
-use Rattle.trace_words.proofs.Fronts.{both_texts, not_front}
-use Rattle.trace_words.specs.declared.error.LineError.{LineError}
-use Rattle.trace_words.specs.declared.error.LineError.TheVariants.{Form, Memory}
-use Rattle.trace_words.specs.Reading.{Takes}
+use Rattle.pack_words.proofs.Fronts.{both_texts, not_front}
+use Rattle.pack_words.specs.declared.error.LineError.{LineError}
+use Rattle.pack_words.specs.declared.error.LineError.TheVariants.{Form, Memory}
+use Rattle.pack_words.specs.Reading.{Takes}
 
 abbrev Told : Type 0
 Told = Option (Unit {0} × List ℕ)

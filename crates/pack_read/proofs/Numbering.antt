@@ -9,8 +9,8 @@ use Rattle.trace_core.specs.declared.node.Node.{Node}
 use Rattle.trace_core.specs.View.{number_in, terms}
 use Rattle.trace_core.specs.Operations.{AllNumbers}
 use Rattle.trace_core.proofs.Makes.{number_made}
-use Rattle.trace_words.specs.declared.error.LineError.{LineError}
-use Rattle.trace_words.specs.declared.error.LineError.TheVariants.{Form, Memory}
+use Rattle.pack_words.specs.declared.error.LineError.{LineError}
+use Rattle.pack_words.specs.declared.error.LineError.TheVariants.{Form, Memory}
 use Rattle.pack_read.specs.Expressions.{NumberMade, NumberRead}
 use Rattle.pack_read.specs.Operations.{NumbersRead, ReadsNumbers}
 use Rattle.trace_core.proofs.Growing.{made_more, more_then, none_more, numbers_stay, numbers_with}

@@ -14,7 +14,7 @@ use Rattle.trace_core.specs.Operations.{IsPart}
 use Rattle.trace_core.specs.Operations.{operation_in, operations_of}
 use Rattle.pack_read.specs.Operations.{OperationSaid, Says}
 use Rattle.trace_core.proofs.Growing.{one_after, parts_stay}
-use Rattle.trace_words.specs.declared.error.LineError.{LineError}
+use Rattle.pack_words.specs.declared.error.LineError.{LineError}
 use Rattle.pack_read.specs.declared.open.Open.{Open}
 use Rattle.pack_read.specs.Open.{AreParts, IsAdded, IsPut, LeavesAfter, SaysIn, left_after, named_of}
 

@@ -10,8 +10,8 @@ use Rattle.pack_mean.specs.Operation as operation
 use Rattle.pack_mean.specs.Operation.{a_last, nothing_sent, or_no_more, sent_by, sent_within, with_number}
 use Rattle.trace_core.specs.declared.node.Atom.{Atom}
 use Rattle.trace_core.specs.View.{atom_tree, core_tree}
-use Rattle.trace_words.specs.declared.error.LineError.{LineError}
-use Rattle.trace_words.specs.declared.error.LineError.TheVariants.{Form, Memory}
+use Rattle.pack_words.specs.declared.error.LineError.{LineError}
+use Rattle.pack_words.specs.declared.error.LineError.TheVariants.{Form, Memory}
 use Rattle.pack_read.specs.declared.sent.Sent.{Sent}
 use Rattle.pack_read.specs.Operations.{ReadsSent, SentRead}
 use Rattle.pack_read.proofs.Listing.{one_less}

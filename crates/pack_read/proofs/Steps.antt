@@ -14,8 +14,8 @@ use Rattle.pack_mean.specs.Named.{Named, naming}
 use Rattle.pack_mean.specs.Operation.{operation_said}
 use Rattle.pack_mean.specs.File as file
 use Rattle.pack_mean.specs.File.{Due, line_read, next_case, operation_line, traces_from, within, with_operation}
-use Rattle.trace_words.specs.declared.error.LineError.{LineError}
-use Rattle.trace_words.specs.declared.error.LineError.TheVariants.{Form, Memory}
+use Rattle.pack_words.specs.declared.error.LineError.{LineError}
+use Rattle.pack_words.specs.declared.error.LineError.TheVariants.{Form, Memory}
 use Rattle.pack_mean.specs.Accepted.{longest_file}
 use Rattle.pack_read.proofs.Bare.{read_alike}
 use Rattle.pack_read.specs.declared.due.Due as heads

@@ -23,10 +23,10 @@ use Rattle.pack_read.specs.declared.targeted.Target.{Target}
 use Rattle.pack_read.specs.declared.targeted.Target.TheVariants as targets
 use Rattle.pack_read.specs.Expressions.{NumberRead, QueueRead, TargetRead, a_target, queue_in}
 use Rattle.pack_read.specs.declared.queued.Queue.{Queue}
-use Rattle.trace_words.specs.declared.error.LineError.{LineError}
-use Rattle.trace_words.specs.declared.spot.Spot.{Spot}
-use Rattle.trace_words.specs.Reading.{Takes}
-use Rattle.trace_words.specs.View.{row_of}
+use Rattle.pack_words.specs.declared.error.LineError.{LineError}
+use Rattle.pack_words.specs.declared.spot.Spot.{Spot}
+use Rattle.pack_words.specs.Reading.{Takes}
+use Rattle.pack_words.specs.View.{row_of}
 use Rattle.pack_read.specs.declared.store.Store.{Store}
 use Rattle.pack_read.specs.Operations.{MessageRead, NumbersRead, OperationRead, set_of}
 use Rattle.trace_core.proofs.Growing.{made_more, more_then, number_stays, same_more}

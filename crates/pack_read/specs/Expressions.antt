@@ -8,8 +8,8 @@ use Rattle.pack_mean.specs.Expression.{QueueNamed, a_cell, inside, most_brackets
 use Rattle.trace_core.specs.declared.node.Node.{Node}
 use Rattle.trace_core.specs.Arena.{Made}
 use Rattle.trace_core.specs.View.{Term, a_message, a_number, message_in, number_in, terms}
-use Rattle.trace_words.specs.declared.error.LineError.{LineError}
-use Rattle.trace_words.specs.declared.error.LineError.TheVariants.{Form, Memory}
+use Rattle.pack_words.specs.declared.error.LineError.{LineError}
+use Rattle.pack_words.specs.declared.error.LineError.TheVariants.{Form, Memory}
 use Rattle.pack_read.specs.declared.queued.Queue.{Queue}
 use Rattle.pack_read.specs.declared.targeted.Target.{Target}
 use Rattle.pack_read.specs.declared.targeted.Target.TheVariants as targets

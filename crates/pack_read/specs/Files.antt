@@ -9,8 +9,8 @@ use Rattle.pack_mean.specs.File as file
 use Rattle.pack_mean.specs.File.{most_operations}
 use Rattle.trace_core.specs.declared.trace.Trace.{Trace}
 use Rattle.trace_core.specs.Trees.{trace_tree}
-use Rattle.trace_words.specs.declared.error.LineError.{LineError}
-use Rattle.trace_words.specs.declared.error.LineError.TheVariants as fault
+use Rattle.pack_words.specs.declared.error.LineError.{LineError}
+use Rattle.pack_words.specs.declared.error.LineError.TheVariants as fault
 use Rattle.pack_read.specs.declared.due.Due.{Due}
 use Rattle.pack_read.specs.declared.error.ReadError.{ReadError}
 use Rattle.pack_read.specs.declared.error.ReadError.TheVariants.{Line, Memory}

@@ -1,10 +1,10 @@
 -- What stands in brackets on a line.
 use Rattle.std.specs.Prelude.{ℕ, zero, suc, ◌≡◌, Result, Ok, Err}
 use Rattle.pack_mean.specs.Expression.{Inner, inside}
-use Rattle.trace_words.specs.View.{layers_in, named_in}
-use Rattle.trace_words.specs.declared.error.LineError.{LineError}
-use Rattle.trace_words.specs.declared.error.LineError.TheVariants.{Form, Memory}
-use Rattle.trace_words.specs.declared.scope.Scope.{Scope}
+use Rattle.pack_words.specs.View.{layers_in, named_in}
+use Rattle.pack_words.specs.declared.error.LineError.{LineError}
+use Rattle.pack_words.specs.declared.error.LineError.TheVariants.{Form, Memory}
+use Rattle.pack_words.specs.declared.scope.Scope.{Scope}
 
 -- How the text in a bracket of a line is read, where `room` brackets may be opened, that one included.
 unfoldable pub inner : Scope → ℕ → Inner

@@ -12,9 +12,9 @@ use Rattle.trace_core.specs.Links.{chains}
 use Rattle.trace_core.specs.Operations.{IsPart, operation_in, operations_of}
 use Rattle.trace_core.specs.View.{Term, terms}
 use Rattle.pack_read.specs.Operations.{Says}
-use Rattle.trace_words.specs.View.{row_of}
-use Rattle.trace_words.specs.declared.error.LineError.{LineError}
-use Rattle.trace_words.specs.declared.error.LineError.TheVariants.{Form, Memory}
+use Rattle.pack_words.specs.View.{row_of}
+use Rattle.pack_words.specs.declared.error.LineError.{LineError}
+use Rattle.pack_words.specs.declared.error.LineError.TheVariants.{Form, Memory}
 use Rattle.pack_read.specs.declared.open.Open.{Open}
 
 -- Its operations, and what its next line may name.

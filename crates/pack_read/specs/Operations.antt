@@ -21,8 +21,8 @@ use Rattle.trace_core.specs.Grown.{Grown}
 use Rattle.trace_core.specs.View.{atom_tree, core_tree, number_in, terms}
 use Rattle.trace_core.specs.Links.{IsChain, chain_in, chains}
 use Rattle.trace_core.specs.Operations.{AllNumbers, HasChain, IsPart, chained_in, operation_in}
-use Rattle.trace_words.specs.declared.error.LineError.{LineError}
-use Rattle.trace_words.specs.declared.error.LineError.TheVariants.{Form, Memory}
+use Rattle.pack_words.specs.declared.error.LineError.{LineError}
+use Rattle.pack_words.specs.declared.error.LineError.TheVariants.{Form, Memory}
 use Rattle.pack_read.specs.declared.store.Store.{Store}
 use Rattle.pack_read.specs.declared.header.Header.{Header}
 use Rattle.pack_read.specs.declared.sent.Sent.{Sent}

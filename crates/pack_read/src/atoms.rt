@@ -2,12 +2,12 @@
 
 ghost use Rattle.pack_mean.specs.Operation as operation;
 ghost use Rattle.trace_core.specs.View.{atom_tree, core_tree};
-ghost use Rattle.trace_words.specs.Reading.{left};
-ghost use Rattle.trace_words.specs.View.{named_in};
+ghost use Rattle.pack_words.specs.Reading.{left};
+ghost use Rattle.pack_words.specs.View.{named_in};
 ghost use Rattle.pack_read.specs.Operations.{TakesAs};
 
 use trace_core::{Atom, Core};
-use trace_words::{LineError, Scope, Text, atom_named, core_named};
+use pack_words::{LineError, Scope, Text, atom_named, core_named};
 
 /// A number for which no cell is read.
 pub(crate) fn atom(text: &mut Text<'_>, scope: &Scope<'_>) -> Result<Atom, LineError>

@@ -3,15 +3,15 @@
 ghost use Rattle.std.specs.Prelude.{◌≡◌, ◌∷◌, IfOk};
 ghost use Rattle.pack_mean.specs.Operation as operation;
 ghost use Rattle.trace_core.specs.Links.{IsChain, MakesChain, chain_in, chains};
-ghost use Rattle.trace_words.specs.Reading.{left};
-ghost use Rattle.trace_words.specs.View.{layers_in, named_in};
+ghost use Rattle.pack_words.specs.Reading.{left};
+ghost use Rattle.pack_words.specs.View.{layers_in, named_in};
 ghost use Rattle.pack_read.specs.Operations.{ReadsChain, ReadsChained, header_at};
 
 use crate::atoms::core;
 use crate::header::{Header, read_header};
 use std::alloc::AllocError;
 use trace_core::{Chained, Link, Links};
-use trace_words::{LineError, Scope, Text};
+use pack_words::{LineError, Scope, Text};
 
 /// A place, as traces keep it: of eight bits.
 fn kept_place(place: u32) -> Result<u8, AllocError>

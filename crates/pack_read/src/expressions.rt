@@ -3,9 +3,9 @@
 ghost use Rattle.std.specs.Prelude.{◌≡◌, ◌∷◌, []};
 ghost use Rattle.pack_mean.specs.Expression as expression;
 ghost use Rattle.pack_mean.specs.Named as named;
-ghost use Rattle.trace_words.specs.Names.{words_in};
-ghost use Rattle.trace_words.specs.Reading.{left};
-ghost use Rattle.trace_words.specs.View.{layers_in, named_in};
+ghost use Rattle.pack_words.specs.Names.{words_in};
+ghost use Rattle.pack_words.specs.Reading.{left};
+ghost use Rattle.pack_words.specs.View.{layers_in, named_in};
 ghost use Rattle.pack_read.specs.Inside.{Opens, inner};
 ghost use Rattle.pack_read.specs.Expressions.{ReadsMessage, ReadsNumber, ReadsQueue, ReadsTarget};
 ghost use Rattle.pack_read.specs.Sorts.{number_by_sort, queue_by_sort};
@@ -15,10 +15,7 @@ use crate::sort::{CellNamed, Sort, sort_at};
 use crate::targeted::Target;
 use layer_words::Function;
 use trace_core::{Arena, Atom, Node};
-use trace_words::{
-    LineError, Name, Scope, Text, atom_named, cell_named, core_named, function_of, item_named,
-    load_at, operator_of,
-};
+use pack_words::{LineError, Name, Scope, Text, atom_named, cell_named, core_named, function_of, item_named, load_at, operator_of};
 
 /// How many brackets may be opened inside one, if one may.
 fn opened(room: u32) -> Result<u32, LineError>

@@ -2,7 +2,7 @@
 
 ghost use Rattle.std.specs.Prelude.{◌≡◌, ◌+◌, ◌≤◌, List, length, map};
 ghost use Rattle.audit_mean.specs.Text.{lines_of};
-ghost use Rattle.event_graph.specs.Answer.{stack_tree};
+ghost use Rattle.stack_judge.specs.Answer.{stack_tree};
 ghost use Rattle.pack_mean.specs.Accepted.{longest_file};
 ghost use Rattle.pack_mean.specs.File as file;
 ghost use Rattle.pack_read.specs.Lines.{lines_left};
@@ -12,10 +12,10 @@ use crate::due::Due;
 use crate::error::ReadError;
 use crate::lines::Lines;
 use crate::reading::Reading;
-use event_graph::Stack;
+use stack_judge::Stack;
 use std::alloc::Global;
 use trace_core::Trace;
-use trace_words::LineError;
+use pack_words::LineError;
 
 /// The most bytes of a file of traces.
 pub const LONGEST_FILE: usize = 33_554_432;

@@ -5,15 +5,15 @@ ghost use Rattle.bypass_mean.specs.Text.{layer_of};
 ghost use Rattle.pack_mean.specs.Operation as operation;
 ghost use Rattle.pack_mean.specs.Reader as reader;
 ghost use Rattle.trace_core.specs.View.{atom_tree};
-ghost use Rattle.trace_words.specs.Names.{words_in};
-ghost use Rattle.trace_words.specs.Reading.{left};
-ghost use Rattle.trace_words.specs.View.{layers_in, named_in};
+ghost use Rattle.pack_words.specs.Names.{words_in};
+ghost use Rattle.pack_words.specs.Reading.{left};
+ghost use Rattle.pack_words.specs.View.{layers_in, named_in};
 ghost use Rattle.pack_read.specs.Operations.{TagIs, TakesAs, TakesAtoms, header_at};
 
 use crate::atoms::atom;
 use std::alloc::AllocError;
 use trace_core::{Atom, Atoms};
-use trace_words::{LineError, Name, Scope, Text, fields_of, layer_at, tag_named};
+use pack_words::{LineError, Name, Scope, Text, fields_of, layer_at, tag_named};
 
 /// The most fields of a header.
 pub(crate) const MOST_FIELDS: u32 = msg_core::MOST_FIELDS as u32;

@@ -3,12 +3,12 @@
 ghost use Rattle.std.specs.Prelude.{◌≡◌, ◌++◌, bytes_eq, map};
 ghost use Rattle.pack_mean.specs.File as file;
 ghost use Rattle.pack_mean.specs.Reader as reader;
-ghost use Rattle.trace_words.specs.Reading.{Takes, left};
+ghost use Rattle.pack_words.specs.Reading.{Takes, left};
 ghost use Rattle.pack_read.specs.Files.{begins, due_tree};
 
 use crate::due::Due;
 use layer_mean::Case;
-use trace_words::{LineError, Text};
+use pack_words::{LineError, Text};
 
 /// What an entry is called.
 fn entry_name(text: &mut Text<'_>, entry: u32) -> Result<(), LineError>
@@ -24,7 +24,7 @@ fn entry_name(text: &mut Text<'_>, entry: u32) -> Result<(), LineError>
 }
 
 /// These bytes, and what an entry is called.
-#[tactic(auto, using(trace_words::proofs::Fronts::not_front))]
+#[tactic(auto, using(pack_words::proofs::Fronts::not_front))]
 fn named_entry(text: &mut Text<'_>, front: &[u8], entry: u32) -> Result<(), LineError>
     ensures { Takes (reader.the_text (front.now ++ file.entry_name entry) (left text.old)) result (left text.new) }
 {

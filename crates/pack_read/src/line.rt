@@ -1,8 +1,8 @@
 //! The operation of a line.
 
 ghost use Rattle.pack_mean.specs.Operation as operation;
-ghost use Rattle.trace_words.specs.Reading.{left};
-ghost use Rattle.trace_words.specs.View.{layers_in, named_in};
+ghost use Rattle.pack_words.specs.Reading.{left};
+ghost use Rattle.pack_words.specs.View.{layers_in, named_in};
 ghost use Rattle.pack_read.specs.Operations.{ReadsOperation, Says};
 
 use crate::output::output;
@@ -10,7 +10,7 @@ use crate::queues::{push, take};
 use crate::store::Store;
 use crate::write::{bind, check, note, set};
 use trace_core::Operation;
-use trace_words::{LineError, Scope, Text};
+use pack_words::{LineError, Scope, Text};
 
 /// An operation, after its first word.
 fn operation_by(

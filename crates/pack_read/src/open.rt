@@ -1,16 +1,16 @@
 //! A case as it is read.
 
 ghost use Rattle.std.specs.Prelude.{◌≡◌, ◌+◌, IfOk};
-ghost use Rattle.event_graph.specs.Answer.{stack_tree};
+ghost use Rattle.stack_judge.specs.Answer.{stack_tree};
 ghost use Rattle.trace_core.specs.Trees.{trace_tree};
 ghost use Rattle.pack_read.specs.Open.{Adds, AreParts, IsEmpty, LeavesAfter, Names, Puts, SaysIn, held_in};
 
 use crate::line::operation;
 use crate::store::Store;
-use event_graph::Stack;
+use stack_judge::Stack;
 use std::alloc::{AllocError, Global};
 use trace_core::{Arena, Links, Operation, Trace};
-use trace_words::{LineError, Scope, Spot};
+use pack_words::{LineError, Scope, Spot};
 
 /// How many operations a case may have beside its notes.
 pub(crate) const MOST_OPERATIONS: u32 = 4_096;

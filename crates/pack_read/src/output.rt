@@ -1,15 +1,15 @@
 //! Events that come out.
 
 ghost use Rattle.pack_mean.specs.Operation as operation;
-ghost use Rattle.trace_words.specs.Reading.{Takes, left};
-ghost use Rattle.trace_words.specs.View.{layers_in, named_in};
+ghost use Rattle.pack_words.specs.Reading.{Takes, left};
+ghost use Rattle.pack_words.specs.View.{layers_in, named_in};
 ghost use Rattle.pack_read.specs.Operations.{ReadsOperation, a_direction, a_kind};
 
 use crate::sent::{sent_message, what_is_sent};
 use crate::store::Store;
 use layer_words::{Dir, Kind};
 use trace_core::Operation;
-use trace_words::{LineError, Scope, Text, kind_named};
+use pack_words::{LineError, Scope, Text, kind_named};
 
 /// The direction of an output.
 fn direction(text: &mut Text<'_>) -> Result<Dir, LineError>

@@ -1,6 +1,6 @@
 //! A queue, as it is read.
 
-use trace_words::Spot;
+use pack_words::Spot;
 
 /// A queue: its cell, and the node of its index.
 #[derive(Clone, Copy)]

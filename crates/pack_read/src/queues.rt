@@ -4,15 +4,15 @@ ghost use Rattle.std.specs.Prelude.{◌++◌, length};
 ghost use Rattle.std.specs.Fmt.{decimal};
 ghost use Rattle.pack_mean.specs.Operation as operation;
 ghost use Rattle.pack_mean.specs.Reader as reader;
-ghost use Rattle.trace_words.specs.Reading.{Takes, left};
-ghost use Rattle.trace_words.specs.View.{layers_in, named_in};
+ghost use Rattle.pack_words.specs.Reading.{Takes, left};
+ghost use Rattle.pack_words.specs.View.{layers_in, named_in};
 ghost use Rattle.pack_read.specs.Operations.{ReadsOperation};
 
 use crate::read::queue;
 use crate::row::{row_message, row_numbers};
 use crate::store::Store;
 use trace_core::Operation;
-use trace_words::{LineError, Scope, Text, items_named};
+use pack_words::{LineError, Scope, Text, items_named};
 
 /// A row that is pushed, after `push`.
 pub(crate) fn push(

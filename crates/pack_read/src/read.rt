@@ -2,15 +2,15 @@
 
 ghost use Rattle.std.specs.Prelude.{◌≡◌};
 ghost use Rattle.pack_mean.specs.Expression.{a_message, a_number, a_queue};
-ghost use Rattle.trace_words.specs.Reading.{left};
-ghost use Rattle.trace_words.specs.View.{layers_in, named_in};
+ghost use Rattle.pack_words.specs.Reading.{left};
+ghost use Rattle.pack_words.specs.View.{layers_in, named_in};
 ghost use Rattle.pack_read.specs.Expressions.{ReadsMessage, ReadsNumber, ReadsQueue, ReadsTarget, a_target};
 
 use crate::expressions;
 use crate::queued::Queue;
 use crate::targeted::Target;
 use trace_core::Arena;
-use trace_words::{LineError, Scope, Text};
+use pack_words::{LineError, Scope, Text};
 
 /// How deep brackets may go.
 pub const MOST_BRACKETS: u32 = 200;

@@ -1,7 +1,7 @@
 //! A file as it is read, line by line.
 
 ghost use Rattle.std.specs.Prelude.{◌≡◌, List, map};
-ghost use Rattle.event_graph.specs.Answer.{stack_tree};
+ghost use Rattle.stack_judge.specs.Answer.{stack_tree};
 ghost use Rattle.pack_mean.specs.File as file;
 ghost use Rattle.pack_read.specs.Open.{AreParts, held_in};
 ghost use Rattle.layer_mean.specs.Tree.{LayerTree};
@@ -13,11 +13,11 @@ use crate::due::Due;
 use crate::error::ReadError;
 use crate::heading::begins;
 use crate::open::Open;
-use event_graph::Stack;
+use stack_judge::Stack;
 use std::alloc::{AllocError, Global};
 use std::mem::replace;
 use trace_core::Trace;
-use trace_words::LineError;
+use pack_words::LineError;
 
 /// Where in a file a line stands: after its first, in a case, or after `end`.
 #[derive(Clone, Copy)]

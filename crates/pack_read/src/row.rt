@@ -8,8 +8,8 @@ ghost use Rattle.pack_mean.specs.Reader as reader;
 ghost use Rattle.trace_core.specs.Operations.{AllNumbers};
 ghost use Rattle.trace_core.specs.View.{terms};
 ghost use Rattle.typed_layer.specs.View.{items_tree};
-ghost use Rattle.trace_words.specs.Reading.{Takes, left};
-ghost use Rattle.trace_words.specs.View.{items_shown, layers_in, named_in};
+ghost use Rattle.pack_words.specs.Reading.{Takes, left};
+ghost use Rattle.pack_words.specs.View.{items_shown, layers_in, named_in};
 ghost use Rattle.pack_read.specs.Operations.{ReadsMessage, ReadsNumbers};
 
 use crate::chain::chained;
@@ -19,7 +19,7 @@ use layer_words::Word;
 use msg_core::Fields;
 use std::alloc::AllocError;
 use trace_core::{Arena, Chained, Links};
-use trace_words::{LineError, Scope, Text};
+use pack_words::{LineError, Scope, Text};
 use typed_layer::Items;
 
 /// One more node, where there is room for it.

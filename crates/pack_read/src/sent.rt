@@ -4,15 +4,15 @@ ghost use Rattle.std.specs.Prelude.{◌≡◌, ◌+◌, ◌<◌, ◌≤◌, ◌�
 ghost use Rattle.msg_core.specs.Headers.{most_fields};
 ghost use Rattle.pack_mean.specs.Operation as operation;
 ghost use Rattle.trace_core.specs.View.{core_tree};
-ghost use Rattle.trace_words.specs.Names.{words_in};
-ghost use Rattle.trace_words.specs.Reading.{left};
-ghost use Rattle.trace_words.specs.View.{layers_in, named_in};
+ghost use Rattle.pack_words.specs.Names.{words_in};
+ghost use Rattle.pack_words.specs.Reading.{left};
+ghost use Rattle.pack_words.specs.View.{layers_in, named_in};
 ghost use Rattle.pack_read.specs.Operations.{ReadsMessage, ReadsSent};
 
 use crate::chain::chain;
 use crate::header::MOST_FIELDS;
 use trace_core::{Atom, Atoms, Chained, Core, Links};
-use trace_words::{LineError, Name, Scope, Text, atom_named, core_named};
+use pack_words::{LineError, Name, Scope, Text, atom_named, core_named};
 
 /// What stands in the brackets of an output: numbers, and a message after these where it has one.
 #[derive(Clone, Copy)]

@@ -2,14 +2,14 @@
 
 ghost use Rattle.std.specs.Prelude.{◌≡◌, option_map};
 ghost use Rattle.bypass_mean.specs.Text.{layer_of};
-ghost use Rattle.event_graph.specs.Answer.{stack_tree};
+ghost use Rattle.stack_judge.specs.Answer.{stack_tree};
 ghost use Rattle.trace_mean.specs.Fuse.{form_at};
 ghost use Rattle.typed_layer.specs.View.{form_tree};
 ghost use Rattle.pack_read.specs.Sorts.{sort_of};
 
-use event_graph::Stack;
+use stack_judge::Stack;
 use layer_words::Shape;
-use trace_words::{Spot, cell_at};
+use pack_words::{Spot, cell_at};
 use typed_layer::Form;
 
 /// What a cell is.

@@ -1,6 +1,6 @@
 //! A number of a cell, as it is read.
 
-use trace_words::Spot;
+use pack_words::Spot;
 
 /// A number of a cell, by the nodes of its indices.
 #[derive(Clone, Copy)]

@@ -4,18 +4,18 @@ ghost use Rattle.std.specs.Prelude.{◌≡◌, ◌++◌, codes};
 ghost use Rattle.std.specs.Fmt.{decimal};
 ghost use Rattle.pack_mean.specs.Operation as operation;
 ghost use Rattle.pack_mean.specs.Reader as reader;
-ghost use Rattle.trace_words.specs.Reading.{Takes, left};
-ghost use Rattle.trace_words.specs.View.{layers_in, named_in};
+ghost use Rattle.pack_words.specs.Reading.{Takes, left};
+ghost use Rattle.pack_words.specs.View.{layers_in, named_in};
 ghost use Rattle.pack_read.specs.Operations.{ReadsOperation, set_of};
 
 use crate::read::{message, number, target};
 use crate::store::Store;
 use crate::targeted::Target;
 use trace_core::Operation;
-use trace_words::{LineError, Scope, Text};
+use pack_words::{LineError, Scope, Text};
 
 /// These bytes, the digits of a number, and ` = `.
-#[tactic(auto, using(trace_words::proofs::Fronts::not_front))]
+#[tactic(auto, using(pack_words::proofs::Fronts::not_front))]
 fn the_named(text: &mut Text<'_>, front: &[u8], number: u32) -> Result<(), LineError>
     ensures { Takes (reader.the_text (front.now ++ decimal number ++ codes " = ") (left text.old)) result
         (left text.new) }

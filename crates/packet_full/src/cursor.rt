@@ -1,7 +1,7 @@
 //! The bytes of a datagram, taken from the front.
 
 ghost use Rattle.std.specs.Prelude.{◌≡◌, ◌+◌, ◌<◌, ◌≤◌, [], IfSome, drop, length, option_map, slice_index_or};
-ghost use Rattle.event_graph.specs.Answer.{stack_tree};
+ghost use Rattle.stack_judge.specs.Answer.{stack_tree};
 ghost use Rattle.layer_mean.specs.Tree.{no_layer};
 ghost use Rattle.msg_core.specs.Headers.{most_fields};
 ghost use Rattle.packet_mean.specs.Reading as reading;
@@ -10,7 +10,7 @@ ghost use Rattle.packet_full.specs.Taking.{Takes, left, preamble_tree};
 
 use crate::form::form_at;
 use crate::front::{PREAMBLE_BYTES, Preamble, dest_of};
-use event_graph::Stack;
+use stack_judge::Stack;
 use msg_core::{Fields, Header, Headers};
 
 /// The most numbers that a header carries.

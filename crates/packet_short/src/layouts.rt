@@ -1,7 +1,7 @@
 //! The plans of a stack, laid out.
 
 ghost use Rattle.std.specs.Prelude.{◌≡◌, List, IfOk, IfSome, true};
-ghost use Rattle.event_graph.specs.Answer.{stack_tree};
+ghost use Rattle.stack_judge.specs.Answer.{stack_tree};
 ghost use Rattle.layer_mean.specs.Tree.{LayerTree};
 ghost use Rattle.stack_mean.specs.Plan as mean;
 ghost use Rattle.stack_shapes.specs.Trees.{plans_tree};
@@ -10,7 +10,7 @@ ghost use Rattle.packet_short.specs.Layouts.{AreLaidOut, IsFirst, IsLaidOut};
 use crate::fit::print_of;
 use crate::layout::{Layout, loose_of};
 use crate::planned::Planned;
-use event_graph::Stack;
+use stack_judge::Stack;
 use layer_words::Kind;
 use msg_core::{Headers, Memory};
 use packet_full::Cursor;

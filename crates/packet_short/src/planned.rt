@@ -2,13 +2,13 @@
 
 ghost use Rattle.std.specs.Prelude.{◌≡◌, ℕ, ◌+◌, ◌<◌, ◌≤◌, List, [], if◌then◌else◌, IfSome, None, Some, drop, length};
 ghost use Rattle.std.specs.Prelude.{option_map, slice_index_or};
-ghost use Rattle.event_graph.specs.Answer.{stack_tree};
+ghost use Rattle.stack_judge.specs.Answer.{stack_tree};
 ghost use Rattle.layer_mean.specs.Tree.{no_layer};
 ghost use Rattle.packet_full.specs.Taking.{Takes, left};
 ghost use Rattle.packet_short.specs.Dealing as dealing;
 ghost use Rattle.msg_core.specs.Headers.{most_fields};
 
-use event_graph::Stack;
+use stack_judge::Stack;
 use msg_core::{Fields, Header, Headers};
 use packet_full::{Cursor, form_at};
 use stack_shapes::Plan;

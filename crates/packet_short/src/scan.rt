@@ -2,7 +2,7 @@
 
 ghost use Rattle.std.specs.Prelude.{◌≡◌, ◌≤◌, IfOk, length, vec_capacity};
 ghost use Rattle.std.specs.List.{AllByRecursion};
-ghost use Rattle.event_graph.specs.Answer.{stack_tree};
+ghost use Rattle.stack_judge.specs.Answer.{stack_tree};
 ghost use Rattle.packet_full.specs.Scanned.{Scans};
 ghost use Rattle.packet_mean.specs.Plan.{kind_of};
 ghost use Rattle.packet_mean.specs.Received.{received};

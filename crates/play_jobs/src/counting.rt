@@ -1,7 +1,7 @@
 //! Scripts that are made and played over a stack, and the counts of their reports' lines.
 
 ghost use Rattle.std.specs.Prelude.{◌≤◌};
-ghost use Rattle.event_graph.specs.Answer.{stack_tree};
+ghost use Rattle.stack_judge.specs.Answer.{stack_tree};
 ghost use Rattle.group_mean.specs.Shown.{shown_mode};
 ghost use Rattle.group_open.specs.Opening.{CanRun};
 ghost use Rattle.msg_core.specs.View.{most_members};
@@ -13,7 +13,7 @@ ghost use Rattle.stack_mean.specs.Plans.{plans_of};
 ghost use Rattle.stack_play.specs.Turns.{most_events};
 
 use crate::error::PlayError;
-use event_graph::Stack;
+use stack_judge::Stack;
 use group_mean::Mode;
 use group_open::{Opened, open};
 use outside::Sink;

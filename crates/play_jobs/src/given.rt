@@ -2,7 +2,7 @@
 
 ghost use Rattle.std.specs.Prelude.{◌≤◌, length};
 ghost use Rattle.bypass_laws.specs.Making.{IsSound};
-ghost use Rattle.event_graph.specs.Answer.{stack_tree};
+ghost use Rattle.stack_judge.specs.Answer.{stack_tree};
 ghost use Rattle.job_ends.specs.Comes.{Comes, around};
 ghost use Rattle.job_ends.specs.Shown.{shown_end};
 ghost use Rattle.job_mean.specs.Job as job;
@@ -14,7 +14,7 @@ use crate::played::ending;
 use crate::playing::{Wanted, play_with};
 use crate::script::fetch_script;
 use crate::traces::fetch_traces;
-use event_graph::Stack;
+use stack_judge::Stack;
 use file_jobs::fetch_stack;
 use group_open::has_room;
 use job_ends::Ending;

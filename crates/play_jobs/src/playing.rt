@@ -4,7 +4,7 @@ ghost use Rattle.std.specs.Prelude.{◌≤◌, length};
 ghost use Rattle.std.specs.Rc.{rc_value};
 ghost use Rattle.bypass_laws.specs.Stack.{AreOfStack};
 ghost use Rattle.chain_laws.specs.Runs.{TypedStack};
-ghost use Rattle.event_graph.specs.Answer.{stack_tree};
+ghost use Rattle.stack_judge.specs.Answer.{stack_tree};
 ghost use Rattle.group_feed.specs.Beginning.{IsAtFirst};
 ghost use Rattle.group_mean.specs.Shown.{shown_mode};
 ghost use Rattle.group_open.specs.Opening.{CanRun};
@@ -20,7 +20,7 @@ ghost use Rattle.stack_shapes.specs.Trees.{plans_tree};
 ghost use Rattle.trace_core.specs.Bypasses.{bypasses_tree};
 
 use crate::error::PlayError;
-use event_graph::Stack;
+use stack_judge::Stack;
 use group_mean::Mode;
 use group_open::{Opened, open, open_with};
 use outside::{Sink, SinkError};

@@ -2,12 +2,12 @@
 
 ghost use Rattle.std.specs.Prelude.{◌≡◌};
 ghost use Rattle.bypass_laws.specs.Making.{IsSound};
-ghost use Rattle.event_graph.specs.Answer.{stack_tree};
+ghost use Rattle.stack_judge.specs.Answer.{stack_tree};
 ghost use Rattle.job_ends.specs.Shown.{shown_end};
 ghost use Rattle.play_jobs.specs.Traces.{FetchesTraces, JudgesTraces, refused_as};
 
-use bypass_file::{BypassError, LONGEST_FILE, read_bypasses};
-use event_graph::Stack;
+use pack_judge::{BypassError, LONGEST_FILE, read_bypasses};
+use stack_judge::Stack;
 use job_ends::Ending;
 use outside::{Got, Shelf};
 use std::alloc::Global;

@@ -1,12 +1,12 @@
 //! The texts before the numbers of declared headers.
 
 ghost use Rattle.std.specs.Prelude.{◌≡◌, ◌+◌, ◌<◌, ◌∷◌, [], IfOk, OnOk, length};
-ghost use Rattle.event_graph.specs.Answer.{stack_tree};
+ghost use Rattle.stack_judge.specs.Answer.{stack_tree};
 ghost use Rattle.report_lines.specs.Fronts.{AddFronts, AreAllFronts, tags_at};
 
 use crate::line::Line;
 use crate::names::push_front;
-use event_graph::Stack;
+use stack_judge::Stack;
 use msg_core::{Fields, Header, Memory};
 use std::alloc::Global;
 

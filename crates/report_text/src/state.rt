@@ -1,7 +1,7 @@
 //! The lines of a member that is shown.
 
 ghost use Rattle.std.specs.Prelude.{◌∷◌, [], codes};
-ghost use Rattle.event_graph.specs.Answer.{stack_tree};
+ghost use Rattle.stack_judge.specs.Answer.{stack_tree};
 ghost use Rattle.layer_mean.specs.State.{cell_at, rows_at};
 ghost use Rattle.group_feed.specs.Showing.{shown_in, state_at};
 ghost use Rattle.run_mean.specs.Lines as report;

@@ -1,7 +1,7 @@
 //! How many lines of each kind a script's report has, where the script is made while it is played.
 
 ghost use Rattle.std.specs.Prelude.{◌≡◌, ◌^◌, ◌<◌, ◌≤◌, OnOk, length};
-ghost use Rattle.event_graph.specs.Answer.{stack_tree};
+ghost use Rattle.stack_judge.specs.Answer.{stack_tree};
 ghost use Rattle.group_feed.specs.Beginning.{IsAtFirst, IsReady};
 ghost use Rattle.group_feed.specs.Standing.{Stands};
 ghost use Rattle.msg_core.specs.View.{most_members};
@@ -17,7 +17,7 @@ ghost use Rattle.stack_shapes.specs.Trees.{plans_tree};
 ghost use Rattle.stack_play.specs.Turns.{CountsEvent, Keeps, most_events, playing};
 
 use crate::run::Run;
-use event_graph::Stack;
+use stack_judge::Stack;
 use group_feed::Feed;
 use msg_core::Memory;
 use outside::{Sink, SinkError};

@@ -2,7 +2,7 @@
 
 ghost use Rattle.std.specs.Prelude.{◌≡◌, ◌^◌, ◌<◌, ◌≤◌, ◌∷◌, OnOk, length};
 ghost use Rattle.std.specs.List.{flat_map, sum_by};
-ghost use Rattle.event_graph.specs.Answer.{stack_tree};
+ghost use Rattle.stack_judge.specs.Answer.{stack_tree};
 ghost use Rattle.group_feed.specs.Beginning.{IsAtFirst, IsReady};
 ghost use Rattle.group_feed.specs.Standing.{Stands};
 ghost use Rattle.outside.specs.Lines.{Wrote};

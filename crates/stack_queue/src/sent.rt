@@ -3,9 +3,9 @@
 ghost use Rattle.std.specs.Prelude.{◌≡◌, [], IfOk};
 ghost use Rattle.circular_buffer.specs.Buffer.{buffer};
 ghost use Rattle.stack_mean.specs.Acceptance.{largest_weight};
-ghost use Rattle.event_graph.specs.Answer.{stack_tree};
+ghost use Rattle.stack_judge.specs.Answer.{stack_tree};
 
-use event_graph::Stack;
+use stack_judge::Stack;
 use pool_message::Events;
 use std::alloc::{AllocError, Global};
 

@@ -6,7 +6,7 @@ ghost use Rattle.stack_mean.specs.Acceptance.{largest_weight};
 
 use crate::passes::{pass_along, pass_one};
 use crate::places::{beyond, end_first, first_way, go_on, put_place, stand_alone};
-use event_graph::Stack;
+use stack_judge::Stack;
 use layer_words::Dir;
 use layer_eval::Predicted;
 use layer_mean::Envelope;
@@ -56,7 +56,7 @@ impl Model for Tasks {
 }
 
 impl Tasks {
-    ghost use Rattle.event_graph.specs.Answer.{stack_tree};
+    ghost use Rattle.stack_judge.specs.Answer.{stack_tree};
     ghost use Rattle.slot_pool.specs.Held.{spare};
     ghost use Rattle.slot_pool.specs.References.{Moved, Covers};
     ghost use Rattle.msg_core.specs.Parts.{longest_body};

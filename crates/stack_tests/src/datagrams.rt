@@ -1,7 +1,7 @@
 //! Datagrams of stacks of several layers: taken, refused, and long ones.
 
 use crate::writing::{RUNS, Reader, Run, scanned, sent};
-use event_graph::Stack;
+use stack_judge::Stack;
 use file_judge::judge;
 use msg_core::{Memory, Stray, View};
 use packet_full::Scan;

@@ -1,6 +1,6 @@
 //! Stacks of silent layers: their weight, their shapes and their plans.
 
-use event_graph::Stack;
+use stack_judge::Stack;
 use file_judge::judge;
 use layer_words::{Dir, Kind};
 use shape_core::{Absent, Known, Source, shapes};

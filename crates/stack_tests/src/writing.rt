@@ -1,6 +1,6 @@
 //! What members send and read, by the calls that the program makes.
 
-use event_graph::Stack;
+use stack_judge::Stack;
 use msg_core::{Memory, Stray};
 use packet_full::{PacketView, Scan};
 use packet_mean::Here;

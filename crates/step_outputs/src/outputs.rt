@@ -7,7 +7,7 @@ ghost use Rattle.stack_mean.specs.Acceptance.{largest_weight};
 ghost use Rattle.stack_mean.specs.Plan.{Plan};
 ghost use Rattle.stack_mean.specs.Plans.{plans_limit};
 ghost use Rattle.msg_core.specs.Parts.{longest_body};
-ghost use Rattle.event_graph.specs.Answer.{stack_tree};
+ghost use Rattle.stack_judge.specs.Answer.{stack_tree};
 ghost use Rattle.layer_mean.specs.Envelope.{event_in};
 ghost use Rattle.layer_mean.specs.Event.{carries};
 ghost use Rattle.pool_message.specs.Seen.{event_seen, EventLies};
@@ -21,7 +21,7 @@ use crate::kept::{
 };
 use crate::list::KeptList;
 use crate::view::OutputView;
-use event_graph::Stack;
+use stack_judge::Stack;
 use layer_words::Dir;
 use layer_mean::Envelope;
 use msg_core::{Headers, LONGEST_BODY, View};

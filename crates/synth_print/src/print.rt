@@ -3,7 +3,7 @@
 ghost use Rattle.std.specs.Prelude.{◌≡◌, ◌<◌, ◌++◌, ◌∷◌, [], OnOk, length, map, slice_get, slice_index_or};
 ghost use Rattle.std.specs.List.{enumerate_from, flat_map};
 ghost use Rattle.bypass_mean.specs.Lines.{end_line, ended_line, printed_lines};
-ghost use Rattle.event_graph.specs.Answer.{stack_tree};
+ghost use Rattle.stack_judge.specs.Answer.{stack_tree};
 ghost use Rattle.outside.specs.Lines.{Wrote};
 ghost use Rattle.outside.specs.Tells.{tells_of};
 ghost use Rattle.stack_shapes.specs.Lists.{plan_tree};
@@ -17,7 +17,7 @@ use crate::entries::write_cases;
 use crate::name::Name;
 use crate::pen::Pen;
 use crate::plans::build_plan;
-use event_graph::Stack;
+use stack_judge::Stack;
 use msg_core::Memory;
 use outside::{Sink, SinkError, put_line};
 use report_lines::Line;

@@ -4,7 +4,7 @@ ghost use Rattle.std.specs.Prelude.{◌≡◌, ◌++◌, ◌∷◌, [], true, On
 ghost use Rattle.std.specs.List.{enumerate_from, flat_map};
 ghost use Rattle.bypass_mean.specs.Lines.{ended_line, file_lines, trace_lines};
 ghost use Rattle.bypass_mean.specs.Text.{operation_lines};
-ghost use Rattle.event_graph.specs.Answer.{stack_tree};
+ghost use Rattle.stack_judge.specs.Answer.{stack_tree};
 ghost use Rattle.outside.specs.Lines.{Wrote};
 ghost use Rattle.outside.specs.Tells.{tells_of};
 ghost use Rattle.stack_shapes.specs.Lists.{plan_tree};
@@ -22,7 +22,7 @@ use crate::handler::write_trace;
 use crate::name::{Case, Name};
 use crate::pen::Pen;
 use crate::print::cases_at;
-use event_graph::Stack;
+use stack_judge::Stack;
 use msg_core::Memory;
 use outside::{Sink, SinkError, put_line};
 use report_lines::Line;

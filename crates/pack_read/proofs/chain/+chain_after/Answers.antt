@@ -1,6 +1,6 @@
 use Rattle.std.proofs.Common.{rules}
-use Rattle.trace_words.specs.Reading.{left}
-use Rattle.trace_words.specs.View.{layers_in, named_in}
+use Rattle.pack_words.specs.Reading.{left}
+use Rattle.pack_words.specs.View.{layers_in, named_in}
 use Rattle.pack_read.specs.Operations.{header_at}
 use Rattle.pack_read.proofs.Chaining.{no_places, not_passed, header_fails, rest_fails, put_after_at}
 use Rattle.pack_read.proofs.chain.+chain_after.Goals as goal

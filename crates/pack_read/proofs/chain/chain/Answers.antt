@@ -1,6 +1,6 @@
 use Rattle.std.proofs.Common.{rules}
-use Rattle.trace_words.specs.Reading.{left}
-use Rattle.trace_words.specs.View.{layers_in, named_in}
+use Rattle.pack_words.specs.Reading.{left}
+use Rattle.pack_words.specs.View.{layers_in, named_in}
 use Rattle.pack_read.proofs.Chaining.{not_after_space}
 use Rattle.pack_read.proofs.chain.chain.Goals as goal
 

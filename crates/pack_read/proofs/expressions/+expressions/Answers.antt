@@ -1,11 +1,11 @@
 use Rattle.std.proofs.Common.{rules, sym, ◌∙◌}
-use Rattle.trace_words.specs.Reading.{left}
+use Rattle.pack_words.specs.Reading.{left}
 use Rattle.pack_read.specs.Inside.{inner}
 use Rattle.pack_read.proofs.Arms.{choice_read, cut_read, held_read, item_read, join_read, operation_read}
 use Rattle.pack_read.proofs.Arms.{tail_read}
 use Rattle.pack_read.proofs.Cells.{both_read}
 use Rattle.pack_read.proofs.Brackets.{message_opened, no_cell, number_opened, operation_opened}
-use Rattle.trace_words.specs.Names.{words_in}
+use Rattle.pack_words.specs.Names.{words_in}
 use Rattle.pack_read.proofs.expressions.+expressions.Goals as goal
 
 pub choice-returns : goal.choice-returns

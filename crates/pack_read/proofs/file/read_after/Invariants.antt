@@ -1,5 +1,5 @@
 use Rattle.std.proofs.Common.{◌≡◌, ◌+◌, ◌≤◌, length}
-use Rattle.event_graph.specs.Answer.{stack_tree}
+use Rattle.stack_judge.specs.Answer.{stack_tree}
 use Rattle.pack_mean.specs.File.{traces_from}
 use Rattle.pack_read.specs.Lines.{lines_left}
 use Rattle.pack_read.specs.Open.{AreParts}

@@ -1,6 +1,6 @@
 use Rattle.std.proofs.Common.{rules, sym, subst}
 use Rattle.audit_mean.specs.Text.{lines_of}
-use Rattle.event_graph.specs.Answer.{stack_tree}
+use Rattle.stack_judge.specs.Answer.{stack_tree}
 use Rattle.pack_read.specs.Lines.{lines_left}
 use Rattle.pack_read.specs.Files.{Reads}
 use Rattle.pack_read.proofs.Steps.{first_read, rest_bound}

@@ -1,7 +1,7 @@
 use Rattle.std.proofs.Common.{rules}
 use Rattle.pack_mean.specs.Operation as operation
-use Rattle.trace_words.specs.Reading.{left}
-use Rattle.trace_words.specs.View.{named_in}
+use Rattle.pack_words.specs.Reading.{left}
+use Rattle.pack_words.specs.View.{named_in}
 use Rattle.pack_read.proofs.Fields.{field_more}
 use Rattle.pack_read.proofs.header.+more_fields.Goals as goal
 

@@ -1,7 +1,7 @@
 use Rattle.std.proofs.Common.{rules, ◌++◌, codes}
 use Rattle.std.specs.Fmt.{decimal}
 use Rattle.pack_mean.specs.File as file
-use Rattle.trace_words.specs.Reading.{left}
+use Rattle.pack_words.specs.Reading.{left}
 use Rattle.pack_read.proofs.Headings.{heading_fails, heading_told}
 use Rattle.pack_read.proofs.heading.heading.Goals as goal
 

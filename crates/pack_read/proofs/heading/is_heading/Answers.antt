@@ -1,6 +1,6 @@
 use Rattle.std.proofs.Common.{rules, sym, ◌∙◌}
 use Rattle.pack_mean.specs.File as file
-use Rattle.trace_words.specs.Reading.{left}
+use Rattle.pack_words.specs.Reading.{left}
 use Rattle.pack_read.proofs.Headings.{whole_told}
 use Rattle.pack_read.proofs.heading.is_heading.Goals as goal
 

@@ -1,7 +1,7 @@
 use Rattle.std.proofs.Common.{rules}
 use Rattle.pack_mean.specs.File as file
-use Rattle.trace_words.specs.Reading.{left}
-use Rattle.trace_words.proofs.Fronts.{both_texts}
+use Rattle.pack_words.specs.Reading.{left}
+use Rattle.pack_words.proofs.Fronts.{both_texts}
 use Rattle.pack_read.proofs.heading.named_entry.Goals as goal
 
 pub returns : goal.returns

@@ -1,6 +1,6 @@
 use Rattle.std.proofs.Common.{rules}
-use Rattle.trace_words.specs.Reading.{left}
-use Rattle.trace_words.specs.View.{items_shown, layers_in, named_in}
+use Rattle.pack_words.specs.Reading.{left}
+use Rattle.pack_words.specs.View.{items_shown, layers_in, named_in}
 use Rattle.pack_read.proofs.Writing.{push_read}
 use Rattle.pack_read.proofs.queues.push.Goals as goal
 

@@ -1,4 +1,4 @@
-use Rattle.trace_words.specs.Reading.{left}
+use Rattle.pack_words.specs.Reading.{left}
 use Rattle.pack_read.proofs.Brackets.{number_whole}
 use Rattle.pack_read.proofs.read.number.Goals as goal
 

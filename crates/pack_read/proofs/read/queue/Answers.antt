@@ -1,4 +1,4 @@
-use Rattle.trace_words.specs.Reading.{left}
+use Rattle.pack_words.specs.Reading.{left}
 use Rattle.pack_read.proofs.Brackets.{queue_whole}
 use Rattle.pack_read.proofs.read.queue.Goals as goal
 

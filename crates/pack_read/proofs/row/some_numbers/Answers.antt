@@ -1,7 +1,7 @@
 use Rattle.std.proofs.Common.{rules}
 use Rattle.pack_mean.specs.Expression as expression
-use Rattle.trace_words.specs.Reading.{left}
-use Rattle.trace_words.specs.View.{layers_in, named_in}
+use Rattle.pack_words.specs.Reading.{left}
+use Rattle.pack_words.specs.View.{layers_in, named_in}
 use Rattle.pack_read.proofs.Numbering.{first_read}
 use Rattle.pack_read.proofs.row.some_numbers.Goals as goal
 

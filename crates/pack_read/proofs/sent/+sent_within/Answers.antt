@@ -1,7 +1,7 @@
 use Rattle.std.proofs.Common.{rules}
-use Rattle.trace_words.specs.Names.{words_in}
-use Rattle.trace_words.specs.Reading.{left}
-use Rattle.trace_words.specs.View.{named_in}
+use Rattle.pack_words.specs.Names.{words_in}
+use Rattle.pack_words.specs.Reading.{left}
+use Rattle.pack_words.specs.View.{named_in}
 use Rattle.pack_read.proofs.Sending.{last_sent}
 use Rattle.pack_read.proofs.sent.+sent_within.Goals as goal
 

@@ -1,6 +1,6 @@
 use Rattle.std.proofs.Common.{rules, refl}
-use Rattle.trace_words.specs.Reading.{left}
-use Rattle.trace_words.specs.View.{layers_in, named_in}
+use Rattle.pack_words.specs.Reading.{left}
+use Rattle.pack_words.specs.View.{layers_in, named_in}
 use Rattle.pack_read.proofs.Writing.{set_read}
 use Rattle.pack_read.proofs.write.set.Goals as goal
 

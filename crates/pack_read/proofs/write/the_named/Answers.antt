@@ -1,7 +1,7 @@
 use Rattle.std.proofs.Common.{rules, ◌++◌, codes}
 use Rattle.std.specs.Fmt.{decimal}
-use Rattle.trace_words.specs.Reading.{left}
-use Rattle.trace_words.proofs.Fronts.{both_texts}
+use Rattle.pack_words.specs.Reading.{left}
+use Rattle.pack_words.proofs.Fronts.{both_texts}
 use Rattle.pack_read.proofs.write.the_named.Goals as goal
 
 pub returns : goal.returns

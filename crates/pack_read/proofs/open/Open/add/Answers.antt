@@ -1,5 +1,5 @@
 use Rattle.std.proofs.Common.{rules, refl}
-use Rattle.event_graph.specs.Answer.{stack_tree}
+use Rattle.stack_judge.specs.Answer.{stack_tree}
 use Rattle.pack_read.proofs.OpenCase.{added}
 use Rattle.pack_read.proofs.open.Open.add.Goals as goal
 

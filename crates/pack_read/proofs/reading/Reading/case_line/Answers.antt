@@ -1,5 +1,5 @@
 use Rattle.std.proofs.Common.{rules, refl}
-use Rattle.event_graph.specs.Answer.{stack_tree}
+use Rattle.stack_judge.specs.Answer.{stack_tree}
 use Rattle.pack_read.proofs.Steps.{case_added}
 use Rattle.pack_read.proofs.reading.Reading.case_line.Goals as goal
 

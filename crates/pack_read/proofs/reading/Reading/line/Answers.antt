@@ -1,5 +1,5 @@
 use Rattle.std.proofs.Common.{rules}
-use Rattle.event_graph.specs.Answer.{stack_tree}
+use Rattle.stack_judge.specs.Answer.{stack_tree}
 use Rattle.pack_read.proofs.Steps.{idle_line}
 use Rattle.pack_read.proofs.reading.Reading.line.Goals as goal
 
