@@ -3,7 +3,8 @@ ghost use Rattle.std.specs.Prelude.{◌≡◌, if◌then◌else◌, ◌&&◌, ma
 ghost use Rattle.std.specs.HashMap as hash;
 ghost use Rattle.std.specs.List.{list_any};
 ghost use Rattle.audit_judge.specs.Lacks.{ended_shown, ranked_shown, same_way};
-ghost use Rattle.audit_judge.specs.Marks.{IsClear, IsInLine, Marked, item_for, lack_line, lacking, group_with, mark_with};
+ghost use Rattle.audit_judge.specs.Marks.{IsClear, IsInLine, Marked, item_for, lack_line, lacking, group_with};
+ghost use Rattle.audit_judge.specs.Marks.{mark_with};
 ghost use Rattle.audit_judge.specs.Marks.{other_than, same_item, same_item_key, sooner, sooner_in};
 ghost use Rattle.audit_judge.specs.declared.ended.Way.{Way};
 

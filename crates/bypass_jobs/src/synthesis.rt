@@ -10,10 +10,10 @@ ghost use Rattle.bypass_jobs.specs.Printing.{job_of, own_lines};
 
 use crate::printing::Printing;
 use crate::text::put_text;
-use stack_judge::Stack;
 use file_jobs::fetch_stack;
 use job_ends::Ending;
 use outside::{Shelf, Sink, SinkError};
+use stack_judge::Stack;
 use std::alloc::Global;
 use std::mem::forget;
 

@@ -12,8 +12,8 @@ ghost use Rattle.trace_core.specs.Bypasses.{bypasses_tree};
 ghost use Rattle.bypass_jobs.specs.Printing.{own_lines, printing};
 
 use crate::printing::Printing;
-use stack_judge::Stack;
 use outside::{Sink, SinkError};
+use stack_judge::Stack;
 use stack_shapes::{Plans, StackShapes};
 use std::alloc::Global;
 use std::mem::forget;

@@ -11,9 +11,9 @@ ghost use Rattle.chart_draw.specs.Reading.{request_shown};
 use crate::picture::chart;
 use crate::saying::say;
 use crate::words::{Request, asked_for};
+use audit_judge::LONGEST_REPORT;
 use chart_mean::Ending;
 use outside::{Got, Shelf, Sink, put_line};
-use audit_judge::LONGEST_REPORT;
 use std::alloc::Global;
 
 /// Draws the picture that the words ask for, the program's own name left out, on `out`, and answers the program's

@@ -12,8 +12,8 @@ use crate::place::{AXIS, LEFT, down};
 use crate::rows::draw_rows;
 use crate::style::style;
 use crate::text::{Ends, Text};
-use chart_mean::{Ending, Range};
 use audit_judge::{AuditError, Law, audit};
+use chart_mean::{Ending, Range};
 use std::alloc::{AllocError, Global};
 
 /// The picture of a range of a text, or how the program that is to draw it ends. The texts of which there is one are

@@ -19,10 +19,10 @@ use crate::given::Given;
 use crate::numbers::{field_number, made_number, operand};
 use crate::reads::{element, reading, rows};
 use crate::values::Values;
-use live_layer::FileLayer;
-use layer_words::Operator;
-use slot_pool::Pool;
 use code_make::Test;
+use layer_words::Operator;
+use live_layer::FileLayer;
+use slot_pool::Pool;
 use typed_layer::applied;
 
 /// One of two numbers that were made, as a third says.

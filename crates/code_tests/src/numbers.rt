@@ -11,10 +11,10 @@ ghost use Rattle.code_tests.specs.Registers.{input_of, kept_in, row_kept};
 
 use crate::given::Given;
 use crate::values::Values;
+use code_make::{Operand, Operands};
 use layer_words::Operator;
 use msg_core::Fields;
 use pool_message::PoolRow;
-use code_make::{Operand, Operands};
 use typed_layer::applied;
 
 /// The number at place `k`; 0 where there is none.

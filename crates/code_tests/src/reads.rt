@@ -19,11 +19,11 @@ ghost use Rattle.code_tests.specs.Registers.{ValuesLie, input_of, kept_in, row_k
 use crate::given::Given;
 use crate::numbers::operand;
 use crate::values::Values;
+use code_make::{Reading, Source};
 use live_layer::FileLayer;
 use msg_core::LONGEST_BODY;
 use pool_message::{Messages, PoolRow};
 use slot_pool::Pool;
-use code_make::{Reading, Source};
 use typed_layer::{applied, applied_to};
 
 /// A number of a cell of the layer at a place.

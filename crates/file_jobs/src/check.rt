@@ -13,9 +13,9 @@ ghost use Rattle.job_ends.specs.Shown.{shown_end};
 use crate::judged::{Output, write};
 use crate::lines::accepted_line;
 use crate::stack::fetch_stack;
-use stack_judge::Stack;
 use job_ends::Ending;
 use outside::{Shelf, Sink};
+use stack_judge::Stack;
 use std::alloc::{AllocError, Global};
 use std::mem::forget;
 

@@ -7,9 +7,9 @@ ghost use Rattle.file_jobs.specs.Report.{Fetches, Judges};
 
 use crate::judged::Output;
 use crate::lines::finding_line;
+use audit_judge::{AuditError, Finding, LONGEST_REPORT, Law, audit};
 use job_ends::Ending;
 use outside::{Got, Shelf};
-use audit_judge::{AuditError, Finding, LONGEST_REPORT, Law, audit};
 use std::alloc::Global;
 
 /// Reads a report and judges a law on it: the output of that, or how the job ends.

@@ -5,11 +5,11 @@ ghost use Rattle.std.specs.Option.{option_map};
 ghost use Rattle.outside.specs.Shelf.{after_read};
 ghost use Rattle.file_jobs.specs.Stack.{Fetches, FetchesFile, JudgesFile, JudgesStack, ReadsText};
 
-use stack_judge::Stack;
 use file_judge::{FileError, judge, read_file};
 use job_ends::Ending;
 use layer_ast::{File, LONGEST_FILE};
 use outside::{Got, Shelf};
+use stack_judge::Stack;
 use std::alloc::Global;
 use std::mem::forget;
 

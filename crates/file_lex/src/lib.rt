@@ -12,8 +12,8 @@ ghost use Rattle.file_lex.specs.Pieces.{GoesOn, IsFront, HasRoom, IsAfter, Stops
 mod pieces;
 mod words;
 
-use layer_words::At;
 use layer_ast::{Lexed, Token};
+use layer_words::At;
 use pieces::{Piece, front, is_blank, piece_at};
 use std::alloc::{AllocError, Global};
 use words::{is_part_word, push_word};

@@ -8,8 +8,8 @@ ghost use Rattle.file_lex.specs.Parts.{begins_part};
 ghost use Rattle.file_lex.specs.Tables.{shown_table, shown_groups, beside_in_group, are_in_row};
 ghost use Rattle.layer_words.specs.WordBytes.{longest_word};
 
-use layer_words::{At, Kind, Sign, Word};
 use layer_ast::{Lexed, Token};
+use layer_words::{At, Kind, Sign, Word};
 use std::alloc::AllocError;
 
 /// Each reserved word that isn't a kind, under its first letter; the letters follow one another.

@@ -16,8 +16,8 @@ ghost use Rattle.file_laws.specs.Bounds.{HoldsDeclaration};
 ghost use Rattle.file_slots.specs.Place.{placed_of};
 ghost use Rattle.msg_core.specs.Headers.{most_fields};
 
-use file_slots::{PlacedLayer, VisibleNames, field_count, number, numbers_of};
 use file_scope::items;
+use file_slots::{PlacedLayer, VisibleNames, field_count, number, numbers_of};
 use layer_ast as ast;
 use layer_ast::{Declaration, Ending};
 use layer_words::Word;

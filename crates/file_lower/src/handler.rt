@@ -20,8 +20,8 @@ ghost use Rattle.msg_core.specs.Headers.{most_declared};
 
 use crate::made::made;
 use crate::statement::block;
-use file_slots::{PlacedLayer, VisibleNames, carries, number, numbers_of};
 use file_scope::{listed, written};
+use file_slots::{PlacedLayer, VisibleNames, carries, number, numbers_of};
 use layer_ast as ast;
 use layer_ast::{Name, Popped};
 use std::alloc::{AllocError, Global};

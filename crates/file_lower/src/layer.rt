@@ -10,8 +10,8 @@ ghost use Rattle.file_slots.specs.Placed.{placement, words_of};
 
 use crate::cell::{cells, headers};
 use crate::handler::handlers;
-use file_slots::PlacedLayer;
 use file_scope::{Words, declared_name};
+use file_slots::PlacedLayer;
 use layer_ast::{Declaration, Given, Layer};
 use std::alloc::{AllocError, Global};
 use typed_layer::{Blank, Handler, Handlers, TypedLayer};

@@ -15,8 +15,8 @@ ghost use Rattle.file_slots.specs.Scope.{names_of};
 ghost use Rattle.msg_core.specs.Headers.{most_fields};
 
 use crate::made::made;
-use file_slots::{VisibleNames, argument_message, carries, few, fields, last, numbers, numbers_of};
 use file_scope::written;
+use file_slots::{VisibleNames, argument_message, carries, few, fields, last, numbers, numbers_of};
 use layer_ast as ast;
 use layer_ast::{Arguments, Name, Pushed, Queue};
 use layer_words::{Dir, Kind};

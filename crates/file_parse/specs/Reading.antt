@@ -6,7 +6,8 @@ use Rattle.std.specs.Borrow.{Bor}
 use Rattle.layer_ast.specs.declared.tokens.Lexed.{Lexed}
 use Rattle.layer_words.specs.declared.signs.Sign.{Sign}
 use Rattle.layer_words.specs.declared.signs.Sign.TheVariants.{Stack, LeftBrace, RightBrace, LeftParen, RightParen}
-use Rattle.layer_words.specs.declared.signs.Sign.TheVariants.{LeftBracket, RightBracket, Comma, With, Star, Assign, Else}
+use Rattle.layer_words.specs.declared.signs.Sign.TheVariants.{LeftBracket, RightBracket, Comma, With, Star, Assign}
+use Rattle.layer_words.specs.declared.signs.Sign.TheVariants.{Else}
 use Rattle.layer_ast.specs.declared.tokens.Token.TheVariants as token
 use Rattle.layer_ast.specs.Depth.{room_after}
 use Rattle.layer_ast.specs.Print.{file, layer, places as print_places}

@@ -15,8 +15,8 @@ use crate::names::some_names_in_parentheses;
 use crate::readers::{
     Fault, close, ending, name, number, open, past, read, room_inside, sign, size, sort,
 };
-use layer_words::{At, Shape, Sign};
 use layer_ast::{Declaration, Expression, Item, Items, Lexed, Name, Size, Token};
+use layer_words::{At, Shape, Sign};
 use std::alloc::Global;
 
 /// The capacity of a queue, or of each queue of an array of queues.

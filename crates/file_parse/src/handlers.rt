@@ -10,8 +10,8 @@ use crate::expressions::expression;
 use crate::names::{names_in_parentheses, some_names_in_parentheses};
 use crate::readers::{Fault, kind, name, past, read};
 use crate::statements::block;
-use layer_words::{Dir, Sign};
 use layer_ast::{Expected, Handler, Lexed, Popped, Token};
+use layer_words::{Dir, Sign};
 use std::alloc::Global;
 
 /// Reads handlers as long as one begins.

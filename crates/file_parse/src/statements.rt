@@ -14,8 +14,8 @@ use crate::arguments::{arguments_in_parentheses, some_arguments_in_parentheses};
 use crate::expressions::{Element, expression, indices, queue};
 use crate::names::names_in_parentheses;
 use crate::readers::{Fault, close, kind, name, open, past, push_item, read, sign, size};
-use layer_words::{At, Dir, Likely, Sign};
 use layer_ast::{Block, Expression, Lexed, Name, Pushed, Statement, Token};
+use layer_words::{At, Dir, Likely, Sign};
 use std::alloc::Global;
 
 /// Reads statements in braces.

@@ -7,10 +7,10 @@ ghost use Rattle.outside.specs.Tells.{tells_of};
 ghost use Rattle.format_run.specs.Ends as spec;
 
 use crate::ending::{Ending, say};
-use format_layout::lay_out;
 use file_lex::cut;
-use layer_words::At;
+use format_layout::lay_out;
 use layer_ast::LONGEST_FILE;
+use layer_words::At;
 use outside::{Got, Shelf, Sink};
 use std::alloc::{AllocError, Global};
 

@@ -6,7 +6,8 @@ use Rattle.layer_words.specs.declared.operators.Function.{Function}
 use Rattle.layer_words.specs.declared.operators.Function.TheVariants.{Not, Bit, Count, Lowest}
 use Rattle.layer_words.specs.declared.operators.Operator.{Operator}
 use Rattle.layer_words.specs.declared.operators.Operator.TheVariants.{Add, Subtract, Multiply, Equal, NotEqual, Less}
-use Rattle.layer_words.specs.declared.operators.Operator.TheVariants.{LessOrEqual, Greater, GreaterOrEqual, And, Or, BitAnd}
+use Rattle.layer_words.specs.declared.operators.Operator.TheVariants.{LessOrEqual, Greater, GreaterOrEqual, And, Or}
+use Rattle.layer_words.specs.declared.operators.Operator.TheVariants.{BitAnd}
 use Rattle.layer_words.specs.declared.operators.Operator.TheVariants.{BitOr, BitXor}
 use Rattle.layer_words.specs.declared.sorts.Sort.{Sort}
 use Rattle.layer_words.specs.declared.sorts.Sort.TheVariants.{Int, Msg, Part}

@@ -28,7 +28,9 @@ use crate::entry::Entry;
 use crate::ground::Ground;
 use crate::scratch::Scratch;
 use crate::works::Works;
+use code_run::perform;
 use code_table::Codes;
+use code_tests::{Given, Values};
 use handler_laws::law_steps_are_handled;
 use layer_mean::Case;
 use packet_full::Scan;
@@ -36,8 +38,6 @@ use packet_mean::Here;
 use packet_short::fits_scan;
 use stack_shapes::{EntryOf, Plans};
 use step_outputs::Outputs;
-use code_tests::{Given, Values};
-use code_run::perform;
 
 /// The code that is looked for, by the entry of what entered, and what it is given.
 #[derive(Drop)]

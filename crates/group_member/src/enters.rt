@@ -16,13 +16,13 @@ ghost use Rattle.group_member.specs.Stepping.{stack_of};
 
 use crate::entry::Entry;
 use crate::ground::Ground;
-use stack_judge::Stack;
-use layer_words::{Dir, Kind};
 use layer_mean::Envelope;
+use layer_words::{Dir, Kind};
 use msg_core::Headers;
 use packet_full::Scan;
 use packet_short::kind_of;
 use slot_pool::Pool;
+use stack_judge::Stack;
 use stack_queue::{BareTask, Tasks};
 
 /// A task with a message of these headers and a copy of these bytes, in a pool that isn't full, becomes the last.

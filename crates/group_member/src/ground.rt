@@ -8,9 +8,9 @@ ghost use Rattle.group_member.specs.After.{rank_of, view_after};
 ghost use Rattle.group_member.specs.Placing.{IsCountIn, IsRankIn};
 
 use code_table::Codes;
-use stack_judge::Stack;
 use msg_core::{Headers, View};
 use packet_mean::Here;
+use stack_judge::Stack;
 use stack_shapes::{EntryShapes, PlanStarts, Plans};
 use std::rc::Rc;
 use view_core::Change;

@@ -7,9 +7,9 @@ ghost use Rattle.stack_queue.specs.Pending.{first_task};
 ghost use Rattle.group_member.specs.Working.{CanRun, HasRun};
 
 use crate::works::Works;
-use stack_judge::Stack;
 use layer_eval::Predicted;
 use pool_laws::law_accepted_is_light;
+use stack_judge::Stack;
 use stack_queue::{law_entries_fit, run};
 
 /// Runs the layers from the only task that is pending. What comes out is kept until it is gathered.

@@ -7,11 +7,11 @@ ghost use Rattle.code_tests.specs.Registers.{IsEmpty};
 ghost use Rattle.group_member.specs.Serving.{IsSpare, Serves};
 
 use code_table::Codes;
+use code_tests::{Needs, Values};
 use packet_short::most_fields;
 use stack_shapes::Plans;
 use std::alloc::{AllocError, Global};
 use std::rc::Rc;
-use code_tests::{Needs, Values};
 
 /// What the code of a common step keeps while it runs, which is nothing between two runs; and the fields of a packet
 /// that its plan leaves variable, with a place for each field of each plan.

@@ -18,9 +18,9 @@ ghost use Rattle.trace_core.specs.Bypasses.{bypasses_tree};
 ghost use Rattle.group_open.specs.Opening.{AreExamining, CanRun, CodesFor};
 
 use code_table::Codes;
-use stack_judge::Stack;
 use group_mean::Mode;
 use guard_checks::StackChecks;
+use stack_judge::Stack;
 use stack_shapes::StackShapes;
 use std::alloc::{AllocError, Global};
 use std::rc::Rc;

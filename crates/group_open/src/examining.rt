@@ -10,10 +10,10 @@ use crate::opening::begin;
 use crate::preparing::prepare_examined;
 use crate::run::{Examination, Opened};
 use group_member::OpenError;
-use stack_judge::Stack;
-use script_mean::GroupLine;
-use std::alloc::Global;
 use group_world::Examined;
+use script_mean::GroupLine;
+use stack_judge::Stack;
+use std::alloc::Global;
 
 /// Opens the group that the first line of a script tells of, over a stack: its members run by the stack's bypasses, and
 /// are examined by the checks of these.

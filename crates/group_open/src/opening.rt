@@ -15,13 +15,13 @@ ghost use Rattle.trace_core.specs.Bypasses.{bypasses_tree};
 
 use crate::preparing::{prepare, prepare_with};
 use crate::run::{Opened, Parts};
-use group_member::{OpenError, Opening};
-use stack_judge::Stack;
 use group_mean::Mode;
+use group_member::{OpenError, Opening};
+use group_world::World;
 use script_mean::GroupLine;
+use stack_judge::Stack;
 use std::alloc::Global;
 use trace_core::Bypasses;
-use group_world::World;
 
 /// Opens the group that a first line tells of, of these parts.
 pub(crate) fn begin(alloc: Global, parts: Parts, line: GroupLine) -> Result<Opened, OpenError>

@@ -14,12 +14,12 @@ ghost use Rattle.group_open.specs.Opening.{ArePartsOf, CanRun, IsDrawn, IsExamin
 use crate::codes::{codes_for, examining_codes, given_code};
 use crate::run::{Drawn, Parts};
 use code_table::Codes;
-use stack_judge::Stack;
-use live_layer::Maker;
 use group_mean::Mode;
+use guard_checks::StackChecks;
+use live_layer::Maker;
 use msg_core::Memory;
 use report_lines::NamedStack;
-use guard_checks::StackChecks;
+use stack_judge::Stack;
 use stack_shapes::StackShapes;
 use std::alloc::Global;
 use std::rc::Rc;

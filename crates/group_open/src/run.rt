@@ -1,12 +1,12 @@
 //! Groups that begin, and what they are made of.
 
 use code_table::Codes;
+use group_world::{Examined, World};
 use live_layer::Maker;
 use report_lines::NamedStack;
 use stack_shapes::{EntryShapes, PlanStarts, Plans, StackShapes};
 use std::rc::Rc;
 use step_outputs::Outputs;
-use group_world::{Examined, World};
 
 /// A stack with its plans and the shapes of its entries, and a maker of its layers.
 #[derive(Drop)]

@@ -5,9 +5,9 @@ ghost use Rattle.group_world.specs.Examining.{IsExamined};
 
 use crate::world::World;
 use group_feed::{Feed, Probe};
+use guard_checks::StackChecks;
 use msg_core::Memory;
 use script_mean::ScriptEvent;
-use guard_checks::StackChecks;
 use std::marker::Model;
 use step_misses::Probed;
 use step_outputs::Outputs;

@@ -8,10 +8,10 @@ ghost use Rattle.trace_core.specs.Trees.{trace_tree};
 ghost use Rattle.miss_laws.specs.Asked.{asked_of};
 ghost use Rattle.guard_checks.specs.Trees.{asked_tree};
 
+use code_make::{Checks, compile_checks};
 use guard_hoist::hoist;
 use shape_core::Absent;
 use std::alloc::{AllocError, Global};
-use code_make::{Checks, compile_checks};
 use trace_core::{Made, Trace};
 
 /// The checks of an entry's trace in a case, or why it has none.

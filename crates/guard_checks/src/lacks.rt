@@ -17,12 +17,12 @@ ghost use Rattle.guard_checks.specs.Trees.{asked_tree, entry_asked};
 
 use crate::asked::Asked;
 use crate::cases::CaseChecks;
+use code_make::Checks;
+use code_tests::{Given, Values, first_failing};
 use live_layer::FileLayer;
 use slot_pool::Pool;
 use stack_shapes::EntryOf;
 use step_misses::{Lack, Miss};
-use code_make::Checks;
-use code_tests::{Given, Values, first_failing};
 
 /// The states of a member's layers: the layers, and the pool in which their messages lie.
 #[derive(Clone, Copy)]

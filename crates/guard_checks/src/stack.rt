@@ -13,6 +13,7 @@ ghost use Rattle.miss_laws.specs.Asked.{all_asked, miss_asked};
 use crate::cases::{CaseChecks, all_checks, case_checks, of_plan};
 use crate::lacks::{States, entry_miss, plan_miss};
 use crate::needs::{all_numbers, case_numbers, larger};
+use code_tests::{Given, Needs, Values};
 use live_layer::FileLayer;
 use slot_pool::Pool;
 use stack_shapes::EntryOf;
@@ -20,7 +21,6 @@ use std::alloc::{AllocError, Global};
 use std::marker::Model;
 use step_misses::Miss;
 use trace_core::Bypasses;
-use code_tests::{Given, Needs, Values};
 
 /// The checks of a stack's traces, and places for the numbers that their tests make, of which nothing is kept between
 /// two calls.

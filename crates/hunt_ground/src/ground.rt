@@ -10,15 +10,15 @@ use crate::codes::code_for;
 use crate::group::Group;
 use code_table::Codes;
 use group_member::{OpenError, Opening};
-use stack_judge::Stack;
+use group_world::World;
 use live_layer::Maker;
 use msg_core::Memory;
+use stack_judge::Stack;
 use stack_shapes::{EntryShapes, PlanStarts, Plans, StackShapes};
 use std::alloc::Global;
 use std::marker::Model;
 use std::rc::Rc;
 use step_outputs::Outputs;
-use group_world::World;
 
 /// The number of each group.
 const GROUP: u32 = 1;

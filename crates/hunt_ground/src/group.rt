@@ -8,12 +8,12 @@ ghost use Rattle.group_world.specs.Restarting.{Restarts};
 ghost use Rattle.hunt_ground.specs.Feeding.{Feeds};
 
 use group_feed::Feed;
+use group_world::World;
 use msg_core::Memory;
 use script_mean::{ScriptEvent, member_of};
 use std::marker::Model;
 use step_outputs::Outputs;
 use view_core::Did;
-use group_world::World;
 
 /// A group, with the outputs of its last step. It can't be let go: it is closed. Contracts see its members and packets.
 pub struct Group {

@@ -5,12 +5,12 @@ ghost use Rattle.hunt_run.specs.Breaks.{Breaks, CanPlay, IsAsked, IsBreach, IsWi
 ghost use Rattle.hunt_run.specs.Reading.{request_shown};
 
 use crate::words::Request;
+use audit_judge::{AuditError, Finding, Law, audit};
 use file_judge::{FileError, judge};
 use group_mean::Mode;
 use job_text::MOST_GENERATED;
 use outside::StillSink;
 use play_jobs::{PlayError, Wanted, play};
-use audit_judge::{AuditError, Finding, Law, audit};
 use script_mean::Script;
 use script_text::{ScriptError, read_script};
 use std::alloc::{AllocError, Global};

@@ -10,12 +10,12 @@ use crate::found::find;
 use crate::told::holds_line;
 use crate::watch::Watch;
 use crate::words::Request;
-use stack_judge::{MOST_ROWS, Stack};
 use file_judge::judge;
 use hunt_search::{Aim, Search, SearchError};
 use job_ends::Ending;
 use outside::Clock;
 use report_lines::Line;
+use stack_judge::{MOST_ROWS, Stack};
 use std::alloc::Global;
 use std::io::Write;
 

@@ -11,9 +11,9 @@ use crate::schedule::{Schedule, Step};
 use crate::text::Text;
 use crate::wander::Wander;
 use audit_mean::Law;
-use stack_judge::Stack;
 use hunt_ground::{Ground, Group};
 use msg_core::MOST_MEMBERS;
+use stack_judge::Stack;
 use std::alloc::Global;
 
 /// In how many of the four parts of a run it is unquiet.

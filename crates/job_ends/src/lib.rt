@@ -1,4 +1,5 @@
-//! How jobs end: the words for it, by the definitions of the program, what is said of it, and how they end over streams.
+//! How jobs end: the words for it, by the definitions of the program, what is said of it, and how they end over
+//! streams.
 #![tactic(auto)]
 
 mod closing;

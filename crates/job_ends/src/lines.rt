@@ -10,8 +10,8 @@ ghost use Rattle.end_mean.specs.Status as status;
 ghost use Rattle.job_ends.specs.Shown.{file_end};
 
 use file_judge::FileError;
-use layer_words::{At, Kind};
 use layer_mean::Case;
+use layer_words::{At, Kind};
 use std::alloc::{AllocError, Global};
 
 /// The line of a refused report.

@@ -23,8 +23,8 @@ ghost use Rattle.layer_desk.specs.Spent.{Begun, SpentAtMost, Spent, Lifted, Suff
 
 use crate::no_room::NoRoom;
 use crate::places::{Queue, RowAt, Sending, Square};
-use layer_words::Dir;
 use layer_mean::Envelope;
+use layer_words::Dir;
 use msg_core::Fields;
 use slot_pool::Pool;
 use std::marker::Brand;

@@ -1,5 +1,5 @@
-//! The words of layers: events and their directions, operators and functions, the sorts of what cells hold, signs, names
-//! and places in a text. Definitions and programs share them; no tree of a file is among them.
+//! The words of layers: events and their directions, operators and functions, the sorts of what cells hold, signs,
+//! names and places in a text. Definitions and programs share them; no tree of a file is among them.
 #![tactic(auto)]
 
 mod events;

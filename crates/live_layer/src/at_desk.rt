@@ -2,9 +2,9 @@
 
 use crate::desk::FileDesk;
 use crate::{enters, leaves, lifts, puts, reads, sends, takes, writes};
-use layer_words::Dir;
 use layer_desk::{Desk, NoRoom, Queue, RowAt, Sending, Square, Start};
 use layer_mean::Envelope;
+use layer_words::Dir;
 use msg_core::Fields;
 use slot_pool::Pool;
 use typed_layer::{Carried, Handler, Taken};

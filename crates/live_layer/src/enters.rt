@@ -13,9 +13,9 @@ ghost use Rattle.live_layer.specs.Stock.{laid};
 
 use crate::desk::FileDesk;
 use crate::leaves::forget_messages;
-use layer_words::Kind;
 use layer_desk::Start;
 use layer_mean::Envelope;
+use layer_words::Kind;
 use msg_core::Fields;
 use slot_pool::Pool;
 use typed_layer::Handler;

@@ -20,9 +20,9 @@ ghost use Rattle.live_layer.specs.Ready.{stock_of, room_of, IsReady};
 
 use crate::desk::{FileDesk, MOST_ABOVE};
 use crate::leaves::{forget_rest, leave};
-use layer_words::Dir;
 use layer_desk::{NoRoom, Sending, Start};
 use layer_mean::Envelope;
+use layer_words::Dir;
 use msg_core::Fields;
 use pool_message::{MessagePlace, Messages, PoolMessage, Tray};
 use slot_pool::Pool;

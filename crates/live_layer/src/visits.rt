@@ -17,9 +17,9 @@ ghost use Rattle.live_layer.specs.Rest.{IsAtRest, begins, ends};
 ghost use Rattle.live_layer.specs.Stock.{kept_refs};
 
 use crate::desk::FileDesk;
-use layer_words::Dir;
 use layer_eval::{Predicted, Visit, take_event};
 use layer_mean::Envelope;
+use layer_words::Dir;
 use pool_message::Events;
 use slot_pool::Pool;
 use typed_layer::TypedLayer;

@@ -10,11 +10,11 @@ ghost use Rattle.miss_mean.specs.Spots as spots;
 ghost use Rattle.shape_core.specs.Sketch.{visit_tree};
 ghost use Rattle.typed_layer.specs.View.{handler_tree};
 
-use stack_judge::Stack;
 use file_scope::is_same;
-use layer_words::{Dir, Kind, Word};
 use layer_ast::{File, Handler, Layer, Place};
+use layer_words::{Dir, Kind, Word};
 use shape_core::ShapeVisit;
+use stack_judge::Stack;
 
 /// The tag that is popped from an event with this first tag; going down, none is popped.
 fn popped_tag(dir: Dir, tag: u8) -> u8

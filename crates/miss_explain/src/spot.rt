@@ -11,10 +11,10 @@ ghost use Rattle.miss_explain.specs.Spot.{spot_tree};
 use crate::handlers::pass_handler;
 use crate::meeting::{handler_at, handler_number};
 use crate::search::Search;
-use stack_judge::Stack;
 use layer_ast::File;
 use layer_mean::Case;
 use shape_core::{Shape, ShapeVisit};
+use stack_judge::Stack;
 
 /// A decision on the way of a shape: the visit in which it is made, counted from 1, the visit's place, and its line in
 /// the text of the place's layer.

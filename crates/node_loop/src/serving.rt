@@ -21,13 +21,13 @@ use crate::desk::NodeDesk;
 use crate::error::NodeError;
 use crate::tools::Tools;
 use crate::turns::turn;
-use stack_judge::Stack;
 use group_feed::Feed;
 use msg_core::Memory;
 use node_laws::law_stopped_goes_on;
 use outside::{Clock, LONGEST_DATAGRAM, Links, Peer, Sink};
 use report_lines::Line;
 use report_text::{Pen, write_end};
+use stack_judge::Stack;
 use std::alloc::{AllocError, Global};
 use step_outputs::Outputs;
 

@@ -9,10 +9,10 @@ ghost use Rattle.pack_judge.specs.Due.{all_cases, all_due, cases_due, count_vary
 ghost use Rattle.pack_judge.specs.Due.{second_due};
 
 use layer_mean::Case;
+use pack_read::Due;
 use stack_shapes::Plan;
 use std::alloc::{AllocError, Global};
 use trace_core::{Bypasses, Cases, Made};
-use pack_read::Due;
 
 /// The number of the entry of the first plan's packet.
 pub(crate) const FIRST_PLAN: u32 = 2;

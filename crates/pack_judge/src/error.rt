@@ -6,9 +6,9 @@ ghost use Rattle.pack_judge.specs.Unread.{unread};
 
 use layer_mean::Case;
 use msg_core::Memory as NoMemory;
+use pack_read::ReadError;
 use std::alloc::{AllocError, AllocFailed};
 use thiserror::Error;
-use pack_read::ReadError;
 
 /// Why a file of traces isn't run for a stack: what is wrong with it first, or want of memory.
 #[derive(Clone, Copy, Debug, PartialEq, Eq, Error)]

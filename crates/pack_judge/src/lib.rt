@@ -10,5 +10,5 @@ mod read;
 mod replace;
 
 pub use error::BypassError;
-pub use read::read_bypasses;
 pub use pack_read::LONGEST_FILE;
+pub use read::read_bypasses;

@@ -16,13 +16,13 @@ ghost use Rattle.pack_judge.specs.Judged.{Judges, JudgesInto};
 use crate::cases::fill_all;
 use crate::due::all_due;
 use crate::error::BypassError;
+use pack_read::{LONGEST_FILE, read_traces};
 use stack_judge::Stack;
 use stack_shapes::{Plan, StackShapes};
 use std::alloc::Global;
 use std::collections::VecDeque;
 use synth::synth;
 use trace_core::Bypasses;
-use pack_read::{LONGEST_FILE, read_traces};
 
 /// The bypasses that a file of traces gives for a stack, if it is accepted: of each case its trace, where that joins no
 /// more than the stack's own, and else the latter, with their handlers. The file is refused for its length, else for

@@ -6,8 +6,8 @@ ghost use Rattle.pack_words.specs.Reading.{left};
 ghost use Rattle.pack_words.specs.View.{named_in};
 ghost use Rattle.pack_read.specs.Operations.{TakesAs};
 
-use trace_core::{Atom, Core};
 use pack_words::{LineError, Scope, Text, atom_named, core_named};
+use trace_core::{Atom, Core};
 
 /// A number for which no cell is read.
 pub(crate) fn atom(text: &mut Text<'_>, scope: &Scope<'_>) -> Result<Atom, LineError>

@@ -9,9 +9,9 @@ ghost use Rattle.pack_read.specs.Operations.{ReadsChain, ReadsChained, header_at
 
 use crate::atoms::core;
 use crate::header::{Header, read_header};
+use pack_words::{LineError, Scope, Text};
 use std::alloc::AllocError;
 use trace_core::{Chained, Link, Links};
-use pack_words::{LineError, Scope, Text};
 
 /// A place, as traces keep it: of eight bits.
 fn kept_place(place: u32) -> Result<u8, AllocError>

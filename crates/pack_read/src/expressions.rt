@@ -14,8 +14,11 @@ use crate::queued::Queue;
 use crate::sort::{CellNamed, Sort, sort_at};
 use crate::targeted::Target;
 use layer_words::Function;
+use pack_words::{
+    LineError, Name, Scope, Text, atom_named, cell_named, core_named, function_of, item_named,
+    load_at, operator_of,
+};
 use trace_core::{Arena, Atom, Node};
-use pack_words::{LineError, Name, Scope, Text, atom_named, cell_named, core_named, function_of, item_named, load_at, operator_of};
 
 /// How many brackets may be opened inside one, if one may.
 fn opened(room: u32) -> Result<u32, LineError>

@@ -12,10 +12,10 @@ use crate::due::Due;
 use crate::error::ReadError;
 use crate::lines::Lines;
 use crate::reading::Reading;
+use pack_words::LineError;
 use stack_judge::Stack;
 use std::alloc::Global;
 use trace_core::Trace;
-use pack_words::LineError;
 
 /// The most bytes of a file of traces.
 pub const LONGEST_FILE: usize = 33_554_432;

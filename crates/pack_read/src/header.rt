@@ -11,9 +11,9 @@ ghost use Rattle.pack_words.specs.View.{layers_in, named_in};
 ghost use Rattle.pack_read.specs.Operations.{TagIs, TakesAs, TakesAtoms, header_at};
 
 use crate::atoms::atom;
+use pack_words::{LineError, Name, Scope, Text, fields_of, layer_at, tag_named};
 use std::alloc::AllocError;
 use trace_core::{Atom, Atoms};
-use pack_words::{LineError, Name, Scope, Text, fields_of, layer_at, tag_named};
 
 /// The most fields of a header.
 pub(crate) const MOST_FIELDS: u32 = msg_core::MOST_FIELDS as u32;

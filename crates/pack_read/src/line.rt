@@ -9,8 +9,8 @@ use crate::output::output;
 use crate::queues::{push, take};
 use crate::store::Store;
 use crate::write::{bind, check, note, set};
-use trace_core::Operation;
 use pack_words::{LineError, Scope, Text};
+use trace_core::Operation;
 
 /// An operation, after its first word.
 fn operation_by(

@@ -7,10 +7,10 @@ ghost use Rattle.pack_read.specs.Open.{Adds, AreParts, IsEmpty, LeavesAfter, Nam
 
 use crate::line::operation;
 use crate::store::Store;
+use pack_words::{LineError, Scope, Spot};
 use stack_judge::Stack;
 use std::alloc::{AllocError, Global};
 use trace_core::{Arena, Links, Operation, Trace};
-use pack_words::{LineError, Scope, Spot};
 
 /// How many operations a case may have beside its notes.
 pub(crate) const MOST_OPERATIONS: u32 = 4_096;

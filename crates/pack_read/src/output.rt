@@ -8,8 +8,8 @@ ghost use Rattle.pack_read.specs.Operations.{ReadsOperation, a_direction, a_kind
 use crate::sent::{sent_message, what_is_sent};
 use crate::store::Store;
 use layer_words::{Dir, Kind};
-use trace_core::Operation;
 use pack_words::{LineError, Scope, Text, kind_named};
+use trace_core::Operation;
 
 /// The direction of an output.
 fn direction(text: &mut Text<'_>) -> Result<Dir, LineError>

@@ -11,8 +11,8 @@ ghost use Rattle.pack_read.specs.Operations.{ReadsOperation};
 use crate::read::queue;
 use crate::row::{row_message, row_numbers};
 use crate::store::Store;
-use trace_core::Operation;
 use pack_words::{LineError, Scope, Text, items_named};
+use trace_core::Operation;
 
 /// A row that is pushed, after `push`.
 pub(crate) fn push(

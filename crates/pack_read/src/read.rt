@@ -9,8 +9,8 @@ ghost use Rattle.pack_read.specs.Expressions.{ReadsMessage, ReadsNumber, ReadsQu
 use crate::expressions;
 use crate::queued::Queue;
 use crate::targeted::Target;
-use trace_core::Arena;
 use pack_words::{LineError, Scope, Text};
+use trace_core::Arena;
 
 /// How deep brackets may go.
 pub const MOST_BRACKETS: u32 = 200;

@@ -13,11 +13,11 @@ use crate::due::Due;
 use crate::error::ReadError;
 use crate::heading::begins;
 use crate::open::Open;
+use pack_words::LineError;
 use stack_judge::Stack;
 use std::alloc::{AllocError, Global};
 use std::mem::replace;
 use trace_core::Trace;
-use pack_words::LineError;
 
 /// Where in a file a line stands: after its first, in a case, or after `end`.
 #[derive(Clone, Copy)]

@@ -17,9 +17,9 @@ use crate::header::MOST_FIELDS;
 use crate::read::number;
 use layer_words::Word;
 use msg_core::Fields;
+use pack_words::{LineError, Scope, Text};
 use std::alloc::AllocError;
 use trace_core::{Arena, Chained, Links};
-use pack_words::{LineError, Scope, Text};
 use typed_layer::Items;
 
 /// One more node, where there is room for it.

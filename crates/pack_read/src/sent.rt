@@ -11,8 +11,8 @@ ghost use Rattle.pack_read.specs.Operations.{ReadsMessage, ReadsSent};
 
 use crate::chain::chain;
 use crate::header::MOST_FIELDS;
-use trace_core::{Atom, Atoms, Chained, Core, Links};
 use pack_words::{LineError, Name, Scope, Text, atom_named, core_named};
+use trace_core::{Atom, Atoms, Chained, Core, Links};
 
 /// What stands in the brackets of an output: numbers, and a message after these where it has one.
 #[derive(Clone, Copy)]

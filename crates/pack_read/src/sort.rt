@@ -7,9 +7,9 @@ ghost use Rattle.trace_mean.specs.Fuse.{form_at};
 ghost use Rattle.typed_layer.specs.View.{form_tree};
 ghost use Rattle.pack_read.specs.Sorts.{sort_of};
 
-use stack_judge::Stack;
 use layer_words::Shape;
 use pack_words::{Spot, cell_at};
+use stack_judge::Stack;
 use typed_layer::Form;
 
 /// What a cell is.

@@ -11,8 +11,8 @@ ghost use Rattle.pack_read.specs.Operations.{ReadsOperation, set_of};
 use crate::read::{message, number, target};
 use crate::store::Store;
 use crate::targeted::Target;
-use trace_core::Operation;
 use pack_words::{LineError, Scope, Text};
+use trace_core::Operation;
 
 /// These bytes, the digits of a number, and ` = `.
 #[tactic(auto, using(pack_words::proofs::Fronts::not_front))]

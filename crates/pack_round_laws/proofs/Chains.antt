@@ -19,7 +19,8 @@ use Rattle.pack_laws.proofs.Spelled.{reach_of}
 use Rattle.pack_laws.proofs.Writing.{parted, after_commas}
 use Rattle.pack_round_laws.specs.Told.{AreToldApart}
 use Rattle.pack_round_laws.proofs.Fits.{largest_number, AtomFits, CoreFits, LinkFits, ChainFits, ChainedFits}
-use Rattle.pack_round_laws.proofs.Front.{Finds, finds_value, finds_then, finds_text, finds_given, finds_known, finds_same}
+use Rattle.pack_round_laws.proofs.Front.{Finds, finds_value, finds_then, finds_text, finds_given, finds_known}
+use Rattle.pack_round_laws.proofs.Front.{finds_same}
 use Rattle.pack_round_laws.proofs.Front.{Stops}
 use Rattle.pack_round_laws.proofs.Names.{IsSmall, atom_names, core_names, tag_names, finds_name}
 use Rattle.pack_round_laws.proofs.Numbers.{Reads}

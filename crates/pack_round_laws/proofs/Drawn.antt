@@ -36,7 +36,8 @@ use Rattle.trace_mean.specs.Fuse.{fields_of}
 use Rattle.trace_form_laws.proofs.Turns.{placed}
 use Rattle.bypass_mean.specs.Text.{layer_of}
 use Rattle.pack_round_laws.proofs.Traced.{layers_fit_at, under}
-use Rattle.pack_round_laws.proofs.Layers.{HeaderFits, SentContentFits, StepFits, WayFits, HandlerFits, LayerFits, LayersFit}
+use Rattle.pack_round_laws.proofs.Layers.{HeaderFits, SentContentFits, StepFits, WayFits, HandlerFits, LayerFits}
+use Rattle.pack_round_laws.proofs.Layers.{LayersFit}
 
 module _ (stack : List LayerTree) where
   -- headers with as many fields as the layers at their places say

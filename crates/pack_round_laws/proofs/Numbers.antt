@@ -8,7 +8,8 @@ use Rattle.layer_words.specs.declared.operators.Function.{Function}
 use Rattle.layer_words.specs.declared.operators.Function.TheVariants.{Not, Bit, Count, Lowest}
 use Rattle.layer_words.specs.declared.operators.Operator.{Operator}
 use Rattle.layer_words.specs.declared.operators.Operator.TheVariants.{Add, Subtract, Multiply, Equal, NotEqual, Less}
-use Rattle.layer_words.specs.declared.operators.Operator.TheVariants.{LessOrEqual, Greater, GreaterOrEqual, And, Or, BitAnd}
+use Rattle.layer_words.specs.declared.operators.Operator.TheVariants.{LessOrEqual, Greater, GreaterOrEqual, And, Or}
+use Rattle.layer_words.specs.declared.operators.Operator.TheVariants.{BitAnd}
 use Rattle.layer_words.specs.declared.operators.Operator.TheVariants.{BitOr, BitXor}
 use Rattle.layer_words.specs.declared.sorts.Shape.TheVariants.{One, Array, Square}
 use Rattle.layer_words.specs.Signs.{function_sign, operator_sign}
@@ -38,7 +39,8 @@ use Rattle.pack_laws.proofs.Spelled.{reach_of}
 use Rattle.pack_laws.proofs.Words.{called}
 use Rattle.pack_round_laws.specs.Told.{IsWord, AreToldApart}
 use Rattle.pack_round_laws.proofs.Fits.{largest_number, AtomFits, NumberFits, MessageFits}
-use Rattle.pack_round_laws.proofs.Front.{Finds, finds_value, finds_then, finds_text, finds_given, finds_known, finds_same}
+use Rattle.pack_round_laws.proofs.Front.{Finds, finds_value, finds_then, finds_text, finds_given, finds_known}
+use Rattle.pack_round_laws.proofs.Front.{finds_same}
 use Rattle.pack_round_laws.proofs.Front.{Stops, run_back, Leads, leads_not, decimal_leads}
 use Rattle.pack_round_laws.proofs.Names.{all_at, place_back, IsSmall, atom_names, core_names, cell_names, rows_told}
 use Rattle.pack_round_laws.proofs.Names.{finds_name, finds_word}

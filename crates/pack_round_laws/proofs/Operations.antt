@@ -41,9 +41,11 @@ use Rattle.pack_laws.specs.Written.{note_name, written_with, line_with}
 use Rattle.pack_laws.proofs.Spelled.{reach_of}
 use Rattle.pack_laws.proofs.Writing.{parted, after_commas, parted_more}
 use Rattle.pack_round_laws.specs.Told.{IsWord, AreToldApart}
-use Rattle.pack_round_laws.proofs.Fits.{largest_number, AtomFits, CoreFits, NumberFits, SentFits, RowFits, index_brackets}
+use Rattle.pack_round_laws.proofs.Fits.{largest_number, AtomFits, CoreFits, NumberFits, SentFits, RowFits}
+use Rattle.pack_round_laws.proofs.Fits.{index_brackets}
 use Rattle.pack_round_laws.proofs.Fits.{OperationFits}
-use Rattle.pack_round_laws.proofs.Front.{Finds, finds_value, finds_then, finds_text, finds_given, finds_known, finds_same}
+use Rattle.pack_round_laws.proofs.Front.{Finds, finds_value, finds_then, finds_text, finds_given, finds_known}
+use Rattle.pack_round_laws.proofs.Front.{finds_same}
 use Rattle.pack_round_laws.proofs.Front.{Stops, run_back, Leads, leads_not, leads_more}
 use Rattle.pack_round_laws.proofs.Names.{IsSmall, Messages, atom_names, core_names, cell_names, finds_name, finds_word}
 use Rattle.pack_round_laws.proofs.Numbers.{atom_leads, Reads, After, element_after, square_after, queue_back}

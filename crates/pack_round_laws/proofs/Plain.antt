@@ -17,7 +17,8 @@ use Rattle.layer_words.specs.declared.operators.Function.{Function}
 use Rattle.layer_words.specs.declared.operators.Function.TheVariants.{Not, Bit, Count, Lowest}
 use Rattle.layer_words.specs.declared.operators.Operator.{Operator}
 use Rattle.layer_words.specs.declared.operators.Operator.TheVariants.{Add, Subtract, Multiply, Equal, NotEqual, Less}
-use Rattle.layer_words.specs.declared.operators.Operator.TheVariants.{LessOrEqual, Greater, GreaterOrEqual, And, Or, BitAnd}
+use Rattle.layer_words.specs.declared.operators.Operator.TheVariants.{LessOrEqual, Greater, GreaterOrEqual, And, Or}
+use Rattle.layer_words.specs.declared.operators.Operator.TheVariants.{BitAnd}
 use Rattle.layer_words.specs.declared.operators.Operator.TheVariants.{BitOr, BitXor}
 use Rattle.layer_words.specs.declared.sorts.Shape.TheVariants.{One, Array, Square}
 use Rattle.layer_words.specs.Signs.{direction_sign, function_sign, operator_sign}
@@ -43,9 +44,11 @@ use Rattle.pack_laws.specs.Written.{note_name, written_with, line_with}
 use Rattle.pack_laws.proofs.Spelled.{reach_of}
 use Rattle.pack_laws.proofs.Words.{called}
 use Rattle.pack_round_laws.specs.Told.{IsWord, AreToldApart}
-use Rattle.pack_round_laws.proofs.Fits.{largest_number, AtomFits, CoreFits, NumberFits, MessageFits, LinkFits, ChainFits}
+use Rattle.pack_round_laws.proofs.Fits.{largest_number, AtomFits, CoreFits, NumberFits, MessageFits, LinkFits}
+use Rattle.pack_round_laws.proofs.Fits.{ChainFits}
 use Rattle.pack_round_laws.proofs.Fits.{SentFits, RowFits, index_brackets, OperationFits}
-use Rattle.pack_round_laws.proofs.Names.{all_at, IsSmall, Names, atom_names, core_names, tag_names, cell_names, rows_told}
+use Rattle.pack_round_laws.proofs.Names.{all_at, IsSmall, Names, atom_names, core_names, tag_names, cell_names}
+use Rattle.pack_round_laws.proofs.Names.{rows_told}
 use Rattle.pack_round_laws.proofs.Numbers.{form_of, rows_are}
 
 abbrev pub is_plain_byte : ℕ → Bool

@@ -48,7 +48,8 @@ use Rattle.file_laws.proofs.Small.{LiteralPlaced, param_small}
 use Rattle.chain_laws.proofs.Lists.{Where, each_map, each_take}
 use Rattle.pack_round_laws.proofs.Fits.{Carries}
 use Rattle.pack_round_laws.proofs.Layers.{cell_items, ExpressionFits, MessageFits, most_nested, Fits, TakenFits}
-use Rattle.pack_round_laws.proofs.Walked.{Deep, DeepQueue, DeepMessage, DeepBuilt, DeepArgument, DeepPushed, DeepStatement}
+use Rattle.pack_round_laws.proofs.Walked.{Deep, DeepQueue, DeepMessage, DeepBuilt, DeepArgument, DeepPushed}
+use Rattle.pack_round_laws.proofs.Walked.{DeepStatement}
 use Rattle.pack_round_laws.proofs.Walked.{DeepStanding, deepest, deep_one}
 use Rattle.pack_round_laws.proofs.Ways.{queue_items, OptionFits, ContentsFit, FitsAll}
 

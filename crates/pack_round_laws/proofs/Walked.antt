@@ -25,7 +25,8 @@ use Rattle.layer_words.specs.declared.sorts.Likely.{Likely}
 use Rattle.layer_words.specs.declared.sorts.Likely.TheVariants as likely_word
 use Rattle.layer_words.specs.declared.operators.Operator.{Operator}
 use Rattle.layer_words.specs.declared.operators.Operator.TheVariants.{Add, Subtract, Multiply, Equal, NotEqual, Less}
-use Rattle.layer_words.specs.declared.operators.Operator.TheVariants.{LessOrEqual, Greater, GreaterOrEqual, And, Or, BitAnd}
+use Rattle.layer_words.specs.declared.operators.Operator.TheVariants.{LessOrEqual, Greater, GreaterOrEqual, And, Or}
+use Rattle.layer_words.specs.declared.operators.Operator.TheVariants.{BitAnd}
 use Rattle.layer_words.specs.declared.operators.Operator.TheVariants.{BitOr, BitXor}
 use Rattle.layer_words.specs.declared.sorts.Shape.{Shape}
 use Rattle.layer_words.specs.declared.sorts.Shape.TheVariants.{One, Array, Square}

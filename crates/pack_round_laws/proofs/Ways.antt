@@ -25,7 +25,8 @@ use Rattle.chain_laws.proofs.Lists.{each_append}
 use Rattle.file_laws.specs.Bounds.{HoldsStatement, HoldsBlock}
 use Rattle.pack_mean.specs.Named.{items_in, no_items}
 use Rattle.pack_round_laws.proofs.Fits.{largest_number}
-use Rattle.pack_round_laws.proofs.Layers.{cell_items, MessageFits, most_nested, Fits, RowMessageFits, PutFits, TakenFits}
+use Rattle.pack_round_laws.proofs.Layers.{cell_items, MessageFits, most_nested, Fits, RowMessageFits, PutFits}
+use Rattle.pack_round_laws.proofs.Layers.{TakenFits}
 use Rattle.pack_round_laws.proofs.Layers.{SentContentFits, StepFits, WayFits, HandlerFits}
 
 -- the expressions of a statement fit, and what a take fills is what its queue carries

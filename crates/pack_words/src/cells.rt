@@ -20,9 +20,9 @@ ghost use Rattle.trace_core.specs.View.{load_tree};
 
 use crate::name::Name;
 use crate::spot::Spot;
-use stack_judge::Stack;
 use layer_words::Word;
 use script_text::number_within;
+use stack_judge::Stack;
 use std::alloc::AllocError;
 use trace_core::Load;
 use typed_layer::{Cell, Form, HeaderForm, Items, TypedLayer};

@@ -10,8 +10,8 @@ ghost use Rattle.packet_full.specs.Taking.{Takes, left, preamble_tree};
 
 use crate::form::form_at;
 use crate::front::{PREAMBLE_BYTES, Preamble, dest_of};
-use stack_judge::Stack;
 use msg_core::{Fields, Header, Headers};
+use stack_judge::Stack;
 
 /// The most numbers that a header carries.
 const MOST_FIELDS: u8 = msg_core::MOST_FIELDS as u8;

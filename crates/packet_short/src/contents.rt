@@ -16,9 +16,9 @@ use crate::fit::kind_of;
 use crate::known::Known;
 use crate::layout::Layout;
 use crate::planned::Planned;
-use stack_judge::Stack;
 use msg_core::{Dest, Headers, Stray};
 use packet_full::{Cursor, FULL_FORM, Preamble};
+use stack_judge::Stack;
 use stack_shapes::{Plan, Plans};
 
 /// The plan that a short datagram names, and its number, if it is one of its destination's kind.

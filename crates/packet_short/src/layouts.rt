@@ -10,10 +10,10 @@ ghost use Rattle.packet_short.specs.Layouts.{AreLaidOut, IsFirst, IsLaidOut};
 use crate::fit::print_of;
 use crate::layout::{Layout, loose_of};
 use crate::planned::Planned;
-use stack_judge::Stack;
 use layer_words::Kind;
 use msg_core::{Headers, Memory};
 use packet_full::Cursor;
+use stack_judge::Stack;
 use stack_shapes::Plans;
 use std::alloc::Global;
 

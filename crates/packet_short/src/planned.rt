@@ -8,9 +8,9 @@ ghost use Rattle.packet_full.specs.Taking.{Takes, left};
 ghost use Rattle.packet_short.specs.Dealing as dealing;
 ghost use Rattle.msg_core.specs.Headers.{most_fields};
 
-use stack_judge::Stack;
 use msg_core::{Fields, Header, Headers};
 use packet_full::{Cursor, form_at};
+use stack_judge::Stack;
 use stack_shapes::Plan;
 
 /// The tags and the fields of a plan that are still to be read.

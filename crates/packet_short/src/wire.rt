@@ -12,8 +12,9 @@ use packet_full::{PacketView, put_full_of};
 use packet_mean::Here;
 use stack_shapes::Plans;
 
-/// Puts a packet under the plan of a number: short where there is such a plan, and else in full. The packet is told anew
-/// for a short form: lent as it is, what is told of each output would lie in memory wherever packets are picked out.
+/// Puts a packet under the plan of a number: short where there is such a plan, and else in full. The packet is told
+/// anew for a short form: lent as it is, what is told of each output would lie in memory wherever packets are picked
+/// out.
 #[inline(always)]
 fn put_under(plans: &Plans, number: u8, here: &Here, packet: &PacketView<'_>, into: &mut Vec<u8>)
     requires { vec_len into.old + short_room

@@ -13,12 +13,12 @@ ghost use Rattle.stack_mean.specs.Plans.{plans_of};
 ghost use Rattle.stack_play.specs.Turns.{most_events};
 
 use crate::error::PlayError;
-use stack_judge::Stack;
 use group_mean::Mode;
 use group_open::{Opened, open};
 use outside::Sink;
 use script_mean::GroupLine;
 use script_text::Workload;
+use stack_judge::Stack;
 use stack_play::{Load, write_counts};
 use std::alloc::Global;
 

@@ -12,12 +12,12 @@ ghost use Rattle.stack_mean.specs.Plans.{plans_of};
 ghost use Rattle.stack_play.specs.Turns.{most_events};
 
 use crate::error::PlayError;
-use stack_judge::Stack;
 use group_open::{Examination, open_examined};
 use layer_ast::File;
 use miss_explain::{Explanation, Texts, explain};
 use outside::Sink;
 use script_mean::{GroupLine, Script};
+use stack_judge::Stack;
 use std::alloc::Global;
 
 /// Plays a script by bypasses in the world in which it begins, and writes why its steps weren't common: a line for

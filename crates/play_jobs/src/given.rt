@@ -14,13 +14,13 @@ use crate::played::ending;
 use crate::playing::{Wanted, play_with};
 use crate::script::fetch_script;
 use crate::traces::fetch_traces;
-use stack_judge::Stack;
 use file_jobs::fetch_stack;
 use group_open::has_room;
 use job_ends::Ending;
 use job_text::ReplayWith;
 use outside::{Shelf, Sink};
 use script_mean::Script;
+use stack_judge::Stack;
 use std::alloc::Global;
 use std::mem::forget;
 

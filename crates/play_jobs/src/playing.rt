@@ -20,12 +20,12 @@ ghost use Rattle.stack_shapes.specs.Trees.{plans_tree};
 ghost use Rattle.trace_core.specs.Bypasses.{bypasses_tree};
 
 use crate::error::PlayError;
-use stack_judge::Stack;
 use group_mean::Mode;
 use group_open::{Opened, open, open_with};
 use outside::{Sink, SinkError};
 use report_text::Manner;
 use script_mean::{GroupLine, Script};
+use stack_judge::Stack;
 use stack_play::{Report, write_report};
 use std::alloc::Global;
 use trace_core::Bypasses;

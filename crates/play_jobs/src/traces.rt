@@ -6,10 +6,10 @@ ghost use Rattle.stack_judge.specs.Answer.{stack_tree};
 ghost use Rattle.job_ends.specs.Shown.{shown_end};
 ghost use Rattle.play_jobs.specs.Traces.{FetchesTraces, JudgesTraces, refused_as};
 
-use pack_judge::{BypassError, LONGEST_FILE, read_bypasses};
-use stack_judge::Stack;
 use job_ends::Ending;
 use outside::{Got, Shelf};
+use pack_judge::{BypassError, LONGEST_FILE, read_bypasses};
+use stack_judge::Stack;
 use std::alloc::Global;
 use trace_core::Bypasses;
 

@@ -9,8 +9,8 @@ ghost use Rattle.pool_message.specs.Slots.{first_number};
 use crate::event::PoolEvent;
 use crate::message_place::MessagePlace;
 use crate::short_queue::ShortQueue;
-use layer_words::Dir;
 use layer_mean::Envelope;
+use layer_words::Dir;
 use std::alloc::{AllocError, Global};
 use std::marker::Model;
 

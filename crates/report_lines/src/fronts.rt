@@ -6,8 +6,8 @@ ghost use Rattle.report_lines.specs.Fronts.{AddFronts, AreAllFronts, tags_at};
 
 use crate::line::Line;
 use crate::names::push_front;
-use stack_judge::Stack;
 use msg_core::{Fields, Header, Memory};
+use stack_judge::Stack;
 use std::alloc::Global;
 
 /// The texts `LAYER.HEADER(` of the declared headers of a stack, one after the other: where each begins, and where the

@@ -9,8 +9,8 @@ ghost use Rattle.report_lines.specs.Fronts.{IsFront, IsNumber, declared_headers,
 ghost use Rattle.report_lines.specs.Nones.{slashed_headers, first_nones, header_front, none_of, nones, slashed_header};
 
 use crate::fronts::Fronts;
-use stack_judge::Stack;
 use msg_core::Memory;
+use stack_judge::Stack;
 use std::alloc::Global;
 use std::marker::Model;
 use std::rc::Rc;

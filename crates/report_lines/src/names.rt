@@ -7,8 +7,8 @@ ghost use Rattle.report_lines.specs.Layer.{layer_or_none};
 ghost use Rattle.report_lines.specs.Nones.{header_front};
 
 use crate::line::Line;
-use stack_judge::Stack;
 use msg_core::{Header, Memory};
+use stack_judge::Stack;
 use typed_layer::TypedLayer;
 
 /// The layer at a place, if there is one.

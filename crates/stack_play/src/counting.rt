@@ -17,13 +17,13 @@ ghost use Rattle.stack_shapes.specs.Trees.{plans_tree};
 ghost use Rattle.stack_play.specs.Turns.{CountsEvent, Keeps, most_events, playing};
 
 use crate::run::Run;
-use stack_judge::Stack;
 use group_feed::Feed;
 use msg_core::Memory;
 use outside::{Sink, SinkError};
 use report_text::{Tally, write_tally};
 use script_mean::ScriptEvent;
 use script_text::{Generation, Workload};
+use stack_judge::Stack;
 use stack_shapes::Plans;
 use std::alloc::Global;
 use step_outputs::{Outputs, law_accepted_is_light};

@@ -5,8 +5,8 @@ ghost use Rattle.circular_buffer.specs.Buffer.{buffer};
 ghost use Rattle.stack_mean.specs.Acceptance.{largest_weight};
 ghost use Rattle.stack_judge.specs.Answer.{stack_tree};
 
-use stack_judge::Stack;
 use pool_message::Events;
+use stack_judge::Stack;
 use std::alloc::{AllocError, Global};
 
 /// No event, with places for the weight of a stack: enough for what a visit sends and for what comes out of a run.

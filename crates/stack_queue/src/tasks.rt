@@ -6,14 +6,14 @@ ghost use Rattle.stack_mean.specs.Acceptance.{largest_weight};
 
 use crate::passes::{pass_along, pass_one};
 use crate::places::{beyond, end_first, first_way, go_on, put_place, stand_alone};
-use stack_judge::Stack;
-use layer_words::Dir;
 use layer_eval::Predicted;
 use layer_mean::Envelope;
 use layer_stage::Stage;
+use layer_words::Dir;
 use msg_core::Headers;
 use pool_message::{Events, PoolEvent, ShortQueue};
 use slot_pool::Pool;
+use stack_judge::Stack;
 use std::alloc::{AllocError, Global};
 use std::marker::Model;
 

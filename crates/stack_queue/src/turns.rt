@@ -19,11 +19,11 @@ ghost use Rattle.stack_queue.specs.Stages.{Stand, most_at_first, run_of};
 ghost use Rattle.stack_queue.specs.Taken.{taken_after};
 
 use crate::tasks::Tasks;
-use stack_judge::Stack;
 use layer_eval::Predicted;
 use layer_stage::Stage;
 use pool_message::Events;
 use slot_pool::Pool;
+use stack_judge::Stack;
 
 /// Runs the layers of a stack from the one task that is pending, until no task is left: each task is an event that its
 /// layer takes, or one that comes out at an edge. Says whether each visit decided as predicted. `tasks` is left empty,

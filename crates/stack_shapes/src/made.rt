@@ -11,10 +11,10 @@ ghost use Rattle.stack_shapes.specs.Starts.{HaveFewOuts};
 
 use crate::cases::limited_cases;
 use crate::types::Plan;
-use stack_judge::Stack;
 use layer_words::{Dir, Kind};
 use msg_core::Memory;
 use shape_core::{CaseShapes, Known, shapes};
+use stack_judge::Stack;
 use std::alloc::Global;
 
 /// The shapes of an application's own event of a kind, however long they are.

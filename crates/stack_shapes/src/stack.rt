@@ -12,9 +12,9 @@ use crate::entries::EntryShapes;
 use crate::kept::Plans;
 use crate::made::{all_shapes, app_shapes};
 use crate::starts::PlanStarts;
-use stack_judge::Stack;
 use layer_words::Kind;
 use msg_core::Memory;
+use stack_judge::Stack;
 use std::alloc::Global;
 
 /// The plans of a stack, where those of an application's own events begin, and the shapes of its entries.

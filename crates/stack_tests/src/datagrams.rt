@@ -1,11 +1,11 @@
 //! Datagrams of stacks of several layers: taken, refused, and long ones.
 
 use crate::writing::{RUNS, Reader, Run, scanned, sent};
-use stack_judge::Stack;
 use file_judge::judge;
 use msg_core::{Memory, Stray, View};
 use packet_full::Scan;
 use packet_mean::Here;
+use stack_judge::Stack;
 use stack_shapes::{Plans, StackShapes};
 use std::alloc::Global;
 use std::process::Abort;

@@ -1,11 +1,11 @@
 //! A layer whose header has a constant and a variable field: its packets and datagrams in both forms.
 
 use crate::writing::{RUNS, Reader, Run, fitting, scanned, sent};
-use stack_judge::Stack;
 use file_judge::judge;
 use msg_core::{Dest, Fields, Header, Headers, Memory, Stray, View};
 use packet_full::{PacketView, Scan};
 use packet_mean::Here;
+use stack_judge::Stack;
 use stack_shapes::{Plans, StackShapes};
 use std::alloc::Global;
 use std::process::Abort;

@@ -1,9 +1,9 @@
 //! Stacks of silent layers: their weight, their shapes and their plans.
 
-use stack_judge::Stack;
 use file_judge::judge;
 use layer_words::{Dir, Kind};
 use shape_core::{Absent, Known, Source, shapes};
+use stack_judge::Stack;
 use stack_shapes::{EntryOf, StackShapes};
 use std::alloc::Global;
 use std::process::Abort;

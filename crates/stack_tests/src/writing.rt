@@ -1,11 +1,10 @@
 //! What members send and read, by the calls that the program makes.
 
-use stack_judge::Stack;
 use msg_core::{Memory, Stray};
 use packet_full::{PacketView, Scan};
 use packet_mean::Here;
-use packet_short::{Known, Layouts, fits_scan, most_fields, scan_packet};
-use packet_short::{put_wire, wire_room_of};
+use packet_short::{Known, Layouts, fits_scan, most_fields, put_wire, scan_packet, wire_room_of};
+use stack_judge::Stack;
 use stack_shapes::Plans;
 use std::alloc::{AllocError, Global};
 

@@ -22,8 +22,8 @@ ghost use Rattle.step_outputs.specs.Views.{output_meant, signal_meant};
 
 use crate::list::KeptList;
 use crate::view::{OutputView, Signal};
-use layer_words::{Dir, Kind};
 use layer_mean::Envelope;
+use layer_words::{Dir, Kind};
 use msg_core::{Dest, Headers};
 use packet_full::{PacketView, put_body};
 use packet_mean::Here;

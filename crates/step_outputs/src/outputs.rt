@@ -21,13 +21,13 @@ use crate::kept::{
 };
 use crate::list::KeptList;
 use crate::view::OutputView;
-use stack_judge::Stack;
-use layer_words::Dir;
 use layer_mean::Envelope;
+use layer_words::Dir;
 use msg_core::{Headers, LONGEST_BODY, View};
 use packet_mean::Here;
 use pool_message::PoolEvent;
 use slot_pool::Pool;
+use stack_judge::Stack;
 use std::alloc::{AllocError, Global};
 use std::marker::Model;
 

@@ -12,7 +12,8 @@ use Rattle.symbol_compare.specs.Meant.{Meant, a_number, a_row, a_sending, row_of
 use Rattle.symbol_compare.specs.Meant.{sending_in, meanings, act_in}
 use Rattle.symbol_compare.specs.Table.{Stands, IsNumber, IsRow, IsSending, IsWellAct, Grown, Made}
 use Rattle.symbol_compare.specs.Walk.{NumbersMade, ActStands, ActMade}
-use Rattle.symbol_compare.proofs.Growing.{grown_on, grown_far, not_grown, stands_grown, number_is, number_there, zip_map}
+use Rattle.symbol_compare.proofs.Growing.{grown_on, grown_far, not_grown, stands_grown, number_is, number_there}
+use Rattle.symbol_compare.proofs.Growing.{zip_map}
 use Rattle.symbol_compare.proofs.Sent.{row_there, numbers_are}
 
 sending_there : {ms : List Meant} {k : ℕ} {m : Option ChainedValue} → Stands ms k (a_sending m) → IsSending ms k

@@ -7,7 +7,8 @@ use Rattle.symbol_mean.specs.Symbolic.{Values}
 use Rattle.symbol_compare.specs.declared.form.Form.{Form}
 use Rattle.symbol_compare.specs.declared.form.ActForm.{ActForm}
 use Rattle.symbol_compare.specs.declared.walk.Walk.{Walk}
-use Rattle.symbol_compare.specs.Meant.{Meant, a_number, a_message, number_of, message_of, number_in, message_in, meanings}
+use Rattle.symbol_compare.specs.Meant.{Meant, a_number, a_message, number_of, message_of, number_in, message_in}
+use Rattle.symbol_compare.specs.Meant.{meanings}
 use Rattle.symbol_compare.specs.Table.{Stands, IsNumber, IsMessage, Grown, Made}
 use Rattle.symbol_compare.specs.Walk.{known_to, AreNumbers, AreMessages, KnowsAs, NumbersMade, ActMade}
 use Rattle.symbol_compare.proofs.Earlier.{meanings_keep}

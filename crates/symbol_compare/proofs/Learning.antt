@@ -21,7 +21,8 @@ use Rattle.symbol_compare.specs.declared.walk.Walk.{Walk}
 use Rattle.symbol_compare.specs.Counts.{count_in}
 use Rattle.symbol_compare.specs.Meant.{a_number, a_message, meanings}
 use Rattle.symbol_compare.specs.Table.{Stands, Grown, Made}
-use Rattle.symbol_compare.specs.Walk.{values_after, known_to, AreNumbers, AreMessages, KnowsAs, Knows, ActStands, ActMade}
+use Rattle.symbol_compare.specs.Walk.{values_after, known_to, AreNumbers, AreMessages, KnowsAs, Knows, ActStands}
+use Rattle.symbol_compare.specs.Walk.{ActMade}
 use Rattle.symbol_compare.specs.Walk.{Learns}
 use Rattle.symbol_compare.specs.Steps.{Wrote, Walked, Steps, ActsMade}
 use Rattle.symbol_compare.proofs.Growing.{not_grown, grown_on, numbers_grown, messages_grown, zip_last}

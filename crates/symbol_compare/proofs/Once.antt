@@ -25,7 +25,8 @@ use Rattle.symbol_compare.specs.declared.form.Form.{Form}
 use Rattle.symbol_compare.specs.declared.form.Form.TheVariants as forms
 use Rattle.symbol_compare.specs.declared.form.ActForm.{ActForm}
 use Rattle.symbol_compare.specs.declared.form.ActForm.TheVariants as acts
-use Rattle.symbol_compare.specs.Meant.{Meant, a_number, a_message, a_row, a_chain, a_sending, meant_of, meanings, act_in}
+use Rattle.symbol_compare.specs.Meant.{Meant, a_number, a_message, a_row, a_chain, a_sending, meant_of, meanings}
+use Rattle.symbol_compare.specs.Meant.{act_in}
 use Rattle.symbol_compare.specs.Table.{Stands, IsWellNumber, IsWellMessage, IsWell, AreWell, IsWellAct}
 use Rattle.symbol_compare.specs.Set.{AreOne}
 use Rattle.symbol_compare.proofs.Earlier.{meanings_long, form_found}

@@ -16,7 +16,8 @@ use Rattle.symbol_mean.specs.Symbolic.{Values, atom_value, link_value}
 use Rattle.symbol_mean.specs.Value.{NumberValue, MessageValue, LinkValue}
 use Rattle.symbol_compare.specs.declared.form.Form.{Form}
 use Rattle.symbol_compare.specs.declared.walk.Walk.{Walk}
-use Rattle.symbol_compare.specs.Meant.{Meant, a_number, a_message, a_row, a_chain, a_sending, row_of, chain_of, number_in}
+use Rattle.symbol_compare.specs.Meant.{Meant, a_number, a_message, a_row, a_chain, a_sending, row_of, chain_of}
+use Rattle.symbol_compare.specs.Meant.{number_in}
 use Rattle.symbol_compare.specs.Meant.{message_in, row_in, chain_in, meanings}
 use Rattle.symbol_compare.specs.Table.{Stands, IsNumber, IsRow, IsChain, Made}
 use Rattle.symbol_compare.specs.Walk.{known_to, AreNumbers, AllNumbers, AllMade, SomeMade}

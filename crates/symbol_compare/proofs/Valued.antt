@@ -24,7 +24,8 @@ use Rattle.symbol_compare.specs.Table.{Stands, IsWell, Made}
 use Rattle.symbol_compare.specs.Parts.{sort_of, parts_of, AreBelow, seen_in, form_of}
 use Rattle.symbol_compare.specs.Walk.{known_to, meant_by, meant_at, AreNumbers, Knows, AllMade, NumbersMade}
 use Rattle.symbol_compare.proofs.Growing.{made_as, made_after}
-use Rattle.symbol_compare.proofs.Compound.{parts_below, atom_sort, core_sort, form_is, number_meant_is, message_meant_is}
+use Rattle.symbol_compare.proofs.Compound.{parts_below, atom_sort, core_sort, form_is, number_meant_is}
+use Rattle.symbol_compare.proofs.Compound.{message_meant_is}
 
 -- The terms of a walk's trace.
 abbrev terms_of : Walk → List Term

@@ -9,10 +9,10 @@ ghost use Rattle.synth_print.specs.Cells.{cell_shown, form_shown, is_single, lay
 ghost use Rattle.trace_mean.specs.Fuse.{form_at};
 ghost use Rattle.typed_layer.specs.View.{items_tree};
 
-use stack_judge::Stack;
 use layer_words::Shape;
 use msg_core::Memory;
 use report_lines::Line;
+use stack_judge::Stack;
 use typed_layer::{Cell, Form, Items, TypedLayer};
 
 /// The layer at a place, if there is one.

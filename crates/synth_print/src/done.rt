@@ -19,9 +19,9 @@ use crate::operations::push_operation;
 use crate::scope::Scope;
 use crate::source::Source;
 use crate::written::{Note, Spot, Written};
-use stack_judge::Stack;
 use msg_core::Memory;
 use report_lines::Line;
+use stack_judge::Stack;
 use std::alloc::Global;
 use trace_core::Operation;
 

@@ -15,11 +15,11 @@ ghost use Rattle.trace_core.specs.Trees.{guarded_tree};
 use crate::handler::write_handler;
 use crate::name::{Case, Name};
 use crate::pen::Pen;
-use stack_judge::Stack;
 use msg_core::Memory;
 use outside::{Sink, SinkError, put_line};
 use report_lines::Line;
 use shape_core::Absent;
+use stack_judge::Stack;
 use trace_core::{Cases, Guarded, Made};
 
 /// What an entry is called.

@@ -24,10 +24,10 @@ use crate::pen::Pen;
 use crate::scope::Scope;
 use crate::source::{Nodes, Source, Stacked};
 use crate::written::Written;
-use stack_judge::Stack;
 use msg_core::Memory;
 use outside::{Sink, SinkError, put_line};
 use report_lines::Line;
+use stack_judge::Stack;
 use trace_core::{Guarded, Operation, Trace};
 
 /// Builds the line of an entry value, before which nothing was written.

@@ -14,9 +14,9 @@ use crate::atoms::push_atom;
 use crate::cells::layer_at;
 use crate::numbers::push_core;
 use crate::scope::Scope;
-use stack_judge::Stack;
 use msg_core::Memory;
 use report_lines::{Line, push_lead};
+use stack_judge::Stack;
 use trace_core::{Atoms, Chained, Link};
 use typed_layer::TypedLayer;
 

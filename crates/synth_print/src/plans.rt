@@ -15,9 +15,9 @@ use crate::entries::push_name;
 use crate::headers::push_front;
 use crate::name::Name;
 use crate::words::packet_text;
-use stack_judge::Stack;
 use msg_core::Memory;
 use report_lines::Line;
+use stack_judge::Stack;
 use stack_shapes::Plan;
 use typed_layer::TypedLayer;
 

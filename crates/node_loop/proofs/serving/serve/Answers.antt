@@ -85,7 +85,8 @@ returns-in_err-make_turns g c =
     let at = now (g.F.Feed.group on.feed) on.desk
     (around g.O.Sink g.N.Links on.out on.links) (g.C.Clock.told on.clock) in
     let p = err_from_is_err_and c.from_residual-in_err-make_turns.result c.from_residual-in_err-make_turns.ensures.1 in
-    rw (p.1, p.2) (not_all_made stack plan me turns patience mode c.law_stopped_goes_on.ensures (whereabouts before clock)
+    rw (p.1, p.2) (not_all_made stack plan me turns patience mode c.law_stopped_goes_on.ensures
+    (whereabouts before clock)
     from
     (reached before.output plan.peers me (g.N.Links.faults links) (g.N.Links.faults listening)
     (g.N.Links.send_faults links) (g.N.Links.send_faults listening)

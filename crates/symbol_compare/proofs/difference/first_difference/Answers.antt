@@ -3,7 +3,8 @@ use Rattle.symbol_compare.proofs.Differing.{traces_told}
 use Rattle.symbol_compare.proofs.difference.first_difference.Goals as goal
 
 pub returns-in-None : goal.returns-in-None
-returns-in-None c = traces_told _ _ _ _ _ c.as_slice.result.now c.as_slice-2.result.now _ _ None c.law_sound.ensures.well
+returns-in-None c = traces_told _ _ _ _ _ c.as_slice.result.now c.as_slice-2.result.now _ _ None
+    c.law_sound.ensures.well
     c.law_sound.ensures.once c.in_ok-acts.ensures c.in_ok-own_acts.ensures (search rules) (search rules)
     c.in-None.ensures
 
