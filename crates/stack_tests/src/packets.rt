@@ -4,7 +4,7 @@ use crate::writing::{RUNS, Reader, Run, fitting, scanned, sent};
 use event_graph::Stack;
 use file_judge::judge;
 use msg_core::{Dest, Fields, Header, Headers, Memory, Stray, View};
-use packet_full::{PacketView, Scan};
+use packet_full::Scan;
 use packet_mean::Here;
 use stack_shapes::{Plans, StackShapes};
 use std::alloc::Global;
