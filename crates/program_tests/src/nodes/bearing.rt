@@ -29,11 +29,13 @@ fn failing(alloc: Global, listen: bool, receive: bool) -> Result<MemLinks, Alloc
 fn served(
     alloc: Global,
     run: &str,
-    me: &str,
     patience: &str,
     links: &mut MemLinks,
 ) -> Result<Left, AllocError> {
-    let words = words(alloc, &["node", "f", "p", "--turns=2", me, run, patience])?;
+    let words = words(
+        alloc,
+        &["node", "f", "p", "--turns=2", "--me=0,1,2", run, patience],
+    )?;
     let mut shelf = MemShelf::of(pair(alloc, COUNTER, "p", PLAN)?, Vec::new(alloc));
     let mut clock = MemClock::of(vec![in alloc; 5, 6]?);
     left_over(
@@ -50,25 +52,22 @@ fn served(
 fn serves_and_bears(rt: HostRuntime) -> Result<(), Fail> {
     let alloc = rt.alloc();
     let layered = "--run=layered";
-    let all = "--me=0,1,2";
-    let none = "--patience=0";
-    let cases: [(&str, &str, &str, bool, bool, u8, &[u8], &[u8]); 6] = [
-        (layered, all, none, false, false, 0, SERVED, b""),
-        (layered, all, none, false, true, 6, TICKS, b"link fault\n"),
-        (layered, all, "--patience=1", false, true, 0, BORNE, b""),
-        (
-            "--run=bypass",
-            all,
-            "--patience=1",
-            false,
-            true,
-            0,
-            BORNE_SHORT,
-            b"",
-        ),
+    let bypass = "--run=bypass";
+    let cases: [(&str, &str, bool, bool, u8, &[u8], &[u8]); 5] = [
+        (layered, "--patience=0", false, false, 0, SERVED, b""),
         (
             layered,
-            all,
+            "--patience=0",
+            false,
+            true,
+            6,
+            TICKS,
+            b"link fault\n",
+        ),
+        (layered, "--patience=1", false, true, 0, BORNE, b""),
+        (bypass, "--patience=1", false, true, 0, BORNE_SHORT, b""),
+        (
+            layered,
             "--patience=9",
             true,
             false,
@@ -76,21 +75,11 @@ fn serves_and_bears(rt: HostRuntime) -> Result<(), Fail> {
             b"",
             b"link fault\n",
         ),
-        (
-            layered,
-            "--me=1,3",
-            none,
-            false,
-            false,
-            3,
-            b"",
-            b"script: member 1\n",
-        ),
     ];
-    for (run, me, patience, listen_fails, receive_fails, status, out, err) in cases {
+    for (run, patience, listen_fails, receive_fails, status, out, err) in cases {
         let mut links = failing(alloc, listen_fails, receive_fails)?;
         let expected = Expected { status, out, err };
-        assert!(rt; served(alloc, run, me, patience, &mut links)?.is(expected));
+        assert!(rt; served(alloc, run, patience, &mut links)?.is(expected));
     }
     Ok(())
 }
