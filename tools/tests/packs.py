@@ -1,11 +1,7 @@
 #!/usr/bin/env python3
 """Files of traces: what is accepted, what is refused and by which line, over a small layer whose traces are written out here."""
-import os
-import subprocess
-import sys
-import tempfile
+from program import runs
 
-PROGRAM = os.environ["STACKC"]
 LAYERS = """layer tally {
   state int k;
   state int seen[n];
@@ -125,48 +121,24 @@ def cut_off(at):
 FRONTS = {"out down Cast(t.1,m.0)", "out down Send(peer,body)", "bind t.0 = 0", "bind t.1 = 0"}
 
 
-class Runs:
-    def __init__(self, folder):
-        self.folder, self.many, self.wrong = folder, 0, 0
-
-    def put(self, name, text):
-        with open(os.path.join(self.folder, name), "w", encoding="ascii") as file:
-            file.write(text)
-
-    def run(self, words):
-        ran = subprocess.run([PROGRAM, *words], cwd=self.folder, stdin=subprocess.DEVNULL, stdout=subprocess.PIPE, stderr=subprocess.PIPE, timeout=60)
-        return ran.returncode, ran.stdout.decode(), ran.stderr.decode()
-
-    def compare(self, what, got, wanted):
-        self.many += 1
-        if got != wanted:
-            self.wrong += 1
-            print(f"packs, {what}: {got!r}, and not {wanted!r}"[:1000])
-
-    def with_traces(self, what, text, said):
-        self.put("traces.bypasses", text)
-        wanted = (9, "", f"bypass: {said}\n") if said else (0, self.report, "")
-        self.compare(what, self.run(["replay", "tally.layers", "one.script", "--with", "traces.bypasses", "--count", "--wire"]), wanted)
-
-    def all(self):
-        for name, text in (("tally.layers", LAYERS), ("one.script", SCRIPT), ("bad.script", "cast\n"), ("bad.layers", "x"), ("good.bypasses", PACKED)):
-            self.put(name, text)
-        self.compare("what pack writes", self.run(["pack", "tally.layers"]), (0, PACKED, ""))
-        _, self.report, _ = self.run(["replay", "tally.layers", "one.script", "--count", "--wire"])
-        for case in CASES:
-            self.with_traces(*case)
-        for at in range(len(PACKED)):
-            self.with_traces(f"cut off at byte {at}", PACKED[:at], cut_off(at))
-        for words, status, said in WORDS:
-            self.compare(" ".join(words), self.run(words), (status, "", said))
-
-
 def main():
-    with tempfile.TemporaryDirectory(prefix="stackc-") as folder:
-        runs = Runs(folder)
-        runs.all()
-    print(f"packs: {runs.many} runs, {runs.wrong} not as wanted")
-    sys.exit(runs.wrong != 0)
+    with runs("packs") as made:
+        for name, text in (("tally.layers", LAYERS), ("one.script", SCRIPT), ("bad.script", "cast\n"), ("bad.layers", "x"), ("good.bypasses", PACKED)):
+            made.put(name, text)
+        made.compare("what pack writes", made.run(["pack", "tally.layers"]), (0, PACKED, ""))
+        _, report, _ = made.run(["replay", "tally.layers", "one.script", "--count", "--wire"])
+
+        def with_traces(what, text, said):
+            made.put("traces.bypasses", text)
+            wanted = (9, "", f"bypass: {said}\n") if said else (0, report, "")
+            made.compare(what, made.run(["replay", "tally.layers", "one.script", "--with", "traces.bypasses", "--count", "--wire"]), wanted)
+
+        for case in CASES:
+            with_traces(*case)
+        for at in range(len(PACKED)):
+            with_traces(f"cut off at byte {at}", PACKED[:at], cut_off(at))
+        for words, status, said in WORDS:
+            made.compare(" ".join(words), made.run(words), (status, "", said))
 
 
 if __name__ == "__main__":

@@ -53,6 +53,7 @@ CASES = [
     (["check"], 2, b"", b"words: refused\n"),
     (["replay", "counter.layers", "bad.script"], 3, b"", b"script: line 2\n"),
     (["check", "none.layers"], 4, b"", b"read fault\n"),
+    (["check", "."], 4, b"", b"read fault\n"),
     ([*WITH, "absent.bypasses"], 4, b"", b"read fault\n"),
     (["replay", "counter.layers", "bad.script", "--with", "other.bypasses"], 3, b"", b"script: line 2\n"),
     (["audit", "crossed.report", "--law", "total"], 8, b"breach 1 2\n", b"breach\n"),

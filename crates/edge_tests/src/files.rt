@@ -1,14 +1,12 @@
-//! Files, streams and what is held in memory.
+//! Streams that take or give little, and what is held in memory.
 
 use outside::{
-    FileShelf, Got, MemShelf, MemSink, NamedFile, Shelf, ShelfError, Sink, SinkError, StdSink,
-    StillShelf, StillSink, read_stream,
+    Got, MemShelf, MemSink, NamedFile, Shelf, ShelfError, Sink, SinkError, StdSink, StillShelf,
+    StillSink, read_stream,
 };
 use std::alloc::{AllocError, Global};
-use std::io::{ErrorKind, Read, Write, pipe};
-use std::rt::Files;
+use std::io::{self, ErrorKind, Read, Write};
 use std::test::Fail;
-use std::{fs, io, process};
 
 /// A stream that takes three bytes at most in a call, is interrupted before each call, and fails once it has taken
 /// `most`. Its first flush fails.
@@ -93,12 +91,6 @@ fn gives<S: Shelf>(alloc: Global, shelf: &mut S, name: &str, bytes: &[u8]) -> bo
     shelf.read(name, &mut into, bytes.len() as u64) == Ok(Got::Whole) && into.as_slice() == bytes
 }
 
-/// Whether a shelf holds more than `most` bytes under a name.
-fn is_longer<S: Shelf>(alloc: Global, shelf: &mut S, name: &str, most: u64) -> bool {
-    let mut into = Vec::new(alloc);
-    shelf.read(name, &mut into, most) == Ok(Got::TooLong)
-}
-
 /// Whether a read fails.
 fn fails<S: Shelf>(alloc: Global, shelf: &mut S, name: &str) -> bool {
     let mut into = Vec::new(alloc);
@@ -172,37 +164,6 @@ fn drip_is_read(alloc: Global) -> io::Result<bool> {
     )
 }
 
-/// Whether a pipe of the system gets every byte.
-fn pipe_gets_all(
-    alloc: Global,
-    writer: impl Write + Drop,
-    reader: &mut impl Read,
-) -> io::Result<bool> {
-    let mut sink = StdSink::new(alloc, writer)?;
-    let put = takes(&mut sink, b"one\n") && takes(&mut sink, b"two\n");
-    let whole = put && sink.finish() == Ok(());
-    drop(sink);
-    let mut got = Vec::new(alloc);
-    reader.read_to_end(&mut got)?;
-    Ok(whole && got.as_slice() == b"one\ntwo\n".as_slice())
-}
-
-/// Whether a full device fails, once it is handed what was gathered.
-fn full_fails(alloc: Global, full: impl Write + Drop) -> io::Result<bool> {
-    let mut sink = StdSink::new(alloc, full)?;
-    Ok(takes(&mut sink, b"one\n") && sink.finish() == Err(SinkError::Failed))
-}
-
-/// Whether a file of the system is read up to a limit, and what isn't there and a folder fail.
-fn system_is_read<R: Files + Drop>(alloc: Global, files: R, path: &str, bytes: &[u8]) -> bool {
-    let mut shelf = FileShelf::new(files);
-    gives(alloc, &mut shelf, path, bytes)
-        && is_longer(alloc, &mut shelf, path, 39_999)
-        && fails(alloc, &mut shelf, "/tmp")
-        && fails(alloc, &mut shelf, "/tmp/no-such-file-of-anyone")
-        && shelf.faults() == 2
-}
-
 #[test]
 fn shelves_and_sinks_in_memory(rt: HostRuntime) -> Result<(), Fail> {
     let alloc = rt.alloc();
@@ -234,28 +195,5 @@ fn streams(rt: HostRuntime) -> Result<(), Fail> {
     assert!(rt; slow_gets_all(alloc)?);
     assert!(rt; broken_is_counted(alloc)?);
     assert!(rt; drip_is_read(alloc)?);
-    Ok(())
-}
-
-#[test]
-fn streams_of_the_system(rt: HostRuntime) -> Result<(), Fail> {
-    let alloc = rt.alloc();
-    let (mut reader, writer) = pipe(&rt)?;
-    assert!(rt; pipe_gets_all(alloc, writer, &mut reader)?);
-    let full = fs::OpenOptions::new().write(true).open(&rt, "/dev/full")?;
-    assert!(rt; full_fails(alloc, full)?);
-    Ok(())
-}
-
-#[test]
-fn a_file_of_the_system_is_read(rt: HostRuntime) -> Result<(), Fail> {
-    let alloc = rt.alloc();
-    let id = process::id(rt.process());
-    let path = format!(in alloc; "/tmp/outside-shelf-{id}")?;
-    let bytes = vec![in alloc; b'x'; 40_000]?;
-    fs::write(&rt, path.as_str(), bytes.as_slice())?;
-    let is_read = system_is_read(alloc, &rt, path.as_str(), &bytes);
-    fs::remove_file(&rt, path.as_str())?;
-    assert!(rt; is_read);
     Ok(())
 }

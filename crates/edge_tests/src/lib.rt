@@ -3,8 +3,6 @@
 #![tactic(auto)]
 
 #[cfg(test)]
-mod audits;
-#[cfg(test)]
 mod files;
 #[cfg(test)]
 mod links;
@@ -12,5 +10,3 @@ mod links;
 mod scripts;
 #[cfg(test)]
 mod udp;
-#[cfg(test)]
-mod words;

@@ -1,6 +1,5 @@
-//! Whole nodes: one that goes well, and what each line of a journal is where the outside fails.
+//! Nodes: what each line of a journal is where the outside fails.
 
 mod bearing;
 mod failures;
 mod served;
-mod worked;

@@ -15,12 +15,6 @@ pub(crate) const COUNTER: &[u8] =
     down Cast(p, m) with num(k);\n    set k = (k + 1);\n  }\n  up Cast(o, m) with num(seq) common (seq == e[o]) {\n    \
     set e[o] = (seq + 1);\n    up Cast(o, m);\n  }\n}\nstack { cnt; }\n";
 
-/// A layer that keeps 320 rows with messages for each member: too many for 26 members.
-pub(crate) const ROWS: &[u8] =
-    b"layer all {\n  state queue a[n][64] of (m: msg);\n  state queue b[n][64] of (m: msg);\n  \
-    state queue c[n][64] of (m: msg);\n  state queue d[n][64] of (m: msg);\n  state queue e[n][64] of (m: msg);\n}\n\
-    stack { all; }\n";
-
 /// What a run left: its status, and the bytes on its output and on its standard error.
 #[derive(Drop)]
 pub(crate) struct Left {
@@ -35,15 +29,6 @@ pub(crate) struct Expected<'a> {
     pub status: u8,
     pub out: &'a [u8],
     pub err: &'a [u8],
-}
-
-/// All of this output.
-pub(crate) fn written(out: &[u8]) -> Expected<'_> {
-    Expected {
-        status: 0,
-        out,
-        err: b"",
-    }
 }
 
 /// No output, for this cause.
@@ -89,6 +74,16 @@ pub(crate) fn left_over(
     let mut out = MemSink::new(alloc, puts);
     let mut err = MemSink::new(alloc, Vec::new(alloc));
     let status = run_over(alloc, words, shelf, &mut out, &mut err, links, clock);
+    left_on(alloc, status, &out, &err)
+}
+
+/// What a run of this status left on its sinks.
+pub(crate) fn left_on(
+    alloc: Global,
+    status: u8,
+    out: &MemSink,
+    err: &MemSink,
+) -> Result<Left, AllocError> {
     Ok(Left {
         status,
         out: Vec::from_slice(alloc, out.contents())?,
@@ -114,7 +109,6 @@ pub(crate) fn left_by(
     left_over(alloc, &words, shelf, puts, &mut links, &mut clock)
 }
 
-/// The words of a command line, in order, each in memory of its own.
 pub(crate) fn words(alloc: Global, texts: &[&str]) -> Result<Vec<String>, AllocError> {
     let mut words = Vec::new(alloc);
     for text in texts {
@@ -123,7 +117,6 @@ pub(crate) fn words(alloc: Global, texts: &[&str]) -> Result<Vec<String>, AllocE
     Ok(words)
 }
 
-/// A file of this name with these bytes.
 pub(crate) fn named(alloc: Global, name: &str, bytes: &[u8]) -> Result<NamedFile, AllocError> {
     Ok(NamedFile {
         name: String::from_str(alloc, name)?,
@@ -142,17 +135,4 @@ pub(crate) fn pair(
     files.push(named(alloc, "f", file)?)?;
     files.push(named(alloc, name, second)?)?;
     Ok(files)
-}
-
-/// Whether a replay of a script over a stack file leaves this.
-pub(crate) fn leaves(
-    alloc: Global,
-    texts: &[&str],
-    file: &[u8],
-    script: &[u8],
-    expected: Expected<'_>,
-) -> Result<bool, AllocError> {
-    let mut shelf = MemShelf::new(pair(alloc, file, "s", script)?, Vec::new(alloc));
-    let left = left_by(alloc, texts, &mut shelf, Vec::new(alloc))?;
-    Ok(left.is(expected))
 }

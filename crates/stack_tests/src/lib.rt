@@ -1,12 +1,9 @@
-//! What no clause says of blocks and pools, tokens, handlers that are looked up, stack files, accepted stacks, their
-//! shapes, plans and packets: that calls go well where there is memory, on stacks that are judged from their texts, and
-//! a table over all causes for which these are refused.
+//! What no clause says of blocks and pools, tokens, handlers that are looked up, accepted stacks, their shapes, plans
+//! and packets: that calls go well where there is memory, on stacks that are judged from their texts.
 #![tactic(auto)]
 
 #[cfg(test)]
 mod blocks;
-#[cfg(test)]
-mod causes;
 #[cfg(test)]
 mod datagrams;
 #[cfg(test)]

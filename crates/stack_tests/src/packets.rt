@@ -3,7 +3,7 @@
 use crate::writing::{RUNS, Reader, Run, fitting, scanned, sent};
 use file_judge::judge;
 use msg_core::{Dest, Fields, Header, Headers, Memory, Stray, View};
-use packet_full::{PacketView, Scan};
+use packet_full::Scan;
 use packet_mean::Here;
 use stack_judge::Stack;
 use stack_shapes::{Plans, StackShapes};

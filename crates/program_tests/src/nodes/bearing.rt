@@ -14,7 +14,7 @@ const TICKS: &[u8] = b"> tick 0 5\n> tick 1 5\n> tick 2 5\n";
 const BORNE: &[u8] =
     b"> tick 0 5\n> tick 1 5\n> tick 2 5\ndeaf 1\n> cast 0 6869\npacket 1 0 all cnt.num(0) 6869\n> tick 0 6\n> tick 1 6\n> tick 2 6\n> raw 1 e50000000100000007000000000000000700ff01000000006869\ndeliver 1 cast 0 6869\n> raw 2 e50000000100000007000000000000000700ff01000000006869\ndeliver 2 cast 0 6869\n> cast 2 7a\npacket 2 2 all cnt.num(0) 7a\nend 10\n";
 
-/// What that node writes in bypass mode, where both casts and their deliveries are common: each packet goes short.
+/// The same in bypass mode, where both casts and their deliveries are common: each packet goes short.
 const BORNE_SHORT: &[u8] =
     b"> tick 0 5\n> tick 1 5\n> tick 2 5\ndeaf 1\n> cast 0 6869\npacket 1 0 all cnt.num(0) 6869\n> tick 0 6\n> tick 1 6\n> tick 2 6\n> raw 1 e60000000100000007000000000000000700ff00000000006869\ndeliver 1 cast 0 6869\n> raw 2 e60000000100000007000000000000000700ff00000000006869\ndeliver 2 cast 0 6869\n> cast 2 7a\npacket 2 2 all cnt.num(0) 7a\nend 10\n";
 
@@ -29,11 +29,13 @@ fn failing(alloc: Global, listen: bool, receive: bool) -> Result<MemLinks, Alloc
 fn served(
     alloc: Global,
     run: &str,
-    me: &str,
     patience: &str,
     links: &mut MemLinks,
 ) -> Result<Left, AllocError> {
-    let words = words(alloc, &["node", "f", "p", "--turns=2", me, run, patience])?;
+    let words = words(
+        alloc,
+        &["node", "f", "p", "--turns=2", "--me=0,1,2", run, patience],
+    )?;
     let mut shelf = MemShelf::new(pair(alloc, COUNTER, "p", PLAN)?, Vec::new(alloc));
     let mut clock = MemClock::new(vec![in alloc; 5, 6]?);
     left_over(
@@ -50,25 +52,22 @@ fn served(
 fn serves_and_bears(rt: HostRuntime) -> Result<(), Fail> {
     let alloc = rt.alloc();
     let layered = "--run=layered";
-    let all = "--me=0,1,2";
-    let none = "--patience=0";
-    let cases: [(&str, &str, &str, bool, bool, u8, &[u8], &[u8]); 6] = [
-        (layered, all, none, false, false, 0, SERVED, b""),
-        (layered, all, none, false, true, 6, TICKS, b"link fault\n"),
-        (layered, all, "--patience=1", false, true, 0, BORNE, b""),
-        (
-            "--run=bypass",
-            all,
-            "--patience=1",
-            false,
-            true,
-            0,
-            BORNE_SHORT,
-            b"",
-        ),
+    let bypass = "--run=bypass";
+    let cases: [(&str, &str, bool, bool, u8, &[u8], &[u8]); 5] = [
+        (layered, "--patience=0", false, false, 0, SERVED, b""),
         (
             layered,
-            all,
+            "--patience=0",
+            false,
+            true,
+            6,
+            TICKS,
+            b"link fault\n",
+        ),
+        (layered, "--patience=1", false, true, 0, BORNE, b""),
+        (bypass, "--patience=1", false, true, 0, BORNE_SHORT, b""),
+        (
+            layered,
             "--patience=9",
             true,
             false,
@@ -76,21 +75,11 @@ fn serves_and_bears(rt: HostRuntime) -> Result<(), Fail> {
             b"",
             b"link fault\n",
         ),
-        (
-            layered,
-            "--me=1,3",
-            none,
-            false,
-            false,
-            3,
-            b"",
-            b"script: member 1\n",
-        ),
     ];
-    for (run, me, patience, listen_fails, receive_fails, status, out, err) in cases {
+    for (run, patience, listen_fails, receive_fails, status, out, err) in cases {
         let mut links = failing(alloc, listen_fails, receive_fails)?;
         let expected = Expected { status, out, err };
-        assert!(rt; served(alloc, run, me, patience, &mut links)?.is(expected));
+        assert!(rt; served(alloc, run, patience, &mut links)?.is(expected));
     }
     Ok(())
 }

@@ -1,7 +1,7 @@
 //! A node over memory.
 
-use crate::runs::{COUNTER, Left, pair, run_over, words};
-use outside::{Clock, Fate, Links, MemClock, MemLinks, MemShelf, MemSink, NamedFile};
+use crate::runs::{COUNTER, Left, left_on, pair, run_over, words};
+use outside::{Fate, MemClock, MemLinks, MemShelf, MemSink};
 use std::alloc::{AllocError, Global};
 
 pub(crate) const PLAN: &[u8] =
@@ -38,37 +38,19 @@ pub(crate) fn nothing_fails(alloc: Global) -> Result<Case, AllocError> {
     })
 }
 
-/// What a run leaves.
-pub(crate) fn left_by<N: Links, C: Clock>(
-    alloc: Global,
-    texts: &[&str],
-    mut shelf: MemShelf,
-    mut out: MemSink,
-    mut err: MemSink,
-    links: &mut N,
-    clock: &mut C,
-) -> Result<Left, AllocError> {
-    let words = words(alloc, texts)?;
-    let status = run_over(alloc, &words, &mut shelf, &mut out, &mut err, links, clock);
-    Ok(Left {
-        status,
-        out: Vec::from_slice(alloc, out.contents())?,
-        err: Vec::from_slice(alloc, err.contents())?,
-    })
-}
-
-/// The counter layer as `f`, and another file as `p`.
-pub(crate) fn files(alloc: Global, other: &[u8]) -> Result<Vec<NamedFile>, AllocError> {
-    pair(alloc, COUNTER, "p", other)
-}
-
 /// Runs the node of a case.
 pub(crate) fn served(alloc: Global, case: Case) -> Result<Left, AllocError> {
-    let shelf = MemShelf::new(files(alloc, PLAN)?, case.reads);
-    let out = MemSink::new(alloc, case.puts);
-    let err = MemSink::new(alloc, case.says);
+    let words = words(
+        alloc,
+        &["node", "f", "p", case.turns, "--me=0,1,2", "--run=layered"],
+    )?;
+    let mut shelf = MemShelf::new(pair(alloc, COUNTER, "p", PLAN)?, case.reads);
+    let mut out = MemSink::new(alloc, case.puts);
+    let mut err = MemSink::new(alloc, case.says);
     let mut links = MemLinks::new(alloc, case.fates, case.listens, case.receives);
     let mut clock = MemClock::new(case.moments);
-    let texts = ["node", "f", "p", case.turns, "--me=0,1,2", "--run=layered"];
-    left_by(alloc, &texts, shelf, out, err, &mut links, &mut clock)
+    let status = run_over(
+        alloc, &words, &mut shelf, &mut out, &mut err, &mut links, &mut clock,
+    );
+    left_on(alloc, status, &out, &err)
 }

@@ -1,0 +1,64 @@
+#!/usr/bin/env python3
+"""Runs nodes of the program in $STACKC over the loopback: all members of a group in one node, whose journal replays to the rest of it, and one whose packets come here."""
+import socket
+
+from journals import free_ports
+from program import runs
+
+LAYERS = """layer cnt {
+  state int k;
+  state int e[n];
+  header num(seq) passes;
+  down Cast(p, m) { down Cast(p, m) with num(k); set k = (k + 1); }
+  up Cast(o, m) with num(seq) common (seq == e[o]) { set e[o] = (seq + 1); up Cast(o, m); }
+}
+stack { cnt; }
+"""
+GROUP = "group 1 stamp 7 members 3\n"
+ALL = ["node", "a.layers", "a.plan", "--turns", "200", "--me", "0,1,2"]
+# What each member delivers, in whatever order.
+DELIVERED = {"0": ["cast 2 -"], "1": ["cast 0 6869", "cast 2 -"], "2": ["cast 0 6869"]}
+SEND = bytes.fromhex("e500000001000000070000000000000003000100")
+CAST = bytes.fromhex("e50000000100000007000000000000000300ff01000000006869")
+
+
+def whole_group(made, mode):
+    """A node of three members through two hundred turns, in the fourth and the sixth of which one casts."""
+    ports = free_ports(3)
+    made.put("a.plan", GROUP + "".join(f"peer {k} 127.0.0.1:{port}\n" for k, port in enumerate(ports)) + "turn 3 cast 0 6869\nturn 5 cast 2 -\n")
+    status, journal, said = made.run([*ALL, "--run", mode])
+    lines = journal.splitlines()
+    delivered = {me: sorted(line[10:] for line in lines if line.startswith(f"deliver {me} ")) for me in DELIVERED}
+    made.compare(f"a node, {mode}", (status, said, delivered, lines[-1]), (0, "", DELIVERED, "end 606"))
+    made.put("a.script", GROUP + "".join(line[2:] + "\n" for line in lines if line.startswith("> ")))
+    report = "".join(line + "\n" for line in lines if not line.startswith("> "))
+    for again in ("layered", "bypass"):
+        made.compare(f"its journal, {mode}, replayed {again}", made.run(["replay", "a.layers", "a.script", "--run", again]), (0, report, ""))
+
+
+def to_a_stranger(made):
+    """A node of one member, whose send and cast go to the other's address and port, here."""
+    port, = free_ports(1)
+    with socket.socket(socket.AF_INET, socket.SOCK_DGRAM) as other:
+        other.bind(("127.2.3.255", 0))
+        other.settimeout(10)
+        plan = f"group 1 stamp 7 members 2\npeer 0 127.0.0.1:{port}\npeer 1 127.2.3.255:{other.getsockname()[1]}\nturn 3 send 0 1 -\nturn 4 cast 0 6869\n"
+        made.put("a.plan", plan)
+        words = ["node", "a.layers", "a.plan", "--turns=9", "--me", "0", "--patience=4", "--run=layered"]
+        status, journal, said = made.run(words)
+        others = [line for line in journal.splitlines() if not line.startswith("> tick ")]
+        made.compare("a node of one", (status, others, said), (0, ["> send 0 1 -", "packet 1 0 1 cnt.none() -", "> cast 0 6869", "packet 2 0 all cnt.num(0) 6869", "end 11"], ""))
+        made.compare("what it sent", [other.recv(65536), other.recv(65536)], [SEND, CAST])
+
+
+def main():
+    with runs("nodes") as made:
+        made.put("a.layers", LAYERS)
+        for mode in ("layered", "bypass"):
+            whole_group(made, mode)
+        made.compare("a member of none", made.run(["node", "a.layers", "a.plan", "--turns=2", "--me=1,3", "--run=layered", "--patience=0"]), (3, "", "script: member 1\n"))
+        to_a_stranger(made)
+
+
+if __name__ == "__main__":
+    main()
