@@ -8,7 +8,7 @@ use Rattle.typed_layer.specs.View.{statement_tree, block_tree}
 use Rattle.typed_layer.specs.declared.tree.Block.{Block}
 use Rattle.typed_layer.specs.declared.tree.Emission.{Emission}
 use Rattle.typed_layer.specs.declared.tree.Expression.{Expression}
-use Rattle.typed_layer.specs.declared.tree.Row.{Row}
+use Rattle.typed_layer.specs.declared.tree.RowExpression.{RowExpression}
 use Rattle.typed_layer.specs.declared.tree.Taken.{Taken}
 use Rattle.typed_layer.specs.declared.tree.Statement.TheFolds.{fold-Block, fold-roll-Statement, fold_out-Block}
 use Rattle.typed_layer.specs.declared.tree.Statement.TheOpen as layer
@@ -48,7 +48,7 @@ emit_tree emission =
     ap statement_tree (sym (rust.rolls-Emit emission))
     ∙ fold-roll-Statement StatementTree StatementTrees statement_of block_of (layer.Emit emission)
 
-pub push_tree : (cell : ℕ) (index : Expression) (capacity : ℕ) (row : Row) (otherwise : Block) →
+pub push_tree : (cell : ℕ) (index : Expression) (capacity : ℕ) (row : RowExpression) (otherwise : Block) →
     statement_tree (rust.Push cell index capacity row otherwise)
     ≡ tree.push cell (expression_tree index) capacity (row_tree row) (block_tree otherwise)
 push_tree cell index capacity row otherwise =

@@ -24,7 +24,7 @@ use Rattle.typed_layer.specs.declared.tree.HeaderForm.{HeaderForm}
 use Rattle.typed_layer.specs.declared.tree.ItemMessage.{ItemMessage}
 use Rattle.typed_layer.specs.declared.tree.Items.{Items}
 use Rattle.typed_layer.specs.declared.tree.MessageExpression as rust_message
-use Rattle.typed_layer.specs.declared.tree.Row.{Row}
+use Rattle.typed_layer.specs.declared.tree.RowExpression.{RowExpression}
 use Rattle.typed_layer.specs.declared.tree.Statement.{Statement, Statement-F}
 use Rattle.typed_layer.specs.declared.tree.Statement.TheOpen.{Block-F, Bind, Set, SetElement, SetSquare, Push, Take}
 use Rattle.typed_layer.specs.declared.tree.Statement.TheOpen.{Branch, Each, Emit}
@@ -73,7 +73,7 @@ abbrev mutual
   message_tree (rust_message.Tail' _ message _ from) = tree.tail (message_tree message) (expression_tree from)
   message_tree (rust_message.Join' _ first _ second) = tree.join (message_tree first) (message_tree second)
 
-abbrev pub row_tree : Row → RowTree
+abbrev pub row_tree : RowExpression → RowTree
 row_tree r = record { numbers = map expression_tree r.numbers; message = option_map message_tree r.message }
 
 abbrev pub taken_tree : Taken → TakenTree

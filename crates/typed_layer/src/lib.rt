@@ -12,7 +12,7 @@ pub use handlers::{Handlers, MOST_HANDLERS};
 pub use operators::{applied, applied_to};
 pub use tree::{
     Blank, Block, Carried, Cell, Content, Emission, Expected, Expression, Form, Handler,
-    HeaderForm, ItemMessage, Items, MessageExpression, Numbers, Row, Statement, Taken,
+    HeaderForm, ItemMessage, Items, MessageExpression, Numbers, RowExpression, Statement, Taken,
     TakenMessage, TypedLayer,
 };
 pub use typed::Typed;

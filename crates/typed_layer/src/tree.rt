@@ -140,7 +140,7 @@ pub enum Statement {
         cell: u8,
         index: Expression,
         capacity: u8,
-        row: Row,
+        row: RowExpression,
         otherwise: Block,
     },
     /// Takes the front row of a queue and runs a block, or another where there is none.
@@ -171,7 +171,7 @@ pub enum Statement {
 
 /// What a row is made of.
 #[derive(Drop)]
-pub struct Row {
+pub struct RowExpression {
     pub numbers: Numbers,
     pub message: Option<MessageExpression>,
 }
