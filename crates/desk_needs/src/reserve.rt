@@ -9,7 +9,7 @@ ghost use Rattle.desk_needs.specs.Layouts.{most, layout_of};
 ghost use Rattle.desk_needs.specs.Reserved.{layout_reserve};
 
 use typed_layer::{
-    Block, Emission, Handler, MessageExpression, RowExpression, Statement, TypedLayer,
+    Emission, Handler, MessageExpression, RowExpression, Statement, StatementBlock, TypedLayer,
 };
 
 /// The most numbers and messages that a handler's block declares, and the most messages that one has in hand, as far as
@@ -154,7 +154,7 @@ fn of_statement(statement: &Statement) -> u32
 }
 
 #[cycle(in_hand)]
-fn of_block(block: &Block) -> u32
+fn of_block(block: &StatementBlock) -> u32
     ensures { result ≡ held_at_most (block_in_hand (block_tree block.now)) }
 {
     let mut most = 0;

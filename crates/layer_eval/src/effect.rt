@@ -24,7 +24,7 @@ use layer_words::Kind;
 use msg_core::{Fields, Header};
 use slot_pool::Pool;
 use typed_layer::{
-    Block, Content, Emission, Expression, MessageExpression, RowExpression, Statement,
+    Content, Emission, Expression, MessageExpression, RowExpression, Statement, StatementBlock,
 };
 
 /// Runs the statements of a block in a statement. Often there are none: these cost no call. Otherwise there is mostly
@@ -33,7 +33,7 @@ use typed_layer::{
 #[inline(always)]
 fn run_block<K: Start, D: Desk>(
     place: u8,
-    block: &Block,
+    block: &StatementBlock,
     desk: &mut D,
     pool: &mut Pool,
     predicted: &mut Predicted,

@@ -88,7 +88,7 @@ pub struct Handler {
     pub expected: Expected,
     pub numbers: u8,
     pub messages: u8,
-    pub block: Block,
+    pub block: StatementBlock,
 }
 
 /// When a handler goes as predicted.
@@ -104,7 +104,7 @@ pub enum Expected {
 /// Statements in order.
 #[cycle(statement)]
 #[derive(Drop)]
-pub struct Block {
+pub struct StatementBlock {
     pub statements: Vec<Statement>,
 }
 
@@ -141,29 +141,29 @@ pub enum Statement {
         index: Expression,
         capacity: u8,
         row: RowExpression,
-        otherwise: Block,
+        otherwise: StatementBlock,
     },
     /// Takes the front row of a queue and runs a block, or another where there is none.
     Take {
         cell: u8,
         index: Expression,
         taken: Taken,
-        block: Block,
-        otherwise: Block,
+        block: StatementBlock,
+        otherwise: StatementBlock,
     },
     /// Runs one of two blocks by a condition.
     Branch {
         likely: Likely,
         condition: Expression,
-        block: Block,
-        otherwise: Block,
+        block: StatementBlock,
+        otherwise: StatementBlock,
     },
     /// Runs a block for 0, 1 and so on, below a number and a maximum; a slot tells the block which.
     Each {
         slot: u8,
         below: Expression,
         most: u8,
-        block: Block,
+        block: StatementBlock,
     },
     /// Sends an event.
     Emit(Emission),
